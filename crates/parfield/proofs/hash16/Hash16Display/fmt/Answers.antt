@@ -1,0 +1,10 @@
+use Rattle.std.proofs.Common.{◌<◌, length, arith, rules}
+use Rattle.std.proofs.Output.{has_written_append, has_written_of_eq}
+use Rattle.parfield.proofs.ShownLaws.{encode_lower-take_more}
+use Rattle.parfield.proofs.hash16.Hash16Display.fmt.Goals as goal
+
+pub loop-byte-preserved : goal.loop-byte-preserved
+loop-byte-preserved g c = λ plain.
+    let more : c.loop-byte.byte-index < length c.args.self.now.0 = omega arith in
+    has_written_of_eq _ _ _ _ _ (encode_lower-take_more c.args.self.now.0 c.loop-byte.byte-index more)
+    (has_written_append _ _ _ _ _ _ (c.loop-byte.invariant plain) (search rules))

@@ -1,0 +1,27 @@
+//! Fields of PAR2 files: hashes, packet headers, one packet in bytes, names as they are shown.
+#![tactic(auto)]
+
+mod counts;
+mod fields;
+mod hash16;
+mod hex_byte;
+mod kind;
+mod packet;
+mod sequence;
+mod shown;
+mod tally;
+#[cfg(test)]
+mod tests;
+mod text;
+mod transcript;
+
+pub use crate::counts::Counts;
+pub use crate::fields::{Header, HeaderFault, Packet};
+pub use crate::hash16::Hash16;
+pub use crate::kind::Kind;
+pub use crate::packet::{header, packet_at};
+pub use crate::sequence::Sequence;
+pub use crate::shown::{Shown, show_name};
+pub use crate::tally::Tally;
+pub use crate::text::Text;
+pub use crate::transcript::Transcript;

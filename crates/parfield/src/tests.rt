@@ -1,0 +1,134 @@
+use super::*;
+use std::test::Fail;
+
+// A Creator packet of set ID zeros, without a body.
+const CREATOR: [u8; 64] =
+    *b"PAR2\0PKT\x40\0\0\0\0\0\0\0\x90\xb7\x2c\x62\xf3\xda\xe9\x4b\x3d\xe0\x28\xf3\x1e\x19\x95\x02\0\0\0\0\0\0\0\0\0\0\0\0\0\0\0\0PAR 2.0\0Creator\0";
+
+#[test]
+fn md5_of_standard_vectors(rt: HostRuntime) -> Result<(), Fail> {
+    for (message, digest) in [
+        ("", "d41d8cd98f00b204e9800998ecf8427e"),
+        ("a", "0cc175b9c0f1b6a831c399e269772661"),
+        ("abc", "900150983cd24fb0d6963f7d28e17f72"),
+        ("message digest", "f96b697d7cb7938d525a2f31aaf161d0"),
+    ] {
+        let hash = Hash16(<md5::Md5 as md5::Digest>::digest(message.as_bytes()));
+        assert_eq!(rt; hash.to_string(rt.alloc())?.as_str(), digest);
+    }
+    Ok(())
+}
+
+#[test]
+fn length_fields_are_little_endian(rt: HostRuntime) -> Result<(), Fail> {
+    for (field, length) in [
+        ([0x40, 0, 0, 0, 0, 0, 0, 0], 64),
+        ([0x84, 0, 0, 0, 0, 0, 0, 0], 132),
+    ] {
+        let mut bytes = CREATOR;
+        bytes[8..16].copy_from_slice(&field);
+        assert_eq!(rt; header(&bytes).ok().ok_or("header")?.length, length);
+    }
+    Ok(())
+}
+
+#[test]
+fn faults_of_a_header_come_in_order(rt: HostRuntime) {
+    assert_eq!(rt; header(&CREATOR[..63]), Err(HeaderFault::Short));
+    assert_eq!(rt; header(&[0; 64]), Err(HeaderFault::NoMagic));
+    let mut short = [0; 64];
+    short[..8].copy_from_slice(b"PAR2\0PKT");
+    short[8] = 60;
+    assert_eq!(rt; header(&short), Err(HeaderFault::BadLength));
+    let mut odd = CREATOR;
+    odd[8] = 66;
+    assert_eq!(rt; header(&odd), Err(HeaderFault::BadLength));
+}
+
+#[test]
+fn fields_of_a_header(rt: HostRuntime) -> Result<(), Fail> {
+    let head = header(&CREATOR).ok().ok_or("header")?;
+    assert_eq!(rt; head.length, 64);
+    assert_eq!(rt;
+        head.hash.to_string(rt.alloc())?.as_str(),
+        "90b72c62f3dae94b3de028f31e199502"
+    );
+    assert_eq!(rt; head.set, Hash16([0; 16]));
+    assert_eq!(rt; head.kind, Kind::Creator);
+    Ok(())
+}
+
+#[test]
+fn kinds_by_their_type_fields(rt: HostRuntime) {
+    for (field, kind) in [
+        (*b"PAR 2.0\0Main\0\0\0\0", Kind::Main),
+        (*b"PAR 2.0\0FileDesc", Kind::FileDesc),
+        (*b"PAR 2.0\0IFSC\0\0\0\0", Kind::Ifsc),
+        (*b"PAR 2.0\0RecvSlic", Kind::RecvSlic),
+        (*b"PAR 2.0\0Creator\0", Kind::Creator),
+        (*b"PAR 2.0\0CommASCI", Kind::Other(*b"PAR 2.0\0CommASCI")),
+    ] {
+        assert_eq!(rt; Kind::of_type(field), kind);
+    }
+}
+
+#[test]
+fn creator_alone(rt: HostRuntime) -> Result<(), Fail> {
+    let packet = packet_at(&CREATOR, 0).ok_or("packet")?;
+    assert_eq!(rt; packet.at, 0);
+    assert_eq!(rt; packet.length, 64);
+    assert_eq!(rt; packet.kind, Kind::Creator);
+    assert_eq!(rt; packet.body.len(), 0);
+    Ok(())
+}
+
+#[test]
+fn no_packet_with_another_type_length_or_offset(rt: HostRuntime) {
+    let mut changed = CREATOR;
+    changed[63] = 1;
+    assert_eq!(rt; packet_at(&changed, 0), None);
+    for length in [0, 60, 66, 68, 128] {
+        let mut changed = CREATOR;
+        changed[8] = length;
+        assert_eq!(rt; packet_at(&changed, 0), None, "length {length}");
+    }
+    let mut far = CREATOR;
+    far[8..16].copy_from_slice(&[0xfc, 0xff, 0xff, 0xff, 0xff, 0xff, 0xff, 0xff]);
+    assert_eq!(rt; packet_at(&far, 0), None);
+    assert_eq!(rt; packet_at(&CREATOR, 1), None);
+    assert_eq!(rt; packet_at(&CREATOR, 64), None);
+    assert_eq!(rt; packet_at(&CREATOR, usize::MAX), None);
+}
+
+#[test]
+fn shown_names(rt: HostRuntime) -> Result<(), Fail> {
+    let name = show_name(rt.alloc(), b"a\\\x0a\xc3\xa9")?;
+    assert_eq!(rt; name.as_slice(), b"a\\\\\\x0a\\xc3\\xa9".as_slice());
+    let name = show_name(rt.alloc(), b"\x1f ~\x7f\0")?;
+    assert_eq!(rt; name.as_slice(), b"\\x1f ~\\x7f\\x00".as_slice());
+    Ok(())
+}
+
+#[test]
+fn sequences_and_texts_give_back_what_they_hold(rt: HostRuntime) -> Result<(), Fail> {
+    let items = Sequence::from_vec([1u32, 2].to_vec(rt.alloc())?);
+    assert_eq!(rt; items.as_slice(), [1, 2].as_slice());
+    assert_eq!(rt; items.len(), 2);
+    assert!(rt; !items.is_empty());
+    let text = Text::from_string(String::from_str(rt.alloc(), "name")?);
+    assert_eq!(rt; text.as_str(), "name");
+    Ok(())
+}
+
+#[test]
+fn counts_take_no_bytes() {
+    const _: () = prove!(std::mem::size_of::<Counts>() == 0);
+    const _: () = prove!(std::mem::size_of::<Tally>() == 0);
+    const _: () = prove!(std::mem::size_of::<Transcript>() == 0);
+    let mut counts = Counts::new(2);
+    counts.add_at(1, 3);
+    let mut tally = Tally::new();
+    tally.add(3);
+    let mut transcript = Transcript::new();
+    transcript.append(b"abc");
+}

@@ -1,0 +1,12 @@
+//! Files behind a trait: how they are read, and what contracts know of each read.
+#![tactic(auto)]
+
+mod memory;
+mod reading;
+mod shelf;
+#[cfg(test)]
+mod tests;
+
+pub use crate::memory::MemShelf;
+pub use crate::reading::{ReadFault, fill};
+pub use crate::shelf::{Failed, Shelf};

@@ -1,0 +1,11 @@
+pub mod Ending
+pub mod FileWords
+pub mod Lines
+pub mod Listing
+pub mod MemorySink
+pub mod Report
+pub mod Salvaging
+pub mod SinkState
+pub mod Words
+pub mod WriterSink
+pub mod Writing

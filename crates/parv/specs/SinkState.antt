@@ -1,0 +1,35 @@
+-- What contracts know of a sink.
+use Rattle.std.specs.Prelude.{◌≡◌, ℕ, ◌+◌, List, [], ◌++◌}
+
+-- a sink as contracts see it
+pub record SinkState : Type 0 where
+  -- all that was written to it
+  pub bytes : List ℕ
+  -- how often it failed, or took nothing of a part that was not empty
+  pub failures : ℕ
+
+-- the sink after these bytes were written to it
+abbrev pub appended : SinkState → List ℕ → SinkState
+appended s bytes = record s { bytes = s.bytes ++ bytes }
+
+-- the sink after it failed once
+abbrev pub refused : SinkState → SinkState
+refused s = record s { failures = s.failures + 1 }
+
+-- a sink that nothing was written to
+abbrev pub empty_sink : SinkState
+empty_sink = record { bytes = []; failures = 0 }
+
+-- a sink took a beginning of a text
+pub record WritesFront (old new : SinkState) (text : List ℕ) : Type 0 where
+  pub front : List ℕ
+  pub rest : List ℕ
+  pub whole : text ≡ front ++ rest
+  pub after : new ≡ appended old front
+
+-- a sink took a beginning of a text, and then it failed once
+pub record RefusesFront (old new : SinkState) (text : List ℕ) : Type 0 where
+  pub front : List ℕ
+  pub rest : List ℕ
+  pub whole : text ≡ front ++ rest
+  pub after : new ≡ refused (appended old front)

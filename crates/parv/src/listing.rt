@@ -1,0 +1,89 @@
+ghost use Rattle.std.specs.Prelude.{◌≡◌, ◌++◌, IfOk, OnOk, filter, string_bytes, slice_index_or, []};
+ghost use Rattle.parv.specs.Lines.{packet_line, count_line, kind_word};
+ghost use Rattle.parv.specs.Listing.{packets_text, chosen_of, is_chosen, line_among};
+
+use parfield::{Hash16, Kind, Shown, Text};
+use parsalvage::Kept;
+use std::alloc::{AllocError, Global};
+
+/// The text of `packets`, over packet files of these names.
+#[tactic(auto, unfolding(crate::specs::Listing::packets_text))]
+pub fn list_packets(
+    alloc: Global,
+    names: &[Text],
+    choice: Option<Hash16>,
+    packets: &[Kept],
+) -> Result<String, AllocError>
+    ensures { IfOk result (λ text. string_bytes text
+        ≡ packets_text names.now choice packets.now) }
+{
+    let mut text = String::new(alloc);
+    let mut count = 0u64;
+    for packet in packets {
+        if is_asked_for(choice, packet) {
+            push_packet(&mut text, name_at(names, packet.file), packet)?;
+            count += 1;
+        }
+    }
+    push_count(&mut text, count)?;
+    Ok(text)
+}
+
+// Whether the packet is of the set that is asked for.
+fn is_asked_for(choice: Option<Hash16>, packet: &Kept) -> bool
+    ensures { result ≡ is_chosen choice packet.now }
+{
+    match choice {
+        None => true,
+        Some(set) => packet.set.0 == set.0,
+    }
+}
+
+// The name of a packet file.
+fn name_at(names: &[Text], file: u32) -> &[u8]
+    ensures { result.now ≡ slice_index_or names.now file [] }
+{
+    match names.get(file as usize) {
+        Some(name) => name.as_str().as_bytes(),
+        None => b"",
+    }
+}
+
+// Appends the line of a packet.
+#[tactic(auto, unfolding(crate::specs::Lines::packet_line))]
+fn push_packet(text: &mut String, name: &[u8], packet: &Kept) -> Result<(), AllocError>
+    ensures { OnOk result (string_bytes text.new
+        ≡ string_bytes text.old ++ packet_line name.now packet.now) }
+{
+    writeln!(
+        text,
+        "{} {} {} {} {}",
+        Shown(name),
+        packet.at,
+        packet.length,
+        word_of(packet.kind),
+        packet.set
+    )
+}
+
+// Appends the line after those of all packets.
+#[tactic(auto, unfolding(crate::specs::Lines::count_line))]
+fn push_count(text: &mut String, count: u64) -> Result<(), AllocError>
+    ensures { OnOk result (string_bytes text.new ≡ string_bytes text.old ++ count_line count) }
+{
+    writeln!(text, "packets {count}")
+}
+
+// The word of a kind.
+fn word_of(kind: Kind) -> &'static str
+    ensures { result.now ≡ kind_word kind }
+{
+    match kind {
+        Kind::Main => "main",
+        Kind::FileDesc => "filedesc",
+        Kind::Ifsc => "ifsc",
+        Kind::RecvSlic => "recvslic",
+        Kind::Creator => "creator",
+        Kind::Other(_) => "unknown",
+    }
+}

@@ -1,0 +1,41 @@
+//! Verifies files by their PAR2 recovery sets.
+#![tactic(auto)]
+
+mod command;
+mod files;
+mod listing;
+mod memory_sink;
+mod messages;
+mod program;
+mod runner;
+mod salvaging;
+mod sink;
+mod status;
+#[cfg(test)]
+mod tests;
+mod words;
+mod writer_sink;
+mod writing;
+
+use crate::messages::ending;
+use crate::program::perform;
+use std::io::Write;
+use std::process::ExitCode;
+
+fn main(rt: HostRuntime) -> ExitCode {
+    let (end, file) = perform(&rt);
+    let argument = match &file {
+        Some(file) => file.as_str(),
+        None => "",
+    };
+    match ending(rt.alloc(), &end, argument) {
+        Ok((status, line)) => {
+            let _ = rt.stderr().write_all(&line);
+            ExitCode::from(status)
+        }
+        Err(_) => {
+            let _ = rt.stderr().write_all(b"parv: out of memory\n");
+            ExitCode::from(8)
+        }
+    }
+}

@@ -1,0 +1,66 @@
+ghost use Rattle.std.specs.Prelude.{◌≡◌, ◌++◌, IfOk, string_bytes};
+ghost use Rattle.parfield.specs.Shown.{shown};
+ghost use Rattle.parv.specs.Ending.{exit_status_of, message_of, error_line_of};
+
+use crate::command::PlanFault;
+use crate::status::{End, RunFault, Status};
+use parfield::Shown;
+use std::alloc::{AllocError, Global};
+
+/// The exit status, and the line for standard error, which is empty where nothing went wrong.
+/// `argument` is the file that a failure to open or to read is about.
+pub fn ending(alloc: Global, end: &End, argument: &str) -> Result<(u8, Vec<u8>), AllocError>
+    ensures status { IfOk result (λ answer. answer.0 ≡ exit_status_of end.now) }
+    ensures line { IfOk result (λ answer. answer.1.items
+        ≡ error_line_of (message_of end.now argument.now)) }
+{
+    let line = line(alloc, end, argument)?;
+    Ok((exit_status(end), line.into_bytes()))
+}
+
+fn exit_status(end: &End) -> u8
+    ensures { result ≡ exit_status_of end.now }
+{
+    match end {
+        End::Status(Status::Listed) => 0,
+        End::Plan(PlanFault::Memory) | End::Memory | End::Run(RunFault::Memory) => 8,
+        End::Plan(_) => 3,
+        End::CannotOpen | End::Run(RunFault::Read { .. }) | End::Run(RunFault::Write) => 6,
+    }
+}
+
+// The line of an end.
+fn line(alloc: Global, end: &End, argument: &str) -> Result<String, AllocError>
+    ensures { IfOk result (λ line. string_bytes line
+        ≡ error_line_of (message_of end.now argument.now)) }
+{
+    let name = Shown(argument.as_bytes());
+    match end {
+        End::Status(Status::Listed) => Ok(String::new(alloc)),
+        End::Plan(PlanFault::Usage) => {
+            plain(alloc, "usage: parv packets|set|find|verify [options] FILES")
+        }
+        End::Plan(PlanFault::Value) => plain(alloc, "bad value"),
+        End::Plan(PlanFault::NoPacketFile) => plain(alloc, "no packet file"),
+        End::Run(RunFault::Write) => plain(alloc, "write fault"),
+        End::CannotOpen => about(alloc, "cannot open ", name),
+        End::Run(RunFault::Read { .. }) => about(alloc, "read fault in ", name),
+        End::Plan(PlanFault::Memory) | End::Memory | End::Run(RunFault::Memory) => {
+            plain(alloc, "out of memory")
+        }
+    }
+}
+
+fn plain(alloc: Global, message: &str) -> Result<String, AllocError>
+    ensures { IfOk result (λ line. string_bytes line ≡ error_line_of (Some message.now)) }
+{
+    format!(in alloc; "parv: {message}\n")
+}
+
+fn about(alloc: Global, what: &str, name: Shown<'_>) -> Result<String, AllocError>
+    ensures { IfOk result (λ line. string_bytes line
+        ≡ error_line_of (Some (what.now ++ shown name.entry.0.now))) }
+{
+    let message = format!(in alloc; "{what}{name}")?;
+    Ok(plain(alloc, message.as_str())?)
+}

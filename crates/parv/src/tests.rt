@@ -1,0 +1,4 @@
+mod fixtures;
+mod listing;
+mod refusals;
+mod words;

@@ -1,0 +1,228 @@
+// Packets and files that the tests run on, and runs over files in memory.
+ghost use Rattle.std.specs.Prelude.{◌≡◌, ◌<◌, ◌^◌, length, IfOk};
+ghost use Rattle.parshelf.specs.Memory.{shelf_state_of};
+
+use crate::command::{Command, Plan};
+use crate::memory_sink::MemSink;
+use crate::messages::ending;
+use crate::runner::run;
+use crate::status::{End, RunFault};
+use crate::words::plan;
+use md5::{Digest, Md5};
+use parfield::{Hash16, Sequence, Text};
+use parshelf::{MemShelf, Shelf};
+use std::alloc::{AllocError, Global};
+use std::process::Abort;
+use std::test::Fail;
+
+/// The set ID of the set with the one file `g.bin`, as it is written and as bytes.
+pub const SET: &str = "617cdc72ba53d94fe713fea2ae18f776";
+
+pub const SET_ID: [u8; 16] = *b"\x61\x7c\xdc\x72\xba\x53\xd9\x4f\xe7\x13\xfe\xa2\xae\x18\xf7\x76";
+
+/// The file ID of `g.bin`.
+const FILE_ID: [u8; 16] = *b"\xe3\x45\xea\xcb\xe6\x56\xc0\xe6\xfd\x20\xed\x63\xcb\x7b\x06\x2c";
+
+pub const ZEROS: [u8; 16] = [0; 16];
+
+pub const MAIN: [u8; 16] = *b"PAR 2.0\0Main\0\0\0\0";
+
+pub const FILE_DESC: [u8; 16] = *b"PAR 2.0\0FileDesc";
+
+pub const IFSC: [u8; 16] = *b"PAR 2.0\0IFSC\0\0\0\0";
+
+pub const RECV_SLIC: [u8; 16] = *b"PAR 2.0\0RecvSlic";
+
+pub const CREATOR: [u8; 16] = *b"PAR 2.0\0Creator\0";
+
+/// A packet with the length and the hash that its fields ask for.
+pub fn packet(
+    alloc: Global,
+    set: &[u8; 16],
+    kind: &[u8; 16],
+    body: &[u8],
+) -> Result<Vec<u8>, AllocError> {
+    let length = (body.len() as u64).saturating_add(64);
+    let mut hasher = Md5::new();
+    hasher.update(set);
+    hasher.update(kind);
+    hasher.update(body);
+    let mut bytes = Vec::from_slice(alloc, b"PAR2\0PKT")?;
+    bytes.extend_from_slice(&length.to_le_bytes())?;
+    bytes.extend_from_slice(&hasher.finalize())?;
+    bytes.extend_from_slice(set)?;
+    bytes.extend_from_slice(kind)?;
+    bytes.extend_from_slice(body)?;
+    Ok(bytes)
+}
+
+/// A Creator packet of set ID zeros, without a body.
+pub fn creator(alloc: Global) -> Result<Vec<u8>, AllocError> {
+    packet(alloc, &ZEROS, &CREATOR, b"")
+}
+
+/// The set with slices of 4 bytes and the one file `g.bin`, which holds `abcdefgh`: Main, FileDesc,
+/// IFSC, and a RecvSlic packet whose data has another length than a slice.
+pub fn set_of_one_file(alloc: Global) -> Result<Vec<u8>, AllocError> {
+    let mut main = Vec::from_slice(alloc, b"\x04\0\0\0\0\0\0\0\x01\0\0\0")?;
+    main.extend_from_slice(&FILE_ID)?;
+    let whole = Md5::digest(b"abcdefgh");
+    let mut description = Vec::from_slice(alloc, &FILE_ID)?;
+    description.extend_from_slice(&whole)?;
+    description.extend_from_slice(&whole)?;
+    description.extend_from_slice(b"\x08\0\0\0\0\0\0\0g.bin\0\0\0")?;
+    let mut sums = Vec::from_slice(alloc, &FILE_ID)?;
+    sums.extend_from_slice(&Md5::digest(b"abcd"))?;
+    sums.extend_from_slice(b"\x11\xcd\x82\xed")?;
+    sums.extend_from_slice(&Md5::digest(b"efgh"))?;
+    sums.extend_from_slice(b"\xb5\x7b\x33\x08")?;
+    let mut bytes = packet(alloc, &SET_ID, &MAIN, &main)?;
+    bytes.append(&mut packet(alloc, &SET_ID, &FILE_DESC, &description)?)?;
+    bytes.append(&mut packet(alloc, &SET_ID, &IFSC, &sums)?)?;
+    bytes.append(&mut packet(
+        alloc,
+        &SET_ID,
+        &RECV_SLIC,
+        b"\0\0\0\0\0\x01\x02\x03\x04\x05\x06\x07",
+    )?)?;
+    Ok(bytes)
+}
+
+/// The words of a command line.
+pub fn words_of(alloc: Global, words: &[&str]) -> Result<Vec<String>, AllocError> {
+    let mut all = Vec::new(alloc);
+    for word in words {
+        all.push(String::from_str(alloc, word)?)?;
+    }
+    Ok(all)
+}
+
+/// Files in memory that are read `piece` bytes at a time, where the read of one number fails; no
+/// read has the number 0.
+pub fn shelf_of(
+    alloc: Global,
+    files: &[&[u8]],
+    piece: usize,
+    failing: u64,
+) -> Result<MemShelf, AllocError>
+    requires few { length files.now < 2 ^ 32 }
+    requires piece { 0 < piece }
+    ensures { IfOk result (λ shelf. length (shelf_state_of shelf).lengths ≡ length files.now) }
+{
+    let mut all = Vec::new(alloc);
+    for (_i, file) in files.iter().enumerate() {
+        all.push(Vec::from_slice(alloc, file)?)?;
+    }
+    let mut numbers = Vec::new(alloc);
+    numbers.push(failing)?;
+    Ok(MemShelf::new(all, piece, numbers))
+}
+
+/// How a run ended: its exit status, what it wrote, and the line for standard error.
+#[derive(Drop)]
+pub struct Outcome {
+    pub status: u8,
+    pub text: Vec<u8>,
+    pub line: Vec<u8>,
+}
+
+/// Runs a command over packet files in memory with all the room that there is.
+pub fn ran(
+    rt: &(impl Abort + AllocGlobal),
+    words: &[&str],
+    packets: &[&[u8]],
+) -> Result<Outcome, Fail> {
+    ran_with(
+        rt,
+        words,
+        packets,
+        64,
+        0,
+        Room {
+            bytes: 4096,
+            piece: 4096,
+            takes_zero: false,
+        },
+    )
+}
+
+/// The room of a sink in memory.
+#[derive(Clone, Copy)]
+pub struct Room {
+    pub bytes: usize,
+    pub piece: usize,
+    pub takes_zero: bool,
+}
+
+/// Runs a command with reads of `piece` bytes, of which one may fail, and a sink with some room.
+pub fn ran_with(
+    rt: &(impl Abort + AllocGlobal),
+    words: &[&str],
+    packets: &[&[u8]],
+    piece: usize,
+    failing: u64,
+    room: Room,
+) -> Result<Outcome, Fail> {
+    let alloc = rt.alloc();
+    let words = words_of(alloc, words)?;
+    match plan(alloc, &words) {
+        Ok(plan) => ran_plan(rt, &plan, packets, piece, failing, room),
+        Err(fault) => {
+            let (status, line) = ending(alloc, &End::Plan(fault), "")?;
+            Ok(Outcome {
+                status,
+                text: Vec::new(alloc),
+                line,
+            })
+        }
+    }
+}
+
+/// Runs a plan.
+pub fn ran_plan(
+    rt: &(impl Abort + AllocGlobal),
+    plan: &Plan,
+    packets: &[&[u8]],
+    piece: usize,
+    failing: u64,
+    room: Room,
+) -> Result<Outcome, Fail> {
+    let alloc = rt.alloc();
+    assert!(rt; packets.len() < 1000 && piece > 0 && room.piece > 0);
+    let mut shelf = shelf_of(alloc, packets, piece, failing)?;
+    let mut scanned = shelf_of(alloc, &[], 1, 0)?;
+    let mut out = MemSink::new(alloc, room.bytes, room.piece, room.takes_zero)?;
+    assert_eq!(rt; shelf.count() as usize, plan.packets.len());
+    let result = run(alloc, plan, &mut shelf, &mut scanned, &mut out);
+    let argument = match result {
+        Err(RunFault::Read { file, .. }) => plan
+            .packets
+            .as_slice()
+            .get(file as usize)
+            .ok_or("file")?
+            .as_str(),
+        _ => "",
+    };
+    let end = match result {
+        Ok(status) => End::Status(status),
+        Err(fault) => End::Run(fault),
+    };
+    let (status, line) = ending(alloc, &end, argument)?;
+    Ok(Outcome {
+        status,
+        text: Vec::from_slice(alloc, out.text())?,
+        line,
+    })
+}
+
+/// The plan of `packets` over the one file `p.par2`, of which one set is asked for.
+pub fn chosen(alloc: Global, set: [u8; 16]) -> Result<Plan, AllocError> {
+    let mut packets = Vec::new(alloc);
+    packets.push(Text::from_string(String::from_str(alloc, "p.par2")?))?;
+    Ok(Plan {
+        command: Command::Packets,
+        set: Some(Hash16(set)),
+        packets: Sequence::from_vec(packets),
+        scanned: Sequence::from_vec(Vec::new(alloc)),
+    })
+}

@@ -1,0 +1,149 @@
+use crate::command::PlanFault;
+use crate::messages::ending;
+use crate::sink::Sink;
+use crate::status::{End, RunFault, Status};
+use crate::tests::fixtures::*;
+use crate::writer_sink::WriteSink;
+use parshelf::ReadFault;
+use std::test::Fail;
+
+const ROOMY: Room = Room {
+    bytes: 4096,
+    piece: 4096,
+    takes_zero: false,
+};
+
+#[test]
+fn writer_that_takes_ten_bytes(rt: HostRuntime) -> Result<(), Fail> {
+    let file = set_of_one_file(rt.alloc())?;
+    for takes_zero in [false, true] {
+        let room = Room {
+            bytes: 10,
+            piece: 4096,
+            takes_zero,
+        };
+        let ran = ran_with(&rt, &["packets", "v.par2"], &[&file], 64, 0, room)?;
+        assert_eq!(rt; ran.text.as_slice(), b"v.par2 0 9".as_slice());
+        assert_eq!(rt; ran.line.as_slice(), b"parv: write fault\n".as_slice());
+        assert_eq!(rt; ran.status, 6);
+    }
+    Ok(())
+}
+
+#[test]
+fn writer_that_fails_at_each_byte(rt: HostRuntime) -> Result<(), Fail> {
+    let file = set_of_one_file(rt.alloc())?;
+    let whole = ran(&rt, &["packets", "v.par2"], &[&file])?;
+    for bytes in 0..whole.text.len() {
+        let room = Room {
+            bytes,
+            piece: 7,
+            takes_zero: bytes % 2 == 0,
+        };
+        let ran = ran_with(&rt, &["packets", "v.par2"], &[&file], 64, 0, room)?;
+        assert_eq!(rt; ran.text.as_slice(), &whole.text[..bytes]);
+        assert_eq!(rt; ran.status, 6);
+    }
+    Ok(())
+}
+
+#[test]
+fn writer_that_takes_one_byte_a_call(rt: HostRuntime) -> Result<(), Fail> {
+    let file = set_of_one_file(rt.alloc())?;
+    let whole = ran(&rt, &["packets", "v.par2"], &[&file])?;
+    let room = Room {
+        bytes: whole.text.len(),
+        piece: 1,
+        takes_zero: false,
+    };
+    let ran = ran_with(&rt, &["packets", "v.par2"], &[&file], 64, 0, room)?;
+    assert_eq!(rt; ran.text.as_slice(), whole.text.as_slice());
+    assert_eq!(rt; ran.status, 0);
+    Ok(())
+}
+
+#[test]
+fn each_read_failing_in_turn(rt: HostRuntime) -> Result<(), Fail> {
+    let first = creator(rt.alloc())?;
+    let second = set_of_one_file(rt.alloc())?;
+    // The 64 bytes of the first file are read by so many reads, and all 480 by so many.
+    for (piece, in_first, in_all) in [(1, 64, 480), (64, 1, 8)] {
+        for failing in 1..=in_all {
+            let ran = ran_with(
+                &rt,
+                &["packets", "u.par2", "v.par2"],
+                &[&first, &second],
+                piece,
+                failing,
+                ROOMY,
+            )?;
+            assert!(rt; ran.text.is_empty());
+            assert_eq!(rt; ran.status, 6);
+            let line = if failing <= in_first {
+                "parv: read fault in u.par2\n"
+            } else {
+                "parv: read fault in v.par2\n"
+            };
+            assert_eq!(rt;
+                std::str::from_utf8(&ran.line),
+                Ok(line),
+                "read {failing} by {piece}"
+            );
+        }
+        let ran = ran_with(
+            &rt,
+            &["packets", "u.par2", "v.par2"],
+            &[&first, &second],
+            piece,
+            in_all + 1,
+            ROOMY,
+        )?;
+        assert_eq!(rt; ran.status, 0);
+    }
+    Ok(())
+}
+
+#[test]
+fn writer_sinks_write_what_they_take(rt: HostRuntime) -> Result<(), Fail> {
+    let mut bytes = Vec::new(rt.alloc());
+    let mut out = WriteSink::new(&mut bytes);
+    assert_eq!(rt; out.put(b""), Ok(0));
+    assert_eq!(rt; out.put(b"abc"), Ok(3));
+    assert_eq!(rt; out.put(b"d"), Ok(1));
+    assert_eq!(rt; bytes.as_slice(), b"abcd".as_slice());
+    Ok(())
+}
+
+#[test]
+fn endings_and_their_lines(rt: HostRuntime) -> Result<(), Fail> {
+    let read = RunFault::Read {
+        packet: true,
+        file: 0,
+        fault: ReadFault::Failed,
+    };
+    for (end, status, line) in [
+        (End::Status(Status::Listed), 0, ""),
+        (
+            End::Plan(PlanFault::Usage),
+            3,
+            "parv: usage: parv packets|set|find|verify [options] FILES\n",
+        ),
+        (End::Plan(PlanFault::Value), 3, "parv: bad value\n"),
+        (
+            End::Plan(PlanFault::NoPacketFile),
+            3,
+            "parv: no packet file\n",
+        ),
+        (End::Plan(PlanFault::Memory), 8, "parv: out of memory\n"),
+        (End::CannotOpen, 6, "parv: cannot open a\\x0ab\n"),
+        (End::Memory, 8, "parv: out of memory\n"),
+        (End::Run(read), 6, "parv: read fault in a\\x0ab\n"),
+        (End::Run(RunFault::Write), 6, "parv: write fault\n"),
+        (End::Run(RunFault::Memory), 8, "parv: out of memory\n"),
+    ] {
+        let (code, text) = ending(rt.alloc(), &end, "a\nb")?;
+        assert_eq!(rt; code, status, "{end:?}");
+        assert_eq!(rt; std::str::from_utf8(&text), Ok(line), "{end:?}");
+    }
+    Ok(())
+}

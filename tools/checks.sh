@@ -1,0 +1,49 @@
+#!/usr/bin/env bash
+# Runs the built program, crates/parv/out/parv, against what it must print: the independent lister
+# on the set in demo/, files that can't be opened, outputs that fail, and refused allocations.
+set -uo pipefail
+cd "$(dirname "$0")/.."
+top=$PWD
+parv=$top/crates/parv/out/parv
+work=$(mktemp -d)
+trap 'rm -rf "$work"' EXIT
+failed=0
+
+# wants NAME STATUS TEXT LINE COMMAND..: the exit status, standard output and standard error.
+wants() {
+    local name=$1 status=$2 text=$3 line=$4
+    shift 4
+    timeout 20 "$@" > "$work/text" 2> "$work/line" < /dev/null
+    local got=$?
+    if [ $got -eq "$status" ] && [ "$(cat "$work/text")" = "$text" ] && [ "$(cat "$work/line")" = "$line" ]; then
+        echo "ok: $name"
+    else
+        echo "FAILED: $name: status $got, $(head -c 300 "$work/text") $(head -c 300 "$work/line")"
+        failed=1
+    fi
+}
+
+cd "$top/demo"
+wants "the packets of the damaged set are those of the independent lister" 0 \
+    "$(python3 ../tools/list_packets.py ./*.par2)" "" "$parv" packets ./*.par2
+for file in ./*.par2; do
+    wants "the packets of $file" 0 "$(python3 ../tools/list_packets.py "$file")" "" "$parv" packets "$file"
+done
+
+cd "$work"
+cp "$top/crates/parv/data/v.par2" .
+mkdir folder.par2
+mkfifo fifo.par2
+wants "a missing file" 6 "" "parv: cannot open none.par2" "$parv" packets v.par2 none.par2
+wants "a folder" 6 "" "parv: cannot open folder.par2" "$parv" packets folder.par2
+wants "a FIFO" 6 "" "parv: cannot open fifo.par2" "$parv" packets fifo.par2
+ln -s /dev/zero zero.par2
+wants "a device" 6 "" "parv: cannot open zero.par2" "$parv" packets zero.par2
+wants "no words" 3 "" "parv: usage: parv packets|set|find|verify [options] FILES" "$parv"
+wants "no packet file" 3 "" "parv: no packet file" "$parv" packets x.bin
+wants "a full device" 6 "" "parv: write fault" sh -c '"$0" packets v.par2 > /dev/full' "$parv"
+wants "a closed output" 6 "" "parv: write fault" sh -c '"$0" packets v.par2 >&-' "$parv"
+wants "an argument that is no text" 3 "" "parv: usage: parv packets|set|find|verify [options] FILES" \
+    sh -c '"$0" packets "$(printf "\377.par2")"' "$parv"
+"$top/tools/refuse_allocations.sh" packets v.par2 && "$top/tools/refuse_allocations.sh" packets none.par2 || failed=1
+exit $failed
