@@ -30,6 +30,12 @@ for file in ./*.par2; do
     wants "the packets of $file" 0 "$(python3 ../tools/list_packets.py "$file")" "" "$parv" packets "$file"
 done
 
+wants "the set of the damaged volumes is that of the independent reading" 0 \
+    "$(python3 ../tools/describe_set.py ./*.par2)" "" "$parv" set ./*.par2
+wants "the set of the damaged volume alone" 0 \
+    "$(python3 ../tools/describe_set.py ./photos.vol03+4.damaged.par2)" "" \
+    "$parv" set ./photos.vol03+4.damaged.par2
+
 cd "$work"
 cp "$top/crates/parv/data/v.par2" .
 mkdir folder.par2
@@ -45,5 +51,8 @@ wants "a full device" 6 "" "parv: write fault" sh -c '"$0" packets v.par2 > /dev
 wants "a closed output" 6 "" "parv: write fault" sh -c '"$0" packets v.par2 >&-' "$parv"
 wants "an argument that is no text" 3 "" "parv: usage: parv packets|set|find|verify [options] FILES" \
     sh -c '"$0" packets "$(printf "\377.par2")"' "$parv"
-"$top/tools/refuse_allocations.sh" packets v.par2 && "$top/tools/refuse_allocations.sh" packets none.par2 || failed=1
+for words in "packets v.par2" "packets none.par2" "set v.par2"; do
+    # shellcheck disable=SC2086
+    "$top/tools/refuse_allocations.sh" $words || failed=1
+done
 exit $failed

@@ -6,3 +6,6 @@ parv=$PWD/crates/parv/out/parv
 cd demo
 echo '$ parv packets' ./*.par2
 "$parv" packets ./*.par2
+echo
+echo '$ parv set' ./*.par2
+"$parv" set ./*.par2

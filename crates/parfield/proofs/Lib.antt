@@ -1,3 +1,4 @@
 pub mod ByteLaws
 pub mod GhostSteps
+pub mod OrderLaws
 pub mod ShownLaws

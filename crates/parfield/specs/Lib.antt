@@ -1,5 +1,7 @@
 pub mod Added
 pub mod Bytes
+pub mod Hash16
+pub mod HashOrder
 pub mod Kind
 pub mod Packet
 pub mod Shown

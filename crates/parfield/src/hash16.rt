@@ -1,9 +1,63 @@
+ghost use Rattle.std.specs.Prelude.{◌≡◌, reverse};
+ghost use Rattle.std.specs.Cmp.{partial_order_from_own_ties};
+ghost use Rattle.std.specs.Cmp.Lexicographic.{slice_cmp};
+ghost use Rattle.std.specs.Cmp.Rules.{comparing};
+ghost use Rattle.std.specs.Ordering.{nat_cmp, on, as_partial_cmp};
+ghost use Rattle.std.proofs.Common.{rules};
+ghost use Rattle.parfield.specs.HashOrder.{bytes_eq-reversed};
+
 use crate::hex_byte::HexByte;
+use hex::FromHex;
+use std::cmp::Ordering;
 use std::fmt;
 
 /// An MD5 hash, or an ID that is one, as its sixteen bytes in order.
 #[derive(Clone, Copy, Debug, PartialEq, Eq, Hash)]
 pub struct Hash16(pub [u8; 16]);
+
+impl Hash16 {
+    ghost use Rattle.parfield.specs.Hash16.{hash_in};
+
+    /// The hash that 32 hexadecimal digits of either case are.
+    pub fn read(text: &[u8]) -> Option<Hash16>
+        ensures { result ≡ hash_in text.now }
+    {
+        match <[u8; 16] as FromHex>::from_hex(text) {
+            Ok(bytes) => Some(Hash16(bytes)),
+            Err(_) => None,
+        }
+    }
+}
+
+impl Ord for Hash16 {
+    ghost cmp = { on (λ hash. reverse hash.0) (slice_cmp nat_cmp) };
+
+    ghost total = { Prim.search (comparing, rules) };
+
+    ghost matches_partial_cmp = { Prim.search (comparing, rules) };
+
+    ghost matches_eq = { λ a b. bytes_eq-reversed a.0 b.0 };
+
+    /// The order of the sixteen bytes as a little-endian number: the last byte weighs most.
+    fn cmp(&self, other: &Hash16) -> Ordering {
+        let mut bytes = self.0;
+        let mut other_bytes = other.0;
+        bytes.reverse();
+        other_bytes.reverse();
+        bytes.cmp(&other_bytes)
+    }
+}
+
+impl PartialOrd for Hash16 {
+    ghost partial_cmp = { as_partial_cmp (on (λ hash. reverse hash.0) (slice_cmp nat_cmp)) };
+
+    ghost laws = { partial_order_from_own_ties (Prim.search (comparing, rules))
+        (λ a b. bytes_eq-reversed a.0 b.0) };
+
+    fn partial_cmp(&self, other: &Hash16) -> Option<Ordering> {
+        Some(self.cmp(other))
+    }
+}
 
 impl fmt::Display for Hash16 {
     ghost use Rattle.std.specs.Prelude.{Some};

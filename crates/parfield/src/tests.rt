@@ -132,3 +132,41 @@ fn counts_take_no_bytes() {
     let mut transcript = Transcript::new();
     transcript.append(b"abc");
 }
+
+#[test]
+fn hashes_are_read_from_digits_of_either_case(rt: HostRuntime) {
+    let mut bytes = [0; 16];
+    bytes[0] = 0xab;
+    bytes[15] = 0x1f;
+    for (text, hash) in [
+        (
+            b"ab00000000000000000000000000001f".as_slice(),
+            Some(Hash16(bytes)),
+        ),
+        (
+            b"AB00000000000000000000000000001F".as_slice(),
+            Some(Hash16(bytes)),
+        ),
+        (b"ab00000000000000000000000000001".as_slice(), None),
+        (b"ab00000000000000000000000000001f0".as_slice(), None),
+        (b"ab00000000000000000000000000001g".as_slice(), None),
+        (b" b00000000000000000000000000001f".as_slice(), None),
+        (b"".as_slice(), None),
+    ] {
+        assert_eq!(rt; Hash16::read(text), hash);
+    }
+}
+
+#[test]
+fn last_byte_of_an_id_weighs_most(rt: HostRuntime) {
+    let mut last = [0; 16];
+    last[15] = 1;
+    let mut first = [0; 16];
+    first[0] = 2;
+    assert!(rt; Hash16(first) < Hash16(last));
+    assert_eq!(rt;
+        Hash16(first).cmp(&Hash16(first)),
+        std::cmp::Ordering::Equal
+    );
+    ids_follow_numbers();
+}

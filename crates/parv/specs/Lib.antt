@@ -5,7 +5,8 @@ pub mod Listing
 pub mod MemorySink
 pub mod Report
 pub mod Salvaging
+pub mod SetListing
 pub mod SinkState
+pub mod Texts
 pub mod Words
 pub mod WriterSink
-pub mod Writing

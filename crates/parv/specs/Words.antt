@@ -4,7 +4,7 @@ use Rattle.std.specs.List.{list_any}
 use Rattle.std.specs.Str.{bytes_eq}
 use Rattle.parv.specs.FileWords.{is_packet_file, is_scanned_file, is_option, scanned_as}
 use Rattle.parv.specs.declared.command.Command.{Command}
-use Rattle.parv.specs.declared.command.Command.TheVariants.{Packets}
+use Rattle.parv.specs.declared.command.Command.TheVariants.{Packets, Set}
 use Rattle.parv.specs.declared.command.Plan.{Plan}
 use Rattle.parv.specs.declared.command.PlanFault.{PlanFault}
 use Rattle.parv.specs.declared.command.PlanFault.TheVariants.{Usage, Value, NoPacketFile, Memory}
@@ -17,7 +17,10 @@ Err e >>= f = Err e
 
 -- the command that a word names
 abbrev pub command_of : List ℕ → Result Command PlanFault
-command_of word = if bytes_eq word (codes "packets") then Ok Packets else Err Usage
+command_of word =
+    if bytes_eq word (codes "packets") then Ok Packets
+    else if bytes_eq word (codes "set") then Ok Set
+    else Err Usage
 
 -- one or more files, at most 65,535
 abbrev pub files_of : List (List ℕ) → Result (List (List ℕ)) PlanFault

@@ -10,6 +10,8 @@ use thiserror::Error;
 pub enum Command {
     /// Lists the packets of the packet files.
     Packets,
+    /// Shows the recovery set that the packets describe.
+    Set,
 }
 
 /// What the program is to do, by the words of its command line.

@@ -40,7 +40,7 @@ fn is_asked_for(choice: Option<Hash16>, packet: &Kept) -> bool
 }
 
 // The name of a packet file.
-fn name_at(names: &[Text], file: u32) -> &[u8]
+pub fn name_at(names: &[Text], file: u32) -> &[u8]
     ensures { result.now ≡ slice_index_or names.now file [] }
 {
     match names.get(file as usize) {

@@ -9,10 +9,12 @@ mod messages;
 mod program;
 mod runner;
 mod salvaging;
+mod set_listing;
 mod sink;
 mod status;
 #[cfg(test)]
 mod tests;
+mod texts;
 mod words;
 mod writer_sink;
 mod writing;

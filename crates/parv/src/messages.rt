@@ -1,9 +1,9 @@
-ghost use Rattle.std.specs.Prelude.{◌≡◌, ◌++◌, IfOk, string_bytes};
+ghost use Rattle.std.specs.Prelude.{◌≡◌, ◌++◌, IfOk, string_bytes, codes};
 ghost use Rattle.parfield.specs.Shown.{shown};
-ghost use Rattle.parv.specs.Ending.{exit_status_of, message_of, error_line_of};
+ghost use Rattle.parv.specs.Ending.{exit_status_of, message_of, error_line_of, cause_text};
 
 use crate::command::PlanFault;
-use crate::status::{End, RunFault, Status};
+use crate::status::{Cause, End, RunFault, Status};
 use parfield::Shown;
 use std::alloc::{AllocError, Global};
 
@@ -25,6 +25,7 @@ fn exit_status(end: &End) -> u8
         End::Status(Status::Listed) => 0,
         End::Plan(PlanFault::Memory) | End::Memory | End::Run(RunFault::Memory) => 8,
         End::Plan(_) => 3,
+        End::Run(RunFault::Set(_)) => 4,
         End::CannotOpen | End::Run(RunFault::Read { .. }) | End::Run(RunFault::Write) => 6,
     }
 }
@@ -42,6 +43,7 @@ fn line(alloc: Global, end: &End, argument: &str) -> Result<String, AllocError>
         }
         End::Plan(PlanFault::Value) => plain(alloc, "bad value"),
         End::Plan(PlanFault::NoPacketFile) => plain(alloc, "no packet file"),
+        End::Run(RunFault::Set(cause)) => no_set(alloc, *cause),
         End::Run(RunFault::Write) => plain(alloc, "write fault"),
         End::CannotOpen => about(alloc, "cannot open ", name),
         End::Run(RunFault::Read { .. }) => about(alloc, "read fault in ", name),
@@ -63,4 +65,25 @@ fn about(alloc: Global, what: &str, name: Shown<'_>) -> Result<String, AllocErro
 {
     let message = format!(in alloc; "{what}{name}")?;
     Ok(plain(alloc, message.as_str())?)
+}
+
+// The line of a cause why there is no set.
+fn no_set(alloc: Global, cause: Cause) -> Result<String, AllocError>
+    ensures { IfOk result (λ line. string_bytes line
+        ≡ error_line_of (Some (codes "no usable set: " ++ cause_text cause))) }
+{
+    let why = why(alloc, cause)?;
+    let message = format!(in alloc; "no usable set: {why}")?;
+    Ok(plain(alloc, message.as_str())?)
+}
+
+fn why(alloc: Global, cause: Cause) -> Result<String, AllocError>
+    ensures { IfOk result (λ text. string_bytes text ≡ cause_text cause) }
+{
+    match cause {
+        Cause::NoMain => format!(in alloc; "no main"),
+        Cause::NoDesc(id) => format!(in alloc; "no description of {id}"),
+        Cause::NameTwice(id) => format!(in alloc; "name twice {id}"),
+        Cause::TooManySlices => format!(in alloc; "too many slices"),
+    }
 }

@@ -1,14 +1,12 @@
 ghost use Rattle.std.specs.Prelude.{◌≡◌, ℕ, List, length, IsTrue, false, IfErr};
-ghost use Rattle.parv.specs.Listing.{packets_text};
-ghost use Rattle.parv.specs.Writing.{Writes};
 ghost use Rattle.parv.specs.Report.{report_of, report_by, reads_scanned, is_read, Answers, EndsPackets, EndsScanned, EndsSink};
 
-use crate::command::{Command, Plan};
-use crate::listing::list_packets;
+use crate::command::Plan;
 use crate::salvaging::{PacketsFault, salvage_files};
 use crate::sink::Sink;
 use crate::status::{RunFault, Status};
-use crate::writing::{TextFault, write_text};
+use crate::texts::{NoText, text_of};
+use crate::writing::write_text;
 use parsalvage::Kept;
 use parshelf::{Failed, Shelf};
 use std::alloc::Global;
@@ -61,28 +59,12 @@ fn run_over<W: Sink>(
     ensures own { IfErr result (λ fault. is_read fault ≡ false) }
     ensures sink { EndsSink result (W.state out.old) (W.state out.new) }
 {
-    match plan.command {
-        Command::Packets => match write_packets(alloc, plan, kept, out) {
+    match text_of(alloc, plan, kept) {
+        Ok(text) => match write_text(out, text.as_bytes()) {
             Ok(()) => Ok(Status::Listed),
-            Err(TextFault::Write) => Err(RunFault::Write),
-            Err(TextFault::Memory) => Err(RunFault::Memory),
+            Err(Failed) => Err(RunFault::Write),
         },
-    }
-}
-
-// `packets`.
-fn write_packets<W: Sink>(
-    alloc: Global,
-    plan: &Plan,
-    kept: &[Kept],
-    out: &mut W,
-) -> Result<(), TextFault>
-    ensures { Writes (packets_text plan.now.packets plan.now.set kept.now) result
-        (W.state out.old) (W.state out.new) }
-{
-    let text = list_packets(alloc, plan.packets.as_slice(), plan.set, kept)?;
-    match write_text(out, text.as_bytes()) {
-        Ok(()) => Ok(()),
-        Err(Failed) => Err(TextFault::Write),
+        Err(NoText::Set(cause)) => Err(RunFault::Set(cause)),
+        Err(NoText::Memory) => Err(RunFault::Memory),
     }
 }

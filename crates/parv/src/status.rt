@@ -1,4 +1,5 @@
 use crate::command::PlanFault;
+use parfield::Hash16;
 use parshelf::ReadFault;
 use thiserror::Error;
 
@@ -9,9 +10,25 @@ pub enum Status {
     Listed,
 }
 
+/// Why packets give no recovery set, in the order in which it is tested.
+#[derive(Clone, Copy, Debug, PartialEq, Eq)]
+pub enum Cause {
+    /// There is no usable Main packet, or none of the set that is asked for.
+    NoMain,
+    /// The least recovery ID without a usable FileDesc packet.
+    NoDesc(Hash16),
+    /// The least recovery ID whose name a smaller recovery ID has.
+    NameTwice(Hash16),
+    /// The files have too many slices together.
+    TooManySlices,
+}
+
 /// Why a run wrote no whole text.
 #[derive(Clone, Copy, Debug, PartialEq, Eq, Error)]
 pub enum RunFault {
+    /// The packets give no recovery set.
+    #[error("no usable set")]
+    Set(Cause),
     /// A packet file, where `packet`, or else a scanned file could not be read.
     #[error("read fault")]
     Read {

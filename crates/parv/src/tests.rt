@@ -1,3 +1,4 @@
+mod describing;
 mod fixtures;
 mod listing;
 mod refusals;

@@ -38,6 +38,8 @@ fn command_named(word: &str) -> Result<Command, PlanFault>
 {
     if word == "packets" {
         Ok(Command::Packets)
+    } else if word == "set" {
+        Ok(Command::Set)
     } else {
         Err(PlanFault::Usage)
     }

@@ -21,7 +21,7 @@ pub const SET: &str = "617cdc72ba53d94fe713fea2ae18f776";
 pub const SET_ID: [u8; 16] = *b"\x61\x7c\xdc\x72\xba\x53\xd9\x4f\xe7\x13\xfe\xa2\xae\x18\xf7\x76";
 
 /// The file ID of `g.bin`.
-const FILE_ID: [u8; 16] = *b"\xe3\x45\xea\xcb\xe6\x56\xc0\xe6\xfd\x20\xed\x63\xcb\x7b\x06\x2c";
+pub const FILE_ID: [u8; 16] = *b"\xe3\x45\xea\xcb\xe6\x56\xc0\xe6\xfd\x20\xed\x63\xcb\x7b\x06\x2c";
 
 pub const ZEROS: [u8; 16] = [0; 16];
 
@@ -61,24 +61,68 @@ pub fn creator(alloc: Global) -> Result<Vec<u8>, AllocError> {
     packet(alloc, &ZEROS, &CREATOR, b"")
 }
 
-/// The set with slices of 4 bytes and the one file `g.bin`, which holds `abcdefgh`: Main, FileDesc,
-/// IFSC, and a RecvSlic packet whose data has another length than a slice.
-pub fn set_of_one_file(alloc: Global) -> Result<Vec<u8>, AllocError> {
-    let mut main = Vec::from_slice(alloc, b"\x04\0\0\0\0\0\0\0\x01\0\0\0")?;
-    main.extend_from_slice(&FILE_ID)?;
-    let whole = Md5::digest(b"abcdefgh");
-    let mut description = Vec::from_slice(alloc, &FILE_ID)?;
-    description.extend_from_slice(&whole)?;
-    description.extend_from_slice(&whole)?;
-    description.extend_from_slice(b"\x08\0\0\0\0\0\0\0g.bin\0\0\0")?;
+/// The body of a Main packet with slices of 4 bytes.
+pub fn main_body(
+    alloc: Global,
+    recovery: &[[u8; 16]],
+    others: &[[u8; 16]],
+) -> Result<Vec<u8>, AllocError> {
+    let mut body = Vec::from_slice(alloc, &[4, 0, 0, 0, 0, 0, 0, 0])?;
+    body.extend_from_slice(&(recovery.len().min(1000) as u32).to_le_bytes())?;
+    for id in recovery {
+        body.extend_from_slice(id)?;
+    }
+    for id in others {
+        body.extend_from_slice(id)?;
+    }
+    Ok(body)
+}
+
+/// The body of a FileDesc packet of a file with this content but another length field; the name is
+/// filled up by the caller.
+pub fn description(
+    alloc: Global,
+    id: &[u8; 16],
+    content: &[u8],
+    length: u64,
+    name: &[u8],
+) -> Result<Vec<u8>, AllocError> {
+    let digest = Md5::digest(content);
+    let mut body = Vec::from_slice(alloc, id)?;
+    body.extend_from_slice(&digest)?;
+    body.extend_from_slice(&digest)?;
+    body.extend_from_slice(&length.to_le_bytes())?;
+    body.extend_from_slice(name)?;
+    Ok(body)
+}
+
+/// The Main packet of the set with slices of 4 bytes and the one file `g.bin`.
+pub fn main_of_one_file(alloc: Global) -> Result<Vec<u8>, AllocError> {
+    packet(alloc, &SET_ID, &MAIN, &main_body(alloc, &[FILE_ID], &[])?)
+}
+
+/// The FileDesc packet of `g.bin`, which holds `abcdefgh`.
+pub fn description_of_one_file(alloc: Global) -> Result<Vec<u8>, AllocError> {
+    let body = description(alloc, &FILE_ID, b"abcdefgh", 8, b"g.bin\0\0\0")?;
+    packet(alloc, &SET_ID, &FILE_DESC, &body)
+}
+
+/// The IFSC packet of `g.bin`.
+pub fn sums_of_one_file(alloc: Global) -> Result<Vec<u8>, AllocError> {
     let mut sums = Vec::from_slice(alloc, &FILE_ID)?;
     sums.extend_from_slice(&Md5::digest(b"abcd"))?;
     sums.extend_from_slice(b"\x11\xcd\x82\xed")?;
     sums.extend_from_slice(&Md5::digest(b"efgh"))?;
     sums.extend_from_slice(b"\xb5\x7b\x33\x08")?;
-    let mut bytes = packet(alloc, &SET_ID, &MAIN, &main)?;
-    bytes.append(&mut packet(alloc, &SET_ID, &FILE_DESC, &description)?)?;
-    bytes.append(&mut packet(alloc, &SET_ID, &IFSC, &sums)?)?;
+    packet(alloc, &SET_ID, &IFSC, &sums)
+}
+
+/// The set with slices of 4 bytes and the one file `g.bin`, which holds `abcdefgh`: Main, FileDesc,
+/// IFSC, and a RecvSlic packet whose data has another length than a slice.
+pub fn set_of_one_file(alloc: Global) -> Result<Vec<u8>, AllocError> {
+    let mut bytes = main_of_one_file(alloc)?;
+    bytes.append(&mut description_of_one_file(alloc)?)?;
+    bytes.append(&mut sums_of_one_file(alloc)?)?;
     bytes.append(&mut packet(
         alloc,
         &SET_ID,
@@ -215,12 +259,12 @@ pub fn ran_plan(
     })
 }
 
-/// The plan of `packets` over the one file `p.par2`, of which one set is asked for.
-pub fn chosen(alloc: Global, set: [u8; 16]) -> Result<Plan, AllocError> {
+/// The plan of a command over the one file `p.par2`, of which one set is asked for.
+pub fn chosen(alloc: Global, command: Command, set: [u8; 16]) -> Result<Plan, AllocError> {
     let mut packets = Vec::new(alloc);
     packets.push(Text::from_string(String::from_str(alloc, "p.par2")?))?;
     Ok(Plan {
-        command: Command::Packets,
+        command,
         set: Some(Hash16(set)),
         packets: Sequence::from_vec(packets),
         scanned: Sequence::from_vec(Vec::new(alloc)),

@@ -1,3 +1,4 @@
+use crate::command::Command;
 use crate::tests::fixtures::*;
 use std::process::Abort;
 use std::test::Fail;
@@ -161,7 +162,7 @@ fn packets_of_a_chosen_set(rt: HostRuntime) -> Result<(), Fail> {
         ),
         ([1; 16], "packets 0\n"),
     ] {
-        let plan = chosen(rt.alloc(), set)?;
+        let plan = chosen(rt.alloc(), Command::Packets, set)?;
         let room = Room {
             bytes: 4096,
             piece: 4096,

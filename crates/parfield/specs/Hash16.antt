@@ -1,0 +1,14 @@
+-- Hashes and IDs of sixteen bytes: how they are read, and their order.
+use Rattle.std.specs.Prelude.{ℕ, List, Option, Some, None, Result, Ok, Err}
+use Rattle.hex.specs.Hex.{decode_sized}
+use Rattle.hex.specs.declared.error.FromHexError.{FromHexError}
+use Rattle.parfield.specs.declared.hash16.Hash16.{Hash16}
+
+-- the hash of bytes that were decoded
+abbrev pub hash_by : Result (List ℕ) FromHexError → Option Hash16
+hash_by (Ok bytes) = Some (record { 0 = bytes })
+hash_by (Err fault) = None
+
+-- the hash that 32 hexadecimal digits of either case are
+abbrev pub hash_in : List ℕ → Option Hash16
+hash_in text = hash_by (decode_sized text 16)

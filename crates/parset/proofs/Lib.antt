@@ -1,0 +1,11 @@
+pub mod BodyLaws
+pub mod ChainLaws
+pub mod ChoosingLaws
+pub mod DescribingLaws
+pub mod ExponentLaws
+pub mod FileLaws
+pub mod IdLaws
+pub mod MainLaws
+pub mod RepeatLaws
+pub mod SetLaws
+pub mod SliceLaws

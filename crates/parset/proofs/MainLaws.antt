@@ -1,0 +1,89 @@
+-- The limits of a usable Main packet.
+use Rattle.std.proofs.Common.{◌≡◌, ℕ, ◌+◌, ◌%◌, ◌≤◌, ⊎_elim, Bool, true, false, not, List, [], ◌∷◌, Option, Some, None, ap, arith, bytes_eq, cond, drop, length, length-drop, length-take, refl, subst, take, ◌==◌, ◌||◌, nat_lt, ◌⊎◌, inl, inr}
+use Rattle.std.proofs.lemmas.Bool.Decides.{nat_tests}
+use Rattle.std.specs.Option.{option_map, option_or}
+use Rattle.std.proofs.lemmas.Bool.{or_parts}
+use Rattle.parfield.specs.declared.hash16.Hash16.{Hash16}
+use Rattle.parfield.specs.declared.kind.Kind.{Kind}
+use Rattle.parfield.specs.declared.kind.Kind.TheVariants as kind
+use Rattle.parsalvage.specs.declared.kept.Kept.{Kept}
+use Rattle.parsalvage.specs.declared.kept.KeptBody.{KeptBody}
+use Rattle.parsalvage.specs.declared.kept.KeptBody.TheVariants.{Whole, Front}
+use Rattle.parset.specs.Bodies.{file_count_field, file_ids_of, main_of, slice_size_field}
+use Rattle.parset.specs.Choosing.{chosen_main_in, first_main_of, is_chosen, main_by, main_in, usable}
+use Rattle.parset.specs.Reasons.{first_reason, has_repeat, has_wrong_main_length, has_wrong_size, is_large_main, is_over_limit, main_reason}
+use Rattle.md5.specs.Md5.{md5}
+use Rattle.parset.specs.declared.aside.Aside.TheVariants.{IdTwice, OverLimit, SetId, SliceSize, WrongLength}
+use Rattle.parset.specs.RecoverySet.{IsWithinLimits}
+use Rattle.parset.specs.declared.aside.Aside.{Aside}
+use Rattle.parset.specs.declared.main_packet.Main.{Main}
+
+-- no line applies where there is no reason
+line_of : (b : Bool) (why : Aside) (rest : Option Aside) → cond b (Some why) rest ≡ None → (b ≡ false) × (rest ≡ None)
+line_of true why rest e = absurd (cc)
+line_of false why rest e = (refl, e)
+
+third_and_fourth : (a b c d : Bool × Aside) (rest : List (Bool × Aside)) → first_reason (a ∷ b ∷ c ∷ d ∷ rest) ≡ None → (c.0 ≡ false) × (d.0 ≡ false)
+third_and_fourth a b c d rest e =
+    let two = (line_of a.0 a.1 (first_reason (b ∷ c ∷ d ∷ rest)) e).1 in
+    let three = (line_of b.0 b.1 (first_reason (c ∷ d ∷ rest)) two).1 in
+    let at = line_of c.0 c.1 (first_reason (d ∷ rest)) three in
+    (at.0, (line_of d.0 d.1 (first_reason rest) at.1).0)
+
+size_bounds : (size ids : ℕ) → (size == 0 || not (size % 4 == 0)) ≡ false → (nat_lt 268435456 size || nat_lt 32768 ids) ≡ false
+    → (4 ≤ size) × (size ≤ 268435456) × (ids ≤ 32768)
+size_bounds size ids h k =
+    let a = or_parts (size == 0) (not (size % 4 == 0)) h in let b = or_parts (nat_lt 268435456 size) (nat_lt 32768 ids) k in
+    let least : 4 ≤ size = grind (arith, nat_tests) in
+    let small : size ≤ 268435456 = grind (arith, nat_tests) in
+    let few : ids ≤ 32768 = grind (arith, nat_tests) in
+    (least, small, few)
+
+body_bounds : (body : List ℕ) (set : Hash16) → main_reason body set ≡ None
+    → (4 ≤ slice_size_field body) × (slice_size_field body ≤ 268435456) × (length (file_ids_of body) ≤ 32768)
+unfolding main_reason
+body_bounds body set e =
+    let both = third_and_fourth (is_over_limit body, OverLimit) (has_wrong_main_length body, WrongLength) (has_wrong_size body, SliceSize) (is_large_main body, OverLimit)
+    ((has_repeat (file_ids_of body), IdTwice) ∷ (not (bytes_eq (md5 body) set.0), SetId) ∷ []) e in
+    size_bounds (slice_size_field body) (length (file_ids_of body)) both.0 both.1
+
+-- how many IDs two parts have
+parts : {X : Type 0} (n : ℕ) (xs : List X) → length (take n xs) + length (drop n xs) ≤ length xs
+parts n xs = omega (arith, length-take n xs, length-drop n xs)
+
+usable_bounds : (body : List ℕ) (set : Hash16) (o : Option Aside) (main : Main) → main_reason body set ≡ o → usable o (main_of body) ≡ Some main → IsWithinLimits main
+usable_bounds body set (Some why) main r e = absurd (cc)
+usable_bounds body set None main r e =
+    let b = body_bounds body set r in
+    let is : main_of body ≡ main = cc in
+    subst IsWithinLimits is (b.0, b.1, omega (arith, parts (file_count_field body) (file_ids_of body), b.2))
+
+main_bounds : (k : Kind) (b : KeptBody) (set : Hash16) (main : Main) → main_by k b set ≡ Some main → IsWithinLimits main
+main_bounds kind.Main (Whole body) set main e = usable_bounds body set (main_reason body set) main refl e
+main_bounds kind.Main (Front first len) set main e = absurd (cc)
+main_bounds kind.FileDesc b set main e = absurd (cc)
+main_bounds kind.Ifsc b set main e = absurd (cc)
+main_bounds kind.RecvSlic b set main e = absurd (cc)
+main_bounds kind.Creator b set main e = absurd (cc)
+main_bounds (kind.Other field) b set main e = absurd (cc)
+
+chosen_bounds : (k : Kept) (chosen : Bool) (o : Option Main) (id : Hash16) (main : Main) → main_in k ≡ o
+    → cond chosen (option_map {U = Hash16 × Main} (λ fields. (k.set, fields)) o) None ≡ Some (id, main) → IsWithinLimits main
+chosen_bounds k false o id main is e = absurd (cc)
+chosen_bounds k true None id main is e = absurd (cc)
+chosen_bounds k true (Some fields) id main is e =
+    let pair : (k.set, fields) ≡ (id, main) = cc in let same : fields ≡ main = ap (λ (p : Hash16 × Main). p.1) pair in subst IsWithinLimits same (main_bounds k.kind k.body k.set fields is)
+
+-- what the first that is found is, or is not there
+first_is : {T : Type 0} (o rest : Option T) (t : T) → option_or o rest ≡ Some t → (o ≡ Some t) ⊎ (rest ≡ Some t)
+first_is None rest t e = inr e
+first_is (Some x) rest t e = inl e
+
+pub first_main_bounds : (choice : Option Hash16) (packets : List Kept) (id : Hash16) (main : Main)
+    → first_main_of choice packets ≡ Some (id, main) → IsWithinLimits main
+first_main_bounds choice [] id main e = absurd (cc)
+first_main_bounds choice (k ∷ packets) id main e =
+    ⊎_elim
+    (λ here. chosen_bounds k (is_chosen choice k) (main_in k) id main refl here)
+    (λ later. first_main_bounds choice packets id main later)
+    (first_is (chosen_main_in choice k) (first_main_of choice packets) (id, main) e)

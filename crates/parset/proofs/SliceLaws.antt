@@ -1,0 +1,69 @@
+-- The slices of files: how many there are, and how long each is.
+use Rattle.std.proofs.Common.{◌≡◌, ℕ, ◌+◌, ◌-◌, ◌*◌, ◌<◌, ◌≤◌, ◌∙◌, Bool, List, [], ◌∷◌, arith, length, length-append, map, min, refl, subst, sym, zero-add}
+use Rattle.std.specs.BTreeMap.{BTreeMap}
+use Rattle.std.specs.List.{All, count_by, list_any, flat_map, range_with_len}
+use Rattle.std.proofs.lemmas.List.{length-map}
+use Rattle.std.proofs.lemmas.List.Elements.{All-append, All-nil}
+use Rattle.std.proofs.lemmas.List.FromFn.{get_or-map-range_with_len, length-map-range_with_len, length-range_with_len}
+use Rattle.std.proofs.lemmas.List.Sums.{count_by-le-length, sum_by-cons}
+use Rattle.std.proofs.lemmas.Nat.{div-add-mod'}
+use Rattle.std.proofs.Math.Nat.{mul-le-mul_right}
+use Rattle.parfield.specs.declared.hash16.Hash16.{Hash16}
+use Rattle.parsalvage.specs.declared.kept.Kept.{Kept}
+use Rattle.parset.specs.Choosing.{exponent_count_of, has_exponent, all_exponents}
+use Rattle.parset.specs.RecoverySet.{FileView, file_views, set_file_of, slice_count, slice_of, slice_total, slices_of_file}
+use Rattle.parset.specs.declared.checksums.Ifsc.{Ifsc}
+use Rattle.parset.specs.declared.description.Desc.{Desc}
+use Rattle.parset.specs.declared.recovery_set.SetSlice.{SetSlice}
+use Rattle.parset.proofs.FileLaws.{viewed}
+
+pub length-shown : (found : BTreeMap Hash16 Ifsc) (files : List Desc) → length (map set_file_of (file_views found files)) ≡ length files
+length-shown found files = length-map (file_views found files) set_file_of ∙ length-map files (viewed found)
+
+length-slices_of_file : (size : ℕ) (v : FileView) → length (slices_of_file size v) ≡ slice_count size v.file.length
+length-slices_of_file size v = length-map-range_with_len (slice_of size v) 0 (slice_count size v.file.length)
+
+pub length-slices : (size : ℕ) (found : BTreeMap Hash16 Ifsc) (files : List Desc)
+    → length (flat_map (slices_of_file size) (file_views found files)) ≡ slice_total size files
+length-slices size found [] = refl
+length-slices size found (file ∷ files) =
+    let v = viewed found file in
+    omega (
+      arith,
+      length-append (slices_of_file size v) (flat_map (slices_of_file size) (file_views found files)),
+      length-slices_of_file size v,
+      length-slices size found files,
+      sum_by-cons (λ (f : Desc). slice_count size f.length) file files,
+    )
+
+-- ---- how long a slice is
+abbrev pub HasLength : ℕ → SetSlice → Type 0
+HasLength size slice = (0 < slice.length) × (slice.length ≤ size)
+
+-- a slice that is counted begins within the file
+begins_within : (size n j : ℕ) → 0 < size → j < slice_count size n → j * size < n
+begins_within size n j h k = grind (arith, div-add-mod' (n + (size - 1)) size, mul-le-mul_right)
+
+slice_length : (size n j : ℕ) → 0 < size → j < slice_count size n → (0 < min size (n - j * size)) × (min size (n - j * size) ≤ size)
+slice_length size n j h k = let b = begins_within size n j h k in (omega arith, omega arith)
+
+slices_of_file_within : (size : ℕ) → 0 < size → (v : FileView) → All (HasLength size) (slices_of_file size v)
+slices_of_file_within size h v = λ k d below.
+    let count = slice_count size v.file.length in
+    let k-below : k < count = omega (arith, length-slices_of_file size v) in
+    subst (HasLength size) (sym (get_or-map-range_with_len (slice_of size v) 0 count k k d k-below (zero-add k))) (slice_length size v.file.length k h k-below)
+
+pub slices_within : (size : ℕ) → 0 < size → (found : BTreeMap Hash16 Ifsc) (files : List Desc)
+    → All (HasLength size) (flat_map (slices_of_file size) (file_views found files))
+slices_within size h found [] = All-nil (HasLength size)
+slices_within size h found (file ∷ files) =
+    All-append (HasLength size) (slices_of_file size (viewed found file)) (flat_map (slices_of_file size) (file_views found files))
+    (slices_of_file_within size h (viewed found file)) (slices_within size h found files)
+
+-- ---- how many exponents there are
+count_below : (p : ℕ → Bool) (n : ℕ) → count_by p (range_with_len 0 n) ≤ n
+count_below p n = omega (arith, count_by-le-length p (range_with_len 0 n), length-range_with_len 0 n)
+
+pub exponents_within : (size : ℕ) (own : List Kept) → exponent_count_of size own ≤ 65535
+unfolding all_exponents
+exponents_within size own = count_below (λ e. list_any (has_exponent size e) own) 65535

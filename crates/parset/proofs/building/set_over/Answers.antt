@@ -1,0 +1,35 @@
+use Rattle.std.proofs.Common.{◌<◌, ◌≤◌, ◌∙◌, ap, arith, length, map, subst, sym}
+use Rattle.std.specs.List.{flat_map}
+use Rattle.std.proofs.lemmas.Result.{IfOk-from_err}
+use Rattle.parset.specs.RecoverySet.{set_file_of, slices_of_file, with_sums}
+use Rattle.parset.proofs.FileLaws.{set_over_is}
+use Rattle.std.proofs.lemmas.List.Elements.{All-same}
+use Rattle.parset.proofs.SliceLaws.{HasLength, exponents_within, length-shown, length-slices, slices_within}
+use Rattle.parset.proofs.building.set_over.Goals as goal
+
+pub returns-in_err-creator : goal.returns-in_err-creator
+returns-in_err-creator c = IfOk-from_err _ _ c.from_residual-in_err-creator.ensures.0
+
+pub returns-in_err-asides : goal.returns-in_err-asides
+returns-in_err-asides c = IfOk-from_err _ _ c.from_residual-in_err-asides.ensures.0
+
+pub returns : goal.returns
+returns c =
+    let own = map (λ k. k.now) c.args.own.now in let main = c.args.main.now in
+    set_over_is c.args.id main own (map (with_sums main.size own) c.args.files.now) _ _ _ _ _ _
+    (c.in_ok-set_files.ensures ∙ ap (map set_file_of) c.in_ok-sums.ensures)
+    (c.in_ok-set_slices.ensures ∙ ap (flat_map (slices_of_file main.size)) c.in_ok-sums.ensures)
+    c.len.ensures c.in_ok-exponent_count.ensures c.in_ok-creator.ensures c.in_ok-asides.ensures
+
+pub invariant_of-result : goal.invariant_of-result
+invariant_of-result c =
+    let main = c.args.main.now in let sums = c.in_ok-sums.sums in let files = c.args.files.now in
+    let above : 0 < main.size = omega (arith, c.requires.limits.0) in
+    record {
+      size = (c.requires.limits.0, c.requires.limits.1);
+      files = subst (λ n. n ≤ 32768) (sym (ap length c.in_ok-set_files.ensures ∙ length-shown sums files)) c.requires.few;
+      slices = subst (λ n. n ≤ 32768) (sym (ap length c.in_ok-set_slices.ensures ∙ length-slices main.size sums files)) c.requires.few_slices;
+      lengths = All-same (HasLength main.size) _ _ c.in_ok-set_slices.ensures (slices_within main.size above sums files);
+      others = omega (arith, c.len.ensures, c.requires.limits.2);
+      have = subst (λ n. n ≤ 65535) (sym c.in_ok-exponent_count.ensures) (exponents_within main.size (map (λ k. k.now) c.args.own.now));
+    }

@@ -1,0 +1,8 @@
+use Rattle.std.specs.List.Sorted.{IsPermutation}
+use Rattle.parset.proofs.IdLaws.{sorted_is_in_order}
+use Rattle.parset.proofs.in_order.in_order.Goals as goal
+
+pub returns : goal.returns
+returns c =
+    let moved : IsPermutation c.args.ids.now c.sort_unstable.new.self.items = rw (← c.in_ok-sorted.ensures.items) c.sort_unstable.ensures.permutation in
+    sorted_is_in_order c.args.ids.now c.sort_unstable.new.self.items moved c.sort_unstable.ensures.sorted

@@ -1,0 +1,89 @@
+ghost use Rattle.std.specs.Prelude.{◌≡◌, ◌<◌, ◌≤◌, length, map, IfOk, Some};
+ghost use Rattle.std.specs.List.{All};
+ghost use Rattle.parset.specs.Choosing.{file_description_of};
+ghost use Rattle.parset.specs.RecoverySet.{AnswersSet, IsWithinLimits, file_views, set_by, set_of, set_over, slice_total, with_sums};
+
+use crate::checksums::Ifsc;
+use crate::choosing::{asides, checksums, creator, exponent_count, first_main, set_packets};
+use crate::describing::{described, names_checked};
+use crate::description::Desc;
+use crate::in_order::in_order;
+use crate::main_packet::Main;
+use crate::recovery_set::{RecoverySet, SetFault};
+use crate::slicing::{set_files, set_slices, slice_counts, slices_checked};
+use parfield::Hash16;
+use parsalvage::Kept;
+use std::alloc::{AllocError, Global};
+use std::collections::BTreeMap;
+
+/// The recovery set of packets, or the first cause why there is none: of the first usable Main
+/// packet, or of the first of the set that is asked for.
+pub fn build(
+    alloc: Global,
+    packets: &[Kept],
+    choice: Option<Hash16>,
+) -> Result<RecoverySet, SetFault>
+    ensures { AnswersSet (set_of packets.now choice) result }
+{
+    match first_main(alloc, packets, choice)? {
+        Some((set, main)) => {
+            let own = set_packets(alloc, packets, set)?;
+            set_by(alloc, set, &main, own.as_slice())
+        }
+        None => Err(SetFault::NoMain),
+    }
+}
+
+// The set of this Main packet among the packets of the set.
+fn set_by(alloc: Global, id: Hash16, main: &Main, own: &[&Kept]) -> Result<RecoverySet, SetFault>
+    requires { IsWithinLimits main.now }
+    ensures { AnswersSet (set_by id main.now (map (λ k. k.now) own.now)) result }
+{
+    let ids = in_order(alloc, main.recovery.as_slice())?;
+    let described = described(alloc, own, ids.as_slice())?;
+    let named = names_checked(alloc, described)?;
+    let files = slices_checked(main.size, named)?;
+    Ok(set_over(alloc, id, main, own, files.as_slice())?)
+}
+
+// The set of these files, which are described as the packets of the set describe them first.
+fn set_over(
+    alloc: Global,
+    id: Hash16,
+    main: &Main,
+    own: &[&Kept],
+    files: &[Desc],
+) -> Result<RecoverySet, AllocError>
+    requires limits { IsWithinLimits main.now }
+    requires few { length files.now ≤ 32768 }
+    requires few_slices { slice_total main.now.size files.now ≤ 32768 }
+    requires first { All (λ file. file_description_of file.id (map (λ k. k.now) own.now) ≡ Some file) files.now }
+    ensures { IfOk result (λ set. set ≡ set_over id main.now (map (λ k. k.now) own.now) (map (with_sums main.now.size (map (λ k. k.now) own.now)) files.now)) }
+{
+    let sums = sums_of(alloc, main.size, own, files)?;
+    Ok(RecoverySet {
+        id,
+        size: main.size,
+        files: set_files(alloc, files, &sums)?,
+        slices: set_slices(alloc, main.size, files, &sums)?,
+        others: main.others.len() as u32,
+        have: exponent_count(alloc, own, main.size)?,
+        creator: creator(alloc, own)?,
+        aside: asides(alloc, own, main.size)?,
+    })
+}
+
+// The sums of the files, by ID.
+fn sums_of(
+    alloc: Global,
+    size: u64,
+    own: &[&Kept],
+    files: &[Desc],
+) -> Result<BTreeMap<Hash16, Ifsc>, AllocError>
+    requires size { 0 < size }
+    requires first { All (λ file. file_description_of file.id (map (λ k. k.now) own.now) ≡ Some file) files.now }
+    ensures { IfOk result (λ sums. file_views sums files.now ≡ map (with_sums size (map (λ k. k.now) own.now)) files.now) }
+{
+    let counts = slice_counts(alloc, size, files)?;
+    checksums(alloc, own, &counts)
+}

@@ -1,0 +1,55 @@
+ghost use Rattle.std.specs.Prelude.{◌≡◌, IfOk, map};
+ghost use Rattle.parset.specs.Bodies.{checksums_of, pair_of};
+ghost use Rattle.parset.specs.Reasons.{AnswersBody, checksums_reason};
+
+use crate::aside::{Aside, BodyFault};
+use crate::fields::{hash_at, is_over_limit, u32_at};
+use parfield::{Hash16, Sequence};
+use std::alloc::{AllocError, Global};
+
+// The most slices of a recovery set, and so of a file.
+const SLICES_LIMIT: usize = 32_768;
+
+/// The fields of an Input File Slice Checksum body.
+#[derive(Drop)]
+pub struct Ifsc {
+    /// The file ID.
+    pub id: Hash16,
+    /// The MD5 and the CRC-32 of each slice of the file, in order.
+    pub sums: Sequence<(Hash16, u32)>,
+}
+
+/// The fields of an Input File Slice Checksum body.
+#[tactic(auto, unfolding(crate::specs::Reasons::checksums_reason, crate::specs::Bodies::pairs_of))]
+pub fn ifsc_body(alloc: Global, body: &[u8]) -> Result<Ifsc, BodyFault>
+    ensures answer { AnswersBody (checksums_reason body.now) (checksums_of body.now) result }
+{
+    if is_over_limit(body) {
+        return Err(Aside::OverLimit.into());
+    }
+    if body.len() < 16 || (body.len() - 16) % 20 != 0 {
+        return Err(Aside::WrongLength.into());
+    }
+    let (pairs, _) = body[16..].as_chunks::<20>();
+    if pairs.len() > SLICES_LIMIT {
+        return Err(Aside::OverLimit.into());
+    }
+    Ok(Ifsc {
+        id: hash_at(body, 0),
+        sums: Sequence::from_vec(sums_of(alloc, pairs)?),
+    })
+}
+
+// The sums of each slice.
+fn sums_of(alloc: Global, pairs: &[[u8; 20]]) -> Result<Vec<(Hash16, u32)>, AllocError>
+    ensures { IfOk result (λ found. found.items ≡ map pair_of pairs.now) }
+{
+    pairs.iter().map(sums_in).collect(alloc)
+}
+
+// The MD5 and the CRC-32 of a slice.
+fn sums_in(pair: &[u8; 20]) -> (Hash16, u32)
+    ensures { result ≡ pair_of pair.now }
+{
+    (hash_at(pair, 0), u32_at(pair, 16))
+}

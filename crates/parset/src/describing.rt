@@ -1,0 +1,69 @@
+ghost use Rattle.std.specs.Prelude.{◌≡◌, [], ◌∷◌, ◌++◌, map, IfOk, option_map};
+ghost use Rattle.parset.specs.RecoverySet.{AnswersSet, descriptions_of, names_checked, repeated_name};
+
+use crate::choosing::descriptions;
+use crate::description::Desc;
+use crate::recovery_set::SetFault;
+use parfield::{Hash16, Sequence};
+use parsalvage::Kept;
+use std::alloc::{AllocError, Global};
+use std::collections::BTreeSet;
+
+// The descriptions of the files of these IDs.
+pub fn described(alloc: Global, own: &[&Kept], ids: &[Hash16]) -> Result<Sequence<Desc>, SetFault>
+    ensures { AnswersSet (descriptions_of (map (λ k. k.now) own.now) ids.now) result }
+{
+    let found = descriptions(alloc, own)?;
+    let mut files = Vec::new(alloc);
+    for id in ids {
+        match found.get(id) {
+            Some(file) => add_copy(alloc, file, &mut files)?,
+            None => return Err(SetFault::NoDesc(*id)),
+        }
+    }
+    Ok(Sequence::from_vec(files))
+}
+
+// Adds the same fields in memory of their own.
+fn add_copy(alloc: Global, file: &Desc, files: &mut Vec<Desc>) -> Result<(), AllocError>
+    ensures { IfOk result (λ _. files.new.items ≡ files.old.items ++ file.now ∷ []) }
+{
+    files.push(copy_of(alloc, file)?)?;
+    Ok(())
+}
+
+// The same fields in memory of their own.
+fn copy_of(alloc: Global, file: &Desc) -> Result<Desc, AllocError>
+    ensures { IfOk result (λ copy. copy ≡ file.now) }
+{
+    Ok(Desc {
+        id: file.id,
+        whole: file.whole,
+        front: file.front,
+        length: file.length,
+        name: Sequence::from_vec(Vec::from_slice(alloc, file.name.as_slice())?),
+    })
+}
+
+// The files, where no two have one name.
+pub fn names_checked(alloc: Global, files: Sequence<Desc>) -> Result<Sequence<Desc>, SetFault>
+    ensures { AnswersSet (names_checked files) result }
+{
+    match repeated_name(alloc, files.as_slice())? {
+        Some(id) => Err(SetFault::NameTwice(id)),
+        None => Ok(files),
+    }
+}
+
+// The ID of the first file whose name a file before has.
+fn repeated_name(alloc: Global, files: &[Desc]) -> Result<Option<Hash16>, AllocError>
+    ensures { IfOk result (λ found. found ≡ option_map (λ file. file.id) (repeated_name [] files.now)) }
+{
+    let mut names = BTreeSet::new(alloc);
+    for file in files {
+        if !names.insert(file.name.as_slice())? {
+            return Ok(Some(file.id));
+        }
+    }
+    Ok(None)
+}

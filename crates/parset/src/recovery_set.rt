@@ -1,0 +1,180 @@
+ghost use Rattle.std.specs.Prelude.{◌≡◌, ◌<◌, ◌≤◌, length, option_map};
+ghost use Rattle.std.specs.List.{All};
+
+use crate::aside::Aside;
+use parfield::{Hash16, Sequence};
+use std::alloc::AllocError;
+use std::marker::Model;
+
+/// A file of a recovery set.
+#[derive(Debug, Drop)]
+pub struct SetFile {
+    /// The file ID.
+    pub id: Hash16,
+    /// The name, of 1 to 4,096 bytes that are not 0.
+    pub name: Sequence<u8>,
+    /// The length in bytes.
+    pub length: u64,
+    /// The MD5 of the whole file.
+    pub whole: Hash16,
+    /// Whether the sums of its slices are known.
+    pub known: bool,
+}
+
+/// A slice of a file of a recovery set.
+#[derive(Clone, Copy, Debug, PartialEq, Eq)]
+pub struct SetSlice {
+    /// The ID of its file.
+    pub id: Hash16,
+    /// Its number within the file, from 0.
+    pub number: u32,
+    /// How many bytes of the file it has: the slice size, or what is left for the last one.
+    pub length: u64,
+    /// The MD5 and the CRC-32 of the slice, filled with zeros to the slice size, where known.
+    pub sums: Option<(Hash16, u32)>,
+}
+
+/// A packet of the set whose body is not usable.
+#[derive(Clone, Copy, Debug, PartialEq, Eq)]
+pub struct SetAside {
+    /// The number of the packet file.
+    pub file: u32,
+    /// The offset in the file.
+    pub at: u64,
+    /// Why it is not usable.
+    pub reason: Aside,
+}
+
+/// Why packets give no recovery set, in the order in which it is tested; want of memory may come
+/// before any.
+#[derive(Clone, Copy, Debug, PartialEq, Eq)]
+pub enum SetFault {
+    /// There is no usable Main packet, or none of the set that is asked for.
+    NoMain,
+    /// The least recovery ID that has no usable FileDesc packet.
+    NoDesc(Hash16),
+    /// The least recovery ID whose name a smaller recovery ID has.
+    NameTwice(Hash16),
+    /// The files have more than 32,768 slices together.
+    TooManySlices,
+    /// Memory was refused.
+    Memory,
+}
+
+impl From<AllocError> for SetFault {
+    ghost use Rattle.parset.specs.declared.recovery_set.SetFault.TheVariants as faults;
+
+    ghost from_gives = { λ _ fault. fault ≡ faults.Memory };
+
+    fn from(_error: AllocError) -> SetFault {
+        SetFault::Memory
+    }
+}
+
+/// A recovery set, as its packets describe it.
+#[derive(Drop)]
+pub struct RecoverySet {
+    pub(crate) id: Hash16,
+    pub(crate) size: u64,
+    pub(crate) files: Vec<SetFile>,
+    pub(crate) slices: Vec<SetSlice>,
+    pub(crate) others: u32,
+    pub(crate) have: u32,
+    pub(crate) creator: Option<Sequence<u8>>,
+    pub(crate) aside: Sequence<SetAside>,
+}
+
+impl Model for RecoverySet {
+    ghost use Rattle.std.specs.Prelude.{◌<◌, ◌≤◌, length};
+    ghost use Rattle.std.specs.List.{All};
+    ghost use Rattle.parset.specs.RecoverySet.{SetView};
+
+    ghost Value = { SetView };
+
+    ghost view = { λ s. record {
+      id = s.id;
+      size = s.size;
+      files = s.files.items;
+      slices = s.slices.items;
+      others = s.others;
+      have = s.have;
+      creator = s.creator;
+      aside = s.aside;
+    } };
+
+    ghost invariant = { λ s. record {
+      size : (4 ≤ s.size) × (s.size ≤ 268435456);
+      files : length s.files.items ≤ 32768;
+      slices : length s.slices.items ≤ 32768;
+      lengths : All (λ x. (0 < x.length) × (x.length ≤ s.size)) s.slices.items;
+      others : s.others ≤ 32768;
+      have : s.have ≤ 65535;
+    } };
+}
+
+impl RecoverySet {
+    /// The recovery set ID.
+    pub fn id(&self) -> Hash16
+        ensures { result ≡ self.now.id }
+    {
+        self.id
+    }
+
+    /// The slice size in bytes.
+    pub fn size(&self) -> u64
+        ensures field { result ≡ self.now.size }
+        ensures bounds { (4 ≤ result) × (result ≤ 268435456) }
+    {
+        self.size
+    }
+
+    /// The files of the recovery set, by ID.
+    pub fn files(&self) -> &[SetFile]
+        ensures field { result.now ≡ self.now.files }
+        ensures few { length result.now ≤ 32768 }
+    {
+        self.files.as_slice()
+    }
+
+    /// The slices of all files, by file ID and number.
+    pub fn slices(&self) -> &[SetSlice]
+        ensures field { result.now ≡ self.now.slices }
+        ensures few { length result.now ≤ 32768 }
+        ensures lengths { All (λ s. (0 < s.length) × (s.length ≤ self.now.size)) result.now }
+    {
+        self.slices.as_slice()
+    }
+
+    /// How many non-recovery files there are.
+    pub fn others(&self) -> u32
+        ensures field { result ≡ self.now.others }
+        ensures few { result ≤ 32768 }
+    {
+        self.others
+    }
+
+    /// How many distinct exponents the usable recovery slices have.
+    pub fn have(&self) -> u32
+        ensures field { result ≡ self.now.have }
+        ensures few { result ≤ 65535 }
+    {
+        self.have
+    }
+
+    /// The text of the client that made the set, where there is one.
+    pub fn creator(&self) -> Option<&[u8]>
+        ensures { option_map (λ text. text.now) result ≡ self.now.creator }
+    {
+        match &self.creator {
+            Some(text) => Some(text.as_slice()),
+            None => None,
+        }
+    }
+
+    /// The packets of the set whose bodies are not usable, by packet file and offset.
+    pub fn aside(&self) -> &[SetAside]
+        ensures { result.now ≡ self.now.aside }
+    {
+        self.aside.as_slice()
+    }
+}
