@@ -40,11 +40,19 @@ cd "$work"
 cp "$top/crates/parv/data/v.par2" .
 mkdir folder.par2
 mkfifo fifo.par2
+head -c 92 v.par2 > main.par2
+wants "a set without a description" 4 "" \
+    "parv: no usable set: no description of e345eacbe656c0e6fd20ed63cb7b062c" "$parv" set main.par2
 wants "a missing file" 6 "" "parv: cannot open none.par2" "$parv" packets v.par2 none.par2
 wants "a folder" 6 "" "parv: cannot open folder.par2" "$parv" packets folder.par2
 wants "a FIFO" 6 "" "parv: cannot open fifo.par2" "$parv" packets fifo.par2
 ln -s /dev/zero zero.par2
 wants "a device" 6 "" "parv: cannot open zero.par2" "$parv" packets zero.par2
+ln -s none.par2 broken.par2
+wants "a broken link" 6 "" "parv: cannot open broken.par2" "$parv" packets broken.par2
+for i in 1 2 3 4 5 6 7; do cp v.par2 "v$i.par2"; done
+wants "more files than may be open at once" 6 "" "parv: cannot open v6.par2" \
+    sh -c 'ulimit -n 8; exec "$0" packets v1.par2 v2.par2 v3.par2 v4.par2 v5.par2 v6.par2 v7.par2' "$parv"
 wants "no words" 3 "" "parv: usage: parv packets|set|find|verify [options] FILES" "$parv"
 wants "no packet file" 3 "" "parv: no packet file" "$parv" packets x.bin
 wants "a full device" 6 "" "parv: write fault" sh -c '"$0" packets v.par2 > /dev/full' "$parv"

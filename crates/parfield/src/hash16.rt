@@ -18,7 +18,7 @@ pub struct Hash16(pub [u8; 16]);
 impl Hash16 {
     ghost use Rattle.parfield.specs.Hash16.{hash_in};
 
-    /// The hash that 32 hexadecimal digits of either case are.
+    /// The hash that 32 hexadecimal digits of either case are; `None` for any other text.
     pub fn read(text: &[u8]) -> Option<Hash16>
         ensures { result ≡ hash_in text.now }
     {

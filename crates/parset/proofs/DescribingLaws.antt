@@ -1,5 +1,5 @@
 -- The descriptions of files one after another, and their names.
-use Rattle.std.proofs.Common.{◌≡◌, ℕ, ◌+◌, ◌<◌, ◌≤◌, ◌∙◌, ap, sym, refl, Bool, true, false, List, [], ◌∷◌, ◌++◌, length, take, drop, get_or, append_assoc, Some, None, Ok, Err, Result, Option, cond, ◌||◌, nat_cmp, nat_lt, suc, ⊎_elim}
+use Rattle.std.proofs.Common.{◌≡◌, ℕ, ◌+◌, ◌<◌, ◌≤◌, ◌∙◌, ap, sym, refl, Bool, true, false, List, [], ◌∷◌, ◌++◌, length, take, drop, get_or, append_assoc, map, Some, None, Ok, Err, Result, Option, cond, ◌||◌, nat_cmp, nat_lt, suc, ⊎_elim}
 use Rattle.std.specs.Option.{option_or}
 use Rattle.std.specs.List.{All}
 use Rattle.std.proofs.lemmas.Bool.{cases_Bool}
@@ -111,11 +111,13 @@ first_found_passes p find [] t e = cc
 first_found_passes p find (x ∷ xs) t e =
     or_passes p (find x) (first_found (λ y. only_if p (find y)) xs) t e (first_found_passes p find xs t)
 
+described_id : (own : List Kept) (id : Hash16) (file : Desc) → file_description_of id own ≡ Some file → file.id ≡ id
+described_id own id file e = same_id file.id id (first_found_passes (λ d. bytes_eq d.id.0 id.0) description_in own file e)
+
 described_itself : (own : List Kept) (id : Hash16) (file : Desc) → file_description_of id own ≡ Some file
     → file_description_of file.id own ≡ Some file
 described_itself own id file e =
-    let same : file.id ≡ id = same_id file.id id (first_found_passes (λ d. bytes_eq d.id.0 id.0) description_in own file e) in
-    ap (λ i. file_description_of i own) same ∙ e
+    ap (λ i. file_description_of i own) (described_id own id file e) ∙ e
 
 -- the descriptions of an ID and others
 record Step (o : Option Desc) (r : Result (List Desc) SetFault) (files : List Desc) : Type 0 where
@@ -148,6 +150,16 @@ length-described own [] files e = let none : files ≡ [] = cc in ap length none
 length-described own (id ∷ ids) files e =
     let s = step_of id (file_description_of id own) (descriptions_of own ids) files e in
     ap length s.all ∙ ap suc (length-described own ids s.more s.others)
+
+-- in the order of the IDs
+pub ids_described : (own : List Kept) (ids : List Hash16) (files : List Desc) → descriptions_of own ids ≡ Ok files → map (λ file. file.id) files ≡ ids
+unfolding descriptions_of
+ids_described own [] files e = let none : files ≡ [] = cc in ap (map (λ file. file.id)) none
+ids_described own (id ∷ ids) files e =
+    let s = step_of id (file_description_of id own) (descriptions_of own ids) files e in
+    ap (map (λ file. file.id)) s.all
+    ∙ (ap (λ i. i ∷ map (λ file. file.id) s.more) (described_id own id s.file s.found)
+    ∙ ap (λ is. id ∷ is) (ids_described own ids s.more s.others))
 
 -- ---- checks give the files that they were given
 names_by_same : (found : Option Desc) (files named : List Desc) → names_by found files ≡ Ok named → named ≡ files

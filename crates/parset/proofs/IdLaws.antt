@@ -45,10 +45,10 @@ pub same_from_eq : (x y : Hash16) → is_eq (id_cmp x y) ≡ true → x ≡ y
 same_from_eq x y e = same_id x y (bytes_eq-reversed x.0 y.0 ∙ e)
 
 -- ---- lists in order
-abbrev IsAtMost : Hash16 → Hash16 → Type 0
+abbrev pub IsAtMost : Hash16 → Hash16 → Type 0
 IsAtMost x y = is_gt (id_cmp x y) ≡ false
 
-abbrev InOrder : List Hash16 → Type 0
+abbrev pub InOrder : List Hash16 → Type 0
 InOrder [] = Unit {0}
 InOrder (x ∷ xs) = All (IsAtMost x) xs × InOrder xs
 
@@ -87,13 +87,13 @@ put_orders id (x ∷ xs) h =
     rw above (All-cons (IsAtMost id) x xs first (All-weaker (IsAtMost x) (IsAtMost id) (λ y le. upto id_cmp_total id x y first le) xs h.0), h))
     (cases_Bool (is_lt (id_cmp x id)))
 
-order_moves : (ids : List Hash16) → IsPermutation ids (ids_in_order ids)
+pub order_moves : (ids : List Hash16) → IsPermutation ids (ids_in_order ids)
 unfolding ids_in_order
 order_moves [] = IsPermutation-refl []
 order_moves (id ∷ ids) =
     IsPermutation-trans _ _ _ (IsPermutation-cons id _ _ (order_moves ids)) (put_moves id (ids_in_order ids))
 
-ordered : (ids : List Hash16) → InOrder (ids_in_order ids)
+pub ordered : (ids : List Hash16) → InOrder (ids_in_order ids)
 unfolding ids_in_order
 ordered [] = tt
 ordered (id ∷ ids) = put_orders id (ids_in_order ids) (ordered ids)

@@ -5,7 +5,9 @@ pub mod DescribingLaws
 pub mod ExponentLaws
 pub mod FileLaws
 pub mod IdLaws
+pub mod LimitLaws
 pub mod MainLaws
 pub mod RepeatLaws
+pub mod RisingLaws
 pub mod SetLaws
 pub mod SliceLaws

@@ -17,30 +17,37 @@ use Rattle.parset.specs.declared.aside.Aside.TheVariants.{IdTwice, OverLimit, Se
 use Rattle.parset.specs.RecoverySet.{IsWithinLimits}
 use Rattle.parset.specs.declared.aside.Aside.{Aside}
 use Rattle.parset.specs.declared.main_packet.Main.{Main}
+use Rattle.parset.proofs.RisingLaws.{front_has_no_repeat}
 
 -- no line applies where there is no reason
 line_of : (b : Bool) (why : Aside) (rest : Option Aside) → cond b (Some why) rest ≡ None → (b ≡ false) × (rest ≡ None)
 line_of true why rest e = absurd (cc)
 line_of false why rest e = (refl, e)
 
-third_and_fourth : (a b c d : Bool × Aside) (rest : List (Bool × Aside)) → first_reason (a ∷ b ∷ c ∷ d ∷ rest) ≡ None → (c.0 ≡ false) × (d.0 ≡ false)
+pub third_and_fourth : (a b c d : Bool × Aside) (rest : List (Bool × Aside)) → first_reason (a ∷ b ∷ c ∷ d ∷ rest) ≡ None → (c.0 ≡ false) × (d.0 ≡ false)
 third_and_fourth a b c d rest e =
     let two = (line_of a.0 a.1 (first_reason (b ∷ c ∷ d ∷ rest)) e).1 in
     let three = (line_of b.0 b.1 (first_reason (c ∷ d ∷ rest)) two).1 in
     let at = line_of c.0 c.1 (first_reason (d ∷ rest)) three in
     (at.0, (line_of d.0 d.1 (first_reason rest) at.1).0)
 
+fifth : (a b c d g : Bool × Aside) (rest : List (Bool × Aside)) → first_reason (a ∷ b ∷ c ∷ d ∷ g ∷ rest) ≡ None → g.0 ≡ false
+fifth a b c d g rest e =
+    let two = (line_of a.0 a.1 (first_reason (b ∷ c ∷ d ∷ g ∷ rest)) e).1 in
+    (third_and_fourth b c d g rest two).1
+
 size_bounds : (size ids : ℕ) → (size == 0 || not (size % 4 == 0)) ≡ false → (nat_lt 268435456 size || nat_lt 32768 ids) ≡ false
-    → (4 ≤ size) × (size ≤ 268435456) × (ids ≤ 32768)
+    → (4 ≤ size) × (size ≤ 268435456) × (ids ≤ 32768) × (size % 4 ≡ 0)
 size_bounds size ids h k =
     let a = or_parts (size == 0) (not (size % 4 == 0)) h in let b = or_parts (nat_lt 268435456 size) (nat_lt 32768 ids) k in
     let least : 4 ≤ size = grind (arith, nat_tests) in
     let small : size ≤ 268435456 = grind (arith, nat_tests) in
     let few : ids ≤ 32768 = grind (arith, nat_tests) in
-    (least, small, few)
+    let multiple : size % 4 ≡ 0 = grind (arith, nat_tests) in
+    (least, small, few, multiple)
 
 body_bounds : (body : List ℕ) (set : Hash16) → main_reason body set ≡ None
-    → (4 ≤ slice_size_field body) × (slice_size_field body ≤ 268435456) × (length (file_ids_of body) ≤ 32768)
+    → (4 ≤ slice_size_field body) × (slice_size_field body ≤ 268435456) × (length (file_ids_of body) ≤ 32768) × (slice_size_field body % 4 ≡ 0)
 unfolding main_reason
 body_bounds body set e =
     let both = third_and_fourth (is_over_limit body, OverLimit) (has_wrong_main_length body, WrongLength) (has_wrong_size body, SliceSize) (is_large_main body, OverLimit)
@@ -51,12 +58,18 @@ body_bounds body set e =
 parts : {X : Type 0} (n : ℕ) (xs : List X) → length (take n xs) + length (drop n xs) ≤ length xs
 parts n xs = omega (arith, length-take n xs, length-drop n xs)
 
+body_repeats : (body : List ℕ) (set : Hash16) → main_reason body set ≡ None → has_repeat (file_ids_of body) ≡ false
+unfolding main_reason
+body_repeats body set e =
+    fifth (is_over_limit body, OverLimit) (has_wrong_main_length body, WrongLength) (has_wrong_size body, SliceSize) (is_large_main body, OverLimit)
+    (has_repeat (file_ids_of body), IdTwice) ((not (bytes_eq (md5 body) set.0), SetId) ∷ []) e
+
 usable_bounds : (body : List ℕ) (set : Hash16) (o : Option Aside) (main : Main) → main_reason body set ≡ o → usable o (main_of body) ≡ Some main → IsWithinLimits main
 usable_bounds body set (Some why) main r e = absurd (cc)
 usable_bounds body set None main r e =
     let b = body_bounds body set r in
     let is : main_of body ≡ main = cc in
-    subst IsWithinLimits is (b.0, b.1, omega (arith, parts (file_count_field body) (file_ids_of body), b.2))
+    subst IsWithinLimits is (b.0, b.1, omega (arith, parts (file_count_field body) (file_ids_of body), b.2), b.3, front_has_no_repeat (file_count_field body) (file_ids_of body) (body_repeats body set r))
 
 main_bounds : (k : Kind) (b : KeptBody) (set : Hash16) (main : Main) → main_by k b set ≡ Some main → IsWithinLimits main
 main_bounds kind.Main (Whole body) set main e = usable_bounds body set (main_reason body set) main refl e
@@ -75,7 +88,7 @@ chosen_bounds k true (Some fields) id main is e =
     let pair : (k.set, fields) ≡ (id, main) = cc in let same : fields ≡ main = ap (λ (p : Hash16 × Main). p.1) pair in subst IsWithinLimits same (main_bounds k.kind k.body k.set fields is)
 
 -- what the first that is found is, or is not there
-first_is : {T : Type 0} (o rest : Option T) (t : T) → option_or o rest ≡ Some t → (o ≡ Some t) ⊎ (rest ≡ Some t)
+pub first_is : {T : Type 0} (o rest : Option T) (t : T) → option_or o rest ≡ Some t → (o ≡ Some t) ⊎ (rest ≡ Some t)
 first_is None rest t e = inr e
 first_is (Some x) rest t e = inl e
 

@@ -1,7 +1,9 @@
 -- A recovery set step by step: the first fault is the answer, and an answer goes on.
-use Rattle.std.proofs.Common.{◌≡◌, ◌∙◌, ℕ, Err, List, Ok, Option, Result, Some, None, ap, length, map, subst, sym}
+use Rattle.std.proofs.Common.{◌≡◌, ◌∙◌, ℕ, Err, List, Ok, Option, Result, Some, None, false, ap, length, map, subst, sym}
 use Rattle.std.specs.List.{All}
+use Rattle.std.specs.List.Sorted.{IsStrictlySortedBy}
 use Rattle.std.proofs.lemmas.List.Elements.{All-same}
+use Rattle.parfield.specs.HashOrder.{id_cmp}
 use Rattle.parfield.specs.declared.hash16.Hash16.{Hash16}
 use Rattle.parsalvage.specs.declared.kept.Kept.{Kept}
 use Rattle.parset.specs.Choosing.{file_description_of, first_main_of, set_packets_of}
@@ -10,9 +12,11 @@ use Rattle.parset.specs.declared.description.Desc.{Desc}
 use Rattle.parset.specs.declared.main_packet.Main.{Main}
 use Rattle.parset.specs.declared.recovery_set.SetFault.{SetFault}
 use Rattle.parset.specs.declared.recovery_set.SetFault.TheVariants.{NoMain}
+use Rattle.parset.specs.Reasons.{has_repeat}
 use Rattle.parset.proofs.IdLaws.{length-ids_in_order}
+use Rattle.parset.proofs.RisingLaws.{rising_ids}
 use Rattle.parset.proofs.ChainLaws.{answer_goes_on, fault_returned}
-use Rattle.parset.proofs.DescribingLaws.{all_described, length-described, names_checked_same, slices_checked_same}
+use Rattle.parset.proofs.DescribingLaws.{all_described, ids_described, length-described, names_checked_same, slices_checked_same}
 
 -- the set that goes on behind its files, behind their names, and behind their descriptions
 abbrev behind_files : Hash16 → Main → List Kept → List Desc → Result SetView SetFault
@@ -74,6 +78,15 @@ pub length-files : (own : List Kept) (main : Main) (ids : List Hash16) (describe
 length-files own main ids described named files is d n s =
     ap length (slices_checked_same main.size named files s ∙ names_checked_same described named n)
     ∙ (length-described own ids described d ∙ (ap length is ∙ length-ids_in_order main.recovery))
+
+-- the files of a set rise by ID
+pub files_rise : (own : List Kept) (main : Main) (ids : List Hash16) (described named files : List Desc) → has_repeat main.recovery ≡ false
+    → ids ≡ ids_in_order main.recovery → descriptions_of own ids ≡ Ok described → names_checked described ≡ Ok named
+    → slices_checked main.size named ≡ Ok files → IsStrictlySortedBy id_cmp (map (λ file. file.id) files)
+files_rise own main ids described named files once is d n s =
+    let same : files ≡ described = slices_checked_same main.size named files s ∙ names_checked_same described named n in
+    subst (IsStrictlySortedBy id_cmp) (sym (ap (map (λ file. file.id)) same ∙ (ids_described own ids described d ∙ is)))
+    (rising_ids main.recovery once)
 
 -- ---- with the Main packet
 pub no_main : (choice : Option Hash16) (packets : List Kept) → first_main_of choice packets ≡ None → set_of packets choice ≡ Err NoMain

@@ -29,7 +29,7 @@ abbrev pub first_found : {X T : Type 0} → (X → Option T) → List X → Opti
 first_found find [] = None
 first_found find (x ∷ xs) = option_or (find x) (first_found find xs)
 
--- it, where it passes
+-- what was found, where it passes
 abbrev pub only_if : {T : Type 0} → (T → Bool) → Option T → Option T
 only_if passes None = None
 only_if passes (Some x) = if passes x then Some x else None
@@ -43,6 +43,7 @@ abbrev pub main_by : Kind → KeptBody → Hash16 → Option Main
 main_by kind.Main (Whole body) set = usable (main_reason body set) (main_of body)
 main_by _ _ set = None
 
+-- the same of a kept packet
 abbrev pub main_in : Kept → Option Main
 main_in k = main_by k.kind k.body k.set
 
@@ -51,6 +52,7 @@ abbrev pub description_by : Kind → KeptBody → Option Desc
 description_by kind.FileDesc (Whole body) = usable (description_reason body) (description_of body)
 description_by _ _ = None
 
+-- the same of a kept packet
 abbrev pub description_in : Kept → Option Desc
 description_in k = description_by k.kind k.body
 
@@ -59,6 +61,7 @@ abbrev pub checksums_by : Kind → KeptBody → Option Ifsc
 checksums_by kind.Ifsc (Whole body) = usable (checksums_reason body) (checksums_of body)
 checksums_by _ _ = None
 
+-- the same of a kept packet
 abbrev pub checksums_in : Kept → Option Ifsc
 checksums_in k = checksums_by k.kind k.body
 
@@ -68,6 +71,7 @@ exponent_by size kind.RecvSlic (Front first len) = usable (slice_reason first le
 exponent_by size kind.RecvSlic (Whole body) = usable (slice_reason (front_of body) (length body) size) (exponent_of (front_of body))
 exponent_by size _ _ = None
 
+-- the same of a kept packet
 abbrev pub exponent_in : ℕ → Kept → Option ℕ
 exponent_in size k = exponent_by size k.kind k.body
 
@@ -77,10 +81,12 @@ creator_by kind.Creator (Whole body) =
     only_if (λ text. not (length text == 0)) (usable (creator_reason body) (creator_text_of body))
 creator_by _ _ = None
 
+-- the same of a kept packet
 abbrev pub creator_in : Kept → Option (List ℕ)
 creator_in k = creator_by k.kind k.body
 
--- why the body is not usable in a set of this slice size; a body of which the front alone is held is too long
+-- why the body is not usable in a set of this slice size; of the four kinds that are held whole, a body of
+-- which the front alone is held is too long
 abbrev pub reason_by : ℕ → Kind → KeptBody → Hash16 → Option Aside
 reason_by size kind.Main (Whole body) set = main_reason body set
 reason_by size kind.Main (Front first len) set = Some OverLimit
@@ -94,6 +100,7 @@ reason_by size kind.RecvSlic (Front first len) set = slice_reason first len size
 reason_by size kind.RecvSlic (Whole body) set = slice_reason (front_of body) (length body) size
 reason_by size (kind.Other field) body set = None
 
+-- the same of a kept packet
 abbrev pub reason_in : ℕ → Kept → Option Aside
 reason_in size k = reason_by size k.kind k.body k.set
 
@@ -106,7 +113,7 @@ is_chosen (Some set) k = bytes_eq k.set.0 set.0
 abbrev pub chosen_main_in : Option Hash16 → Kept → Option (Hash16 × Main)
 chosen_main_in choice k = if is_chosen choice k then option_map (λ fields. (k.set, fields)) (main_in k) else None
 
--- those of the first
+-- the set ID and the fields of the first Main packet that is asked for and usable
 abbrev pub first_main_of : Option Hash16 → List Kept → Option (Hash16 × Main)
 first_main_of choice packets = first_found (chosen_main_in choice) packets
 
@@ -123,15 +130,15 @@ file_sums_of id count packets =
 abbrev pub has_exponent : ℕ → ℕ → Kept → Bool
 has_exponent size exponent k = is_some (only_if (λ e. e == exponent) (exponent_in size k))
 
--- the exponents that there can be
+-- the exponents that there can be: 0 to 65,534
 unfoldable pub all_exponents : List ℕ
 all_exponents = range_with_len 0 65535
 
--- how many exponents there are
+-- how many distinct exponents the usable RecvSlic packets have
 abbrev pub exponent_count_of : ℕ → List Kept → ℕ
 exponent_count_of size packets = count_by (λ e. list_any (has_exponent size e) packets) all_exponents
 
--- the first text
+-- the first text that is not empty
 abbrev pub first_creator_of : List Kept → Option (List ℕ)
 first_creator_of packets = first_found creator_in packets
 

@@ -1,5 +1,5 @@
 -- The recovery set of kept packets (PAR2 2.0, Main, File Description, Input File Slice Checksum packet).
-use Rattle.std.specs.Prelude.{◌≡◌, ◌≤◌, ℕ, ◌+◌, ◌-◌, ◌*◌, Bool, List, [], ◌∷◌, ◌++◌, length, map, sum_by, min, Option, Some, None, is_some, Result, Ok, Err, ⊤, slice_get, if◌then◌else◌, nat_lt}
+use Rattle.std.specs.Prelude.{◌≡◌, ◌<◌, ◌≤◌, ℕ, ◌+◌, ◌-◌, ◌*◌, ◌%◌, ◌^◌, Bool, false, List, [], ◌∷◌, ◌++◌, length, map, sum_by, min, Option, Some, None, is_some, Result, Ok, Err, ⊤, slice_get, if◌then◌else◌, nat_lt}
 use Rattle.std.specs.BTreeMap.{BTreeMap, get}
 use Rattle.std.specs.List.{All, flat_map, list_any, range_with_len}
 use Rattle.std.specs.Int.{div_ceil}
@@ -10,6 +10,7 @@ use Rattle.parfield.specs.HashOrder.{id_cmp}
 use Rattle.parfield.specs.declared.hash16.Hash16.{Hash16}
 use Rattle.parsalvage.specs.declared.kept.Kept.{Kept}
 use Rattle.parset.specs.Choosing.{set_packets_of, first_main_of, file_description_of, file_sums_of, exponent_count_of, first_creator_of, asides_of}
+use Rattle.parset.specs.Reasons.{has_repeat}
 use Rattle.parset.specs.declared.description.Desc.{Desc}
 use Rattle.parset.specs.declared.checksums.Ifsc.{Ifsc}
 use Rattle.parset.specs.declared.main_packet.Main.{Main}
@@ -19,10 +20,15 @@ use Rattle.parset.specs.declared.recovery_set.SetAside.{SetAside}
 use Rattle.parset.specs.declared.recovery_set.SetFault.{SetFault}
 use Rattle.parset.specs.declared.recovery_set.SetFault.TheVariants.{NoMain, NoDesc, NameTwice, TooManySlices, Memory}
 
--- the slice size and the files of a usable Main packet are within the limits
+-- the slice size and the files of a usable Main packet are within the limits, and no file is there twice
 abbrev pub IsWithinLimits : Main → Type 0
 IsWithinLimits main =
-    (4 ≤ main.size) × (main.size ≤ 268435456) × (length main.recovery + length main.others ≤ 32768)
+    (4 ≤ main.size) × (main.size ≤ 268435456) × (length main.recovery + length main.others ≤ 32768) × (main.size % 4 ≡ 0)
+    × (has_repeat main.recovery ≡ false)
+
+-- a file has less than 2⁶³ bytes, and a name of 1 to 4,096 bytes that are not 0
+abbrev pub HasFileLimits : ℕ → List ℕ → Type 0
+HasFileLimits len name = (len < 2 ^ 63) × (0 < length name) × (length name ≤ 4096) × All (λ b. 0 < b) name
 
 -- the `?` of the logic
 infixl 10 ◌>>=◌

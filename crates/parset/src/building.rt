@@ -1,5 +1,7 @@
-ghost use Rattle.std.specs.Prelude.{◌≡◌, ◌<◌, ◌≤◌, length, map, IfOk, Some};
+ghost use Rattle.std.specs.Prelude.{◌≡◌, ◌+◌, ◌<◌, ◌≤◌, length, map, IfOk, Some};
 ghost use Rattle.std.specs.List.{All};
+ghost use Rattle.std.specs.List.Sorted.{IsStrictlySortedBy};
+ghost use Rattle.parfield.specs.HashOrder.{id_cmp};
 ghost use Rattle.parset.specs.Choosing.{file_description_of};
 ghost use Rattle.parset.specs.RecoverySet.{AnswersSet, IsWithinLimits, file_views, set_by, set_of, set_over, slice_total, with_sums};
 
@@ -16,8 +18,8 @@ use parsalvage::Kept;
 use std::alloc::{AllocError, Global};
 use std::collections::BTreeMap;
 
-/// The recovery set of packets, or the first cause why there is none: of the first usable Main
-/// packet, or of the first of the set that is asked for.
+/// The recovery set of the first usable Main packet, or of the first one of the chosen set; or the
+/// first cause why there is none. Every "first" is by the order of the packets handed in.
 pub fn build(
     alloc: Global,
     packets: &[Kept],
@@ -55,9 +57,10 @@ fn set_over(
     files: &[Desc],
 ) -> Result<RecoverySet, AllocError>
     requires limits { IsWithinLimits main.now }
-    requires few { length files.now ≤ 32768 }
+    requires few { length files.now + length main.now.others ≤ 32768 }
     requires few_slices { slice_total main.now.size files.now ≤ 32768 }
     requires first { All (λ file. file_description_of file.id (map (λ k. k.now) own.now) ≡ Some file) files.now }
+    requires rising { IsStrictlySortedBy id_cmp (map (λ file. file.id) files.now) }
     ensures { IfOk result (λ set. set ≡ set_over id main.now (map (λ k. k.now) own.now) (map (with_sums main.now.size (map (λ k. k.now) own.now)) files.now)) }
 {
     let sums = sums_of(alloc, main.size, own, files)?;

@@ -1,4 +1,5 @@
-//! Bodies of PAR2 packets: their fields, or the first reason why one is not usable.
+//! Bodies of PAR2 packets, with the first reason why one is not usable, and the recovery set that
+//! they describe.
 #![tactic(auto)]
 
 mod aside;

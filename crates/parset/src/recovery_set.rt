@@ -1,5 +1,8 @@
-ghost use Rattle.std.specs.Prelude.{◌≡◌, ◌<◌, ◌≤◌, length, option_map};
+ghost use Rattle.std.specs.Prelude.{◌≡◌, ◌+◌, ◌%◌, ◌<◌, ◌≤◌, length, map, option_map};
 ghost use Rattle.std.specs.List.{All};
+ghost use Rattle.std.specs.List.Sorted.{IsStrictlySortedBy};
+ghost use Rattle.parfield.specs.HashOrder.{id_cmp};
+ghost use Rattle.parset.specs.RecoverySet.{HasFileLimits};
 
 use crate::aside::Aside;
 use parfield::{Hash16, Sequence};
@@ -85,9 +88,11 @@ pub struct RecoverySet {
 }
 
 impl Model for RecoverySet {
-    ghost use Rattle.std.specs.Prelude.{◌<◌, ◌≤◌, length};
+    ghost use Rattle.std.specs.Prelude.{◌≡◌, ◌+◌, ◌%◌, ◌<◌, ◌≤◌, length, map};
     ghost use Rattle.std.specs.List.{All};
-    ghost use Rattle.parset.specs.RecoverySet.{SetView};
+    ghost use Rattle.std.specs.List.Sorted.{IsStrictlySortedBy};
+    ghost use Rattle.parfield.specs.HashOrder.{id_cmp};
+    ghost use Rattle.parset.specs.RecoverySet.{HasFileLimits, SetView};
 
     ghost Value = { SetView };
 
@@ -104,10 +109,14 @@ impl Model for RecoverySet {
 
     ghost invariant = { λ s. record {
       size : (4 ≤ s.size) × (s.size ≤ 268435456);
+      multiple : s.size % 4 ≡ 0;
       files : length s.files.items ≤ 32768;
+      limits : All (λ f. HasFileLimits f.length f.name) s.files.items;
+      rising : IsStrictlySortedBy id_cmp (map (λ f. f.id) s.files.items);
       slices : length s.slices.items ≤ 32768;
       lengths : All (λ x. (0 < x.length) × (x.length ≤ s.size)) s.slices.items;
       others : s.others ≤ 32768;
+      all_ids : length s.files.items + s.others ≤ 32768;
       have : s.have ≤ 65535;
     } };
 }
@@ -124,6 +133,7 @@ impl RecoverySet {
     pub fn size(&self) -> u64
         ensures field { result ≡ self.now.size }
         ensures bounds { (4 ≤ result) × (result ≤ 268435456) }
+        ensures multiple { result % 4 ≡ 0 }
     {
         self.size
     }
@@ -132,6 +142,8 @@ impl RecoverySet {
     pub fn files(&self) -> &[SetFile]
         ensures field { result.now ≡ self.now.files }
         ensures few { length result.now ≤ 32768 }
+        ensures limits { All (λ f. HasFileLimits f.length f.name) result.now }
+        ensures rising { IsStrictlySortedBy id_cmp (map (λ f. f.id) result.now) }
     {
         self.files.as_slice()
     }
@@ -149,6 +161,7 @@ impl RecoverySet {
     pub fn others(&self) -> u32
         ensures field { result ≡ self.now.others }
         ensures few { result ≤ 32768 }
+        ensures all_ids { length self.now.files + result ≤ 32768 }
     {
         self.others
     }
@@ -171,7 +184,7 @@ impl RecoverySet {
         }
     }
 
-    /// The packets of the set whose bodies are not usable, by packet file and offset.
+    /// The packets of the set whose bodies are not usable, in the order of the packets handed in.
     pub fn aside(&self) -> &[SetAside]
         ensures { result.now ≡ self.now.aside }
     {

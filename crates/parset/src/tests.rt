@@ -1,6 +1,7 @@
 use super::*;
 use md5::{Digest, Md5};
-use parfield::Hash16;
+use parfield::{Hash16, Kind, Sequence};
+use parsalvage::{Kept, KeptBody};
 use std::alloc::{AllocError, Global};
 use std::test::Fail;
 
@@ -298,4 +299,91 @@ fn numbers_of_reasons(rt: HostRuntime) {
     ] {
         assert_eq!(rt; reason.number(), number);
     }
+}
+
+// A packet of this kind and set, whose body is held whole.
+fn kept(alloc: Global, set: Hash16, kind: Kind, body: &[u8]) -> Result<Kept, AllocError> {
+    Ok(Kept {
+        file: 0,
+        at: 0,
+        length: 64,
+        set,
+        kind,
+        body: KeptBody::Whole(Sequence::from_vec(Vec::from_slice(alloc, body)?)),
+    })
+}
+
+// The Main packet of slices of 4 bytes and these files.
+fn kept_main(alloc: Global, ids: &[[u8; 16]]) -> Result<Kept, AllocError> {
+    let mut body = Vec::from_slice(alloc, &[4, 0, 0, 0, 0, 0, 0, 0])?;
+    body.extend_from_slice(&(ids.len().min(9) as u32).to_le_bytes())?;
+    for id in ids {
+        body.extend_from_slice(id)?;
+    }
+    let set = Hash16(Md5::digest(&body));
+    kept(alloc, set, Kind::Main, &body)
+}
+
+// The IFSC packet of file 1 with these bytes as the MD5s of its slices.
+fn kept_sums(alloc: Global, set: Hash16, digests: &[u8]) -> Result<Kept, AllocError> {
+    let mut body = Vec::from_slice(alloc, &[1; 16])?;
+    for digest in digests {
+        body.extend_from_slice(&[*digest; 16])?;
+        body.extend_from_slice(&[*digest, 0, 0, 0])?;
+    }
+    kept(alloc, set, Kind::Ifsc, &body)
+}
+
+#[test]
+fn slices_take_the_first_sums_of_the_right_number(rt: HostRuntime) -> Result<(), Fail> {
+    let main = kept_main(rt.alloc(), &[[1; 16]])?;
+    let set = main.set;
+    let mut description = Vec::from_slice(rt.alloc(), &[1; 16])?;
+    description.extend_from_slice(&[2; 32])?;
+    description.extend_from_slice(b"\x06\0\0\0\0\0\0\0name")?;
+    let mut packets = Vec::new(rt.alloc());
+    packets.push(main)?;
+    packets.push(kept_sums(rt.alloc(), set, &[9])?)?;
+    packets.push(kept_sums(rt.alloc(), Hash16([8; 16]), &[8, 8])?)?;
+    packets.push(kept_sums(rt.alloc(), set, &[3, 4])?)?;
+    packets.push(kept_sums(rt.alloc(), set, &[5, 6])?)?;
+    packets.push(kept(rt.alloc(), set, Kind::FileDesc, &description)?)?;
+    let built = build(rt.alloc(), &packets, None).ok().ok_or("set")?;
+    assert_eq!(rt; built.id(), set);
+    assert_eq!(rt; built.size(), 4);
+    let slices = built.slices();
+    assert_eq!(rt; slices.len(), 2);
+    let slice = |number, length, digest: u8| SetSlice {
+        id: Hash16([1; 16]),
+        number,
+        length,
+        sums: Some((Hash16([digest; 16]), u32::from(digest))),
+    };
+    assert_eq!(rt; slices[0], slice(0, 4, 3));
+    assert_eq!(rt; slices[1], slice(1, 2, 4));
+    let files = built.files();
+    assert_eq!(rt; files.len(), 1);
+    assert_eq!(rt; files[0].name.as_slice(), b"name".as_slice());
+    assert!(rt; files[0].known);
+    assert_eq!(rt;
+        (built.others(), built.have(), built.creator()),
+        (0, 0, None)
+    );
+    assert_eq!(rt; built.aside().len(), 0);
+    Ok(())
+}
+
+#[test]
+fn chosen_set_may_have_a_later_main(rt: HostRuntime) -> Result<(), Fail> {
+    let mut packets = Vec::new(rt.alloc());
+    packets.push(kept_main(rt.alloc(), &[[1; 16]])?)?;
+    let second = kept_main(rt.alloc(), &[])?;
+    let set = second.set;
+    packets.push(second)?;
+    let built = build(rt.alloc(), &packets, Some(set)).ok().ok_or("set")?;
+    assert_eq!(rt; built.id(), set);
+    assert_eq!(rt; built.files().len(), 0);
+    let first = build(rt.alloc(), &packets, None).err();
+    assert_eq!(rt; first, Some(SetFault::NoDesc(Hash16([1; 16]))));
+    Ok(())
 }

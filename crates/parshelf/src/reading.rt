@@ -1,8 +1,11 @@
-ghost use Rattle.std.specs.Prelude.{◌≡◌, ◌+◌, ◌<◌, ◌≤◌, ◌↔◌, length, slice_index, IsTrue, OnOk, IfErr};
-ghost use Rattle.parshelf.specs.Shelf.{handed_over, bytes_at, failure_count};
+ghost use Rattle.std.specs.Prelude.{◌≡◌, ◌+◌, ◌<◌, ◌≤◌, ◌↔◌, length, slice_index, IsTrue, OnOk, IfOk, IfErr};
+ghost use Rattle.md5.specs.Md5.{md5};
+ghost use Rattle.parshelf.specs.Shelf.{handed_over, bytes_at, file_of, failure_count};
 ghost use Rattle.parshelf.specs.Reads.{FaultsWithin};
 
 use crate::shelf::{Failed, Shelf};
+use md5::{Digest, Md5};
+use parfield::Hash16;
 
 /// Why a part of a file could not be read.
 #[derive(Clone, Copy, Debug, PartialEq, Eq)]
@@ -43,4 +46,37 @@ pub fn fill<H: Shelf>(
         }
     }
     Ok(())
+}
+
+// How many bytes of a file are hashed at a time. Larger pieces are no faster, and their array is
+// filled with zeros at each call.
+const PIECE: usize = 32_768;
+
+/// The MD5 of a whole file.
+pub fn digest_of<H: Shelf>(shelf: &mut H, file: u32) -> Result<Hash16, ReadFault>
+    requires { file < length (H.state shelf.old).lengths }
+
+    ensures ok { OnOk result (H.state shelf.new
+        ≡ handed_over (H.state shelf.old) file (slice_index (H.state shelf.old).lengths file)) }
+    ensures digest { IsTrue (H.state shelf.old).is_steady →
+        IfOk result (λ hash. hash.0 ≡ md5 (file_of (H.state shelf.old) file)) }
+
+    // Nothing is tried twice, and a failure of the shelf is never passed over.
+    ensures fault { IfErr result (FaultsWithin (H.state shelf.old) (H.state shelf.new) file
+        (slice_index (H.state shelf.old).lengths file)) }
+    ensures failed { (result ≡ Err ReadFault.Failed)
+        ↔ (failure_count (H.state shelf.old) < failure_count (H.state shelf.new)) }
+{
+    let end = shelf.length(file);
+    let mut hasher = Md5::new();
+    let mut buffer = [0; PIECE];
+    let mut done = 0;
+    while done < end {
+        let size = (end - done).min(PIECE as u64) as usize;
+        let piece = &mut buffer[..size];
+        fill(shelf, file, done, piece)?;
+        hasher.update(&*piece);
+        done += size as u64;
+    }
+    Ok(Hash16(hasher.finalize()))
 }

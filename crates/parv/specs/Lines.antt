@@ -36,6 +36,7 @@ set_line set =
     codes "set " ++ (encode_lower set.id.0 ++ (codes " size " ++ (decimal set.size ++ (codes " slices "
     ++ (decimal (length set.slices) ++ codes "\n")))))
 
+-- the word for whether sums are known
 abbrev pub yes_or_no : Bool → List ℕ
 yes_or_no known = if known then codes "yes" else codes "no"
 

@@ -24,7 +24,7 @@ pub record Report : Type 0 where
   pub text : List ℕ
   pub answer : Result Status RunFault
 
--- the report of a cause why there is no set
+-- the fault that a cause why there is no set is answered as
 abbrev pub cause_of : SetFault → RunFault
 cause_of set_fault.NoMain = fault.Set cause.NoMain
 cause_of (set_fault.NoDesc id) = fault.Set (cause.NoDesc id)

@@ -6,7 +6,7 @@ use thiserror::Error;
 /// What a run found.
 #[derive(Clone, Copy, Debug, PartialEq, Eq)]
 pub enum Status {
-    /// The list was written.
+    /// The list, or the set, was written.
     Listed,
 }
 

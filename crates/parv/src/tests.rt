@@ -1,4 +1,5 @@
 mod describing;
+mod disk;
 mod fixtures;
 mod listing;
 mod refusals;

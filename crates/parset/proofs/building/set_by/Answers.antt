@@ -1,9 +1,11 @@
-use Rattle.std.proofs.Common.{◌≡◌, ◌∙◌, Ok, Some, ap, arith, length, map, sym}
+use Rattle.std.proofs.Common.{◌≡◌, ◌∙◌, Ok, Some, ap, arith, length, map, subst, sym}
 use Rattle.std.proofs.lemmas.Result.{err_from_is_err_and}
 use Rattle.std.proofs.lemmas.List.Elements.{All-same}
+use Rattle.std.specs.List.Sorted.{IsStrictlySortedBy}
+use Rattle.parfield.specs.HashOrder.{id_cmp}
 use Rattle.parset.specs.Choosing.{file_description_of}
 use Rattle.parset.specs.RecoverySet.{ids_in_order, set_over, with_sums}
-use Rattle.parset.proofs.SetLaws.{files_described, length-files, not_described, not_few, not_named, set_made}
+use Rattle.parset.proofs.SetLaws.{files_described, files_rise, length-files, not_described, not_few, not_named, set_made}
 use Rattle.parset.proofs.building.set_by.Goals as goal
 
 pub returns-in_err-described : goal.returns-in_err-described
@@ -49,3 +51,10 @@ set_over-requires-clause-few c =
     c.in_ok-described.ensures c.in_ok-named.ensures c.in_ok-files.ensures in
     let same = ap length c.as_slice-3.ensures in
     omega (arith, many, same, c.requires.2)
+
+pub set_over-requires-clause-rising : goal.set_over-requires-clause-rising
+set_over-requires-clause-rising c =
+    let up = files_rise (map (λ k. k.now) c.args.own.now) c.args.main.now _ c.in_ok-described.described c.in_ok-named.named c.in_ok-files.files c.requires.4
+    (c.as_slice-2.ensures.value ∙ (c.in_ok-ids.ensures ∙ ap ids_in_order c.as_slice.ensures))
+    c.in_ok-described.ensures c.in_ok-named.ensures c.in_ok-files.ensures in
+    subst (λ files. IsStrictlySortedBy id_cmp (map (λ file. file.id) files)) (sym c.as_slice-3.ensures) up

@@ -1,9 +1,13 @@
 use Rattle.std.proofs.Common.{◌<◌, ◌≤◌, ◌∙◌, ap, arith, length, map, subst, sym}
 use Rattle.std.specs.List.{flat_map}
+use Rattle.std.specs.List.Sorted.{IsStrictlySortedBy}
+use Rattle.parfield.specs.HashOrder.{id_cmp}
 use Rattle.std.proofs.lemmas.Result.{IfOk-from_err}
 use Rattle.parset.specs.RecoverySet.{set_file_of, slices_of_file, with_sums}
 use Rattle.parset.proofs.FileLaws.{set_over_is}
 use Rattle.std.proofs.lemmas.List.Elements.{All-same}
+use Rattle.parset.proofs.LimitLaws.{IsShownWithin, files_within}
+use Rattle.parset.proofs.RisingLaws.{shown_ids}
 use Rattle.parset.proofs.SliceLaws.{HasLength, exponents_within, length-shown, length-slices, slices_within}
 use Rattle.parset.proofs.building.set_over.Goals as goal
 
@@ -23,13 +27,18 @@ returns c =
 
 pub invariant_of-result : goal.invariant_of-result
 invariant_of-result c =
-    let main = c.args.main.now in let sums = c.in_ok-sums.sums in let files = c.args.files.now in
+    let own = map (λ k. k.now) c.args.own.now in let main = c.args.main.now in let sums = c.in_ok-sums.sums in let files = c.args.files.now in
     let above : 0 < main.size = omega (arith, c.requires.limits.0) in
+    let many = ap length c.in_ok-set_files.ensures ∙ length-shown sums files in
     record {
       size = (c.requires.limits.0, c.requires.limits.1);
-      files = subst (λ n. n ≤ 32768) (sym (ap length c.in_ok-set_files.ensures ∙ length-shown sums files)) c.requires.few;
+      multiple = c.requires.limits.3;
+      files = omega (arith, many, c.requires.few);
+      limits = All-same IsShownWithin _ _ c.in_ok-set_files.ensures (files_within own sums files c.requires.first);
+      rising = subst (IsStrictlySortedBy id_cmp) (sym (ap (map (λ f. f.id)) c.in_ok-set_files.ensures ∙ shown_ids sums files)) c.requires.rising;
       slices = subst (λ n. n ≤ 32768) (sym (ap length c.in_ok-set_slices.ensures ∙ length-slices main.size sums files)) c.requires.few_slices;
       lengths = All-same (HasLength main.size) _ _ c.in_ok-set_slices.ensures (slices_within main.size above sums files);
       others = omega (arith, c.len.ensures, c.requires.limits.2);
-      have = subst (λ n. n ≤ 65535) (sym c.in_ok-exponent_count.ensures) (exponents_within main.size (map (λ k. k.now) c.args.own.now));
+      all_ids = omega (arith, many, c.len.ensures, c.requires.few);
+      have = subst (λ n. n ≤ 65535) (sym c.in_ok-exponent_count.ensures) (exponents_within main.size own);
     }
