@@ -31,7 +31,7 @@ pub fn fill<H: Shelf>(
     ensures bytes { IsTrue (H.state shelf.old).is_steady →
         OnOk result (buf.new ≡ bytes_at (H.state shelf.old) file offset (length buf.old)) }
 
-    // Nothing is tried twice, and a failure of the shelf is never passed over.
+    // There is one failure at most, and none is passed over.
     ensures fault { IfErr result
         (FaultsWithin (H.state shelf.old) (H.state shelf.new) file (length buf.old)) }
     ensures failed { (result ≡ Err ReadFault.Failed)
@@ -61,7 +61,7 @@ pub fn digest_of<H: Shelf>(shelf: &mut H, file: u32) -> Result<Hash16, ReadFault
     ensures digest { IsTrue (H.state shelf.old).is_steady →
         IfOk result (λ hash. hash.0 ≡ md5 (file_of (H.state shelf.old) file)) }
 
-    // Nothing is tried twice, and a failure of the shelf is never passed over.
+    // There is one failure at most, and none is passed over.
     ensures fault { IfErr result (FaultsWithin (H.state shelf.old) (H.state shelf.new) file
         (slice_index (H.state shelf.old).lengths file)) }
     ensures failed { (result ≡ Err ReadFault.Failed)

@@ -1,10 +1,13 @@
 use crate::command::PlanFault;
+use crate::memory_sink::MemSink;
 use crate::messages::ending;
+use crate::runner::run;
 use crate::sink::Sink;
 use crate::status::{End, RunFault, Status};
 use crate::tests::fixtures::*;
+use crate::words::plan;
 use crate::writer_sink::WriteSink;
-use parshelf::ReadFault;
+use parshelf::{ReadFault, Shelf};
 use std::test::Fail;
 
 const ROOMY: Room = Room {
@@ -100,6 +103,26 @@ fn each_read_failing_in_turn(rt: HostRuntime) -> Result<(), Fail> {
         )?;
         assert_eq!(rt; ran.status, 0);
     }
+    Ok(())
+}
+
+#[test]
+fn first_read_failing(rt: HostRuntime) -> Result<(), Fail> {
+    let file = set_of_one_file(rt.alloc())?;
+    let words = words_of(rt.alloc(), &["packets", "v.par2"])?;
+    let plan = plan(rt.alloc(), &words).ok().ok_or("plan")?;
+    let mut shelf = shelf_of(rt.alloc(), &[&file], 64, 1)?;
+    let mut scanned = shelf_of(rt.alloc(), &[], 1, 0)?;
+    assert_eq!(rt; shelf.count() as usize, plan.packets.len());
+    let mut out = MemSink::new(rt.alloc(), 4096, 4096, false)?;
+    let result = run(rt.alloc(), &plan, &mut shelf, &mut scanned, &mut out);
+    let expected = RunFault::Read {
+        packet: true,
+        file: 0,
+        fault: ReadFault::Failed,
+    };
+    assert_eq!(rt; result, Err(expected));
+    assert!(rt; out.text().is_empty());
     Ok(())
 }
 

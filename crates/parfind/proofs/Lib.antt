@@ -1,0 +1,12 @@
+pub mod OrderLaws
+pub mod ListLaws
+pub mod RisingLaws
+pub mod SightingLaws
+pub mod SeenLaws
+pub mod PlaceLaws
+pub mod WalkLaws
+pub mod VisitLaws
+pub mod StepLaws
+pub mod AdvanceLaws
+pub mod SurveyLaws
+pub mod HandingLaws

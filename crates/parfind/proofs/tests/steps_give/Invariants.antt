@@ -1,0 +1,6 @@
+use Rattle.parshelf.specs.Memory.{shelf_state_of}
+use Rattle.parfind.specs.Searches.{BelongsTo}
+use Rattle.parfind.proofs.tests.steps_give.Given as goal
+
+abbrev pub invariant-loop-budget : goal.invariant-loop-budget
+invariant-loop-budget g l = BelongsTo l.finder l.index (shelf_state_of l.shelf)

@@ -1,0 +1,11 @@
+pub mod Order
+pub mod Places
+pub mod Sightings
+pub mod Steps
+pub mod Searches
+pub mod Looking
+pub mod Visits
+pub mod Surveys
+pub use Rattle.parshelf.specs.Reads
+pub use Rattle.parshelf.specs.Shelf
+pub use Rattle.parwindow.specs.Index

@@ -1,0 +1,46 @@
+-- The places at which slices are looked for: each offset of each file.
+use Rattle.std.specs.Prelude.{ℕ, ◌+◌, List, length, map, slice_index, filter}
+use Rattle.std.specs.List.{flat_map, range_with_len}
+use Rattle.parfind.specs.declared.cursor.Cursor.{Cursor}
+use Rattle.parfind.specs.declared.sighting.Sighting.{Sighting}
+use Rattle.parfind.specs.Order.{is_before, is_from}
+
+-- an offset of a file
+pub record Place : Type 0 where
+  pub file : ℕ
+  pub offset : ℕ
+
+-- the cursor at a place, before all slices
+abbrev pub cursor_at : Place → Cursor
+cursor_at p = record { file = p.file; offset = p.offset; slice = 0 }
+
+-- the cursor just behind a place
+abbrev pub cursor_past : Place → Cursor
+cursor_past p = record { file = p.file; offset = p.offset + 1; slice = 0 }
+
+-- the place of a sighting
+abbrev pub place_of : Sighting → Place
+place_of x = record { file = x.file; offset = x.offset }
+
+-- a cursor put back before all slices of its offset
+abbrev pub start_of : Cursor → Cursor
+start_of c = record c { slice = 0 }
+
+-- the places of one file, where the files have these lengths
+abbrev pub places_in : List ℕ → ℕ → List Place
+places_in lengths file =
+    map (λ offset. record { file = file; offset = offset })
+    (range_with_len 0 (slice_index lengths file))
+
+-- all places, in order
+unfoldable pub places_of : List ℕ → List Place
+places_of lengths = flat_map (places_in lengths) (range_with_len 0 (length lengths))
+
+-- the places that are not before the file and offset of a cursor
+abbrev pub places_ahead : List ℕ → Cursor → List Place
+places_ahead lengths c = filter (λ p. is_from (start_of c) (cursor_at p)) (places_of lengths)
+
+-- of these the ones before the file and offset of another cursor
+abbrev pub places_between : List ℕ → Cursor → Cursor → List Place
+places_between lengths c d =
+    filter (λ p. is_before (cursor_at p) (start_of d)) (places_ahead lengths c)

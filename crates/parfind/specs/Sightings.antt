@@ -1,0 +1,81 @@
+-- Sightings: a slice of the set at an offset of a scanned file (PAR2 2.0, Input File Slice Checksum).
+use Rattle.std.specs.Prelude.{◌≡◌, ℕ, ◌+◌, ◌==◌, ◌&&◌, nat_lt, nat_le, Bool, false, List, [], ◌∷◌, ◌++◌, length, map, filter, slice_index, slice_index_or, slice_get, Option, None, Some, AllPairs, IsTrue}
+use Rattle.std.specs.List.{flat_map, range_with_len}
+use Rattle.std.specs.Str.{bytes_eq}
+use Rattle.parfield.specs.Md5.{md5}
+use Rattle.parfield.specs.declared.hash16.Hash16.{Hash16}
+use Rattle.parwindow.specs.Crc32.{crc_of}
+use Rattle.parwindow.specs.Index.{SliceSet}
+use Rattle.parwindow.specs.Window.{window_at}
+use Rattle.parfind.specs.declared.cursor.Cursor.{Cursor}
+use Rattle.parfind.specs.declared.sighting.Sighting.{Sighting}
+use Rattle.parfind.specs.Order.{is_before, is_from, origin, cursor_of, cursor_after}
+use Rattle.parfind.specs.Places.{Place, places_of}
+
+-- the slices that are looked for, and the contents of the files that are scanned for them
+pub record Scan : Type 0 where
+  pub set : SliceSet
+  pub contents : List (List ℕ)
+
+-- the content of a scanned file
+abbrev pub content_of : Scan → ℕ → List ℕ
+content_of scan file = slice_index_or scan.contents file []
+
+-- a slice has sums, and they are those of the bytes
+abbrev pub are_sums_of : List ℕ → Option (Option (Hash16 × ℕ)) → Bool
+are_sums_of bytes None = false
+are_sums_of bytes (Some None) = false
+are_sums_of bytes (Some (Some (digest, crc))) = crc == crc_of bytes && bytes_eq digest.0 (md5 bytes)
+
+-- the offset and the slice's own bytes lie in the file, and the window has both sums of the slice
+abbrev pub is_seen : SliceSet → List ℕ → ℕ → ℕ → Bool
+is_seen set file offset n =
+    nat_lt offset (length file) && (nat_le (offset + slice_index set.own_lengths n) (length file)
+    && are_sums_of (window_at set.slice_size file offset) (slice_get set.sums_of n))
+
+abbrev pub is_sighting : Scan → Sighting → Bool
+is_sighting scan x = is_seen scan.set (content_of scan x.file) x.offset x.slice
+
+-- a place with each slice of the set
+abbrev pub triples_at : SliceSet → Place → List Sighting
+triples_at set p =
+    map (λ n. record { file = p.file; offset = p.offset; slice = n })
+    (range_with_len 0 (length set.sums_of))
+
+-- each place of files of these lengths with each slice of the set, in order
+abbrev pub triples_of : SliceSet → List ℕ → List Sighting
+triples_of set lengths = flat_map (triples_at set) (places_of lengths)
+
+-- all sightings, in order
+unfoldable pub sightings_of : Scan → List Sighting
+sightings_of scan = filter (is_sighting scan) (triples_of scan.set (map length scan.contents))
+
+-- those that are not before a cursor
+abbrev pub sightings_from : Scan → Cursor → List Sighting
+sightings_from scan c = filter (λ x. is_from c (cursor_of x)) (sightings_of scan)
+
+-- of these the ones before another cursor
+abbrev pub sightings_between : Scan → Cursor → Cursor → List Sighting
+sightings_between scan c d = filter (λ x. is_before (cursor_of x) d) (sightings_from scan c)
+
+-- the sightings rise strictly
+abbrev pub SightingsRise : Type 0
+SightingsRise =
+    (scan : Scan)
+    → AllPairs (λ x y. IsTrue (is_before (cursor_of x) (cursor_of y))) (sightings_of scan)
+
+-- from the first cursor on there are all of them
+abbrev pub AllFromOrigin : Type 0
+AllFromOrigin = (scan : Scan) → sightings_from scan origin ≡ sightings_of scan
+
+-- behind the first one from a cursor on come those from the cursor after it
+abbrev pub RestFollows : Type 0
+RestFollows =
+    (scan : Scan) (c : Cursor) (x : Sighting) (xs : List Sighting)
+    → sightings_from scan c ≡ x ∷ xs → xs ≡ sightings_from scan (cursor_after x)
+
+-- those between two cursors, and then those from the second to a third
+abbrev pub BetweenJoins : Type 0
+BetweenJoins =
+    (scan : Scan) (a b c : Cursor) → IsTrue (is_from a b) → IsTrue (is_from b c)
+    → sightings_between scan a b ++ sightings_between scan b c ≡ sightings_between scan a c

@@ -1,0 +1,25 @@
+ghost use Rattle.std.specs.Prelude.{◌≡◌};
+ghost use Rattle.std.specs.Ordering.{is_lt};
+ghost use Rattle.parfind.specs.Order.{is_before};
+ghost use Rattle.parfind.specs.Sightings.{SightingsRise, AllFromOrigin, RestFollows, BetweenJoins};
+ghost use Rattle.parfind.specs.Steps.{StepHandsOut};
+
+use crate::cursor::Cursor;
+
+/// The laws of sightings: they rise strictly, and parts of them follow one another. Does nothing.
+pub fn sighting_laws()
+    ensures rise { SightingsRise }
+    ensures all { AllFromOrigin }
+    ensures rest { RestFollows }
+    ensures joins { BetweenJoins }
+{}
+
+/// The law of steps: each hands out exactly the sightings that it passes. Does nothing.
+pub fn step_law()
+    ensures { StepHandsOut }
+{}
+
+/// The order of cursors is that of searches: by file, then by offset, then by slice. Does nothing.
+pub fn cursor_order_law()
+    ensures { (a b : Cursor) → is_lt (⟦<Cursor as Ord>⟧.cmp a b) ≡ is_before a b }
+{}

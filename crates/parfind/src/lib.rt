@@ -1,0 +1,18 @@
+//! The search for a set's slices at every place of the scanned files.
+#![tactic(auto)]
+
+mod cursor;
+mod finder;
+mod laws;
+mod looking;
+mod places;
+mod scanning;
+mod sighting;
+#[cfg(test)]
+mod tests;
+
+pub use crate::cursor::Cursor;
+pub use crate::finder::{Finder, Step};
+pub use crate::laws::{cursor_order_law, sighting_laws, step_law};
+pub use crate::scanning::{SurveyFault, survey};
+pub use crate::sighting::Sighting;

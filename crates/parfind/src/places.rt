@@ -1,0 +1,24 @@
+ghost use Rattle.std.specs.Prelude.{IfSome, IfNone};
+ghost use Rattle.parfind.specs.Looking.{IsNextPlace, NoPlaceFrom};
+
+use crate::cursor::Cursor;
+use parshelf::Shelf;
+
+// The first place from a cursor on. Where the cursor stands at a place, it keeps its slice.
+pub fn next_place<H: Shelf>(shelf: &H, from: Cursor) -> Option<Cursor>
+    ensures found { IfSome result (IsNextPlace (H.state shelf.now).lengths from) }
+    ensures none { IfNone result (NoPlaceFrom (H.state shelf.now).lengths from) }
+{
+    let mut at = from;
+    while at.file < shelf.count() {
+        if at.offset < shelf.length(at.file) {
+            return Some(at);
+        }
+        at = Cursor {
+            file: at.file + 1,
+            offset: 0,
+            slice: 0,
+        };
+    }
+    None
+}

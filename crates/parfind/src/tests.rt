@@ -1,0 +1,331 @@
+ghost use Rattle.std.specs.Prelude.{◌≡◌, ◌≤◌, length, IfOk};
+ghost use Rattle.parshelf.specs.Memory.{shelf_state_of};
+ghost use Rattle.parfind.specs.Searches.{BelongsTo};
+
+use super::*;
+use parfield::Sequence;
+use parshelf::{MemShelf, ReadFault};
+use parwindow::{Index, Slice, Window};
+use std::alloc::{AllocError, Global};
+use std::process::Abort;
+use std::test::Fail;
+
+const START: Cursor = Cursor {
+    file: 0,
+    offset: 0,
+    slice: 0,
+};
+
+fn cursor(file: u32, offset: u64, slice: u32) -> Cursor {
+    Cursor {
+        file,
+        offset,
+        slice,
+    }
+}
+
+fn hit(file: u32, offset: u64, slice: u32) -> Step {
+    Step::Hit(Sighting {
+        file,
+        offset,
+        slice,
+    })
+}
+
+// A slice of four bytes that begins with these; its sums are those of a window of them and zeros.
+fn slice(alloc: Global, own: &[u8]) -> Result<Slice, AllocError>
+    requires { length own.now ≤ 4 }
+    ensures { IfOk result (λ slice. slice.length ≡ length own.now) }
+{
+    let mut window = Window::new(alloc, 4)?;
+    for place in 0..4 {
+        let _ = window.push(own.get(place).copied().unwrap_or(0));
+    }
+    Ok(Slice {
+        length: own.len() as u64,
+        sums: Some((window.digest(), window.crc())),
+    })
+}
+
+// An index of slices of four bytes, each by its own bytes.
+fn index_of(rt: &(impl Abort + AllocGlobal), owns: &[&[u8]]) -> Result<Index, Fail> {
+    assert!(rt; owns.len() <= 9);
+    let mut slices = Vec::new(rt.alloc());
+    for (_n, own) in owns.iter().enumerate() {
+        assert!(rt; own.len() >= 1 && own.len() <= 4);
+        slices.push(slice(rt.alloc(), own)?)?;
+    }
+    Ok(Index::from_slices(4, Sequence::from_vec(slices)))
+}
+
+// Files in memory that are read `piece` bytes at a time; the read of one number fails, none is 0.
+fn shelf_of(
+    rt: &(impl Abort + AllocGlobal),
+    files: &[&[u8]],
+    piece: usize,
+    failing: u64,
+) -> Result<MemShelf, Fail> {
+    assert!(rt; files.len() <= 9 && piece > 0);
+    let mut all = Vec::new(rt.alloc());
+    for (_n, file) in files.iter().enumerate() {
+        all.push(Vec::from_slice(rt.alloc(), file)?)?;
+    }
+    let mut numbers = Vec::new(rt.alloc());
+    numbers.push(failing)?;
+    Ok(MemShelf::new(all, piece, numbers))
+}
+
+// Calls `next` as often as there are answers that are wanted.
+fn gives(rt: &impl Abort, finder: &mut Finder, index: &Index, shelf: &mut MemShelf, wanted: &[Step])
+    requires { BelongsTo finder.old index.now (shelf_state_of shelf.old) }
+{
+    for want in wanted {
+        assert_eq!(rt; finder.next(index, shelf), Ok(*want));
+    }
+}
+
+// Looks for slices in files from a cursor on; wants these answers in order, and the cursor then.
+fn finds(
+    rt: &(impl Abort + AllocGlobal),
+    slices: &[&[u8]],
+    files: &[&[u8]],
+    at: Cursor,
+    wanted: &[Step],
+    end: Cursor,
+) -> Result<(), Fail> {
+    let index = index_of(rt, slices)?;
+    let mut shelf = shelf_of(rt, files, 64, 0)?;
+    let mut finder = Finder::open(rt.alloc(), &index, &shelf, at)?;
+    gives(rt, &mut finder, &index, &mut shelf, wanted);
+    assert_eq!(rt; finder.cursor(), end);
+    Ok(())
+}
+
+#[test]
+fn two_slices_one_after_the_other(rt: HostRuntime) -> Result<(), Fail> {
+    let wanted = [hit(0, 2, 0), hit(0, 6, 1), Step::Done];
+    finds(
+        &rt,
+        &[b"abcd", b"efgh"],
+        &[b"XXabcdefgh"],
+        START,
+        &wanted,
+        cursor(1, 0, 0),
+    )
+}
+
+#[test]
+fn a_slice_that_is_cut_off_is_not_seen(rt: HostRuntime) -> Result<(), Fail> {
+    let wanted = [hit(0, 4, 0), Step::Done];
+    finds(
+        &rt,
+        &[b"abcd", b"efgh"],
+        &[b"abcXabcdef"],
+        START,
+        &wanted,
+        cursor(1, 0, 0),
+    )
+}
+
+#[test]
+fn a_short_slice_is_seen_where_the_file_ends_or_goes_on_with_zeros(
+    rt: HostRuntime,
+) -> Result<(), Fail> {
+    let wanted = [hit(0, 0, 0), Step::Done];
+    finds(&rt, &[b"ij"], &[b"ij"], START, &wanted, cursor(1, 0, 0))?;
+    finds(&rt, &[b"ij"], &[b"ij\0"], START, &wanted, cursor(1, 0, 0))?;
+    finds(
+        &rt,
+        &[b"ij"],
+        &[b"ijk"],
+        START,
+        &[Step::Done],
+        cursor(1, 0, 0),
+    )
+}
+
+#[test]
+fn own_bytes_must_lie_in_the_file(rt: HostRuntime) -> Result<(), Fail> {
+    finds(
+        &rt,
+        &[b"i\0"],
+        &[b"i"],
+        START,
+        &[Step::Done],
+        cursor(1, 0, 0),
+    )
+}
+
+// Two equal slices of zeros.
+const ZEROS: [&[u8]; 2] = [b"\0\0\0\0", b"\0\0\0\0"];
+
+const SIX_ZEROS: [&[u8]; 1] = [b"\0\0\0\0\0\0"];
+
+#[test]
+fn equal_slices_are_seen_at_every_offset(rt: HostRuntime) -> Result<(), Fail> {
+    let wanted = [
+        hit(0, 0, 0),
+        hit(0, 0, 1),
+        hit(0, 1, 0),
+        hit(0, 1, 1),
+        hit(0, 2, 0),
+        hit(0, 2, 1),
+        Step::Done,
+    ];
+    finds(&rt, &ZEROS, &SIX_ZEROS, START, &wanted, cursor(1, 0, 0))
+}
+
+#[test]
+fn a_search_goes_on_from_a_cursor(rt: HostRuntime) -> Result<(), Fail> {
+    let wanted = [hit(0, 1, 1), hit(0, 2, 0), hit(0, 2, 1), Step::Done];
+    finds(
+        &rt,
+        &ZEROS,
+        &SIX_ZEROS,
+        cursor(0, 1, 1),
+        &wanted,
+        cursor(1, 0, 0),
+    )
+}
+
+#[test]
+fn nothing_is_left_behind_the_last_sighting(rt: HostRuntime) -> Result<(), Fail> {
+    let last = cursor(u32::MAX, u64::MAX, u32::MAX);
+    for (at, end) in [
+        (cursor(0, 5, 0), cursor(1, 0, 0)),
+        (cursor(7, 0, 0), cursor(7, 0, 0)),
+        (last, last),
+    ] {
+        finds(&rt, &ZEROS, &SIX_ZEROS, at, &[Step::Done], end)?;
+    }
+    Ok(())
+}
+
+#[test]
+fn files_without_a_sighting_are_passed(rt: HostRuntime) -> Result<(), Fail> {
+    let wanted = [hit(2, 0, 0), Step::Done];
+    finds(
+        &rt,
+        &[b"abcd", b"efgh"],
+        &[b"", b"ab", b"abcd"],
+        START,
+        &wanted,
+        cursor(3, 0, 0),
+    )
+}
+
+// Takes steps with these budgets; wants these answers and cursors.
+fn steps_give(
+    rt: &impl Abort,
+    finder: &mut Finder,
+    index: &Index,
+    shelf: &mut MemShelf,
+    wanted: &[(u64, Step, Cursor)],
+)
+    requires { BelongsTo finder.old index.now (shelf_state_of shelf.old) }
+{
+    for (budget, step, end) in wanted {
+        assert!(rt; *budget > 0);
+        assert_eq!(rt; finder.step(index, shelf, *budget), Ok(*step));
+        assert_eq!(rt; finder.cursor(), *end);
+    }
+}
+
+// The same from a cursor on, over slices and files.
+fn steps(
+    rt: &(impl Abort + AllocGlobal),
+    slices: &[&[u8]],
+    files: &[&[u8]],
+    at: Cursor,
+    wanted: &[(u64, Step, Cursor)],
+) -> Result<(), Fail> {
+    let index = index_of(rt, slices)?;
+    let mut shelf = shelf_of(rt, files, 64, 0)?;
+    let mut finder = Finder::open(rt.alloc(), &index, &shelf, at)?;
+    steps_give(rt, &mut finder, &index, &mut shelf, wanted);
+    Ok(())
+}
+
+#[test]
+fn a_budget_is_spent_place_by_place(rt: HostRuntime) -> Result<(), Fail> {
+    let wanted = [
+        (1, Step::Spent, cursor(0, 4, 0)),
+        (1, Step::Spent, cursor(0, 5, 0)),
+        (1, Step::Spent, cursor(0, 6, 0)),
+        (1, Step::Done, cursor(1, 0, 0)),
+    ];
+    steps(&rt, &ZEROS, &SIX_ZEROS, cursor(0, 3, 0), &wanted)?;
+    steps(
+        &rt,
+        &ZEROS,
+        &SIX_ZEROS,
+        cursor(0, 3, 0),
+        &[(3, Step::Spent, cursor(0, 6, 0))],
+    )?;
+    steps(
+        &rt,
+        &ZEROS,
+        &SIX_ZEROS,
+        cursor(0, 3, 0),
+        &[(4, Step::Done, cursor(1, 0, 0))],
+    )
+}
+
+#[test]
+fn steps_of_two_places_find_what_calls_without_a_budget_find(rt: HostRuntime) -> Result<(), Fail> {
+    let wanted = [
+        (2, Step::Spent, cursor(0, 2, 0)),
+        (2, hit(0, 2, 0), cursor(0, 2, 1)),
+        (2, Step::Spent, cursor(0, 4, 0)),
+        (2, Step::Spent, cursor(0, 6, 0)),
+        (2, hit(0, 6, 1), cursor(0, 6, 2)),
+        (2, Step::Spent, cursor(0, 8, 0)),
+        (2, Step::Spent, cursor(0, 10, 0)),
+        (2, Step::Done, cursor(1, 0, 0)),
+    ];
+    steps(&rt, &[b"abcd", b"efgh"], &[b"XXabcdefgh"], START, &wanted)
+}
+
+#[test]
+fn a_budget_goes_on_over_the_end_of_a_file(rt: HostRuntime) -> Result<(), Fail> {
+    let wanted = [
+        (2, Step::Spent, cursor(1, 2, 0)),
+        (1, hit(2, 0, 0), cursor(2, 0, 1)),
+        (4, Step::Spent, cursor(2, 4, 0)),
+        (1, Step::Done, cursor(3, 0, 0)),
+    ];
+    steps(
+        &rt,
+        &[b"abcd", b"efgh"],
+        &[b"", b"ab", b"abcd"],
+        START,
+        &wanted,
+    )
+}
+
+#[test]
+fn a_search_goes_on_after_a_failed_read(rt: HostRuntime) -> Result<(), Fail> {
+    let index = index_of(&rt, &[b"abcd", b"efgh"])?;
+    let mut shelf = shelf_of(&rt, &[b"XXabcdefgh"], 1, 3)?;
+    let mut finder = Finder::open(rt.alloc(), &index, &shelf, START)?;
+    assert_eq!(rt; finder.next(&index, &mut shelf), Err(ReadFault::Failed));
+    assert!(rt; finder.cursor() <= cursor(0, 2, 0));
+    let wanted = [hit(0, 2, 0), hit(0, 6, 1), Step::Done];
+    gives(&rt, &mut finder, &index, &mut shelf, &wanted);
+    Ok(())
+}
+
+#[test]
+fn a_survey_marks_what_a_search_finds(rt: HostRuntime) -> Result<(), Fail> {
+    let index = index_of(&rt, &[b"abcd", b"efgh", b"ijkl"])?;
+    let mut found = [false, false, true];
+    assert_eq!(rt; index.slices(), 3);
+    let mut failing = shelf_of(&rt, &[b"ab", b"XXabcdefgh"], 64, 3)?;
+    let fault = survey(rt.alloc(), &index, &mut failing, &mut found);
+    assert_eq!(rt; fault, Err(SurveyFault::Read(1, ReadFault::Failed)));
+    assert_eq!(rt; found, [false, false, true]);
+    let mut shelf = shelf_of(&rt, &[b"XXabcd"], 64, 0)?;
+    assert_eq!(rt; survey(rt.alloc(), &index, &mut shelf, &mut found), Ok(()));
+    assert_eq!(rt; found, [true, false, true]);
+    Ok(())
+}

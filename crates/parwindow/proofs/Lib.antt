@@ -1,0 +1,5 @@
+pub mod XorLaws
+pub mod CrcLaws
+pub mod IndexLaws
+pub mod TableLaws
+pub mod WindowLaws
