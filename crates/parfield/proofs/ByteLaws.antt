@@ -14,14 +14,14 @@ little_from-le_value i (suc n) xs h =
     let rec : little_from (suc i) n xs ≡ le_value (take n (drop (suc i) xs)) = little_from-le_value (suc i) n xs (omega arith) in
     rw (drop-cons xs i 0 here) (ap (λ (v : ℕ). slice_index xs i + 256 * v) rec)
 
--- eight bytes of which all are read
-pub little_number-le_value : (xs : List ℕ) → length xs ≡ 8 → little_number 8 xs ≡ le_value xs
-little_number-le_value xs h = little_from-le_value 0 8 xs (omega arith) ∙ ap le_value (take_all 8 xs (omega arith))
+-- n bytes of which all are read
+pub little_number-le_value : (n : ℕ) (xs : List ℕ) → length xs ≡ n → little_number n xs ≡ le_value xs
+little_number-le_value n xs h = little_from-le_value 0 n xs (omega arith) ∙ ap le_value (take_all n xs (omega arith))
 
--- a field of eight bytes
-pub little_number-slice_range : (bytes : List ℕ) (at : ℕ) → at + 8 ≤ length bytes
-    → little_number 8 (slice_range bytes at (at + 8)) ≡ le_value (slice_range bytes at (at + 8))
-little_number-slice_range bytes at h =
-    let eight : (at + 8) - at ≡ 8 = omega arith in
-    let room : (at + 8) - at ≤ length (drop at bytes) = omega (arith, length-drop at bytes) in
-    little_number-le_value (slice_range bytes at (at + 8)) (length-take-le ((at + 8) - at) (drop at bytes) room ∙ eight)
+-- a field of n bytes
+pub little_number-slice_range : (n : ℕ) (bytes : List ℕ) (at : ℕ) → at + n ≤ length bytes
+    → little_number n (slice_range bytes at (at + n)) ≡ le_value (slice_range bytes at (at + n))
+little_number-slice_range n bytes at h =
+    let room : (at + n) - at ≤ length (drop at bytes) = omega (arith, length-drop at bytes) in
+    let whole : length (slice_range bytes at (at + n)) ≡ (at + n) - at = length-take-le ((at + n) - at) (drop at bytes) room in
+    little_number-le_value n (slice_range bytes at (at + n)) (omega arith)

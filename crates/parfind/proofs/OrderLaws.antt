@@ -1,6 +1,6 @@
 -- The order of cursors, as facts on numbers.
 use Rattle.std.proofs.Common.{◌≡◌, ◌<◌, ◌≤◌, true, false, arith, sym, inl, inr}
-use Rattle.std.proofs.lemmas.Bool.{ltb-true, ltb-false, eqb-true, eqb-false, not-true, not-false, not_from_true, not_from_false, and_parts, or_cases, or_parts, and_cases, true_from_ne_false, false_from_ne_true}
+use Rattle.std.proofs.lemmas.Bool.{ltb-true, ltb-false, eqb-true, eqb-false, not-true, not_from_true, not_from_false, and_parts, or_cases, or_parts, and_cases, true_from_ne_false, false_from_ne_true}
 use Rattle.parfind.specs.declared.cursor.Cursor.{Cursor}
 use Rattle.parfind.specs.declared.sighting.Sighting.{Sighting}
 use Rattle.parfind.specs.Order.{is_before, is_from, cursor_of, cursor_after}
@@ -74,9 +74,6 @@ from_true a b h = before_false b a (not-true _ h)
 
 pub is_from-true : (a b : Cursor) → From a b → is_from a b ≡ true
 is_from-true a b h = not_from_false _ (is_before-false b a h)
-
-pub from_false : (a b : Cursor) → is_from a b ≡ false → Before b a
-from_false a b h = before_true b a (not-false _ h)
 
 pub is_from-false : (a b : Cursor) → Before b a → is_from a b ≡ false
 is_from-false a b h = not_from_true _ (is_before-true b a h)

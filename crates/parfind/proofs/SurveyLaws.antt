@@ -1,14 +1,14 @@
 -- The marks of a survey, one sighting after another.
-use Rattle.std.proofs.Common.{◌≡◌, ℕ, ◌<◌, Bool, true, false, ◌||◌, ◌==◌, List, [], ◌∷◌, ◌++◌, length, refl, sym, ap, ◌∙◌, inl, inr, append-nil, append_assoc, get_or-set_same, get_or-set_other, slice_set}
+use Rattle.std.proofs.Common.{◌≡◌, ℕ, ◌<◌, Bool, true, false, ◌||◌, ◌==◌, List, [], ◌∷◌, ◌++◌, length, refl, sym, ap, ◌∙◌, inl, inr, append_assoc, get_or-set_same, get_or-set_other, slice_set}
 use Rattle.std.specs.List.{list_any}
 use Rattle.std.proofs.lemmas.Bool.{cases_eq, eq-eqb, ne_eqb, or_cases, or_left, or_right}
 use Rattle.std.proofs.lemmas.List.Folds.{list_any-append}
-use Rattle.std.proofs.Math.Bool.{or_assoc}
+use Rattle.std.proofs.Math.Bool.{or-false, or_assoc}
 use Rattle.parfind.specs.declared.cursor.Cursor.{Cursor}
 use Rattle.parfind.specs.declared.sighting.Sighting.{Sighting}
 use Rattle.parfind.specs.Order.{origin}
 use Rattle.parfind.specs.Sightings.{Scan, sightings_of, sightings_from}
-use Rattle.parfind.specs.Surveys.{mark_of, is_sighted, MarksSighted, MarksNoOther, KeepsMarks}
+use Rattle.parfind.specs.Surveys.{mark_of, is_sighted, MarksNoOther, KeepsMarks}
 use Rattle.parfind.proofs.SightingLaws.{all_from_origin}
 
 -- some of the sightings is one of slice n
@@ -21,10 +21,6 @@ pub record SurveyedTo (scan : Scan) (was now : List Bool) (c : Cursor) : Type 0 
   pub split : handed ++ sightings_from scan c ≡ sightings_of scan
   pub marks : (n : ℕ) → mark_of now n ≡ (mark_of was n || list_any (λ x. x.slice == n) handed)
 
-or_false : (b : Bool) → (b || false) ≡ b
-or_false true = refl
-or_false false = refl
-
 -- one more mark
 mark_of-set : (marks : List Bool) (k n : ℕ) → k < length marks → mark_of (slice_set marks k true) n ≡ (mark_of marks n || k == n)
 mark_of-set marks k n within = elim (cases_eq k n) [
@@ -33,7 +29,7 @@ mark_of-set marks k n within = elim (cases_eq k n) [
       rw (← same, set) (sym (or_right (mark_of marks k) (k == k) (eq-eqb k k refl)))
   | inr other ↦
       let kept : mark_of (slice_set marks k true) n ≡ mark_of marks n = get_or-set_other marks k n true false (λ e. other (sym e)) in
-      rw (kept, ne_eqb k n other) (sym (or_false (mark_of marks n)))
+      rw (kept, ne_eqb k n other) (sym (or-false (mark_of marks n)))
 ]
 
 pub KeepsMarks_more : (was now : List Bool) (k : ℕ) → k < length now → KeepsMarks was now → KeepsMarks was (slice_set now k true)
@@ -44,7 +40,7 @@ pub surveyed_none : (scan : Scan) (was : List Bool) → SurveyedTo scan was was 
 surveyed_none scan was = record {
   handed = [];
   split = all_from_origin scan;
-  marks = λ n. sym (or_false (mark_of was n));
+  marks = λ n. sym (or-false (mark_of was n));
 }
 
 pub surveyed_more : (scan : Scan) (was now : List Bool) (c d : Cursor) (x : Sighting) → SurveyedTo scan was now c
@@ -58,7 +54,7 @@ surveyed_more scan was now c d x so_far first within = record {
   marks = λ n.
       let one : has_slice (so_far.handed ++ x ∷ []) n ≡ (has_slice so_far.handed n || x.slice == n) =
       list_any-append (λ y. y.slice == n) so_far.handed (x ∷ [])
-      ∙ ap (λ b. has_slice so_far.handed n || b) (or_false (x.slice == n)) in
+      ∙ ap (λ b. has_slice so_far.handed n || b) (or-false (x.slice == n)) in
       mark_of-set now x.slice n within
       ∙ ap (λ b. b || x.slice == n) (so_far.marks n)
       ∙ or_assoc (mark_of was n) (has_slice so_far.handed n) (x.slice == n)
@@ -66,12 +62,6 @@ surveyed_more scan was now c d x so_far first within = record {
 }
 
 module _ (scan : Scan) (was now : List Bool) (c : Cursor) (so_far : SurveyedTo scan was now c) where
-  pub surveyed_all : sightings_from scan c ≡ [] → MarksSighted scan was now
-  surveyed_all none n within =
-      let all : so_far.handed ≡ sightings_of scan =
-      sym (append-nil so_far.handed) ∙ ap (λ xs. so_far.handed ++ xs) (sym none) ∙ so_far.split in
-      so_far.marks n ∙ ap (λ xs. mark_of was n || has_slice xs n) all
-
   sighted : (n : ℕ) → has_slice so_far.handed n ≡ true → is_sighted scan n ≡ true
   sighted n h =
       ap (λ xs. has_slice xs n) (sym so_far.split)

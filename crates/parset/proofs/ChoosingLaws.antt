@@ -2,7 +2,6 @@
 use Rattle.std.proofs.Common.{◌≡◌, ℕ, ◌+◌, ◌<◌, ◌∙◌, ◌&&◌, ◌==◌, Bool, true, false, cond, List, [], ◌∷◌, ◌++◌, length, get_or, map, take, drop, Option, Some, None, is_some, ap, refl, sym, if◌then◌else◌}
 use Rattle.std.proofs.lemmas.List.{append-nil, drop_more, take_more, map-append}
 use Rattle.std.proofs.lemmas.List.Elements.{filter_map-append}
-use Rattle.std.proofs.lemmas.Slice.Eq.{bytes_eq-Decides}
 use Rattle.std.specs.List.{cons_option, filter_map}
 use Rattle.std.specs.Option.{option_or}
 use Rattle.std.specs.Ordering.{is_eq}
@@ -11,6 +10,7 @@ use Rattle.parfield.specs.HashOrder.{id_cmp, bytes_eq-reversed}
 use Rattle.parfield.specs.declared.hash16.Hash16.{Hash16}
 use Rattle.parset.specs.Choosing.{first_found, only_if}
 use Rattle.parset.specs.declared.checksums.Ifsc.{Ifsc}
+use Rattle.parset.proofs.IdLaws.{same_id}
 
 -- ---- one element of a list of references
 pub drop_at : {X : Type 0} (xs : List X) (i : ℕ) (x : X) → i < length xs → x ≡ get_or xs i x → drop i xs ≡ x ∷ drop (i + 1) xs
@@ -60,9 +60,6 @@ first_found_same f g ys i y before below item so_far none =
     first_found_more f g ys i y before before below item so_far (sym (option_or-None before) ∙ ap (option_or before) none)
 
 -- ---- what is put in under its ID where nothing is
-same_id : (a b : Hash16) → bytes_eq a.0 b.0 ≡ true → a ≡ b
-same_id a b e = let bytes : a.0 ≡ b.0 = (bytes_eq-Decides a.0 b.0).0 e in λ i. record { 0 = bytes i }
-
 None-from_is_some : {T : Type 0} (o : Option T) → is_some o ≡ false → o ≡ None
 None-from_is_some None e = refl
 None-from_is_some (Some t) e = cc

@@ -105,14 +105,14 @@ or_passes p (Some y) rest t e k =
     (λ no. k (ap (λ b. option_or (cond b (Some y) None) rest) (sym no) ∙ e))
     (cases_Bool (p y))
 
-first_found_passes : {X T : Type 0} (p : T → Bool) (find : X → Option T) (xs : List X) (t : T)
+first_found_satisfies : {X T : Type 0} (p : T → Bool) (find : X → Option T) (xs : List X) (t : T)
     → first_found (λ x. only_if p (find x)) xs ≡ Some t → p t ≡ true
-first_found_passes p find [] t e = cc
-first_found_passes p find (x ∷ xs) t e =
-    or_passes p (find x) (first_found (λ y. only_if p (find y)) xs) t e (first_found_passes p find xs t)
+first_found_satisfies p find [] t e = cc
+first_found_satisfies p find (x ∷ xs) t e =
+    or_passes p (find x) (first_found (λ y. only_if p (find y)) xs) t e (first_found_satisfies p find xs t)
 
 described_id : (own : List Kept) (id : Hash16) (file : Desc) → file_description_of id own ≡ Some file → file.id ≡ id
-described_id own id file e = same_id file.id id (first_found_passes (λ d. bytes_eq d.id.0 id.0) description_in own file e)
+described_id own id file e = same_id file.id id (first_found_satisfies (λ d. bytes_eq d.id.0 id.0) description_in own file e)
 
 described_itself : (own : List Kept) (id : Hash16) (file : Desc) → file_description_of id own ≡ Some file
     → file_description_of file.id own ≡ Some file

@@ -6,6 +6,7 @@ use Rattle.std.proofs.lemmas.List.FromFn.{length-range_with_len}
 use Rattle.std.proofs.lemmas.List.Sums.{count_by-le-length, sum_by-cons}
 use Rattle.std.proofs.lemmas.List.Folds.{list_any-append}
 use Rattle.std.proofs.lemmas.Grind.{get_or-set_at}
+use Rattle.std.proofs.Math.Bool.{or-false}
 use Rattle.parfield.specs.declared.kind.Kind.{Kind}
 use Rattle.parfield.specs.declared.kind.Kind.TheVariants as kind
 use Rattle.parsalvage.specs.declared.kept.Kept.{Kept}
@@ -37,15 +38,11 @@ pub exponent_below : (size : ℕ) (k : Kept) (e : ℕ) → Some e ≡ exponent_i
 exponent_below size k e h = exponent_by_below size k.kind k.body e (sym h)
 
 -- ---- one packet more
-or_false : (b : Bool) → (b || false) ≡ b
-or_false true = refl
-or_false false = refl
-
 any_more : {X Y : Type 0} (p : X → Bool) (g : Y → X) (ys : List Y) (i : ℕ) (y : Y) → i < length ys → y ≡ get_or ys i y
     → list_any p (map g (take (i + 1) ys)) ≡ (list_any p (map g (take i ys)) || p (g y))
 any_more p g ys i y below item =
     ap (list_any p) (map_take_at g ys i y below item) ∙ list_any-append p (map g (take i ys)) (g y ∷ [])
-    ∙ ap (λ b. list_any p (map g (take i ys)) || b) (or_false (p (g y)))
+    ∙ ap (λ b. list_any p (map g (take i ys)) || b) (or-false (p (g y)))
 
 flag_set : (flags : List Bool) (e q : ℕ) (before : Bool) → e < length flags → get_or flags q false ≡ before
     → get_or (set flags e true) q false ≡ (before || is_some (only_if (λ x. x == q) (Some e)))
@@ -53,7 +50,7 @@ flag_set flags e q before below so_far =
     ⊎_elim
     (λ same. get_or-set_at flags e q true false same below
     ∙ sym (or_right before _ (ap (λ b. is_some (if b then Some e else None)) (eq-eqb e q (sym same)))))
-    (λ other. get_or-set_other flags e q true false other ∙ so_far ∙ sym (or_false before)
+    (λ other. get_or-set_other flags e q true false other ∙ so_far ∙ sym (or-false before)
     ∙ ap (λ b. before || is_some (if b then Some e else None)) (sym (ne_eqb e q (λ same. other (sym same)))))
     (cases_eq q e)
 
@@ -72,7 +69,7 @@ pub seen_same : {Y : Type 0} (size : ℕ) (g : Y → Kept) (ys : List Y) (i : �
     → before ≡ list_any (has_exponent size q) (map g (take i ys))
     → before ≡ list_any (has_exponent size q) (map g (take (i + 1) ys))
 seen_same size g ys i y q before below item none so_far =
-    so_far ∙ sym (or_false (list_any (has_exponent size q) (map g (take i ys))))
+    so_far ∙ sym (or-false (list_any (has_exponent size q) (map g (take i ys))))
     ∙ ap (λ o. list_any (has_exponent size q) (map g (take i ys)) || is_some (only_if (λ x. x == q) o)) none
     ∙ sym (any_more (has_exponent size q) g ys i y below item)
 

@@ -1,4 +1,3 @@
-pub mod BodyLaws
 pub mod ChainLaws
 pub mod ChoosingLaws
 pub mod DescribingLaws

@@ -1,8 +1,8 @@
 -- Texts that are written part by part.
-use Rattle.std.proofs.Common.{◌≡◌, ℕ, ◌+◌, List, [], ◌++◌, take, drop, ap, sym, refl, ◌∙◌, append_assoc, append-nil}
+use Rattle.std.proofs.Common.{◌≡◌, ℕ, ◌+◌, List, ◌++◌, take, drop, ap, sym, ◌∙◌, append_assoc}
 use Rattle.std.proofs.lemmas.List.{take-append-drop}
 use Rattle.std.proofs.Math.Seq.{take-add}
-use Rattle.parv.specs.SinkState.{SinkState, appended, refused, WritesFront, RefusesFront}
+use Rattle.parv.specs.SinkState.{SinkState, appended, refused, RefusesFront}
 
 -- some first bytes were written before, and then some of the rest
 pub appended_more : (s t u : SinkState) (text : List ℕ) (m n : ℕ) → t ≡ appended s (take m text) → u ≡ appended t (take n (drop m text))
@@ -20,13 +20,4 @@ RefusesFront_after old now new text n before next = record {
   rest = drop n text;
   whole = sym (take-append-drop n text);
   after = next ∙ ap refused before;
-}
-
--- nothing was written
-pub WritesFront_none : (old new : SinkState) (text : List ℕ) → new ≡ old → WritesFront old new text
-WritesFront_none old new text same = record {
-  front = [];
-  rest = text;
-  whole = refl;
-  after = same ∙ ap (λ (bytes : List ℕ). record old { bytes = bytes }) (sym (append-nil old.bytes));
 }

@@ -1,5 +1,5 @@
 -- The packets of one file after another.
-use Rattle.std.proofs.Common.{◌≡◌, ◌<◌, ◌+◌, ◌∙◌, ℕ, List, [], ◌∷◌, ◌++◌, length, map, take, ap, sym, subst, refl, arith, append_assoc, append-nil, IsTrue}
+use Rattle.std.proofs.Common.{◌≡◌, ◌<◌, ◌+◌, ◌∙◌, ℕ, List, [], ◌∷◌, ◌++◌, length, map, take, ap, sym, subst, arith, append_assoc, append-nil, IsTrue}
 use Rattle.std.proofs.lemmas.List.{length-map, map-append, take_more, take_all, length-take-le}
 use Rattle.parshelf.specs.Shelf.{ShelfState, IsShelf}
 use Rattle.parshelf.specs.Reads.{ReadsOnly}
@@ -25,9 +25,6 @@ pub record SalvagesBefore (s : ShelfState) (file : ℕ) (kept : List Kept) : Typ
   pub whole : map length contents ≡ take file s.lengths
   pub packets : kept ≡ kept_in_files contents
   pub steady : IsTrue s.is_steady → contents ≡ take file s.files
-
-pub SalvagesBefore-zero : (s : ShelfState) → SalvagesBefore s 0 []
-SalvagesBefore-zero s = record { contents = []; whole = refl; packets = refl; steady = λ _. refl }
 
 -- reads change no file
 pub SalvagesFile-ReadsOnly : (s t : ShelfState) (file : ℕ) (kept : List Kept) → ReadsOnly s t → SalvagesFile t file kept → SalvagesFile s file kept

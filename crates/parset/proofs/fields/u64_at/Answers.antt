@@ -1,5 +1,5 @@
 use Rattle.std.proofs.Common.{◌∙◌, arith}
-use Rattle.parset.proofs.BodyLaws.{little_number-slice_range}
+use Rattle.parfield.proofs.ByteLaws.{little_number-slice_range}
 use Rattle.parset.proofs.fields.u64_at.Goals as goal
 
 pub returns : goal.returns
