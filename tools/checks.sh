@@ -36,14 +36,27 @@ wants "the set of the damaged volume alone" 0 \
     "$(python3 ../tools/describe_set.py ./photos.vol03+4.damaged.par2)" "" \
     "$parv" set ./photos.vol03+4.damaged.par2
 
+scanned="beach.raw harbour.raw tower.raw notes.txt"
+{ printf 'Text before a cut picture. '; head -c 7000 harbour.raw; printf 'x'; tail -c 2000 tower.raw; } > "$work/cut.bin"
+# shellcheck disable=SC2086
+wants "the slices in the files of the set are those that the independent search finds" 0 \
+    "$(python3 ../tools/find_slices.py ./*.par2 $scanned)" "" "$parv" find ./*.par2 $scanned
+wants "the slices in a file that was cut and put together" 0 \
+    "$(python3 ../tools/find_slices.py ./*.par2 "$work/cut.bin")" "" "$parv" find ./*.par2 "$work/cut.bin"
+
 cd "$work"
 cp "$top/crates/parv/data/v.par2" .
+printf 'XXabcdefgh' > x.bin
 mkdir folder.par2
 mkfifo fifo.par2
 head -c 92 v.par2 > main.par2
+: > empty.par2
 wants "a set without a description" 4 "" \
     "parv: no usable set: no description of e345eacbe656c0e6fd20ed63cb7b062c" "$parv" set main.par2
 wants "a missing file" 6 "" "parv: cannot open none.par2" "$parv" packets v.par2 none.par2
+wants "a missing file to scan" 6 "" "parv: cannot open none.bin" "$parv" find v.par2 x.bin none.bin
+wants "a folder to scan" 6 "" "parv: cannot open ." "$parv" find v.par2 .
+wants "a file that no command scans" 0 "packets 0" "" "$parv" packets empty.par2 none.bin
 wants "a folder" 6 "" "parv: cannot open folder.par2" "$parv" packets folder.par2
 wants "a FIFO" 6 "" "parv: cannot open fifo.par2" "$parv" packets fifo.par2
 ln -s /dev/zero zero.par2
@@ -55,12 +68,23 @@ wants "more files than may be open at once" 6 "" "parv: cannot open v6.par2" \
     sh -c 'ulimit -n 8; exec "$0" packets v1.par2 v2.par2 v3.par2 v4.par2 v5.par2 v6.par2 v7.par2' "$parv"
 wants "no words" 3 "" "parv: usage: parv packets|set|find|verify [options] FILES" "$parv"
 wants "no packet file" 3 "" "parv: no packet file" "$parv" packets x.bin
+wants "lines before a full device" 6 "" "parv: write fault" sh -c '"$0" find v.par2 x.bin > /dev/full' "$parv"
 wants "a full device" 6 "" "parv: write fault" sh -c '"$0" packets v.par2 > /dev/full' "$parv"
 wants "a closed output" 6 "" "parv: write fault" sh -c '"$0" packets v.par2 >&-' "$parv"
 wants "an argument that is no text" 3 "" "parv: usage: parv packets|set|find|verify [options] FILES" \
     sh -c '"$0" packets "$(printf "\377.par2")"' "$parv"
-for words in "packets v.par2" "packets none.par2" "set v.par2"; do
+for words in "packets v.par2" "packets none.par2" "set v.par2" "find v.par2 x.bin"; do
     # shellcheck disable=SC2086
     "$top/tools/refuse_allocations.sh" $words || failed=1
 done
+
+# A proof by hand can claim anything of the data that only contracts see: these six were read.
+cd "$top"
+hand=$(find crates -path '*/out' -prune -o -name Proof.antt -print | sort)
+if [ "$hand" = "$(cat tools/hand_proofs.txt)" ]; then
+    echo "ok: no proof by hand but those that were read"
+else
+    echo "FAILED: proofs by hand: $hand"
+    failed=1
+fi
 exit $failed

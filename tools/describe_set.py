@@ -92,35 +92,41 @@ def reason(kind, body, owner, size):
     return None
 
 
-def main():
-    packets = list(packets_of(map(os.fsencode, sys.argv[1:])))
+def set_of(packets):
+    """The set of packets by file and offset: its ID, slice size, number of other files, files by ID,
+    usable bodies by kind and packets put aside. A file is (ID, length, name, sums of its slices)."""
     body, owner = next((body, owner) for _, _, kind, owner, body in packets
                        if kind == "main" and main_reason(body, owner) is None)
     size, count, ids = number(body[:8]), number(body[8:12]), pieces(body[12:], 16)
     own = [packet for packet in packets if packet[3] == owner]
     usable = [(kind, body) for _, _, kind, _, body in own if reason(kind, body, owner, size) is None]
-    lines, total = [], 0
+    files = []
     for file in sorted(ids[:count], key=number):
         desc = next(body for kind, body in usable if kind == "filedesc" and body[:16] == file)
         length = number(desc[48:56])
         slices = -(-length // size)
-        known = any(kind == "ifsc" and body[:16] == file and (len(body) - 16) // 20 == slices
-                    for kind, body in usable)
-        total += slices
-        name = shown(desc[56:].rstrip(b"\0"))
-        lines.append(f"file {file.hex()} {length} {slices} {'yes' if known else 'no'} {name}")
-    print("set", owner, "size", size, "slices", total)
-    for line in lines:
-        print(line)
-    print("others", len(ids) - count)
+        sums = [pieces(body[16:], 20) for kind, body in usable if kind == "ifsc"
+                and body[:16] == file and (len(body) - 16) // 20 == slices]
+        files.append((file, length, desc[56:].rstrip(b"\0"), sums[0] if sums else None))
+    aside = [(name, at, why) for name, at, kind, _, body in own
+             for why in [reason(kind, body, owner, size)] if why is not None]
+    return owner, size, len(ids) - count, files, usable, aside
+
+
+def main():
+    packets = list(packets_of(map(os.fsencode, sys.argv[1:])))
+    owner, size, others, files, usable, aside = set_of(packets)
+    print("set", owner, "size", size, "slices", sum(-(-file[1] // size) for file in files))
+    for file, length, name, sums in files:
+        known = "yes" if sums is not None else "no"
+        print(f"file {file.hex()} {length} {-(-length // size)} {known} {shown(name)}")
+    print("others", others)
     print("have", len({number(body[:4]) for kind, body in usable if kind == "recvslic"}))
     texts = [body.rstrip(b"\0") for kind, body in usable if kind == "creator"]
     for text in [text for text in texts if text][:1]:
         print("creator", shown(text))
-    for name, at, kind, _, body in own:
-        why = reason(kind, body, owner, size)
-        if why is not None:
-            print("aside", shown(name), at, why)
+    for name, at, why in aside:
+        print("aside", shown(name), at, why)
 
 
 if __name__ == "__main__":

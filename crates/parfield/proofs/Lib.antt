@@ -1,4 +1,4 @@
 pub mod ByteLaws
-pub mod GhostSteps
+mod GhostSteps
 pub mod OrderLaws
 pub mod ShownLaws

@@ -10,3 +10,6 @@ pub mod StepLaws
 pub mod AdvanceLaws
 pub mod SurveyLaws
 pub mod HandingLaws
+pub mod NumberLaws
+pub mod IdLaws
+pub mod CursorTextLaws

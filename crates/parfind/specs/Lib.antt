@@ -6,6 +6,7 @@ pub mod Searches
 pub mod Looking
 pub mod Visits
 pub mod Surveys
+pub mod CursorText
 pub use Rattle.parshelf.specs.Reads
 pub use Rattle.parshelf.specs.Shelf
 pub use Rattle.parwindow.specs.Index

@@ -1,6 +1,7 @@
 ghost use Rattle.std.specs.Prelude.{◌≡◌};
 ghost use Rattle.std.specs.Ordering.{is_lt};
 ghost use Rattle.parfind.specs.Order.{is_before};
+ghost use Rattle.parfind.specs.CursorText.{ReadsItsText, HasOnePair};
 ghost use Rattle.parfind.specs.Sightings.{SightingsRise, AllFromOrigin, RestFollows, BetweenJoins};
 ghost use Rattle.parfind.specs.Steps.{StepHandsOut};
 
@@ -22,4 +23,10 @@ pub fn step_law()
 /// The order of cursors is that of searches: by file, then by offset, then by slice. Does nothing.
 pub fn cursor_order_law()
     ensures { (a b : Cursor) → is_lt (⟦<Cursor as Ord>⟧.cmp a b) ≡ is_before a b }
+{}
+
+/// The law of cursor texts: a text is read as one pair, and exactly as it was written. Does nothing.
+pub fn cursor_text_law()
+    ensures read { ReadsItsText }
+    ensures one { HasOnePair }
 {}

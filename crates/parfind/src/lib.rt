@@ -2,6 +2,9 @@
 #![tactic(auto)]
 
 mod cursor;
+#[cfg(test)]
+mod cursor_tests;
+mod cursor_text;
 mod finder;
 mod laws;
 mod looking;
@@ -12,7 +15,8 @@ mod sighting;
 mod tests;
 
 pub use crate::cursor::Cursor;
+pub use crate::cursor_text::{CursorFault, read_cursor, split_cursor};
 pub use crate::finder::{Finder, Step};
-pub use crate::laws::{cursor_order_law, sighting_laws, step_law};
+pub use crate::laws::{cursor_order_law, cursor_text_law, sighting_laws, step_law};
 pub use crate::scanning::{SurveyFault, survey};
 pub use crate::sighting::Sighting;

@@ -1,12 +1,14 @@
-ghost use Rattle.std.specs.Prelude.{◌≡◌, ◌≤◌, length, IfOk};
 ghost use Rattle.parshelf.specs.Memory.{shelf_state_of};
 ghost use Rattle.parfind.specs.Searches.{BelongsTo};
 
 use super::*;
-use parfield::Sequence;
+use md5::{Digest, Md5};
+use parfield::{Hash16, Kind, Sequence};
+use parsalvage::{Kept, KeptBody};
+use parset::{RecoverySet, build};
 use parshelf::{MemShelf, ReadFault};
-use parwindow::{Index, Slice, Window};
-use std::alloc::{AllocError, Global};
+use parwindow::{Index, Window};
+use std::alloc::Global;
 use std::process::Abort;
 use std::test::Fail;
 
@@ -32,30 +34,48 @@ fn hit(file: u32, offset: u64, slice: u32) -> Step {
     })
 }
 
-// A slice of four bytes that begins with these; its sums are those of a window of them and zeros.
-fn slice(alloc: Global, own: &[u8]) -> Result<Slice, AllocError>
-    requires { length own.now ≤ 4 }
-    ensures { IfOk result (λ slice. slice.length ≡ length own.now) }
-{
-    let mut window = Window::new(alloc, 4)?;
-    for place in 0..4 {
-        let _ = window.push(own.get(place).copied().unwrap_or(0));
+// A packet of a set.
+fn packet(set: Hash16, kind: Kind, body: Vec<u8>) -> Kept {
+    Kept {
+        file: 0,
+        at: 0,
+        length: 64 + body.len() as u64,
+        set,
+        kind,
+        body: KeptBody::Whole(Sequence::from_vec(body)),
     }
-    Ok(Slice {
-        length: own.len() as u64,
-        sums: Some((window.digest(), window.crc())),
-    })
 }
 
-// An index of slices of four bytes, each by its own bytes.
-fn index_of(rt: &(impl Abort + AllocGlobal), owns: &[&[u8]]) -> Result<Index, Fail> {
-    assert!(rt; owns.len() <= 9);
-    let mut slices = Vec::new(rt.alloc());
-    for (_n, own) in owns.iter().enumerate() {
-        assert!(rt; own.len() >= 1 && own.len() <= 4);
-        slices.push(slice(rt.alloc(), own)?)?;
+// The set of one file of these bytes, in slices of four, whose sums are known.
+fn set_of(alloc: Global, content: &[u8]) -> Result<RecoverySet, Fail> {
+    let mut main = Vec::new(alloc);
+    main.extend_from_slice(b"\x04\0\0\0\0\0\0\0\x01\0\0\0")?;
+    main.extend_from_slice(&[7; 16])?;
+    let set = Hash16(Md5::digest(main.as_slice()));
+    let mut description = vec![in alloc; 7; 48]?;
+    description.extend_from_slice(&(content.len() as u64).to_le_bytes())?;
+    description.extend_from_slice(b"name")?;
+    let mut sums = vec![in alloc; 7; 16]?;
+    for own in content.chunks(4) {
+        let mut window = Window::new(alloc, 4)?;
+        for place in 0..4 {
+            let _ = window.push(own.get(place).copied().unwrap_or(0));
+        }
+        sums.extend_from_slice(&window.digest().0)?;
+        sums.extend_from_slice(&window.crc().to_le_bytes())?;
     }
-    Ok(Index::from_slices(4, Sequence::from_vec(slices)))
+    let packets = vec![in alloc;
+        packet(set, Kind::Main, main),
+        packet(set, Kind::FileDesc, description),
+        packet(set, Kind::Ifsc, sums),
+    ]?;
+    Ok(build(alloc, &packets, None)?)
+}
+
+// An index of the slices of that set.
+fn index_of(rt: &(impl Abort + AllocGlobal), content: &[u8]) -> Result<Index, Fail> {
+    let set = set_of(rt.alloc(), content)?;
+    Ok(Index::new(rt.alloc(), &set)?)
 }
 
 // Files in memory that are read `piece` bytes at a time; the read of one number fails, none is 0.
@@ -84,16 +104,16 @@ fn gives(rt: &impl Abort, finder: &mut Finder, index: &Index, shelf: &mut MemShe
     }
 }
 
-// Looks for slices in files from a cursor on; wants these answers in order, and the cursor then.
+// Looks for the slices of a file of these bytes in files from a cursor on; wants these answers in order, and the cursor then.
 fn finds(
     rt: &(impl Abort + AllocGlobal),
-    slices: &[&[u8]],
+    content: &[u8],
     files: &[&[u8]],
     at: Cursor,
     wanted: &[Step],
     end: Cursor,
 ) -> Result<(), Fail> {
-    let index = index_of(rt, slices)?;
+    let index = index_of(rt, content)?;
     let mut shelf = shelf_of(rt, files, 64, 0)?;
     let mut finder = Finder::open(rt.alloc(), &index, &shelf, at)?;
     gives(rt, &mut finder, &index, &mut shelf, wanted);
@@ -106,7 +126,7 @@ fn two_slices_one_after_the_other(rt: HostRuntime) -> Result<(), Fail> {
     let wanted = [hit(0, 2, 0), hit(0, 6, 1), Step::Done];
     finds(
         &rt,
-        &[b"abcd", b"efgh"],
+        b"abcdefgh",
         &[b"XXabcdefgh"],
         START,
         &wanted,
@@ -119,7 +139,7 @@ fn a_slice_that_is_cut_off_is_not_seen(rt: HostRuntime) -> Result<(), Fail> {
     let wanted = [hit(0, 4, 0), Step::Done];
     finds(
         &rt,
-        &[b"abcd", b"efgh"],
+        b"abcdefgh",
         &[b"abcXabcdef"],
         START,
         &wanted,
@@ -132,32 +152,18 @@ fn a_short_slice_is_seen_where_the_file_ends_or_goes_on_with_zeros(
     rt: HostRuntime,
 ) -> Result<(), Fail> {
     let wanted = [hit(0, 0, 0), Step::Done];
-    finds(&rt, &[b"ij"], &[b"ij"], START, &wanted, cursor(1, 0, 0))?;
-    finds(&rt, &[b"ij"], &[b"ij\0"], START, &wanted, cursor(1, 0, 0))?;
-    finds(
-        &rt,
-        &[b"ij"],
-        &[b"ijk"],
-        START,
-        &[Step::Done],
-        cursor(1, 0, 0),
-    )
+    finds(&rt, b"ij", &[b"ij"], START, &wanted, cursor(1, 0, 0))?;
+    finds(&rt, b"ij", &[b"ij\0"], START, &wanted, cursor(1, 0, 0))?;
+    finds(&rt, b"ij", &[b"ijk"], START, &[Step::Done], cursor(1, 0, 0))
 }
 
 #[test]
 fn own_bytes_must_lie_in_the_file(rt: HostRuntime) -> Result<(), Fail> {
-    finds(
-        &rt,
-        &[b"i\0"],
-        &[b"i"],
-        START,
-        &[Step::Done],
-        cursor(1, 0, 0),
-    )
+    finds(&rt, b"i\0", &[b"i"], START, &[Step::Done], cursor(1, 0, 0))
 }
 
-// Two equal slices of zeros.
-const ZEROS: [&[u8]; 2] = [b"\0\0\0\0", b"\0\0\0\0"];
+// The bytes of two equal slices.
+const ZEROS: [u8; 8] = [0; 8];
 
 const SIX_ZEROS: [&[u8]; 1] = [b"\0\0\0\0\0\0"];
 
@@ -206,7 +212,7 @@ fn files_without_a_sighting_are_passed(rt: HostRuntime) -> Result<(), Fail> {
     let wanted = [hit(2, 0, 0), Step::Done];
     finds(
         &rt,
-        &[b"abcd", b"efgh"],
+        b"abcdefgh",
         &[b"", b"ab", b"abcd"],
         START,
         &wanted,
@@ -231,15 +237,15 @@ fn steps_give(
     }
 }
 
-// The same from a cursor on, over slices and files.
+// The same from a cursor on, over the slices of these bytes and over files.
 fn steps(
     rt: &(impl Abort + AllocGlobal),
-    slices: &[&[u8]],
+    content: &[u8],
     files: &[&[u8]],
     at: Cursor,
     wanted: &[(u64, Step, Cursor)],
 ) -> Result<(), Fail> {
-    let index = index_of(rt, slices)?;
+    let index = index_of(rt, content)?;
     let mut shelf = shelf_of(rt, files, 64, 0)?;
     let mut finder = Finder::open(rt.alloc(), &index, &shelf, at)?;
     steps_give(rt, &mut finder, &index, &mut shelf, wanted);
@@ -283,7 +289,7 @@ fn steps_of_two_places_find_what_calls_without_a_budget_find(rt: HostRuntime) ->
         (2, Step::Spent, cursor(0, 10, 0)),
         (2, Step::Done, cursor(1, 0, 0)),
     ];
-    steps(&rt, &[b"abcd", b"efgh"], &[b"XXabcdefgh"], START, &wanted)
+    steps(&rt, b"abcdefgh", &[b"XXabcdefgh"], START, &wanted)
 }
 
 #[test]
@@ -294,18 +300,12 @@ fn a_budget_goes_on_over_the_end_of_a_file(rt: HostRuntime) -> Result<(), Fail> 
         (4, Step::Spent, cursor(2, 4, 0)),
         (1, Step::Done, cursor(3, 0, 0)),
     ];
-    steps(
-        &rt,
-        &[b"abcd", b"efgh"],
-        &[b"", b"ab", b"abcd"],
-        START,
-        &wanted,
-    )
+    steps(&rt, b"abcdefgh", &[b"", b"ab", b"abcd"], START, &wanted)
 }
 
 #[test]
 fn a_search_goes_on_after_a_failed_read(rt: HostRuntime) -> Result<(), Fail> {
-    let index = index_of(&rt, &[b"abcd", b"efgh"])?;
+    let index = index_of(&rt, b"abcdefgh")?;
     let mut shelf = shelf_of(&rt, &[b"XXabcdefgh"], 1, 3)?;
     let mut finder = Finder::open(rt.alloc(), &index, &shelf, START)?;
     assert_eq!(rt; finder.next(&index, &mut shelf), Err(ReadFault::Failed));
@@ -317,7 +317,7 @@ fn a_search_goes_on_after_a_failed_read(rt: HostRuntime) -> Result<(), Fail> {
 
 #[test]
 fn a_survey_marks_what_a_search_finds(rt: HostRuntime) -> Result<(), Fail> {
-    let index = index_of(&rt, &[b"abcd", b"efgh", b"ijkl"])?;
+    let index = index_of(&rt, b"abcdefghijkl")?;
     let mut found = [false, false, true];
     assert_eq!(rt; index.slices(), 3);
     let mut failing = shelf_of(&rt, &[b"ab", b"XXabcdefgh"], 64, 3)?;

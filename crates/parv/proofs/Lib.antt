@@ -1,2 +1,3 @@
+pub mod FindLaws
 pub mod FrontLaws
 pub mod SalvageLaws

@@ -1,12 +1,16 @@
+pub mod Arguments
+pub mod Describing
 pub mod Ending
 pub mod FileWords
+pub mod Finding
 pub mod Lines
 pub mod Listing
 pub mod MemorySink
+pub mod Outcomes
 pub mod Report
 pub mod Salvaging
+pub mod Searching
 pub mod SetListing
 pub mod SinkState
-pub mod Texts
 pub mod Words
 pub mod WriterSink

@@ -10,6 +10,10 @@ use Rattle.parset.specs.Reasons.{reason_number}
 use Rattle.parset.specs.RecoverySet.{SetView, slice_count}
 use Rattle.parset.specs.declared.recovery_set.SetAside.{SetAside}
 use Rattle.parset.specs.declared.recovery_set.SetFile.{SetFile}
+use Rattle.parset.specs.declared.recovery_set.SetSlice.{SetSlice}
+use Rattle.parfield.specs.declared.hash16.Hash16.{Hash16}
+use Rattle.parfind.specs.CursorText.{cursor_text}
+use Rattle.parfind.specs.declared.cursor.Cursor.{Cursor}
 
 -- the word of a kind
 abbrev pub kind_word : Kind → List ℕ
@@ -64,3 +68,17 @@ unfoldable pub aside_line : List ℕ → SetAside → List ℕ
 aside_line name put_aside =
     codes "aside " ++ (shown name ++ (codes " " ++ (decimal put_aside.at ++ (codes " "
     ++ (decimal (reason_number put_aside.reason) ++ codes "\n")))))
+
+-- `<scanned file> <offset> <file ID> <slice number>`, of a slice that is seen in a file of this name
+unfoldable pub sighting_line : List ℕ → ℕ → SetSlice → List ℕ
+sighting_line name offset slice =
+    shown name ++ (codes " " ++ (decimal offset ++ (codes " " ++ (encode_lower slice.id.0 ++ (codes " "
+    ++ (decimal slice.number ++ codes "\n"))))))
+
+-- `end`
+unfoldable pub end_line : List ℕ
+end_line = codes "end\n"
+
+-- `cursor <text>`, in a search for the slices of this set
+unfoldable pub cursor_line : Hash16 → Cursor → List ℕ
+cursor_line set c = codes "cursor " ++ (cursor_text set c ++ codes "\n")

@@ -2,6 +2,7 @@ ghost use Rattle.std.specs.Prelude.{◌≡◌};
 ghost use Rattle.parv.specs.declared.command.PlanFault.TheVariants.{Memory};
 
 use parfield::{Hash16, Sequence, Text};
+use parfind::Cursor;
 use std::alloc::AllocError;
 use thiserror::Error;
 
@@ -12,6 +13,12 @@ pub enum Command {
     Packets,
     /// Shows the recovery set that the packets describe.
     Set,
+    /// Lists where slices of the set are seen in the scanned files: from a cursor on, which has the
+    /// set's ID beside it, and as many as the limit allows, which is not 0.
+    Find {
+        limit: Option<u64>,
+        cursor: Option<(Hash16, Cursor)>,
+    },
 }
 
 /// What the program is to do, by the words of its command line.

@@ -1,8 +1,11 @@
 //! Verifies files by their PAR2 recovery sets.
 #![tactic(auto)]
 
+mod arguments;
 mod command;
+mod describing;
 mod files;
+mod finding;
 mod listing;
 mod memory_sink;
 mod messages;
@@ -14,7 +17,6 @@ mod sink;
 mod status;
 #[cfg(test)]
 mod tests;
-mod texts;
 mod words;
 mod writer_sink;
 mod writing;

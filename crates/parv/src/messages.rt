@@ -24,7 +24,7 @@ fn exit_status(end: &End) -> u8
     match end {
         End::Status(Status::Listed) => 0,
         End::Plan(PlanFault::Memory) | End::Memory | End::Run(RunFault::Memory) => 8,
-        End::Plan(_) => 3,
+        End::Plan(_) | End::Run(RunFault::OtherSet) => 3,
         End::Run(RunFault::Set(_)) => 4,
         End::CannotOpen | End::Run(RunFault::Read { .. }) | End::Run(RunFault::Write) => 6,
     }
@@ -45,6 +45,7 @@ fn line(alloc: Global, end: &End, argument: &str) -> Result<String, AllocError>
         End::Plan(PlanFault::NoPacketFile) => plain(alloc, "no packet file"),
         End::Run(RunFault::Set(cause)) => no_set(alloc, *cause),
         End::Run(RunFault::Write) => plain(alloc, "write fault"),
+        End::Run(RunFault::OtherSet) => plain(alloc, "cursor of another set"),
         End::CannotOpen => about(alloc, "cannot open ", name),
         End::Run(RunFault::Read { .. }) => about(alloc, "read fault in ", name),
         End::Plan(PlanFault::Memory) | End::Memory | End::Run(RunFault::Memory) => {

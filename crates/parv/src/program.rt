@@ -1,6 +1,10 @@
+ghost use Rattle.std.specs.Prelude.{◌≡◌, ◌≤◌, length, IfOk};
+ghost use Rattle.parv.specs.Arguments.{scanned_paths_of};
+
+use crate::arguments::{argument_of, reads_scanned};
 use crate::command::{Plan, PlanFault};
 use crate::runner::run;
-use crate::status::{End, RunFault};
+use crate::status::End;
 use crate::words::plan;
 use crate::writer_sink::WriteSink;
 use parfield::Text;
@@ -25,15 +29,19 @@ pub fn perform(rt: &HostRuntime) -> (End, Option<String>) {
         Err(OpenFault::Memory) => return (End::Memory, None),
         Err(OpenFault::CannotOpen(file)) => return about(alloc, End::CannotOpen, paths.get(file)),
     };
-    let none: [Text; 0] = [];
-    let mut scanned = match DiskShelf::open(rt, alloc, &none) {
+    let paths = match scanned_paths(alloc, &plan) {
+        Ok(paths) => paths,
+        Err(AllocError) => return (End::Memory, None),
+    };
+    let mut scanned = match DiskShelf::open(rt, alloc, &paths) {
         Ok(shelf) => shelf,
-        Err(_) => return (End::Memory, None),
+        Err(OpenFault::Memory) => return (End::Memory, None),
+        Err(OpenFault::CannotOpen(file)) => return about(alloc, End::CannotOpen, paths.get(file)),
     };
     let mut out = WriteSink::new(rt.stdout());
     match run(alloc, &plan, &mut packets, &mut scanned, &mut out) {
         Ok(status) => (End::Status(status), None),
-        Err(fault) => failed(alloc, fault, &plan),
+        Err(fault) => about(alloc, End::Run(fault), argument_of(&plan, fault)),
     }
 }
 
@@ -53,20 +61,19 @@ fn words_of(rt: &HostRuntime) -> Result<Vec<String>, End> {
     Ok(words)
 }
 
-// The end of a run that failed.
-fn failed(alloc: Global, fault: RunFault, plan: &Plan) -> (End, Option<String>) {
-    match fault {
-        RunFault::Read {
-            packet: true,
-            file,
-            ..
-        } => about(
-            alloc,
-            End::Run(fault),
-            plan.packets.as_slice().get(file as usize),
-        ),
-        _ => (End::Run(fault), None),
+// The paths of the files that are scanned; none, where the command scans no file.
+fn scanned_paths(alloc: Global, plan: &Plan) -> Result<Vec<Text>, AllocError>
+    ensures paths { IfOk result (λ paths. paths.items ≡ scanned_paths_of plan.now) }
+    ensures few { IfOk result (λ paths. length paths.items ≤ length plan.now.scanned) }
+{
+    let mut paths = Vec::new(alloc);
+    if reads_scanned(plan.command) {
+        for file in plan.scanned.as_slice() {
+            let path = String::from_str(alloc, file.path.as_str())?;
+            paths.push(Text::from_string(path))?;
+        }
     }
+    Ok(paths)
 }
 
 // The end, with a copy of the file that it is about.

@@ -6,7 +6,7 @@ use thiserror::Error;
 /// What a run found.
 #[derive(Clone, Copy, Debug, PartialEq, Eq)]
 pub enum Status {
-    /// The list, or the set, was written.
+    /// The list, the set or the sightings were written.
     Listed,
 }
 
@@ -42,6 +42,9 @@ pub enum RunFault {
     /// Memory was refused.
     #[error("out of memory")]
     Memory,
+    /// The cursor is one in a search for the slices of another set; nothing was written.
+    #[error("cursor of another set")]
+    OtherSet,
 }
 
 /// How the program ends.

@@ -1,5 +1,6 @@
 mod describing;
 mod disk;
+mod finding;
 mod fixtures;
 mod listing;
 mod refusals;

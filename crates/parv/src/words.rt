@@ -1,6 +1,7 @@
 ghost use Rattle.std.specs.Prelude.{◌≡◌, ◌||◌, ◌==◌, ◌≤◌, map, length, string_bytes, IfOk, OnOk, IfErr, Ok, Err};
 ghost use Rattle.std.specs.List.{list_any};
 ghost use Rattle.parv.specs.FileWords.{is_option};
+ghost use Rattle.parv.specs.Outcomes.{HasLimit};
 ghost use Rattle.parv.specs.Words.{plan_of, command_of, files_of, AnswersPlan};
 
 use crate::command::{Command, Plan, PlanFault};
@@ -10,7 +11,9 @@ use std::alloc::Global;
 /// The plan of the words after the program's name.
 pub fn plan(alloc: Global, words: &[String]) -> Result<Plan, PlanFault>
     ensures plan { AnswersPlan (plan_of (map string_bytes words.now)) result }
-    ensures few { IfOk result (λ plan. length plan.packets ≤ 65535) }
+    ensures few { IfOk result (λ plan.
+        (length plan.packets ≤ 65535) × (length plan.scanned ≤ 65535)) }
+    ensures limit { IfOk result (λ plan. HasLimit plan.command) }
 {
     match words {
         [] => Err(PlanFault::Usage),
@@ -34,12 +37,18 @@ pub fn plan(alloc: Global, words: &[String]) -> Result<Plan, PlanFault>
 
 // The command that a word names.
 fn command_named(word: &str) -> Result<Command, PlanFault>
-    ensures { result ≡ command_of word.now }
+    ensures named { result ≡ command_of word.now }
+    ensures limit { IfOk result HasLimit }
 {
     if word == "packets" {
         Ok(Command::Packets)
     } else if word == "set" {
         Ok(Command::Set)
+    } else if word == "find" {
+        Ok(Command::Find {
+            limit: None,
+            cursor: None,
+        })
     } else {
         Err(PlanFault::Usage)
     }

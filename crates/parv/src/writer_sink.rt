@@ -15,11 +15,12 @@ pub struct WriteSink<W> {
 
 impl<W> WriteSink<W> {
     ghost use Rattle.parv.specs.SinkState.{empty_sink};
-    ghost use Rattle.parv.specs.WriterSink.{writer_sink_state};
+    ghost use Rattle.parv.specs.WriterSink.{writer_sink_state, writer_of};
 
     /// A sink over a writer, to which nothing was written.
     pub fn new(writer: W) -> WriteSink<W>
-        ensures { writer_sink_state result ≡ empty_sink }
+        ensures state { writer_sink_state result ≡ empty_sink }
+        ensures writer { writer_of result ≡ writer }
     {
         WriteSink {
             writer,

@@ -1,7 +1,8 @@
--- The slices of a recovery set with their checksums, as an index has them.
-use Rattle.std.specs.Prelude.{◌≡◌, ℕ, ◌<◌, ◌≤◌, List, length, map, slice_get, All, Option, Some}
+-- The slices of a recovery set with their checksums, as an index has them
+-- (PAR2 2.0, Input File Slice Checksum packet).
+use Rattle.std.specs.Prelude.{◌≡◌, ℕ, ◌<◌, ◌≤◌, ◌%◌, List, length, map, slice_get, All, Option, Some}
 use Rattle.parfield.specs.declared.hash16.Hash16.{Hash16}
-use Rattle.parwindow.specs.declared.index.Slice.{Slice}
+use Rattle.parset.specs.declared.recovery_set.SetSlice.{SetSlice}
 
 -- the slices of a set, by number
 pub record SliceSet : Type 0 where
@@ -12,7 +13,8 @@ pub record SliceSet : Type 0 where
   -- the MD5 and the CRC-32 of all of them, where they are known
   pub sums_of : List (Option (Hash16 × ℕ))
 
-abbrev pub slice_set_of : ℕ → List Slice → SliceSet
+-- the slices of a recovery set of this slice size
+abbrev pub slice_set_of : ℕ → List SetSlice → SliceSet
 slice_set_of size slices = record {
   slice_size = size;
   own_lengths = map (λ slice. slice.length) slices;
@@ -23,6 +25,7 @@ slice_set_of size slices = record {
 pub record IsSliceSet (set : SliceSet) : Type 0 where
   pub least_size : 4 ≤ set.slice_size
   pub greatest_size : set.slice_size ≤ 268435456
+  pub multiple : set.slice_size % 4 ≡ 0
   pub few : length set.sums_of ≤ 32768
   pub own : All (λ n. (0 < n) × (n ≤ set.slice_size)) set.own_lengths
 

@@ -1,23 +1,16 @@
-ghost use Rattle.std.specs.Prelude.{◌≡◌, ◌<◌, ◌≤◌, ◌↔◌, length, slice_index, slice_get, IsTrue, Some, IfSome, IfNone};
-ghost use Rattle.parwindow.specs.Index.{slice_set_of, IsSliceSet, HasCrc, IsNextMatch, NoMatch};
+ghost use Rattle.std.specs.Prelude.{◌≡◌, ◌<◌, ◌≤◌, ◌%◌, ◌↔◌, length, slice_index, slice_get, IsTrue, Some, IfOk, IfSome, IfNone};
+ghost use Rattle.parwindow.specs.Index.{slice_set_of, HasCrc, IsNextMatch, NoMatch};
 
 use parfield::{Hash16, Sequence};
+use parset::{RecoverySet, SetSlice};
+use std::alloc::{AllocError, Global};
 use std::marker::Model;
-
-/// A slice of a file, filled with zeros to the slice size.
-#[derive(Clone, Copy, Debug, PartialEq, Eq)]
-pub struct Slice {
-    /// How many of its bytes are the file's.
-    pub length: u64,
-    /// The MD5 and the CRC-32 of all its bytes, where they are known.
-    pub sums: Option<(Hash16, u32)>,
-}
 
 /// The slices of a recovery set, by number and by their sums.
 #[derive(Drop)]
 pub struct Index {
     size: u64,
-    slices: Sequence<Slice>,
+    slices: Sequence<SetSlice>,
 }
 
 impl Model for Index {
@@ -31,12 +24,15 @@ impl Model for Index {
 }
 
 impl Index {
-    /// An index of these slices, in order of their numbers. `size` is the slice size.
-    pub fn from_slices(size: u64, slices: Sequence<Slice>) -> Index
-        requires { IsSliceSet (slice_set_of size slices) }
-        ensures { result ≡ slice_set_of size slices }
+    /// The slices of a recovery set. No other call takes memory.
+    pub fn new(alloc: Global, set: &RecoverySet) -> Result<Index, AllocError>
+        ensures { IfOk result (λ index. index ≡ slice_set_of set.now.size set.now.slices) }
     {
-        Index { size, slices }
+        let slices = Vec::from_slice(alloc, set.slices())?;
+        Ok(Index {
+            size: set.size(),
+            slices: Sequence::from_vec(slices),
+        })
     }
 
     /// The slice size.
@@ -44,6 +40,7 @@ impl Index {
         ensures size { result ≡ self.now.slice_size }
         ensures least { 4 ≤ result }
         ensures greatest { result ≤ 268435456 }
+        ensures multiple { result % 4 ≡ 0 }
     {
         self.size
     }
@@ -51,6 +48,7 @@ impl Index {
     /// How many slices there are.
     pub fn slices(&self) -> u32
         ensures slices { result ≡ length self.now.sums_of }
+        ensures own { result ≡ length self.now.own_lengths }
         ensures few { result ≤ 32768 }
     {
         self.slices.len() as u32

@@ -11,6 +11,6 @@ mod tests;
 mod window;
 
 pub use crate::checksum::crc32;
-pub use crate::index::{Index, Slice};
+pub use crate::index::Index;
 pub use crate::laws::crc_removal_law;
 pub use crate::window::Window;

@@ -1,7 +1,9 @@
-ghost use Rattle.std.specs.Prelude.{◌≡◌};
-
 use super::*;
-use parfield::{Hash16, Sequence};
+use md5::{Digest, Md5};
+use parfield::{Hash16, Kind, Sequence};
+use parsalvage::{Kept, KeptBody};
+use parset::{RecoverySet, build};
+use std::alloc::Global;
 use std::test::Fail;
 
 #[test]
@@ -56,30 +58,75 @@ fn a_window_is_full_until_it_is_cleared(rt: HostRuntime) -> Result<(), Fail> {
     Ok(())
 }
 
-fn slice(own: u64, sums: Option<(Hash16, u32)>) -> Slice
-    ensures { result.length ≡ own }
-{
-    Slice { length: own, sums }
+// The ID of the one file of the set.
+const FILE: [u8; 16] = [7; 16];
+
+// A packet of the set.
+fn packet(set: Hash16, kind: Kind, body: Vec<u8>) -> Kept {
+    Kept {
+        file: 0,
+        at: 0,
+        length: 64 + body.len() as u64,
+        set,
+        kind,
+        body: KeptBody::Whole(Sequence::from_vec(body)),
+    }
 }
+
+// The set of one file of this length, in slices of 4 bytes, with these sums, if they are known.
+fn set_of(alloc: Global, length: u64, sums: &[u8]) -> Result<RecoverySet, Fail> {
+    let mut main = Vec::from_slice(alloc, b"\x04\0\0\0\0\0\0\0\x01\0\0\0")?;
+    main.extend_from_slice(&FILE)?;
+    let set = Hash16(Md5::digest(main.as_slice()));
+    let mut description = vec![in alloc; 7; 48]?;
+    description.extend_from_slice(&length.to_le_bytes())?;
+    description.extend_from_slice(b"name")?;
+    let mut checksums = Vec::from_slice(alloc, &FILE)?;
+    checksums.extend_from_slice(sums)?;
+    let packets = vec![in alloc;
+        packet(set, Kind::Main, main),
+        packet(set, Kind::FileDesc, description),
+        packet(set, Kind::Ifsc, checksums),
+    ]?;
+    Ok(build(alloc, &packets, None)?)
+}
+
+// The MD5 and the CRC-32 of `abcd`, and those of `ab` and two zeros.
+const ABCD: [u8; 16] = *b"\xe2\xfc\x71\x4c\x47\x27\xee\x93\x95\xf3\x24\xcd\x2e\x7f\x33\x1f";
+
+const AB: [u8; 16] = *b"\x66\x27\x1d\x2e\x70\x37\x2c\x1b\x4d\xc5\xb4\x6e\x79\xa6\xf0\x01";
+
+const AB_CRC: u32 = 0xe98d_5034;
 
 #[test]
 fn equal_slices_are_found_by_number(rt: HostRuntime) -> Result<(), Fail> {
-    let (a, b) = (Hash16([1; 16]), Hash16([2; 16]));
-    let slices = vec![in rt.alloc();
-        slice(4, None),
-        slice(4, Some((a, 5))),
-        slice(4, Some((b, 5))),
-        slice(3, Some((a, 5))),
-    ]?;
-    let index = Index::from_slices(4, Sequence::from_vec(slices));
-    assert_eq!(rt; index.size(), 4);
-    assert_eq!(rt; index.slices(), 4);
-    assert_eq!(rt; index.own_length(3), 3);
-    assert!(rt; index.has_crc(5));
-    assert!(rt; !index.has_crc(6));
-    for (from, found) in [(0, Some(1)), (1, Some(1)), (2, Some(3)), (4, None)] {
-        assert_eq!(rt; index.next_match(5, a, from), found);
+    let mut sums = Vec::new(rt.alloc());
+    for (digest, crc) in [(ABCD, 0xed82_cd11u32), (ABCD, 0xed82_cd11), (AB, AB_CRC)] {
+        sums.extend_from_slice(&digest)?;
+        sums.extend_from_slice(&crc.to_le_bytes())?;
     }
-    assert_eq!(rt; index.next_match(6, a, 0), None);
+    let set = set_of(rt.alloc(), 10, &sums)?;
+    let index = Index::new(rt.alloc(), &set)?;
+    assert_eq!(rt; index.size(), 4);
+    assert_eq!(rt; index.slices(), 3);
+    assert_eq!(rt; index.own_length(1), 4);
+    assert_eq!(rt; index.own_length(2), 2);
+    assert!(rt; index.has_crc(AB_CRC));
+    assert!(rt; !index.has_crc(0));
+    for (from, found) in [(0, Some(0)), (1, Some(1)), (2, None), (3, None)] {
+        assert_eq!(rt; index.next_match(0xed82_cd11, Hash16(ABCD), from), found);
+    }
+    assert_eq!(rt; index.next_match(AB_CRC, Hash16(AB), 0), Some(2));
+    assert_eq!(rt; index.next_match(AB_CRC, Hash16(ABCD), 0), None);
+    Ok(())
+}
+
+#[test]
+fn slices_without_sums_are_not_found(rt: HostRuntime) -> Result<(), Fail> {
+    let set = set_of(rt.alloc(), 10, &ABCD)?;
+    let index = Index::new(rt.alloc(), &set)?;
+    assert_eq!(rt; index.slices(), 3);
+    assert!(rt; !index.has_crc(0xed82_cd11));
+    assert_eq!(rt; index.next_match(0xed82_cd11, Hash16(ABCD), 0), None);
     Ok(())
 }

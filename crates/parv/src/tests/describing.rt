@@ -68,12 +68,7 @@ fn no_main_packet(rt: HostRuntime) -> Result<(), Fail> {
     refused(&rt, &creator(rt.alloc())?, "parv: no usable set: no main\n")?;
     let file = set_of_one_file(rt.alloc())?;
     let plan = chosen(rt.alloc(), Command::Set, ZEROS)?;
-    let room = Room {
-        bytes: 4096,
-        piece: 4096,
-        takes_zero: false,
-    };
-    let ran = ran_plan(&rt, &plan, &[&file], 64, 0, room)?;
+    let ran = ran_plan(&rt, &plan, sound(&[&file], &[]), ROOMY)?;
     assert_eq!(rt;
         std::str::from_utf8(&ran.line),
         Ok("parv: no usable set: no main\n")

@@ -1,4 +1,4 @@
-use crate::command::Plan;
+use crate::command::{Command, Plan};
 use crate::memory_sink::MemSink;
 use crate::messages::ending;
 use crate::runner::run;
@@ -66,6 +66,7 @@ fn packets_of_files_on_disk(rt: HostRuntime) -> Result<(), Fail> {
         let mut scanned = DiskShelf::open(&rt, rt.alloc(), &none)?;
         let mut out = MemSink::new(rt.alloc(), 4096, 4096, false)?;
         assert_eq!(rt; shelf.count() as usize, plan.packets.len());
+        assert_eq!(rt; plan.command, Command::Packets);
         let result = run(rt.alloc(), &plan, &mut shelf, &mut scanned, &mut out);
         assert_eq!(rt; result, Ok(Status::Listed));
         // Each line but the last begins with the path and a blank.

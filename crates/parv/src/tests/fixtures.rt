@@ -1,12 +1,14 @@
 // Packets and files that the tests run on, and runs over files in memory.
 ghost use Rattle.std.specs.Prelude.{◌≡◌, ◌<◌, ◌^◌, length, IfOk};
 ghost use Rattle.parshelf.specs.Memory.{shelf_state_of};
+ghost use Rattle.parv.specs.Outcomes.{HasLimit};
 
+use crate::arguments::{argument_of, reads_scanned};
 use crate::command::{Command, Plan};
 use crate::memory_sink::MemSink;
 use crate::messages::ending;
 use crate::runner::run;
-use crate::status::{End, RunFault};
+use crate::status::End;
 use crate::words::plan;
 use md5::{Digest, Md5};
 use parfield::{Hash16, Sequence, Text};
@@ -170,24 +172,26 @@ pub struct Outcome {
     pub line: Vec<u8>,
 }
 
-/// Runs a command over packet files in memory with all the room that there is.
-pub fn ran(
-    rt: &(impl Abort + AllocGlobal),
-    words: &[&str],
-    packets: &[&[u8]],
-) -> Result<Outcome, Fail> {
-    ran_with(
-        rt,
-        words,
+/// Files in memory: packet files, scanned files, how many bytes a read gives at most, and the
+/// numbers of the reads of each kind that fail.
+#[derive(Clone, Copy)]
+pub struct Files<'a> {
+    pub packets: &'a [&'a [u8]],
+    pub scanned: &'a [&'a [u8]],
+    pub piece: usize,
+    pub failing_packet: u64,
+    pub failing_scanned: u64,
+}
+
+/// Files of which no read fails.
+pub fn sound<'a>(packets: &'a [&'a [u8]], scanned: &'a [&'a [u8]]) -> Files<'a> {
+    Files {
         packets,
-        64,
-        0,
-        Room {
-            bytes: 4096,
-            piece: 4096,
-            takes_zero: false,
-        },
-    )
+        scanned,
+        piece: 64,
+        failing_packet: 0,
+        failing_scanned: 0,
+    }
 }
 
 /// The room of a sink in memory.
@@ -198,19 +202,33 @@ pub struct Room {
     pub takes_zero: bool,
 }
 
-/// Runs a command with reads of `piece` bytes, of which one may fail, and a sink with some room.
-pub fn ran_with(
+/// All the room that a test needs.
+pub const ROOMY: Room = Room {
+    bytes: 4096,
+    piece: 4096,
+    takes_zero: false,
+};
+
+/// Runs a command over packet files.
+pub fn ran(
     rt: &(impl Abort + AllocGlobal),
     words: &[&str],
     packets: &[&[u8]],
-    piece: usize,
-    failing: u64,
+) -> Result<Outcome, Fail> {
+    ran_with(rt, words, sound(packets, &[]), ROOMY)
+}
+
+/// Runs a command over files, with a sink of some room.
+pub fn ran_with(
+    rt: &(impl Abort + AllocGlobal),
+    words: &[&str],
+    files: Files<'_>,
     room: Room,
 ) -> Result<Outcome, Fail> {
     let alloc = rt.alloc();
     let words = words_of(alloc, words)?;
     match plan(alloc, &words) {
-        Ok(plan) => ran_plan(rt, &plan, packets, piece, failing, room),
+        Ok(plan) => ran_plan(rt, &plan, files, room),
         Err(fault) => {
             let (status, line) = ending(alloc, &End::Plan(fault), "")?;
             Ok(Outcome {
@@ -226,30 +244,29 @@ pub fn ran_with(
 pub fn ran_plan(
     rt: &(impl Abort + AllocGlobal),
     plan: &Plan,
-    packets: &[&[u8]],
-    piece: usize,
-    failing: u64,
+    files: Files<'_>,
     room: Room,
-) -> Result<Outcome, Fail> {
+) -> Result<Outcome, Fail>
+    requires { HasLimit plan.now.command }
+{
     let alloc = rt.alloc();
-    assert!(rt; packets.len() < 1000 && piece > 0 && room.piece > 0);
-    let mut shelf = shelf_of(alloc, packets, piece, failing)?;
-    let mut scanned = shelf_of(alloc, &[], 1, 0)?;
+    assert!(rt; files.packets.len() < 1000 && files.scanned.len() < 1000);
+    assert!(rt; files.piece > 0 && room.piece > 0);
+    let mut packets = shelf_of(alloc, files.packets, files.piece, files.failing_packet)?;
+    let mut scanned = shelf_of(alloc, files.scanned, files.piece, files.failing_scanned)?;
     let mut out = MemSink::new(alloc, room.bytes, room.piece, room.takes_zero)?;
-    assert_eq!(rt; shelf.count() as usize, plan.packets.len());
-    let result = run(alloc, plan, &mut shelf, &mut scanned, &mut out);
-    let argument = match result {
-        Err(RunFault::Read { file, .. }) => plan
-            .packets
-            .as_slice()
-            .get(file as usize)
-            .ok_or("file")?
-            .as_str(),
-        _ => "",
+    assert_eq!(rt; packets.count() as usize, plan.packets.len());
+    if reads_scanned(plan.command) {
+        assert_eq!(rt; scanned.count() as usize, plan.scanned.len());
+    }
+    let result = run(alloc, plan, &mut packets, &mut scanned, &mut out);
+    let (end, argument) = match result {
+        Ok(status) => (End::Status(status), None),
+        Err(fault) => (End::Run(fault), argument_of(plan, fault)),
     };
-    let end = match result {
-        Ok(status) => End::Status(status),
-        Err(fault) => End::Run(fault),
+    let argument = match argument {
+        Some(argument) => argument.as_str(),
+        None => "",
     };
     let (status, line) = ending(alloc, &end, argument)?;
     Ok(Outcome {
@@ -260,7 +277,9 @@ pub fn ran_plan(
 }
 
 /// The plan of a command over the one file `p.par2`, of which one set is asked for.
-pub fn chosen(alloc: Global, command: Command, set: [u8; 16]) -> Result<Plan, AllocError> {
+pub fn chosen(alloc: Global, command: Command, set: [u8; 16]) -> Result<Plan, AllocError>
+    ensures { IfOk result (λ plan. plan.command ≡ command) }
+{
     let mut packets = Vec::new(alloc);
     packets.push(Text::from_string(String::from_str(alloc, "p.par2")?))?;
     Ok(Plan {

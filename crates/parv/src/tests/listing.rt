@@ -163,12 +163,7 @@ fn packets_of_a_chosen_set(rt: HostRuntime) -> Result<(), Fail> {
         ([1; 16], "packets 0\n"),
     ] {
         let plan = chosen(rt.alloc(), Command::Packets, set)?;
-        let room = Room {
-            bytes: 4096,
-            piece: 4096,
-            takes_zero: false,
-        };
-        let ran = ran_plan(&rt, &plan, &[&bytes], 64, 0, room)?;
+        let ran = ran_plan(&rt, &plan, sound(&[&bytes], &[]), ROOMY)?;
         assert_eq!(rt; std::str::from_utf8(&ran.text), Ok(text));
     }
     Ok(())

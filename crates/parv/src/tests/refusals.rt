@@ -1,4 +1,4 @@
-use crate::command::PlanFault;
+use crate::command::{Command, PlanFault};
 use crate::memory_sink::MemSink;
 use crate::messages::ending;
 use crate::runner::run;
@@ -10,12 +10,6 @@ use crate::writer_sink::WriteSink;
 use parshelf::{ReadFault, Shelf};
 use std::test::Fail;
 
-const ROOMY: Room = Room {
-    bytes: 4096,
-    piece: 4096,
-    takes_zero: false,
-};
-
 #[test]
 fn writer_that_takes_ten_bytes(rt: HostRuntime) -> Result<(), Fail> {
     let file = set_of_one_file(rt.alloc())?;
@@ -25,7 +19,7 @@ fn writer_that_takes_ten_bytes(rt: HostRuntime) -> Result<(), Fail> {
             piece: 4096,
             takes_zero,
         };
-        let ran = ran_with(&rt, &["packets", "v.par2"], &[&file], 64, 0, room)?;
+        let ran = ran_with(&rt, &["packets", "v.par2"], sound(&[&file], &[]), room)?;
         assert_eq!(rt; ran.text.as_slice(), b"v.par2 0 9".as_slice());
         assert_eq!(rt; ran.line.as_slice(), b"parv: write fault\n".as_slice());
         assert_eq!(rt; ran.status, 6);
@@ -43,7 +37,7 @@ fn writer_that_fails_at_each_byte(rt: HostRuntime) -> Result<(), Fail> {
             piece: 7,
             takes_zero: bytes % 2 == 0,
         };
-        let ran = ran_with(&rt, &["packets", "v.par2"], &[&file], 64, 0, room)?;
+        let ran = ran_with(&rt, &["packets", "v.par2"], sound(&[&file], &[]), room)?;
         assert_eq!(rt; ran.text.as_slice(), &whole.text[..bytes]);
         assert_eq!(rt; ran.status, 6);
     }
@@ -59,7 +53,7 @@ fn writer_that_takes_one_byte_a_call(rt: HostRuntime) -> Result<(), Fail> {
         piece: 1,
         takes_zero: false,
     };
-    let ran = ran_with(&rt, &["packets", "v.par2"], &[&file], 64, 0, room)?;
+    let ran = ran_with(&rt, &["packets", "v.par2"], sound(&[&file], &[]), room)?;
     assert_eq!(rt; ran.text.as_slice(), whole.text.as_slice());
     assert_eq!(rt; ran.status, 0);
     Ok(())
@@ -72,14 +66,14 @@ fn each_read_failing_in_turn(rt: HostRuntime) -> Result<(), Fail> {
     // The 64 bytes of the first file are read by so many reads, and all 480 by so many.
     for (piece, in_first, in_all) in [(1, 64, 480), (64, 1, 8)] {
         for failing in 1..=in_all {
-            let ran = ran_with(
-                &rt,
-                &["packets", "u.par2", "v.par2"],
-                &[&first, &second],
+            let files = Files {
+                packets: &[&first, &second],
+                scanned: &[],
                 piece,
-                failing,
-                ROOMY,
-            )?;
+                failing_packet: failing,
+                failing_scanned: 0,
+            };
+            let ran = ran_with(&rt, &["packets", "u.par2", "v.par2"], files, ROOMY)?;
             assert!(rt; ran.text.is_empty());
             assert_eq!(rt; ran.status, 6);
             let line = if failing <= in_first {
@@ -93,14 +87,14 @@ fn each_read_failing_in_turn(rt: HostRuntime) -> Result<(), Fail> {
                 "read {failing} by {piece}"
             );
         }
-        let ran = ran_with(
-            &rt,
-            &["packets", "u.par2", "v.par2"],
-            &[&first, &second],
+        let files = Files {
+            packets: &[&first, &second],
+            scanned: &[],
             piece,
-            in_all + 1,
-            ROOMY,
-        )?;
+            failing_packet: in_all + 1,
+            failing_scanned: 0,
+        };
+        let ran = ran_with(&rt, &["packets", "u.par2", "v.par2"], files, ROOMY)?;
         assert_eq!(rt; ran.status, 0);
     }
     Ok(())
@@ -114,6 +108,7 @@ fn first_read_failing(rt: HostRuntime) -> Result<(), Fail> {
     let mut shelf = shelf_of(rt.alloc(), &[&file], 64, 1)?;
     let mut scanned = shelf_of(rt.alloc(), &[], 1, 0)?;
     assert_eq!(rt; shelf.count() as usize, plan.packets.len());
+    assert_eq!(rt; plan.command, Command::Packets);
     let mut out = MemSink::new(rt.alloc(), 4096, 4096, false)?;
     let result = run(rt.alloc(), &plan, &mut shelf, &mut scanned, &mut out);
     let expected = RunFault::Read {
@@ -163,6 +158,11 @@ fn endings_and_their_lines(rt: HostRuntime) -> Result<(), Fail> {
         (End::Run(read), 6, "parv: read fault in a\\x0ab\n"),
         (End::Run(RunFault::Write), 6, "parv: write fault\n"),
         (End::Run(RunFault::Memory), 8, "parv: out of memory\n"),
+        (
+            End::Run(RunFault::OtherSet),
+            3,
+            "parv: cursor of another set\n",
+        ),
     ] {
         let (code, text) = ending(rt.alloc(), &end, "a\nb")?;
         assert_eq!(rt; code, status, "{end:?}");

@@ -12,6 +12,8 @@ fn words_that_are_no_plan(rt: HostRuntime) -> Result<(), Fail> {
         (["packets", "-q", "v.par2"].as_slice(), PlanFault::Usage),
         (["packets", "v.par2", "-"].as_slice(), PlanFault::Usage),
         (["packets", "x.bin"].as_slice(), PlanFault::NoPacketFile),
+        (["find", "x.bin"].as_slice(), PlanFault::NoPacketFile),
+        (["find"].as_slice(), PlanFault::Usage),
         (["packets", "par2"].as_slice(), PlanFault::NoPacketFile),
         (["packets", ""].as_slice(), PlanFault::NoPacketFile),
     ] {

@@ -1,0 +1,83 @@
+use super::*;
+use parfield::Hash16;
+use std::test::Fail;
+
+const ZEROS: Hash16 = Hash16([0; 16]);
+
+const SET: Hash16 = Hash16([
+    0x61, 0x7c, 0xdc, 0x72, 0xba, 0x53, 0xd9, 0x4f, 0xe7, 0x13, 0xfe, 0xa2, 0xae, 0x18, 0xf7, 0x76,
+]);
+
+#[test]
+fn a_cursor_is_written(rt: HostRuntime) -> Result<(), Fail> {
+    let cursor = Cursor {
+        file: 0,
+        offset: 2,
+        slice: 1,
+    };
+    let text = cursor.text(rt.alloc(), SET)?;
+    assert_eq!(rt;
+        text.as_slice(),
+        b"617cdc72ba53d94fe713fea2ae18f776:0:2:1".as_slice()
+    );
+    Ok(())
+}
+
+#[test]
+fn the_greatest_cursor_has_75_bytes(rt: HostRuntime) -> Result<(), Fail> {
+    let greatest = Cursor {
+        file: 4_294_967_295,
+        offset: 18_446_744_073_709_551_615,
+        slice: 4_294_967_295,
+    };
+    let text = b"617cdc72ba53d94fe713fea2ae18f776:4294967295:18446744073709551615:4294967295";
+    assert_eq!(rt; text.len(), 75);
+    assert_eq!(rt; split_cursor(text), Some((SET, greatest)));
+    let written = greatest.text(rt.alloc(), SET)?;
+    assert_eq!(rt; written.as_slice(), text.as_slice());
+    Ok(())
+}
+
+#[test]
+fn a_cursor_is_read_for_its_set(rt: HostRuntime) {
+    let text = b"00000000000000000000000000000000:0:1:1";
+    let cursor = Cursor {
+        file: 0,
+        offset: 1,
+        slice: 1,
+    };
+    assert_eq!(rt; split_cursor(text), Some((ZEROS, cursor)));
+    assert_eq!(rt; read_cursor(text, ZEROS), Ok(cursor));
+    assert_eq!(rt; read_cursor(text, SET), Err(CursorFault::OtherSet));
+}
+
+#[test]
+fn any_other_text_is_refused(rt: HostRuntime) {
+    let texts: [&[u8]; 17] = [
+        b"",
+        b"00000000000000000000000000000000",
+        b"00000000000000000000000000000000:0:1",
+        b"00000000000000000000000000000000:0:1:",
+        b"00000000000000000000000000000000:0:1:1:",
+        b"00000000000000000000000000000000:0:1:1:1",
+        b"00000000000000000000000000000000:0:01:1",
+        b"00000000000000000000000000000000:0:+1:1",
+        b"00000000000000000000000000000000:0:1:1 ",
+        b" 00000000000000000000000000000000:0:1:1",
+        b"00000000000000000000000000000000:0:1:4294967296",
+        b"00000000000000000000000000000000:4294967296:0:0",
+        b"00000000000000000000000000000000:0:18446744073709551616:0",
+        b"00000000000000000000000000000000:0:340282366920938463463374607431768211456:0",
+        b"0000000000000000000000000000000A:0:1:1",
+        b"0000000000000000000000000000000:0:1:1",
+        b"000000000000000000000000000000000:0:1:1",
+    ];
+    for text in texts {
+        assert_eq!(rt; split_cursor(text), None, "{text:?}");
+        assert_eq!(rt;
+            read_cursor(text, ZEROS),
+            Err(CursorFault::Form),
+            "{text:?}"
+        );
+    }
+}
