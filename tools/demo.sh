@@ -18,3 +18,24 @@ echo 'A file that holds the first 5,000 bytes of harbour.raw behind some text:'
 echo '$ parv find' ./*.par2 found.bin
 cd "$work"
 "$parv" find "$demo"/*.par2 found.bin
+
+echo
+echo 'One picture as it was, one renamed, one with a byte changed, and the notes missing:'
+cp "$demo/beach.raw" "$demo/photos.par2" "$work"
+cp "$demo/photos.vol00+1.par2" "$demo/photos.vol01+2.par2" "$work"
+cp "$demo/harbour.raw" "$work/port.raw"
+{ head -c 2000 "$demo/tower.raw"; printf '?'; tail -c 3000 "$demo/tower.raw"; } > "$work/tower.raw"
+verify() {
+    echo '$ parv verify' "$@"
+    local status=0
+    "$parv" verify "$@" || status=$?
+    echo "exit status $status"
+}
+verify photos.par2 photos.vol00+1.par2 photos.vol01+2.par2 beach.raw port.raw tower.raw
+echo
+echo 'The same without the larger volume:'
+verify photos.par2 photos.vol00+1.par2 beach.raw port.raw tower.raw
+echo
+echo 'And the files as they were:'
+cd "$demo"
+verify photos.par2 beach.raw harbour.raw notes.txt tower.raw

@@ -13,6 +13,9 @@ use Rattle.parv.specs.declared.status.End.TheVariants as end
 -- the exit status of an end
 abbrev pub exit_status_of : End → ℕ
 exit_status_of (end.Status status.Listed) = 0
+exit_status_of (end.Status status.Complete) = 0
+exit_status_of (end.Status status.Possible) = 1
+exit_status_of (end.Status status.Impossible) = 2
 exit_status_of (end.Plan plan.Usage) = 3
 exit_status_of (end.Plan plan.Value) = 3
 exit_status_of (end.Plan plan.NoPacketFile) = 3
@@ -34,7 +37,7 @@ cause_text cause.TooManySlices = codes "too many slices"
 
 -- what the line says of an end about this argument; none where nothing went wrong
 abbrev pub message_of : End → List ℕ → Option (List ℕ)
-message_of (end.Status status.Listed) argument = None
+message_of (end.Status now) argument = None
 message_of (end.Plan plan.Usage) argument = Some (codes "usage: parv packets|set|find|verify [options] FILES")
 message_of (end.Plan plan.Value) argument = Some (codes "bad value")
 message_of (end.Plan plan.NoPacketFile) argument = Some (codes "no packet file")

@@ -1,4 +1,5 @@
 pub mod Arguments
+pub mod Comparing
 pub mod Describing
 pub mod Ending
 pub mod FileWords
@@ -12,5 +13,7 @@ pub mod Salvaging
 pub mod Searching
 pub mod SetListing
 pub mod SinkState
+pub mod States
+pub mod VerifyLines
 pub mod Words
 pub mod WriterSink

@@ -30,12 +30,14 @@ abbrev pub reads_scanned : Command → Bool
 reads_scanned command.Packets = false
 reads_scanned command.Set = false
 reads_scanned (command.Find limit cursor) = true
+reads_scanned (command.Verify quiet) = true
 
 -- a limit is not 0
 abbrev pub HasLimit : Command → Type 0
 HasLimit command.Packets = ⊤
 HasLimit command.Set = ⊤
 HasLimit (command.Find limit cursor) = limit ≢ Some 0
+HasLimit (command.Verify quiet) = ⊤
 
 -- after a failed read of a scanned file there are whole lines, of all sightings in files before it
 pub record KeepsFound (plan : Plan) (limit : Option ℕ) (cursor : Option (Hash16 × Cursor)) (packets : List Kept)
@@ -52,6 +54,7 @@ KeepsOf command.Packets plan packets scanned file old new = ⊥
 KeepsOf command.Set plan packets scanned file old new = ⊥
 KeepsOf (command.Find limit cursor) plan packets scanned file old new =
     KeepsFound plan limit cursor packets scanned file old new
+KeepsOf (command.Verify quiet) plan packets scanned file old new = new ≡ old
 
 -- what a fault leaves of it; of packet files nothing was written then
 abbrev pub KeepsText : Command → Plan → List Kept → List (List ℕ) → RunFault → SinkState → SinkState → Type 0

@@ -13,6 +13,8 @@ use Rattle.parset.specs.declared.recovery_set.SetFault.{SetFault}
 use Rattle.parset.specs.declared.recovery_set.SetFault.TheVariants as set_fault
 use Rattle.parv.specs.Listing.{packets_text}
 use Rattle.parv.specs.SetListing.{set_text}
+use Rattle.parv.specs.States.{named_files}
+use Rattle.parv.specs.VerifyLines.{verify_text, verify_status_of}
 use Rattle.parv.specs.declared.status.Cause.TheVariants as cause
 use Rattle.parv.specs.declared.command.Command.{Command}
 use Rattle.parv.specs.declared.command.Command.TheVariants as command
@@ -64,12 +66,21 @@ find_report plan limit cursor scanned set =
     report_from (start_in set cursor)
     (λ at. find_text (names_of plan.scanned) set limit (sightings_from (scan_in set scanned) at))
 
+-- the report of `verify`
+abbrev pub verify_report : Plan → ℕ → List (List ℕ) → SetView → Report
+verify_report plan quiet scanned set = record {
+  text = verify_text quiet set (named_files plan.scanned scanned);
+  answer = Ok (verify_status_of set (named_files plan.scanned scanned));
+}
+
 -- the report of a command over the packets and the scanned files
 abbrev pub report_by : Command → Plan → List Kept → List (List ℕ) → Report
 report_by command.Packets plan packets scanned = packets_report plan packets
 report_by command.Set plan packets scanned = report_with_set (set_of packets plan.set) (set_report plan)
 report_by (command.Find limit cursor) plan packets scanned =
     report_with_set (set_of packets plan.set) (find_report plan limit cursor scanned)
+report_by (command.Verify quiet) plan packets scanned =
+    report_with_set (set_of packets plan.set) (verify_report plan quiet scanned)
 
 -- the report of a plan over the contents of its packet files and its scanned files
 abbrev pub report_of : Plan → List (List ℕ) → List (List ℕ) → Report

@@ -4,7 +4,7 @@ use Rattle.std.specs.List.{list_any}
 use Rattle.std.specs.Str.{bytes_eq}
 use Rattle.parv.specs.FileWords.{is_packet_file, is_scanned_file, is_option, scanned_as}
 use Rattle.parv.specs.declared.command.Command.{Command}
-use Rattle.parv.specs.declared.command.Command.TheVariants.{Packets, Set, Find}
+use Rattle.parv.specs.declared.command.Command.TheVariants.{Packets, Set, Find, Verify}
 use Rattle.parv.specs.declared.command.Plan.{Plan}
 use Rattle.parv.specs.declared.command.PlanFault.{PlanFault}
 use Rattle.parv.specs.declared.command.PlanFault.TheVariants.{Usage, Value, NoPacketFile, Memory}
@@ -21,6 +21,7 @@ command_of word =
     if bytes_eq word (codes "packets") then Ok Packets
     else if bytes_eq word (codes "set") then Ok Set
     else if bytes_eq word (codes "find") then Ok (Find None None)
+    else if bytes_eq word (codes "verify") then Ok (Verify 0)
     else Err Usage
 
 -- one or more files, at most 65,535

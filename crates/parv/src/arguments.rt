@@ -12,7 +12,7 @@ pub fn reads_scanned(command: Command) -> bool
 {
     match command {
         Command::Packets | Command::Set => false,
-        Command::Find { .. } => true,
+        Command::Find { .. } | Command::Verify { .. } => true,
     }
 }
 

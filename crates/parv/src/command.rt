@@ -19,6 +19,10 @@ pub enum Command {
         limit: Option<u64>,
         cursor: Option<(Hash16, Cursor)>,
     },
+    /// Tells what of the set is there; with `quiet` 1 only the result, with more nothing is written.
+    Verify {
+        quiet: u8,
+    },
 }
 
 /// What the program is to do, by the words of its command line.

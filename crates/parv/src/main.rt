@@ -3,20 +3,26 @@
 
 mod arguments;
 mod command;
+mod comparing;
 mod describing;
 mod files;
 mod finding;
+mod findings;
 mod listing;
 mod memory_sink;
 mod messages;
 mod program;
+mod result_lines;
 mod runner;
 mod salvaging;
 mod set_listing;
 mod sink;
+mod state_lines;
+mod states;
 mod status;
 #[cfg(test)]
 mod tests;
+mod verifying;
 mod words;
 mod writer_sink;
 mod writing;

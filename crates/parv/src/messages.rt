@@ -22,7 +22,9 @@ fn exit_status(end: &End) -> u8
     ensures { result ≡ exit_status_of end.now }
 {
     match end {
-        End::Status(Status::Listed) => 0,
+        End::Status(Status::Listed | Status::Complete) => 0,
+        End::Status(Status::Possible) => 1,
+        End::Status(Status::Impossible) => 2,
         End::Plan(PlanFault::Memory) | End::Memory | End::Run(RunFault::Memory) => 8,
         End::Plan(_) | End::Run(RunFault::OtherSet) => 3,
         End::Run(RunFault::Set(_)) => 4,
@@ -37,7 +39,7 @@ fn line(alloc: Global, end: &End, argument: &str) -> Result<String, AllocError>
 {
     let name = Shown(argument.as_bytes());
     match end {
-        End::Status(Status::Listed) => Ok(String::new(alloc)),
+        End::Status(_) => Ok(String::new(alloc)),
         End::Plan(PlanFault::Usage) => {
             plain(alloc, "usage: parv packets|set|find|verify [options] FILES")
         }

@@ -2,13 +2,14 @@ ghost use Rattle.std.specs.Prelude.{◌≡◌, ◌≢◌, length, IsTrue, false,
 ghost use Rattle.parsalvage.specs.Kept.{kept_in_files};
 ghost use Rattle.parset.specs.RecoverySet.{set_of};
 ghost use Rattle.parv.specs.Outcomes.{reads_scanned, is_read, is_packet_read, Answers, HasLimit, KeepsText, EndsPackets, EndsScanned, EndsSink};
-ghost use Rattle.parv.specs.Report.{report_of, report_by, report_with_set, packets_report, set_report, find_report, start_in};
+ghost use Rattle.parv.specs.Report.{report_of, report_by, report_with_set, packets_report, set_report, find_report, verify_report, start_in};
 ghost use Rattle.parv.specs.Describing.{fault_without_set};
 ghost use Rattle.parv.specs.Searching.{fault_of_search};
 ghost use Rattle.parv.specs.declared.command.Command.TheVariants as command;
-ghost use Rattle.parv.specs.declared.status.Status.TheVariants.{Listed};
+ghost use Rattle.parv.specs.declared.status.RunFault.TheVariants as run_fault;
 
 use crate::command::{Command, Plan};
+use crate::comparing::ScanFault;
 use crate::describing::{NoSet, described};
 use crate::finding::{FindFault, find};
 use crate::listing::list_packets;
@@ -16,12 +17,13 @@ use crate::salvaging::{PacketsFault, salvage_files};
 use crate::set_listing::list_set;
 use crate::sink::Sink;
 use crate::status::{RunFault, Status};
+use crate::verifying::verify;
 use crate::writing::write_text;
 use parfield::Hash16;
 use parfind::Cursor;
 use parsalvage::Kept;
 use parset::RecoverySet;
-use parshelf::{Failed, Shelf};
+use parshelf::{Failed, ReadFault, Shelf};
 use std::alloc::Global;
 
 /// Writes what the plan asks for of its packet files and its scanned files. On a fault a beginning
@@ -74,6 +76,8 @@ fn run_over<Q: Shelf, W: Sink>(
     scanned: &mut Q,
     out: &mut W,
 ) -> Result<Status, RunFault>
+    requires scanned { IsTrue (reads_scanned plan.now.command)
+        → length (Q.state scanned.old).lengths ≡ length plan.now.scanned }
     requires limit { HasLimit plan.now.command }
 
     ensures text { (IsTrue (reads_scanned plan.now.command) → IsTrue (Q.state scanned.old).is_steady)
@@ -94,6 +98,7 @@ fn run_over<Q: Shelf, W: Sink>(
         Command::Find { limit, cursor } => {
             find_over(alloc, plan, limit, cursor, kept, scanned, out)
         }
+        Command::Verify { quiet } => verify_over(alloc, plan, quiet, kept, scanned, out),
     }
 }
 
@@ -109,7 +114,7 @@ fn packets_over<W: Sink>(
     ensures sink { EndsSink result (W.state out.old) (W.state out.new) }
 {
     match list_packets(alloc, plan.packets.as_slice(), plan.set, kept) {
-        Ok(text) => write_listed(out, text.as_bytes()),
+        Ok(text) => write_whole(out, text.as_bytes(), Status::Listed),
         Err(_) => Err(RunFault::Memory),
     }
 }
@@ -131,7 +136,7 @@ fn set_over<W: Sink>(
         Err(why) => return Err(without_set(why)),
     };
     match list_set(alloc, plan.packets.as_slice(), &set) {
-        Ok(text) => write_listed(out, text.as_bytes()),
+        Ok(text) => write_whole(out, text.as_bytes(), Status::Listed),
         Err(_) => Err(RunFault::Memory),
     }
 }
@@ -178,13 +183,53 @@ fn search_fault(fault: FindFault) -> RunFault
     ensures { result ≡ fault_of_search fault }
 {
     match fault {
-        FindFault::Read { file, fault } => RunFault::Read {
-            packet: false,
-            file,
-            fault,
-        },
+        FindFault::Read { file, fault } => scanned_fault(file, fault),
         FindFault::Write => RunFault::Write,
         FindFault::Memory => RunFault::Memory,
+    }
+}
+
+// Writes what of the set is there.
+fn verify_over<Q: Shelf, W: Sink>(
+    alloc: Global,
+    plan: &Plan,
+    quiet: u8,
+    kept: &[Kept],
+    scanned: &mut Q,
+    out: &mut W,
+) -> Result<Status, RunFault>
+    requires { length (Q.state scanned.old).lengths ≡ length plan.now.scanned }
+
+    ensures text { IsTrue (Q.state scanned.old).is_steady
+        → Answers (report_with_set (set_of kept.now plan.now.set)
+        (verify_report plan.now quiet (Q.state scanned.old).files)) result
+        (W.state out.old) (W.state out.new) }
+    ensures lines { IfErr result (λ fault.
+        KeepsText (command.Verify quiet) plan.now kept.now (Q.state scanned.old).files fault
+        (W.state out.old) (W.state out.new)) }
+    ensures no_packet { IfErr result (λ fault. is_packet_read fault ≡ false) }
+    ensures scanned { EndsScanned result (Q.state scanned.old) (Q.state scanned.new) }
+    ensures sink { EndsSink result (W.state out.old) (W.state out.new) }
+{
+    let set = match described(alloc, plan, kept) {
+        Ok(set) => set,
+        Err(why) => return Err(without_set(why)),
+    };
+    match verify(alloc, quiet, plan.scanned.as_slice(), &set, scanned) {
+        Ok((text, status)) => write_whole(out, text.as_bytes(), status),
+        Err(ScanFault::Read { file, fault }) => Err(scanned_fault(file, fault)),
+        Err(ScanFault::Memory) => Err(RunFault::Memory),
+    }
+}
+
+// The fault that it is for a run that a scanned file could not be read.
+fn scanned_fault(file: u32, fault: ReadFault) -> RunFault
+    ensures { result ≡ run_fault.Read false file fault }
+{
+    RunFault::Read {
+        packet: false,
+        file,
+        fault,
     }
 }
 
@@ -213,9 +258,9 @@ fn without_set(why: NoSet) -> RunFault
     }
 }
 
-// Writes a whole text.
-fn write_listed<W: Sink>(out: &mut W, text: &[u8]) -> Result<Status, RunFault>
-    ensures text { Answers (record { text = text.now; answer = Ok Listed }) result
+// Writes a whole text, and gives the status that goes with it.
+fn write_whole<W: Sink>(out: &mut W, text: &[u8], status: Status) -> Result<Status, RunFault>
+    ensures text { Answers (record { text = text.now; answer = Ok status }) result
         (W.state out.old) (W.state out.new) }
     ensures no_read { IfErr result (λ fault. is_read fault ≡ false) }
     ensures sink { EndsSink result (W.state out.old) (W.state out.new) }
@@ -223,5 +268,5 @@ fn write_listed<W: Sink>(out: &mut W, text: &[u8]) -> Result<Status, RunFault>
     if let Err(Failed) = write_text(out, text) {
         return Err(RunFault::Write);
     }
-    Ok(Status::Listed)
+    Ok(status)
 }

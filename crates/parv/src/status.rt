@@ -8,6 +8,12 @@ use thiserror::Error;
 pub enum Status {
     /// The list, the set or the sightings were written.
     Listed,
+    /// Every file of the set is complete.
+    Complete,
+    /// No more slices are needed than there are recovery slices.
+    Possible,
+    /// More are needed.
+    Impossible,
 }
 
 /// Why packets give no recovery set, in the order in which it is tested.

@@ -4,4 +4,5 @@ mod finding;
 mod fixtures;
 mod listing;
 mod refusals;
+mod verifying;
 mod words;

@@ -49,6 +49,8 @@ fn command_named(word: &str) -> Result<Command, PlanFault>
             limit: None,
             cursor: None,
         })
+    } else if word == "verify" {
+        Ok(Command::Verify { quiet: 0 })
     } else {
         Err(PlanFault::Usage)
     }

@@ -175,16 +175,16 @@ pub struct Outcome {
 /// Files in memory: packet files, scanned files, how many bytes a read gives at most, and the
 /// numbers of the reads of each kind that fail.
 #[derive(Clone, Copy)]
-pub struct Files<'a> {
-    pub packets: &'a [&'a [u8]],
-    pub scanned: &'a [&'a [u8]],
+pub struct Files<'p, 's> {
+    pub packets: &'p [&'p [u8]],
+    pub scanned: &'s [&'s [u8]],
     pub piece: usize,
     pub failing_packet: u64,
     pub failing_scanned: u64,
 }
 
 /// Files of which no read fails.
-pub fn sound<'a>(packets: &'a [&'a [u8]], scanned: &'a [&'a [u8]]) -> Files<'a> {
+pub fn sound<'p, 's>(packets: &'p [&'p [u8]], scanned: &'s [&'s [u8]]) -> Files<'p, 's> {
     Files {
         packets,
         scanned,
@@ -222,7 +222,7 @@ pub fn ran(
 pub fn ran_with(
     rt: &(impl Abort + AllocGlobal),
     words: &[&str],
-    files: Files<'_>,
+    files: Files<'_, '_>,
     room: Room,
 ) -> Result<Outcome, Fail> {
     let alloc = rt.alloc();
@@ -244,7 +244,7 @@ pub fn ran_with(
 pub fn ran_plan(
     rt: &(impl Abort + AllocGlobal),
     plan: &Plan,
-    files: Files<'_>,
+    files: Files<'_, '_>,
     room: Room,
 ) -> Result<Outcome, Fail>
     requires { HasLimit plan.now.command }

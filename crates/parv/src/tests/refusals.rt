@@ -141,6 +141,9 @@ fn endings_and_their_lines(rt: HostRuntime) -> Result<(), Fail> {
     };
     for (end, status, line) in [
         (End::Status(Status::Listed), 0, ""),
+        (End::Status(Status::Complete), 0, ""),
+        (End::Status(Status::Possible), 1, ""),
+        (End::Status(Status::Impossible), 2, ""),
         (
             End::Plan(PlanFault::Usage),
             3,

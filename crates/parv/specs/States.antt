@@ -1,0 +1,88 @@
+-- The state of each file of a recovery set by the scanned files, and which of its slices are found.
+use Rattle.std.specs.Prelude.{ℕ, ◌==◌, ◌&&◌, ◌||◌, not, Bool, true, false, List, length, map, count_by, position, Option, Some, None, if◌then◌else◌}
+use Rattle.std.specs.List.{list_any, zip, enumerate_from}
+use Rattle.std.specs.Str.{bytes_eq}
+use Rattle.parfield.specs.Md5.{md5}
+use Rattle.parfield.specs.declared.hash16.Hash16.{Hash16}
+use Rattle.parset.specs.RecoverySet.{SetView}
+use Rattle.parset.specs.declared.recovery_set.SetFile.{SetFile}
+use Rattle.parset.specs.declared.recovery_set.SetSlice.{SetSlice}
+use Rattle.parwindow.specs.Index.{slice_set_of}
+use Rattle.parfind.specs.Sightings.{Scan}
+use Rattle.parfind.specs.Surveys.{is_sighted}
+use Rattle.parv.specs.declared.command.Scanned.{Scanned}
+use Rattle.parv.specs.declared.findings.Findings.{Findings}
+use Rattle.parv.specs.declared.states.State.{State}
+use Rattle.parv.specs.declared.states.State.TheVariants.{Complete, Renamed, Damaged, Missing}
+
+-- a scanned file
+pub record NamedFile : Type 0 where
+  pub name : List ℕ
+  pub content : List ℕ
+
+-- the scanned files, each with its content
+abbrev pub named_files : List Scanned → List (List ℕ) → List NamedFile
+named_files files contents =
+    map (λ pair. record { name = pair.0.name; content = pair.1 }) (zip files contents)
+
+-- a scanned file has the length and the MD5 of a file of the set
+abbrev pub has_content_of : SetFile → NamedFile → Bool
+has_content_of file scanned =
+    length scanned.content == file.length && bytes_eq (md5 scanned.content) file.whole.0
+
+-- a scanned file has the name of a file of the set
+abbrev pub has_name_of : SetFile → NamedFile → Bool
+has_name_of file scanned = bytes_eq scanned.name file.name
+
+-- the state where no file of the name is whole: by the first file that is, and whether one has the name
+abbrev pub state_else : Option ℕ → Bool → State
+state_else (Some k) has_name = Renamed k
+state_else None true = Damaged
+state_else None false = Missing
+
+-- complete by a file with its name and content, else renamed from the first with its content,
+-- else damaged where a file has its name, else missing
+unfoldable pub state_of : List NamedFile → SetFile → State
+state_of scanned file =
+    if list_any (λ one. has_content_of file one && has_name_of file one) scanned then Complete
+    else state_else (position (has_content_of file) scanned) (list_any (has_name_of file) scanned)
+
+-- the file is complete or renamed
+abbrev pub is_whole : State → Bool
+is_whole Complete = true
+is_whole (Renamed k) = true
+is_whole Damaged = false
+is_whole Missing = false
+
+-- the file of this ID is complete or renamed
+abbrev pub is_in_whole_file : SetView → List NamedFile → Hash16 → Bool
+is_in_whole_file set scanned id =
+    list_any (λ file. bytes_eq file.id.0 id.0 && is_whole (state_of scanned file)) set.files
+
+-- the search for the slices of the set
+abbrev pub scan_for : SetView → List NamedFile → Scan
+scan_for set scanned = record {
+  set = slice_set_of set.size set.slices;
+  contents = map (λ one. one.content) scanned;
+}
+
+-- a slice, by its number, is found: its file is complete or renamed, or it has a sighting
+abbrev pub is_found : SetView → List NamedFile → ℕ × SetSlice → Bool
+is_found set scanned (n, slice) =
+    is_in_whole_file set scanned slice.id || is_sighted (scan_for set scanned) n
+
+-- what the scanned files show of the set
+abbrev pub findings_of : SetView → List NamedFile → Findings
+findings_of set scanned = record {
+  states = map (state_of scanned) set.files;
+  found = map (is_found set scanned) (enumerate_from 0 set.slices);
+}
+
+-- how many slices are not found
+abbrev pub need_of : List Bool → ℕ
+need_of found = count_by not found
+
+-- how many of the slices of the file of this ID are found
+unfoldable pub found_count_of : List SetSlice → List Bool → Hash16 → ℕ
+found_count_of slices found id =
+    count_by (λ pair. bytes_eq pair.0.id.0 id.0 && pair.1) (zip slices found)

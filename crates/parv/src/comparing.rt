@@ -1,0 +1,68 @@
+ghost use Rattle.std.specs.Prelude.{◌≡◌, ◌<◌, length, map, IsTrue, IfOk, OnOk, IfErr};
+ghost use Rattle.parshelf.specs.Reads.{ReadsOnly};
+ghost use Rattle.parshelf.specs.Shelf.{file_of};
+ghost use Rattle.parv.specs.Comparing.{length_and_md5, ScanLeaves};
+ghost use Rattle.parv.specs.declared.comparing.ScanFault.TheVariants as scan_fault;
+
+use parfield::Hash16;
+use parshelf::{ReadFault, Shelf, digest_of};
+use std::alloc::{AllocError, Global};
+
+/// What the content of a scanned file is compared by.
+#[derive(Clone, Copy, Debug, PartialEq, Eq)]
+pub struct Content {
+    /// The length in bytes.
+    pub length: u64,
+    /// The MD5 of the whole file.
+    pub whole: Hash16,
+}
+
+/// Why the scanned files were not all searched.
+#[derive(Clone, Copy, Debug, PartialEq, Eq)]
+pub enum ScanFault {
+    /// A file could not be read as a whole.
+    Read { file: u32, fault: ReadFault },
+    /// Memory was refused.
+    Memory,
+}
+
+impl From<AllocError> for ScanFault {
+    ghost from_gives = { λ _ e. e ≡ scan_fault.Memory };
+
+    fn from(_e: AllocError) -> ScanFault {
+        ScanFault::Memory
+    }
+}
+
+/// The lengths and the MD5s of all files, which are read in order.
+pub fn contents<Q: Shelf>(alloc: Global, shelf: &mut Q) -> Result<Vec<Content>, ScanFault>
+    ensures contents { IsTrue (Q.state shelf.old).is_steady → IfOk result (λ contents.
+        contents.items ≡ map length_and_md5 (Q.state shelf.old).files) }
+    ensures ok { OnOk result (ReadsOnly (Q.state shelf.old) (Q.state shelf.new)) }
+    ensures fault { IfErr result (ScanLeaves (Q.state shelf.old) (Q.state shelf.new)) }
+{
+    let mut contents = Vec::new(alloc);
+    for file in 0..shelf.count() {
+        contents
+            .push(content_at(shelf, file)?)
+            .map_err(AllocError::from)?;
+    }
+    Ok(contents)
+}
+
+// The length and the MD5 of a file.
+fn content_at<Q: Shelf>(shelf: &mut Q, file: u32) -> Result<Content, ScanFault>
+    requires { file < length (Q.state shelf.old).lengths }
+    ensures content { IsTrue (Q.state shelf.old).is_steady → IfOk result (λ content.
+        content ≡ length_and_md5 (file_of (Q.state shelf.old) file)) }
+    ensures ok { OnOk result (ReadsOnly (Q.state shelf.old) (Q.state shelf.new)) }
+    ensures fault { IfErr result (ScanLeaves (Q.state shelf.old) (Q.state shelf.new)) }
+{
+    match digest_of(shelf, file) {
+        Ok(whole) => Ok(Content {
+            length: shelf.length(file),
+            whole,
+        }),
+        Err(fault) => Err(ScanFault::Read { file, fault }),
+    }
+}
