@@ -36,3 +36,4 @@ format:
 
 install: build
 	install -D -m 755 $(PARV) $(DESTDIR)$(PREFIX)/bin/parv
+	install -D -m 644 docs/parv.1 $(DESTDIR)$(PREFIX)/share/man/man1/parv.1

@@ -1,23 +1,34 @@
 #!/usr/bin/env bash
 # Cuts one search into parts by every limit from 1 to the number of sightings, each part resumed from
-# the cursor that the one before has printed: together they must have the lines of the whole search.
+# the cursor that the one before has printed: each part but the last has as many lines as the limit
+# and its cursor, and together they have the lines of the whole search.
 # Usage: cut_search.sh FILES, in the folder of the files.
 set -euo pipefail
 parv=$(cd "$(dirname "$0")/.." && pwd)/crates/parv/out/parv
-whole=$("$parv" find "$@")
+
+find_part() {
+    timeout 20 "$parv" find "$@"
+}
+
+fail() {
+    echo "FAILED: a search in parts of $limit: $*"
+    exit 1
+}
+
+whole=$(find_part "$@")
 count=$(($(wc -l <<< "$whole") - 1))
-for ((limit = 1; limit <= count + 1; limit++)); do
-    part=$("$parv" find --limit "$limit" "$@")
+limit=all
+[ "$count" -gt 0 ] || fail "there is no sighting"
+for ((limit = 1; limit <= count; limit++)); do
     text=
-    while [ "${part##*$'\n'}" != end ]; do
+    part=$(find_part --limit "$limit" "$@")
+    for ((done = 0; done + limit <= count; done += limit)); do
+        [ "$(wc -l <<< "$part")" -eq $((limit + 1)) ] || fail "a part of other length: $part"
         cursor=${part##*$'\n'cursor }
-        [ "$part" = "$cursor" ] && echo "limit $limit: a part without a cursor: $part" && exit 1
+        [ "$part" != "$cursor" ] || fail "a part without a cursor: $part"
         text+=${part%$'\n'*}$'\n'
-        part=$("$parv" find --limit "$limit" --cursor "$cursor" "$@")
+        part=$(find_part --limit "$limit" --cursor "$cursor" "$@")
     done
-    if [ "$text$part" != "$whole" ]; then
-        echo "limit $limit: the parts are not the whole"
-        exit 1
-    fi
+    [ "$text$part" = "$whole" ] || fail "they are not the whole"
 done
 echo "ok: $count sightings in parts of each size: parv find $*"

@@ -11,11 +11,12 @@ trap 'rm -rf "$work"' EXIT
 gcc -shared -fPIC -O1 -o "$work/refuse.so" "$tools/refuse.c" -ldl
 
 set +e
-"$parv" "$@" > "$work/whole" 2> "$work/whole.err"
+timeout 20 "$parv" "$@" > "$work/whole" 2> "$work/whole.err"
 whole=$?
+ended=0
 for ((n = 1; n <= 100000; n++)); do
     rm -f "$work/refused"
-    REFUSE=$n REFUSED=$work/refused LD_PRELOAD=$work/refuse.so "$parv" "$@" > "$work/text" 2> "$work/err"
+    timeout 20 env REFUSE=$n REFUSED="$work/refused" LD_PRELOAD="$work/refuse.so" "$parv" "$@" > "$work/text" 2> "$work/err"
     status=$?
     undisturbed=no
     if [ $status -eq $whole ] && cmp -s "$work/text" "$work/whole" \
@@ -23,6 +24,7 @@ for ((n = 1; n <= 100000; n++)); do
         undisturbed=yes
     fi
     if [ ! -e "$work/refused" ]; then
+        [ $ended -eq 0 ] && echo "no refusal ended a run of: parv $*" && exit 1
         [ $undisturbed = yes ] && echo "refused each of $((n - 1)) allocations of: parv $*" && exit 0
         echo "nothing refused, and the run is another: status $status"
         exit 1
@@ -34,6 +36,7 @@ for ((n = 1; n <= 100000; n++)); do
         echo "allocation $n refused: status $status, $(cat "$work/err")"
         exit 1
     fi
+    ended=$((ended + 1))
 done
 echo "no end after $n allocations"
 exit 1

@@ -21,6 +21,16 @@ is_held_whole (Other field) = false
 abbrev pub front_of : List ℕ → List ℕ
 front_of body = take 4 (body ++ replicate 4 0)
 
+-- the first four bytes of a body of which this is held
+abbrev pub held_front_of : KeptBody → List ℕ
+held_front_of (Whole body) = front_of body
+held_front_of (Front first len) = first
+
+-- the length of a body of which this is held
+abbrev pub held_length_of : KeptBody → ℕ
+held_length_of (Whole body) = length body
+held_length_of (Front first len) = len
+
 -- what is held of a body
 abbrev pub body_kept : Kind → List ℕ → KeptBody
 body_kept kind body =

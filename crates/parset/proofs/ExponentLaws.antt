@@ -11,8 +11,7 @@ use Rattle.parfield.specs.declared.kind.Kind.{Kind}
 use Rattle.parfield.specs.declared.kind.Kind.TheVariants as kind
 use Rattle.parsalvage.specs.declared.kept.Kept.{Kept}
 use Rattle.parsalvage.specs.declared.kept.KeptBody.{KeptBody}
-use Rattle.parsalvage.specs.declared.kept.KeptBody.TheVariants.{Whole, Front}
-use Rattle.parsalvage.specs.Kept.{front_of}
+use Rattle.parsalvage.specs.Kept.{held_front_of, held_length_of}
 use Rattle.parset.specs.Bodies.{exponent_of}
 use Rattle.parset.specs.Choosing.{all_exponents, exponent_by, exponent_in, has_exponent, only_if, usable}
 use Rattle.parset.specs.Reasons.{first_reason, slice_reason}
@@ -28,10 +27,8 @@ usable_below false false n e test h = let low = ltb-false 65534 n test in let sa
 
 exponent_by_below : (size : ℕ) (kind : Kind) (body : KeptBody) (e : ℕ) → exponent_by size kind body ≡ Some e → e < 65535
 unfolding slice_reason
-exponent_by_below size kind.RecvSlic (Front first len) e h =
-    usable_below (nat_lt len 4 || not (len - 4 == size)) _ (exponent_of first) e refl h
-exponent_by_below size kind.RecvSlic (Whole body) e h =
-    usable_below (nat_lt (length body) 4 || not (length body - 4 == size)) _ (exponent_of (front_of body)) e refl h
+exponent_by_below size kind.RecvSlic body e h =
+    usable_below (nat_lt (held_length_of body) 4 || not (held_length_of body - 4 == size)) _ (exponent_of (held_front_of body)) e refl h
 exponent_by_below size _ _ e h = cc
 
 pub exponent_below : (size : ℕ) (k : Kept) (e : ℕ) → Some e ≡ exponent_in size k → e < 65535

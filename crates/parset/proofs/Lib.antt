@@ -1,11 +1,13 @@
 pub mod ChainLaws
 pub mod ChoosingLaws
+pub mod CreatorLaws
 pub mod DescribingLaws
 pub mod ExponentLaws
 pub mod FileLaws
 pub mod IdLaws
 pub mod LimitLaws
 pub mod MainLaws
+pub mod NameLaws
 pub mod RepeatLaws
 pub mod RisingLaws
 pub mod SetLaws

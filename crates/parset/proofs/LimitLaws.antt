@@ -72,7 +72,7 @@ passed : {T : Type 0} (b : Bool) (x t : T) → cond b (Some x) None ≡ Some t �
 passed true x t e = e
 passed false x t e = absurd (cc)
 
-passed_is : {T : Type 0} (p : T → Bool) (o : Option T) (t : T) → only_if p o ≡ Some t → o ≡ Some t
+pub passed_is : {T : Type 0} (p : T → Bool) (o : Option T) (t : T) → only_if p o ≡ Some t → o ≡ Some t
 passed_is p None t e = absurd (cc)
 passed_is p (Some x) t e = passed (p x) x t e
 

@@ -20,7 +20,7 @@ use Rattle.parset.specs.declared.main_packet.Main.{Main}
 use Rattle.parset.proofs.RisingLaws.{front_has_no_repeat}
 
 -- no line applies where there is no reason
-line_of : (b : Bool) (why : Aside) (rest : Option Aside) → cond b (Some why) rest ≡ None → (b ≡ false) × (rest ≡ None)
+pub line_of : (b : Bool) (why : Aside) (rest : Option Aside) → cond b (Some why) rest ≡ None → (b ≡ false) × (rest ≡ None)
 line_of true why rest e = absurd (cc)
 line_of false why rest e = (refl, e)
 

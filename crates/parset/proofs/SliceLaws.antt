@@ -1,19 +1,21 @@
--- The slices of files: how many there are, and how long each is.
-use Rattle.std.proofs.Common.{◌≡◌, ℕ, ◌+◌, ◌-◌, ◌*◌, ◌<◌, ◌≤◌, ◌∙◌, Bool, List, [], ◌∷◌, arith, length, length-append, map, min, refl, subst, sym, zero-add}
+-- The slices of files: how many there are, how long each is, and its number.
+use Rattle.std.proofs.Common.{◌≡◌, ℕ, ◌+◌, ◌-◌, ◌*◌, ◌<◌, ◌≤◌, ◌∙◌, Bool, List, [], ◌∷◌, ◌++◌, arith, length, length-append, map, min, refl, ap, subst, sym, zero-add}
 use Rattle.std.specs.BTreeMap.{BTreeMap}
 use Rattle.std.specs.List.{All, count_by, list_any, flat_map, range_with_len}
-use Rattle.std.proofs.lemmas.List.{length-map}
+use Rattle.std.proofs.lemmas.List.{length-map, map-append}
 use Rattle.std.proofs.lemmas.List.Elements.{All-append, All-nil}
 use Rattle.std.proofs.lemmas.List.FromFn.{get_or-map-range_with_len, length-map-range_with_len, length-range_with_len}
 use Rattle.std.proofs.lemmas.List.Sums.{count_by-le-length, sum_by-cons}
 use Rattle.std.proofs.lemmas.Nat.{div-add-mod'}
+use Rattle.std.proofs.lemmas.Simd.{map-map}
 use Rattle.std.proofs.Math.Nat.{mul-le-mul_right}
 use Rattle.parfield.specs.declared.hash16.Hash16.{Hash16}
 use Rattle.parsalvage.specs.declared.kept.Kept.{Kept}
 use Rattle.parset.specs.Choosing.{exponent_count_of, has_exponent, all_exponents}
-use Rattle.parset.specs.RecoverySet.{FileView, file_views, set_file_of, slice_count, slice_of, slice_total, slices_of_file}
+use Rattle.parset.specs.RecoverySet.{AreNumbered, FileView, file_views, numbers_of_file, set_file_of, slice_count, slice_of, slice_total, slices_of_file}
 use Rattle.parset.specs.declared.checksums.Ifsc.{Ifsc}
 use Rattle.parset.specs.declared.description.Desc.{Desc}
+use Rattle.parset.specs.declared.recovery_set.SetFile.{SetFile}
 use Rattle.parset.specs.declared.recovery_set.SetSlice.{SetSlice}
 use Rattle.parset.proofs.FileLaws.{viewed}
 
@@ -67,3 +69,24 @@ count_below p n = omega (arith, count_by-le-length p (range_with_len 0 n), lengt
 pub exponents_within : (size : ℕ) (own : List Kept) → exponent_count_of size own ≤ 65535
 unfolding all_exponents
 exponents_within size own = count_below (λ e. list_any (has_exponent size e) own) 65535
+
+-- ---- slices are numbered file by file
+abbrev number_of : SetSlice → Hash16 × ℕ
+number_of s = (s.id, s.number)
+
+numbered_file : (size : ℕ) (v : FileView) → map number_of (slices_of_file size v) ≡ numbers_of_file size (set_file_of v)
+numbered_file size v = map-map number_of (slice_of size v) (range_with_len 0 (slice_count size v.file.length))
+
+numbered_views : (size : ℕ) (views : List FileView)
+    → map number_of (flat_map (slices_of_file size) views) ≡ flat_map (numbers_of_file size) (map set_file_of views)
+numbered_views size [] = refl
+numbered_views size (v ∷ views) =
+    map-append number_of (slices_of_file size v) (flat_map (slices_of_file size) views)
+    ∙ (ap (λ xs. xs ++ map number_of (flat_map (slices_of_file size) views)) (numbered_file size v)
+    ∙ ap (λ xs. numbers_of_file size (set_file_of v) ++ xs) (numbered_views size views))
+
+pub numbered_slices : (size : ℕ) (views : List FileView) (files : List SetFile) (slices : List SetSlice)
+    → files ≡ map set_file_of views → slices ≡ flat_map (slices_of_file size) views → AreNumbered size files slices
+unfolding AreNumbered
+numbered_slices size views files slices f s =
+    ap (map number_of) s ∙ (numbered_views size views ∙ sym (ap (flat_map (numbers_of_file size)) f))

@@ -6,7 +6,7 @@ use Rattle.std.specs.Str.{bytes_eq}
 use Rattle.parfield.specs.declared.hash16.Hash16.{Hash16}
 use Rattle.parfield.specs.declared.kind.Kind.{Kind}
 use Rattle.parfield.specs.declared.kind.Kind.TheVariants as kind
-use Rattle.parsalvage.specs.Kept.{front_of}
+use Rattle.parsalvage.specs.Kept.{held_front_of, held_length_of}
 use Rattle.parsalvage.specs.declared.kept.Kept.{Kept}
 use Rattle.parsalvage.specs.declared.kept.KeptBody.{KeptBody}
 use Rattle.parsalvage.specs.declared.kept.KeptBody.TheVariants.{Whole, Front}
@@ -67,8 +67,7 @@ checksums_in k = checksums_by k.kind k.body
 
 -- the exponent of a RecvSlic packet that is usable in a set of this slice size
 abbrev pub exponent_by : ℕ → Kind → KeptBody → Option ℕ
-exponent_by size kind.RecvSlic (Front first len) = usable (slice_reason first len size) (exponent_of first)
-exponent_by size kind.RecvSlic (Whole body) = usable (slice_reason (front_of body) (length body) size) (exponent_of (front_of body))
+exponent_by size kind.RecvSlic body = usable (slice_reason (held_front_of body) (held_length_of body) size) (exponent_of (held_front_of body))
 exponent_by size _ _ = None
 
 -- the same of a kept packet
@@ -96,8 +95,7 @@ reason_by size kind.Ifsc (Whole body) set = checksums_reason body
 reason_by size kind.Ifsc (Front first len) set = Some OverLimit
 reason_by size kind.Creator (Whole body) set = creator_reason body
 reason_by size kind.Creator (Front first len) set = Some OverLimit
-reason_by size kind.RecvSlic (Front first len) set = slice_reason first len size
-reason_by size kind.RecvSlic (Whole body) set = slice_reason (front_of body) (length body) size
+reason_by size kind.RecvSlic body set = slice_reason (held_front_of body) (held_length_of body) size
 reason_by size (kind.Other field) body set = None
 
 -- the same of a kept packet

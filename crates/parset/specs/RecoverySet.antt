@@ -30,6 +30,10 @@ IsWithinLimits main =
 abbrev pub HasFileLimits : ℕ → List ℕ → Type 0
 HasFileLimits len name = (len < 2 ^ 63) × (0 < length name) × (length name ≤ 4096) × All (λ b. 0 < b) name
 
+-- a text is not empty, and has at most 1,048,576 bytes
+abbrev pub HasTextLimits : List ℕ → Type 0
+HasTextLimits text = (0 < length text) × (length text ≤ 1048576)
+
 -- the `?` of the logic
 infixl 10 ◌>>=◌
 abbrev pub ◌>>=◌ : {A B : Type 0} → Result A SetFault → (A → Result B SetFault) → Result B SetFault
@@ -118,6 +122,14 @@ slice_of size v j = record {
 -- the slices of a file, in order
 abbrev pub slices_of_file : ℕ → FileView → List SetSlice
 slices_of_file size v = map (slice_of size v) (range_with_len 0 (slice_count size v.file.length))
+
+-- the file ID and the number of each slice of a file, in order
+abbrev pub numbers_of_file : ℕ → SetFile → List (Hash16 × ℕ)
+numbers_of_file size f = map (λ j. (f.id, j)) (range_with_len 0 (slice_count size f.length))
+
+-- slices have the IDs and the numbers that the slices of these files have, file by file
+unfoldable pub AreNumbered : ℕ → List SetFile → List SetSlice → Type 0
+AreNumbered size files slices = map (λ s. (s.id, s.number)) slices ≡ flat_map (numbers_of_file size) files
 
 -- a recovery set as contracts see it
 pub record SetView : Type 0 where

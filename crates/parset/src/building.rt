@@ -1,6 +1,7 @@
 ghost use Rattle.std.specs.Prelude.{◌≡◌, ◌+◌, ◌<◌, ◌≤◌, length, map, IfOk, Some};
-ghost use Rattle.std.specs.List.{All};
+ghost use Rattle.std.specs.List.{All, IsDistinct};
 ghost use Rattle.std.specs.List.Sorted.{IsStrictlySortedBy};
+ghost use Rattle.std.specs.Str.{bytes_eq};
 ghost use Rattle.parfield.specs.HashOrder.{id_cmp};
 ghost use Rattle.parset.specs.Choosing.{file_description_of};
 ghost use Rattle.parset.specs.RecoverySet.{AnswersSet, IsWithinLimits, file_views, set_by, set_of, set_over, slice_total, with_sums};
@@ -60,6 +61,7 @@ fn set_over(
     requires few { length files.now + length main.now.others ≤ 32768 }
     requires few_slices { slice_total main.now.size files.now ≤ 32768 }
     requires first { All (λ file. file_description_of file.id (map (λ k. k.now) own.now) ≡ Some file) files.now }
+    requires names { IsDistinct bytes_eq (map (λ file. file.name) files.now) }
     requires rising { IsStrictlySortedBy id_cmp (map (λ file. file.id) files.now) }
     ensures { IfOk result (λ set. set ≡ set_over id main.now (map (λ k. k.now) own.now) (map (with_sums main.now.size (map (λ k. k.now) own.now)) files.now)) }
 {

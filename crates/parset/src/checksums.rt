@@ -8,7 +8,7 @@ use parfield::{Hash16, Sequence};
 use std::alloc::{AllocError, Global};
 
 // The most slices of a recovery set, and so of a file.
-const SLICES_LIMIT: usize = 32_768;
+pub const SLICES_LIMIT: usize = 32_768;
 
 /// The fields of an Input File Slice Checksum body.
 #[derive(Drop)]

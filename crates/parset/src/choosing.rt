@@ -13,13 +13,14 @@ use crate::reading::{
     read_aside, read_checksums, read_creator, read_description, read_exponent, read_main,
 };
 use crate::recovery_set::SetAside;
+use crate::recovery_slice::EXPONENT_LIMIT;
 use parfield::{Hash16, Sequence};
 use parsalvage::Kept;
 use std::alloc::{AllocError, Global};
 use std::collections::BTreeMap;
 
 // How many exponents there can be.
-const EXPONENTS: usize = 65_535;
+const EXPONENTS: usize = EXPONENT_LIMIT as usize + 1;
 
 // The first usable Main packet that is asked for, with its set ID.
 pub fn first_main(

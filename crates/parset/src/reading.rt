@@ -1,5 +1,4 @@
 ghost use Rattle.std.specs.Prelude.{◌≡◌, Option, IfOk};
-ghost use Rattle.parsalvage.specs.Kept.{front_of};
 ghost use Rattle.parset.specs.Choosing.{aside_in, checksums_in, creator_in, description_in, exponent_in, main_in, reason_in, usable};
 ghost use Rattle.parset.specs.Reasons.{AnswersBody};
 ghost use Rattle.parset.specs.declared.aside.Aside.{Aside};
@@ -62,11 +61,8 @@ pub fn read_creator(alloc: Global, kept: &Kept) -> Result<Option<Sequence<u8>>, 
 pub fn read_exponent(kept: &Kept, size: u64) -> Option<u32>
     ensures { result ≡ exponent_in size kept.now }
 {
-    match (kept.kind, &kept.body) {
-        (Kind::RecvSlic, KeptBody::Front { first, len }) => slice_body(*first, *len, size).ok(),
-        (Kind::RecvSlic, KeptBody::Whole(body)) => {
-            slice_body(front(body.as_slice()), body.len() as u64, size).ok()
-        }
+    match kept.kind {
+        Kind::RecvSlic => slice_body(kept.body.front(), kept.body.len(), size).ok(),
         _ => None,
     }
 }
@@ -89,12 +85,7 @@ fn reason_of(alloc: Global, kept: &Kept, size: u64) -> Result<Option<Aside>, All
 {
     match (kept.kind, &kept.body) {
         (Kind::Other(_), _) => Ok(None),
-        (Kind::RecvSlic, KeptBody::Front { first, len }) => {
-            Ok(slice_body(*first, *len, size).err())
-        }
-        (Kind::RecvSlic, KeptBody::Whole(body)) => {
-            Ok(slice_body(front(body.as_slice()), body.len() as u64, size).err())
-        }
+        (Kind::RecvSlic, body) => Ok(slice_body(body.front(), body.len(), size).err()),
         (_, KeptBody::Front { .. }) => Ok(Some(Aside::OverLimit)),
         (Kind::Main, KeptBody::Whole(body)) => reason(main_body(alloc, body.as_slice(), kept.set)),
         (Kind::FileDesc, KeptBody::Whole(body)) => reason(desc_body(alloc, body.as_slice())),
@@ -125,14 +116,4 @@ fn reason<T: Drop>(answer: Result<T, BodyFault>) -> Result<Option<Aside>, AllocE
         Err(BodyFault::Aside(reason)) => Ok(Some(reason)),
         Err(BodyFault::Memory) => Err(AllocError),
     }
-}
-
-// The first four bytes, filled with zeros.
-fn front(body: &[u8]) -> [u8; 4]
-    ensures { result ≡ front_of body.now }
-{
-    let mut first = [0; 4];
-    let size = body.len().min(4);
-    first[..size].copy_from_slice(&body[..size]);
-    first
 }

@@ -1,8 +1,9 @@
-ghost use Rattle.std.specs.Prelude.{◌≡◌, ◌+◌, ◌%◌, ◌<◌, ◌≤◌, length, map, option_map};
-ghost use Rattle.std.specs.List.{All};
+ghost use Rattle.std.specs.Prelude.{◌≡◌, ◌+◌, ◌%◌, ◌<◌, ◌≤◌, length, map, option_map, IfSome};
+ghost use Rattle.std.specs.List.{All, IsDistinct, flat_map};
 ghost use Rattle.std.specs.List.Sorted.{IsStrictlySortedBy};
+ghost use Rattle.std.specs.Str.{bytes_eq};
 ghost use Rattle.parfield.specs.HashOrder.{id_cmp};
-ghost use Rattle.parset.specs.RecoverySet.{HasFileLimits};
+ghost use Rattle.parset.specs.RecoverySet.{HasFileLimits, HasTextLimits, numbers_of_file};
 
 use crate::aside::Aside;
 use parfield::{Hash16, Sequence};
@@ -88,11 +89,12 @@ pub struct RecoverySet {
 }
 
 impl Model for RecoverySet {
-    ghost use Rattle.std.specs.Prelude.{◌≡◌, ◌+◌, ◌%◌, ◌<◌, ◌≤◌, length, map};
-    ghost use Rattle.std.specs.List.{All};
+    ghost use Rattle.std.specs.Prelude.{◌≡◌, ◌+◌, ◌%◌, ◌<◌, ◌≤◌, length, map, IfSome};
+    ghost use Rattle.std.specs.List.{All, IsDistinct};
     ghost use Rattle.std.specs.List.Sorted.{IsStrictlySortedBy};
+    ghost use Rattle.std.specs.Str.{bytes_eq};
     ghost use Rattle.parfield.specs.HashOrder.{id_cmp};
-    ghost use Rattle.parset.specs.RecoverySet.{HasFileLimits, SetView};
+    ghost use Rattle.parset.specs.RecoverySet.{AreNumbered, HasFileLimits, HasTextLimits, SetView};
 
     ghost Value = { SetView };
 
@@ -112,12 +114,15 @@ impl Model for RecoverySet {
       multiple : s.size % 4 ≡ 0;
       files : length s.files.items ≤ 32768;
       limits : All (λ f. HasFileLimits f.length f.name) s.files.items;
+      names : IsDistinct bytes_eq (map (λ f. f.name) s.files.items);
       rising : IsStrictlySortedBy id_cmp (map (λ f. f.id) s.files.items);
       slices : length s.slices.items ≤ 32768;
       lengths : All (λ x. (0 < x.length) × (x.length ≤ s.size)) s.slices.items;
+      numbered : AreNumbered s.size s.files.items s.slices.items;
       others : s.others ≤ 32768;
       all_ids : length s.files.items + s.others ≤ 32768;
       have : s.have ≤ 65535;
+      creator : IfSome s.creator HasTextLimits;
     } };
 }
 
@@ -143,16 +148,20 @@ impl RecoverySet {
         ensures field { result.now ≡ self.now.files }
         ensures few { length result.now ≤ 32768 }
         ensures limits { All (λ f. HasFileLimits f.length f.name) result.now }
+        ensures names { IsDistinct bytes_eq (map (λ f. f.name) result.now) }
         ensures rising { IsStrictlySortedBy id_cmp (map (λ f. f.id) result.now) }
     {
         self.files.as_slice()
     }
 
     /// The slices of all files, by file ID and number.
+    #[tactic(auto, unfolding(crate::specs::RecoverySet::AreNumbered))]
     pub fn slices(&self) -> &[SetSlice]
         ensures field { result.now ≡ self.now.slices }
         ensures few { length result.now ≤ 32768 }
         ensures lengths { All (λ s. (0 < s.length) × (s.length ≤ self.now.size)) result.now }
+        ensures numbered { map (λ s. (s.id, s.number)) result.now
+            ≡ flat_map (numbers_of_file self.now.size) self.now.files }
     {
         self.slices.as_slice()
     }
@@ -176,7 +185,8 @@ impl RecoverySet {
 
     /// The text of the client that made the set, where there is one.
     pub fn creator(&self) -> Option<&[u8]>
-        ensures { option_map (λ text. text.now) result ≡ self.now.creator }
+        ensures field { option_map (λ text. text.now) result ≡ self.now.creator }
+        ensures limits { IfSome result (λ text. HasTextLimits text.now) }
     {
         match &self.creator {
             Some(text) => Some(text.as_slice()),

@@ -6,7 +6,7 @@ use crate::aside::Aside;
 use crate::fields::u32_at;
 
 // The largest exponent.
-const EXPONENT_LIMIT: u32 = 65_534;
+pub const EXPONENT_LIMIT: u32 = 65_534;
 
 /// The exponent of a Recovery Slice body, by its first four bytes and its length, in a set of this
 /// slice size.

@@ -3,15 +3,12 @@ ghost use Rattle.std.specs.List.{flat_map};
 ghost use Rattle.parset.specs.declared.checksums.Ifsc.{Ifsc};
 ghost use Rattle.parset.specs.RecoverySet.{AnswersSet, HasCounts, file_view, file_views, set_file_of, slice_count, slice_of, slice_total, slices_checked, slices_of_file};
 
-use crate::checksums::Ifsc;
+use crate::checksums::{Ifsc, SLICES_LIMIT};
 use crate::description::Desc;
 use crate::recovery_set::{SetFault, SetFile, SetSlice};
 use parfield::{Hash16, Sequence};
 use std::alloc::{AllocError, Global};
 use std::collections::BTreeMap;
-
-// The most slices of a recovery set.
-const SLICES_LIMIT: u64 = 32_768;
 
 // How many slices of this size so many bytes have.
 pub fn slice_count(size: u64, length: u64) -> u64
@@ -37,7 +34,7 @@ fn has_many(size: u64, files: &[Desc]) -> bool
     requires { 0 < size }
     ensures { result ≡ nat_lt 32768 (slice_total size files.now) }
 {
-    let mut left = SLICES_LIMIT;
+    let mut left = SLICES_LIMIT as u64;
     for file in files {
         let count = slice_count(size, file.length);
         if count > left {

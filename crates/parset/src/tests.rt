@@ -1,7 +1,8 @@
+mod sets;
+
 use super::*;
 use md5::{Digest, Md5};
-use parfield::{Hash16, Kind, Sequence};
-use parsalvage::{Kept, KeptBody};
+use parfield::Hash16;
 use std::alloc::{AllocError, Global};
 use std::test::Fail;
 
@@ -18,6 +19,11 @@ const MAIN: [u8; 28] =
 
 const DESC: [u8; 64] =
     *b"\xe3E\xea\xcb\xe6V\xc0\xe6\xfd \xedc\xcb{\x06,\xe8\xdc@\x81\xb144\xb4Q\x89\xa7 \xb7{h\x18\xe8\xdc@\x81\xb144\xb4Q\x89\xa7 \xb7{h\x18\x08\0\0\0\0\0\0\0g.bin\0\0\0";
+
+// The description of a file `l.bin` of 16,385 letters `a`, whose first 16,384 bytes have another
+// MD5, as Python's `hashlib` has them.
+const LONG_DESC: [u8; 64] =
+    *b"\x10\xa1\xa0\xe8\xa38\x16\xd0RjVdEU\xa3\xe7\x8d\x07_r5V\xe7v\xf6\xf5\xdc\xf2\x8eh\x89\xa7\t\xb4|\xf0|\x9d\x0e\xa5\x89\xe0\xe2\xaa}\r5P\x01@\0\0\0\0\0\0l.bin\0\0\0";
 
 const IFSC: [u8; 56] =
     *b"\xe3E\xea\xcb\xe6V\xc0\xe6\xfd \xedc\xcb{\x06,\xe2\xfcqLG'\xee\x93\x95\xf3$\xcd.\x7f3\x1f\x11\xcd\x82\xed\x1fv\x90\xeb\xdd\x9bL\xaf\x8f\xabI\xca\x17W\xbf'\xb5{3\x08";
@@ -88,6 +94,13 @@ fn fields_of_a_description_body(rt: HostRuntime) -> Result<(), Fail> {
     assert_eq!(rt; desc.front, CONTENT);
     assert_eq!(rt; desc.length, 8);
     assert_eq!(rt; desc.name.as_slice(), b"g.bin".as_slice());
+    let long = desc_body(rt.alloc(), &LONG_DESC)?;
+    let id = Hash16(*b"\x10\xa1\xa0\xe8\xa38\x16\xd0RjVdEU\xa3\xe7");
+    let whole = Hash16(*b"\x8d\x07_r5V\xe7v\xf6\xf5\xdc\xf2\x8eh\x89\xa7");
+    let front = Hash16(*b"\t\xb4|\xf0|\x9d\x0e\xa5\x89\xe0\xe2\xaa}\r5P");
+    assert_eq!(rt; (long.id, long.whole, long.front), (id, whole, front));
+    assert_eq!(rt; long.length, 16_385);
+    assert_eq!(rt; long.name.as_slice(), b"l.bin".as_slice());
     Ok(())
 }
 
@@ -299,91 +312,4 @@ fn numbers_of_reasons(rt: HostRuntime) {
     ] {
         assert_eq!(rt; reason.number(), number);
     }
-}
-
-// A packet of this kind and set, whose body is held whole.
-fn kept(alloc: Global, set: Hash16, kind: Kind, body: &[u8]) -> Result<Kept, AllocError> {
-    Ok(Kept {
-        file: 0,
-        at: 0,
-        length: 64,
-        set,
-        kind,
-        body: KeptBody::Whole(Sequence::from_vec(Vec::from_slice(alloc, body)?)),
-    })
-}
-
-// The Main packet of slices of 4 bytes and these files.
-fn kept_main(alloc: Global, ids: &[[u8; 16]]) -> Result<Kept, AllocError> {
-    let mut body = Vec::from_slice(alloc, &[4, 0, 0, 0, 0, 0, 0, 0])?;
-    body.extend_from_slice(&(ids.len().min(9) as u32).to_le_bytes())?;
-    for id in ids {
-        body.extend_from_slice(id)?;
-    }
-    let set = Hash16(Md5::digest(&body));
-    kept(alloc, set, Kind::Main, &body)
-}
-
-// The IFSC packet of file 1 with these bytes as the MD5s of its slices.
-fn kept_sums(alloc: Global, set: Hash16, digests: &[u8]) -> Result<Kept, AllocError> {
-    let mut body = Vec::from_slice(alloc, &[1; 16])?;
-    for digest in digests {
-        body.extend_from_slice(&[*digest; 16])?;
-        body.extend_from_slice(&[*digest, 0, 0, 0])?;
-    }
-    kept(alloc, set, Kind::Ifsc, &body)
-}
-
-#[test]
-fn slices_take_the_first_sums_of_the_right_number(rt: HostRuntime) -> Result<(), Fail> {
-    let main = kept_main(rt.alloc(), &[[1; 16]])?;
-    let set = main.set;
-    let mut description = Vec::from_slice(rt.alloc(), &[1; 16])?;
-    description.extend_from_slice(&[2; 32])?;
-    description.extend_from_slice(b"\x06\0\0\0\0\0\0\0name")?;
-    let mut packets = Vec::new(rt.alloc());
-    packets.push(main)?;
-    packets.push(kept_sums(rt.alloc(), set, &[9])?)?;
-    packets.push(kept_sums(rt.alloc(), Hash16([8; 16]), &[8, 8])?)?;
-    packets.push(kept_sums(rt.alloc(), set, &[3, 4])?)?;
-    packets.push(kept_sums(rt.alloc(), set, &[5, 6])?)?;
-    packets.push(kept(rt.alloc(), set, Kind::FileDesc, &description)?)?;
-    let built = build(rt.alloc(), &packets, None).ok().ok_or("set")?;
-    assert_eq!(rt; built.id(), set);
-    assert_eq!(rt; built.size(), 4);
-    let slices = built.slices();
-    assert_eq!(rt; slices.len(), 2);
-    let slice = |number, length, digest: u8| SetSlice {
-        id: Hash16([1; 16]),
-        number,
-        length,
-        sums: Some((Hash16([digest; 16]), u32::from(digest))),
-    };
-    assert_eq!(rt; slices[0], slice(0, 4, 3));
-    assert_eq!(rt; slices[1], slice(1, 2, 4));
-    let files = built.files();
-    assert_eq!(rt; files.len(), 1);
-    assert_eq!(rt; files[0].name.as_slice(), b"name".as_slice());
-    assert!(rt; files[0].known);
-    assert_eq!(rt;
-        (built.others(), built.have(), built.creator()),
-        (0, 0, None)
-    );
-    assert_eq!(rt; built.aside().len(), 0);
-    Ok(())
-}
-
-#[test]
-fn chosen_set_may_have_a_later_main(rt: HostRuntime) -> Result<(), Fail> {
-    let mut packets = Vec::new(rt.alloc());
-    packets.push(kept_main(rt.alloc(), &[[1; 16]])?)?;
-    let second = kept_main(rt.alloc(), &[])?;
-    let set = second.set;
-    packets.push(second)?;
-    let built = build(rt.alloc(), &packets, Some(set)).ok().ok_or("set")?;
-    assert_eq!(rt; built.id(), set);
-    assert_eq!(rt; built.files().len(), 0);
-    let first = build(rt.alloc(), &packets, None).err();
-    assert_eq!(rt; first, Some(SetFault::NoDesc(Hash16([1; 16]))));
-    Ok(())
 }

@@ -1,5 +1,5 @@
 -- The lines of the sightings that a search has handed out so far.
-use Rattle.std.proofs.Common.{◌≡◌, ◌≢◌, ℕ, ◌+◌, ◌-◌, ◌<◌, ◌≤◌, List, [], ◌∷◌, ◌++◌, length, take, All, Option, None, Some, slice_get, zero, suc, refl, sym, ap, ◌∙◌, subst, arith, append_assoc, append-nil, length-append, IsTrue, get_or, true, Result, Ok, Err, IfErr}
+use Rattle.std.proofs.Common.{◌≡◌, ◌≢◌, ℕ, ◌+◌, ◌-◌, ◌<◌, ◌≤◌, List, [], ◌∷◌, ◌++◌, length, take, All, Option, None, Some, slice_get, zero, suc, refl, sym, ap, ◌∙◌, subst, arith, append_assoc, append-nil, length-append, IsTrue, get_or, true, Result, Ok, Err}
 use Rattle.std.specs.List.{flat_map}
 use Rattle.std.proofs.Math.Seq.{take-append-add}
 use Rattle.std.proofs.lemmas.Grind.{flat_map-append}
@@ -24,7 +24,7 @@ use Rattle.parfind.proofs.RisingLaws.{between_and_from}
 use Rattle.parfind.proofs.SightingLaws.{Rises-sightings_of}
 use Rattle.parv.specs.Finding.{found_line, limited, last_line, line_behind, find_text, scan_in, WritesLinesBefore}
 use Rattle.parv.specs.Lines.{end_line, cursor_line}
-use Rattle.parv.specs.Searching.{WritesFound, WritesLine, KeepsLines, EndsSearch, EndsLines, fewer_than}
+use Rattle.parv.specs.Searching.{WritesFound, WritesLine, fewer_than}
 use Rattle.parv.specs.declared.finding.FindFault.{FindFault}
 use Rattle.parv.specs.declared.finding.FindFault.TheVariants.{Read, Write, Memory}
 use Rattle.parv.specs.SinkState.{SinkState, appended, refused, WritesFront, RefusesFront}

@@ -15,7 +15,7 @@ use Rattle.parwindow.specs.Index.{slice_set_of}
 use Rattle.parfind.specs.Sightings.{Scan}
 use Rattle.parfind.specs.Steps.{scan_of}
 use Rattle.parfind.specs.Surveys.{is_sighted, mark_of, MarksSighted}
-use Rattle.parv.specs.Comparing.{length_and_md5, is_content_of, is_named_as, state_by}
+use Rattle.parv.specs.Comparing.{length_and_md5, content_matches, name_matches, state_by}
 use Rattle.parv.specs.States.{named_files, has_content_of, has_name_of, state_of, is_in_whole_file, findings_of}
 use Rattle.parv.specs.declared.command.Scanned.{Scanned}
 use Rattle.parv.specs.declared.comparing.Content.{Content}
@@ -43,30 +43,30 @@ map-name (file ∷ files) (content ∷ contents) e = ap (λ xs. file.name ∷ xs
 
 -- ---- the state of a file
 complete_same : (file : SetFile) (files : List Scanned) (contents : List (List ℕ))
-    → list_any (λ pair. is_content_of file pair.1 && is_named_as file pair.0) (zip files (map length_and_md5 contents))
+    → list_any (λ pair. content_matches file pair.1 && name_matches file pair.0) (zip files (map length_and_md5 contents))
     ≡ list_any (λ one. has_content_of file one && has_name_of file one) (named_files files contents)
 complete_same file [] contents = refl
 complete_same file (one ∷ files) [] = refl
 complete_same file (one ∷ files) (content ∷ contents) =
-    ap (λ b. (is_content_of file (length_and_md5 content) && is_named_as file one) || b) (complete_same file files contents)
+    ap (λ b. (content_matches file (length_and_md5 content) && name_matches file one) || b) (complete_same file files contents)
 
 named_same : (file : SetFile) (files : List Scanned) (contents : List (List ℕ)) → length contents ≡ length files
-    → list_any (is_named_as file) files ≡ list_any (has_name_of file) (named_files files contents)
+    → list_any (name_matches file) files ≡ list_any (has_name_of file) (named_files files contents)
 named_same file [] contents e = refl
 named_same file (one ∷ files) [] e = absurd (omega arith)
-named_same file (one ∷ files) (content ∷ contents) e = ap (λ b. is_named_as file one || b) (named_same file files contents (omega arith))
+named_same file (one ∷ files) (content ∷ contents) e = ap (λ b. name_matches file one || b) (named_same file files contents (omega arith))
 
 places_same : (file : SetFile) (files : List Scanned) (contents : List (List ℕ)) → length contents ≡ length files
-    → prefix_len (λ c. not (is_content_of file c)) (map length_and_md5 contents)
+    → prefix_len (λ c. not (content_matches file c)) (map length_and_md5 contents)
     ≡ prefix_len (λ one. not (has_content_of file one)) (named_files files contents)
 places_same file [] [] e = refl
 places_same file [] (content ∷ contents) e = absurd (omega arith)
 places_same file (one ∷ files) [] e = refl
 places_same file (one ∷ files) (content ∷ contents) e =
-    ap (λ n. cond (not (is_content_of file (length_and_md5 content))) (1 + n) 0) (places_same file files contents (omega arith))
+    ap (λ n. cond (not (content_matches file (length_and_md5 content))) (1 + n) 0) (places_same file files contents (omega arith))
 
 position_same : (file : SetFile) (files : List Scanned) (contents : List (List ℕ)) → length contents ≡ length files
-    → position (is_content_of file) (map length_and_md5 contents) ≡ position (has_content_of file) (named_files files contents)
+    → position (content_matches file) (map length_and_md5 contents) ≡ position (has_content_of file) (named_files files contents)
 position_same file files contents e =
     let lengths : length (map length_and_md5 contents) ≡ length (named_files files contents)
     = length-map contents length_and_md5 ∙ (ap length (sym (map-content files contents e)) ∙ length-map (named_files files contents) (λ one. one.content)) in

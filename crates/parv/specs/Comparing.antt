@@ -19,18 +19,19 @@ abbrev pub length_and_md5 : List ℕ → Content
 length_and_md5 bytes = record { length = length bytes; whole = record { 0 = md5 bytes } }
 
 -- they are those of a file of the set
-abbrev pub is_content_of : SetFile → Content → Bool
-is_content_of file content = content.length == file.length && bytes_eq content.whole.0 file.whole.0
+abbrev pub content_matches : SetFile → Content → Bool
+content_matches file content = content.length == file.length && bytes_eq content.whole.0 file.whole.0
 
 -- the scanned file has the name of a file of the set
-abbrev pub is_named_as : SetFile → Scanned → Bool
-is_named_as file scanned = bytes_eq scanned.name file.name
+abbrev pub name_matches : SetFile → Scanned → Bool
+name_matches file scanned = bytes_eq scanned.name file.name
 
--- the state of a file of the set, by the names, the lengths and the MD5s of the scanned files
+-- the state of a file of the set as it is computed, by the names, the lengths and the MD5s of the scanned
+-- files; it is `state_of` of the files themselves
 abbrev pub state_by : List Scanned → List Content → SetFile → State
 state_by files contents file =
-    if list_any (λ pair. is_content_of file pair.1 && is_named_as file pair.0) (zip files contents) then Complete
-    else state_else (position (is_content_of file) contents) (list_any (is_named_as file) files)
+    if list_any (λ pair. content_matches file pair.1 && name_matches file pair.0) (zip files contents) then Complete
+    else state_else (position (content_matches file) contents) (list_any (name_matches file) files)
 
 -- a read fault is one of a scanned file; want of memory comes with no failure
 abbrev pub ScanLeaves : ShelfState → ShelfState → ScanFault → Type 0

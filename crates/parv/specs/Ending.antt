@@ -37,7 +37,7 @@ cause_text cause.TooManySlices = codes "too many slices"
 
 -- what the line says of an end about this argument; none where nothing went wrong
 abbrev pub message_of : End → List ℕ → Option (List ℕ)
-message_of (end.Status now) argument = None
+message_of (end.Status status) argument = None
 message_of (end.Plan plan.Usage) argument = Some (codes "usage: parv packets|set|find|verify [options] FILES")
 message_of (end.Plan plan.Value) argument = Some (codes "bad value")
 message_of (end.Plan plan.NoPacketFile) argument = Some (codes "no packet file")

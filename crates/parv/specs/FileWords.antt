@@ -1,5 +1,6 @@
--- The files that words name: packet files by their ending, all others are scanned.
-use Rattle.std.specs.Prelude.{ℕ, ◌-◌, ◌==◌, Bool, false, not, List, [], ◌∷◌, length, drop, map, codes}
+-- The files that words name: packet files by their ending; all others are scanned.
+use Rattle.std.specs.Prelude.{ℕ, ◌-◌, Bool, not, List, [], ◌++◌, length, drop, map, Option, Some, None, if◌then◌else◌, nat_eq, codes}
+use Rattle.std.specs.List.{starts_with, ends_with}
 use Rattle.std.specs.Str.{bytes_eq}
 use Rattle.std.specs.Char.{to_ascii_lowercase}
 use Rattle.parv.specs.declared.command.Scanned.{Scanned}
@@ -12,11 +13,19 @@ is_packet_file word = bytes_eq (map to_ascii_lowercase (drop (length word - 5) w
 abbrev pub is_scanned_file : List ℕ → Bool
 is_scanned_file word = not (is_packet_file word)
 
--- the word begins with `-` (45)
-abbrev pub is_option : List ℕ → Bool
-is_option [] = false
-is_option (byte ∷ word) = byte == 45
+-- DIR with a `/` at its end
+unfoldable pub folder_of : List ℕ → List ℕ
+folder_of dir = if ends_with nat_eq dir (codes "/") then dir else dir ++ codes "/"
 
--- a scanned file whose name is its word
-abbrev pub scanned_as : List ℕ → Scanned
-scanned_as word = record { path = word; name = word }
+-- the front that names lose, which is empty without DIR
+abbrev pub front_under : Option (List ℕ) → List ℕ
+front_under None = []
+front_under (Some dir) = folder_of dir
+
+-- the word without the front, where it begins so
+unfoldable pub without_front : List ℕ → List ℕ → List ℕ
+without_front front word = if starts_with nat_eq word front then drop (length front) word else word
+
+-- a scanned file, whose name is its word without the front
+abbrev pub scanned_as : List ℕ → List ℕ → Scanned
+scanned_as front word = record { path = word; name = without_front front word }

@@ -3,6 +3,10 @@ pub mod Comparing
 pub mod Describing
 pub mod Ending
 pub mod FileWords
+pub mod Grammar
+pub mod Limit
+pub mod Matching
+pub mod Options
 pub mod Finding
 pub mod Lines
 pub mod Listing

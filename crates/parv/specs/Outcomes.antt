@@ -48,15 +48,21 @@ pub record KeepsFound (plan : Plan) (limit : Option ℕ) (cursor : Option (Hash1
   pub start : start_in set cursor ≡ Some at
   pub lines : WritesLinesBefore (names_of plan.scanned) set scanned limit at file old new
 
+-- there was a set, and nothing was written
+pub record KeepsNothing (plan : Plan) (packets : List Kept) (old new : SinkState) : Type 0 where
+  pub set : SetView
+  pub described : set_of packets plan.set ≡ Ok set
+  pub nothing : new ≡ old
+
 -- what a failed read of a scanned file leaves of a command's text
 abbrev pub KeepsOf : Command → Plan → List Kept → List (List ℕ) → ℕ → SinkState → SinkState → Type 0
 KeepsOf command.Packets plan packets scanned file old new = ⊥
 KeepsOf command.Set plan packets scanned file old new = ⊥
 KeepsOf (command.Find limit cursor) plan packets scanned file old new =
     KeepsFound plan limit cursor packets scanned file old new
-KeepsOf (command.Verify quiet) plan packets scanned file old new = new ≡ old
+KeepsOf (command.Verify quiet) plan packets scanned file old new = KeepsNothing plan packets old new
 
--- what a fault leaves of it; of packet files nothing was written then
+-- what a fault leaves of a command's text: nothing, where a packet file could not be read
 abbrev pub KeepsText : Command → Plan → List Kept → List (List ℕ) → RunFault → SinkState → SinkState → Type 0
 KeepsText command plan packets scanned (fault.Read false file why) old new =
     KeepsOf command plan packets scanned file old new

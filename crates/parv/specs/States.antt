@@ -7,7 +7,7 @@ use Rattle.parfield.specs.declared.hash16.Hash16.{Hash16}
 use Rattle.parset.specs.RecoverySet.{SetView}
 use Rattle.parset.specs.declared.recovery_set.SetFile.{SetFile}
 use Rattle.parset.specs.declared.recovery_set.SetSlice.{SetSlice}
-use Rattle.parwindow.specs.Index.{slice_set_of}
+use Rattle.parv.specs.Finding.{scan_in}
 use Rattle.parfind.specs.Sightings.{Scan}
 use Rattle.parfind.specs.Surveys.{is_sighted}
 use Rattle.parv.specs.declared.command.Scanned.{Scanned}
@@ -61,10 +61,7 @@ is_in_whole_file set scanned id =
 
 -- the search for the slices of the set
 abbrev pub scan_for : SetView → List NamedFile → Scan
-scan_for set scanned = record {
-  set = slice_set_of set.size set.slices;
-  contents = map (λ one. one.content) scanned;
-}
+scan_for set scanned = scan_in set (map (λ one. one.content) scanned)
 
 -- a slice, by its number, is found: its file is complete or renamed, or it has a sighting
 abbrev pub is_found : SetView → List NamedFile → ℕ × SetSlice → Bool

@@ -42,15 +42,15 @@ state_line names name k n state.Missing = missing_line name k n
 
 -- the line of a file of the set in its state, where so many slices of each ID are found
 abbrev pub counted_line : ℕ → List (List ℕ) → (Hash16 → ℕ) → SetFile × State → List ℕ
-counted_line size names count_of (file, now) =
-    state_line names file.name (count_of file.id) (slice_count size file.length) now
+counted_line size names count_of (file, kind) =
+    state_line names file.name (count_of file.id) (slice_count size file.length) kind
 
 -- `need <x> have <y>`
 unfoldable pub need_line : ℕ → ℕ → List ℕ
 need_line need have =
     codes "need " ++ (decimal need ++ (codes " have " ++ (decimal have ++ codes "\n")))
 
--- the word of a status
+-- the word of a status; the first is never written
 abbrev pub status_word : Status → List ℕ
 status_word status.Listed = codes "listed"
 status_word status.Complete = codes "complete"
@@ -59,7 +59,7 @@ status_word status.Impossible = codes "impossible"
 
 -- `result <word>`
 unfoldable pub result_line : Status → List ℕ
-result_line now = codes "result " ++ (status_word now ++ codes "\n")
+result_line answer = codes "result " ++ (status_word answer ++ codes "\n")
 
 -- the file is complete
 abbrev pub is_complete : State → Bool

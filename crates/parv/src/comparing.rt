@@ -20,7 +20,7 @@ pub struct Content {
 /// Why the scanned files were not all searched.
 #[derive(Clone, Copy, Debug, PartialEq, Eq)]
 pub enum ScanFault {
-    /// A file could not be read as a whole.
+    /// A file could not be read.
     Read { file: u32, fault: ReadFault },
     /// Memory was refused.
     Memory,

@@ -1,6 +1,6 @@
 ghost use Rattle.std.specs.Prelude.{◌≡◌, ◌&&◌, position};
 ghost use Rattle.std.specs.List.{list_any, zip};
-ghost use Rattle.parv.specs.Comparing.{is_content_of, is_named_as, state_by};
+ghost use Rattle.parv.specs.Comparing.{content_matches, name_matches, state_by};
 
 use crate::command::Scanned;
 use crate::comparing::Content;
@@ -61,7 +61,7 @@ pub fn state_among(files: &[Scanned], contents: &[Content], file: &SetFile) -> S
 // Whether a scanned file has the name and the content.
 fn is_complete(files: &[Scanned], contents: &[Content], file: &SetFile) -> bool
     ensures { result ≡ list_any
-        (λ pair. is_content_of file.now pair.1 && is_named_as file.now pair.0)
+        (λ pair. content_matches file.now pair.1 && name_matches file.now pair.0)
         (zip files.now contents.now) }
 {
     files
@@ -72,7 +72,7 @@ fn is_complete(files: &[Scanned], contents: &[Content], file: &SetFile) -> bool
 
 // The first scanned file that has the content.
 fn first_with_content(contents: &[Content], file: &SetFile) -> Option<usize>
-    ensures { result ≡ position (is_content_of file.now) contents.now }
+    ensures { result ≡ position (content_matches file.now) contents.now }
 {
     contents
         .iter()
@@ -81,25 +81,25 @@ fn first_with_content(contents: &[Content], file: &SetFile) -> Option<usize>
 
 // Whether a scanned file has the name.
 fn is_named(files: &[Scanned], file: &SetFile) -> bool
-    ensures { result ≡ list_any (is_named_as file.now) files.now }
+    ensures { result ≡ list_any (name_matches file.now) files.now }
 {
     files.iter().any(|scanned| has_name(scanned, file))
 }
 
 fn has_both(scanned: &Scanned, content: &Content, file: &SetFile) -> bool
-    ensures { result ≡ (is_content_of file.now content.now && is_named_as file.now scanned.now) }
+    ensures { result ≡ (content_matches file.now content.now && name_matches file.now scanned.now) }
 {
     has_content(content, file) && has_name(scanned, file)
 }
 
 fn has_content(content: &Content, file: &SetFile) -> bool
-    ensures { result ≡ is_content_of file.now content.now }
+    ensures { result ≡ content_matches file.now content.now }
 {
     content.length == file.length && content.whole == file.whole
 }
 
 fn has_name(scanned: &Scanned, file: &SetFile) -> bool
-    ensures { result ≡ is_named_as file.now scanned.now }
+    ensures { result ≡ name_matches file.now scanned.now }
 {
     scanned.name.as_str().as_bytes() == file.name.as_slice()
 }

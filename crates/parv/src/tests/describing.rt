@@ -1,4 +1,3 @@
-use crate::command::Command;
 use crate::tests::fixtures::*;
 use parfield::Hash16;
 use parsalvage::{kept_of, salvage};
@@ -67,12 +66,14 @@ fn no_main_packet(rt: HostRuntime) -> Result<(), Fail> {
     refused(&rt, b"", "parv: no usable set: no main\n")?;
     refused(&rt, &creator(rt.alloc())?, "parv: no usable set: no main\n")?;
     let file = set_of_one_file(rt.alloc())?;
-    let plan = chosen(rt.alloc(), Command::Set, ZEROS)?;
-    let ran = ran_plan(&rt, &plan, sound(&[&file], &[]), ROOMY)?;
+    let words = ["set", "--set", "00000000000000000000000000000000", "v.par2"];
+    let ran = ran(&rt, &words, &[&file])?;
+    assert!(rt; ran.text.is_empty());
     assert_eq!(rt;
         std::str::from_utf8(&ran.line),
         Ok("parv: no usable set: no main\n")
     );
+    assert_eq!(rt; ran.status, 4);
     Ok(())
 }
 

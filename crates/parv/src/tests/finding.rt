@@ -1,9 +1,5 @@
-use crate::command::{Command, Plan};
 use crate::tests::fixtures::*;
-use crate::words::plan;
 use md5::{Digest, Md5};
-use parfield::Hash16;
-use parfind::Cursor;
 use std::alloc::{AllocError, Global};
 use std::process::Abort;
 use std::test::Fail;
@@ -90,84 +86,76 @@ fn no_set_to_look_for(rt: HostRuntime) -> Result<(), Fail> {
     Ok(())
 }
 
-// The plan of `find v.par2 x.bin`.
-fn find_plan(rt: &(impl Abort + AllocGlobal)) -> Result<Plan, Fail> {
-    let words = words_of(rt.alloc(), &["find", "v.par2", "x.bin"])?;
-    Ok(plan(rt.alloc(), &words).ok().ok_or("plan")?)
+// The output of `find` with these options over `v.par2` and `x.bin`, which ends with status 0.
+fn found(rt: &(impl Abort + AllocGlobal), options: &[&str], text: &str) -> Result<(), Fail> {
+    let mut words = Vec::new(rt.alloc());
+    words.push("find")?;
+    words.extend_from_slice(options)?;
+    words.extend_from_slice(&["v.par2", "x.bin"])?;
+    let ran = searched(rt, &words, &[b"XXabcdefgh"], 64, 0, ROOMY)?;
+    assert_eq!(rt; std::str::from_utf8(&ran.line), Ok(""));
+    assert_eq!(rt; std::str::from_utf8(&ran.text), Ok(text));
+    assert_eq!(rt; ran.status, 0);
+    Ok(())
 }
 
-// Runs `find v.par2 x.bin` with a limit and a cursor.
-fn found(
-    rt: &(impl Abort + AllocGlobal),
-    limit: Option<u64>,
-    cursor: Option<(Hash16, Cursor)>,
-) -> Result<Outcome, Fail> {
-    assert!(rt; limit != Some(0));
-    let mut plan = find_plan(rt)?;
-    plan.command = Command::Find { limit, cursor };
-    let set = set_of_one_file(rt.alloc())?;
-    ran_plan(rt, &plan, sound(&[&set], &[b"XXabcdefgh"]), ROOMY)
-}
+// The first sighting, and the cursor behind it.
+const FIRST_ALONE: &str = "x.bin 2 e345eacbe656c0e6fd20ed63cb7b062c 0\n\
+                           cursor 617cdc72ba53d94fe713fea2ae18f776:0:2:1\n";
 
 #[test]
 fn as_many_as_the_limit_allows_and_the_rest_from_the_cursor(rt: HostRuntime) -> Result<(), Fail> {
-    let first = "x.bin 2 e345eacbe656c0e6fd20ed63cb7b062c 0\n\
-                 cursor 617cdc72ba53d94fe713fea2ae18f776:0:2:1\n";
-    let both = "x.bin 2 e345eacbe656c0e6fd20ed63cb7b062c 0\n\
-                x.bin 6 e345eacbe656c0e6fd20ed63cb7b062c 1\n\
-                cursor 617cdc72ba53d94fe713fea2ae18f776:0:6:2\n";
-    let rest = "x.bin 6 e345eacbe656c0e6fd20ed63cb7b062c 1\nend\n";
-    let behind = Cursor {
-        file: 0,
-        offset: 2,
-        slice: 1,
-    };
-    let last = Cursor {
-        file: u32::MAX,
-        offset: u64::MAX,
-        slice: u32::MAX,
-    };
-    let of_the_set = Hash16(SET_ID);
-    for (limit, cursor, text) in [
-        (Some(1), None, first),
-        (None, Some((of_the_set, behind)), rest),
-        (Some(2), None, both),
-        (Some(3), None, BOTH),
-        (None, Some((of_the_set, last)), "end\n"),
-    ] {
-        let ran = found(&rt, limit, cursor)?;
-        assert_eq!(rt; std::str::from_utf8(&ran.text), Ok(text));
-        assert_eq!(rt; ran.status, 0);
-    }
-    Ok(())
+    found(&rt, &["--limit", "1"], FIRST_ALONE)?;
+    found(
+        &rt,
+        &["--cursor", "617cdc72ba53d94fe713fea2ae18f776:0:2:1"],
+        "x.bin 6 e345eacbe656c0e6fd20ed63cb7b062c 1\nend\n",
+    )?;
+    found(
+        &rt,
+        &["--limit", "2"],
+        "x.bin 2 e345eacbe656c0e6fd20ed63cb7b062c 0\n\
+         x.bin 6 e345eacbe656c0e6fd20ed63cb7b062c 1\n\
+         cursor 617cdc72ba53d94fe713fea2ae18f776:0:6:2\n",
+    )?;
+    found(&rt, &["--limit=3"], BOTH)?;
+    let last = "617cdc72ba53d94fe713fea2ae18f776:4294967295:18446744073709551615:4294967295";
+    found(&rt, &["--cursor", last], "end\n")
 }
 
 #[test]
 fn nothing_is_looked_for_behind_the_limit(rt: HostRuntime) -> Result<(), Fail> {
     // The third read gives the window of the first sighting; the fourth would fail.
-    let mut plan = find_plan(&rt)?;
-    plan.command = Command::Find {
-        limit: Some(1),
-        cursor: None,
-    };
-    let set = set_of_one_file(rt.alloc())?;
-    let packets: [&[u8]; 1] = [&set];
-    let files = Files {
-        packets: &packets,
-        scanned: &[b"XXabcdefgh"],
-        piece: 64,
-        failing_packet: 0,
-        failing_scanned: 4,
-    };
-    let ran = ran_plan(&rt, &plan, files, ROOMY)?;
-    assert_eq!(rt;
-        std::str::from_utf8(&ran.text),
-        Ok(
-            "x.bin 2 e345eacbe656c0e6fd20ed63cb7b062c 0\n\
-             cursor 617cdc72ba53d94fe713fea2ae18f776:0:2:1\n"
-        )
-    );
+    let words = ["find", "--limit", "1", "v.par2", "x.bin"];
+    let ran = searched(&rt, &words, &[b"XXabcdefgh"], 64, 4, ROOMY)?;
+    assert_eq!(rt; std::str::from_utf8(&ran.text), Ok(FIRST_ALONE));
     assert_eq!(rt; ran.status, 0);
+    Ok(())
+}
+
+#[test]
+fn names_lose_the_folder_that_is_told(rt: HostRuntime) -> Result<(), Fail> {
+    for (folder, name) in [("d", "x.bin"), ("d/", "x.bin"), ("e", "d/x.bin")] {
+        let words = ["find", "-B", folder, "v.par2", "d/x.bin"];
+        let ran = searched(&rt, &words, &[b"XXabcdefgh"], 64, 0, ROOMY)?;
+        let text = format!(in rt.alloc();
+            "{name} 2 e345eacbe656c0e6fd20ed63cb7b062c 0\n\
+             {name} 6 e345eacbe656c0e6fd20ed63cb7b062c 1\nend\n"
+        )?;
+        assert_eq!(rt; std::str::from_utf8(&ran.text), Ok(text.as_str()));
+        assert!(rt; ran.status == 0 && ran.line.is_empty());
+    }
+    Ok(())
+}
+
+#[test]
+fn a_fault_names_the_file_and_not_its_name(rt: HostRuntime) -> Result<(), Fail> {
+    let words = ["find", "-B", "d", "v.par2", "d/x.bin"];
+    let ran = searched(&rt, &words, &[b"XXabcdefgh"], 64, 1, ROOMY)?;
+    assert_eq!(rt;
+        std::str::from_utf8(&ran.line),
+        Ok("parv: read fault in d/x.bin\n")
+    );
     Ok(())
 }
 
@@ -208,27 +196,15 @@ fn slices_are_numbered_within_their_file_and_need_sums(rt: HostRuntime) -> Resul
 
 #[test]
 fn cursor_of_another_set(rt: HostRuntime) -> Result<(), Fail> {
-    let at = Cursor {
-        file: 0,
-        offset: 2,
-        slice: 1,
-    };
-    let mut plan = find_plan(&rt)?;
-    plan.command = Command::Find {
-        limit: Some(1),
-        cursor: Some((Hash16(ZEROS), at)),
-    };
-    let set = set_of_one_file(rt.alloc())?;
-    let packets: [&[u8]; 1] = [&set];
     // The scanned file can't be read, and is not.
-    let files = Files {
-        packets: &packets,
-        scanned: &[b"XXabcdefgh"],
-        piece: 64,
-        failing_packet: 0,
-        failing_scanned: 1,
-    };
-    let ran = ran_plan(&rt, &plan, files, ROOMY)?;
+    let words = [
+        "find",
+        "--cursor",
+        "00000000000000000000000000000000:0:2:1",
+        "v.par2",
+        "x.bin",
+    ];
+    let ran = searched(&rt, &words, &[b"XXabcdefgh"], 64, 1, ROOMY)?;
     assert!(rt; ran.text.is_empty());
     assert_eq!(rt;
         std::str::from_utf8(&ran.line),

@@ -4,14 +4,13 @@ ghost use Rattle.parshelf.specs.Memory.{shelf_state_of};
 ghost use Rattle.parv.specs.Outcomes.{HasLimit};
 
 use crate::arguments::{argument_of, reads_scanned};
-use crate::command::{Command, Plan};
+use crate::command::Plan;
 use crate::memory_sink::MemSink;
 use crate::messages::ending;
 use crate::runner::run;
 use crate::status::End;
 use crate::words::plan;
 use md5::{Digest, Md5};
-use parfield::{Hash16, Sequence, Text};
 use parshelf::{MemShelf, Shelf};
 use std::alloc::{AllocError, Global};
 use std::process::Abort;
@@ -273,19 +272,5 @@ pub fn ran_plan(
         status,
         text: Vec::from_slice(alloc, out.text())?,
         line,
-    })
-}
-
-/// The plan of a command over the one file `p.par2`, of which one set is asked for.
-pub fn chosen(alloc: Global, command: Command, set: [u8; 16]) -> Result<Plan, AllocError>
-    ensures { IfOk result (λ plan. plan.command ≡ command) }
-{
-    let mut packets = Vec::new(alloc);
-    packets.push(Text::from_string(String::from_str(alloc, "p.par2")?))?;
-    Ok(Plan {
-        command,
-        set: Some(Hash16(set)),
-        packets: Sequence::from_vec(packets),
-        scanned: Sequence::from_vec(Vec::new(alloc)),
     })
 }

@@ -1,4 +1,3 @@
-use crate::command::Command;
 use crate::tests::fixtures::*;
 use std::process::Abort;
 use std::test::Fail;
@@ -157,14 +156,18 @@ fn packets_of_a_chosen_set(rt: HostRuntime) -> Result<(), Fail> {
     bytes.append(&mut set_of_one_file(rt.alloc())?)?;
     for (set, text) in [
         (
-            ZEROS,
+            "00000000000000000000000000000000",
             "p.par2 0 64 creator 00000000000000000000000000000000\npackets 1\n",
         ),
-        ([1; 16], "packets 0\n"),
+        ("01010101010101010101010101010101", "packets 0\n"),
     ] {
-        let plan = chosen(rt.alloc(), Command::Packets, set)?;
-        let ran = ran_plan(&rt, &plan, sound(&[&bytes], &[]), ROOMY)?;
+        let ran = ran(&rt, &["packets", "--set", set, "p.par2"], &[&bytes])?;
         assert_eq!(rt; std::str::from_utf8(&ran.text), Ok(text));
+        assert_eq!(rt; ran.status, 0);
     }
+    let none = "00000000000000000000000000000000";
+    let set = bytes.get(64..).ok_or("set")?;
+    let ran = ran(&rt, &["packets", "--set", none, "v.par2"], &[set])?;
+    assert_eq!(rt; std::str::from_utf8(&ran.text), Ok("packets 0\n"));
     Ok(())
 }

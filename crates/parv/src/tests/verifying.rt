@@ -1,6 +1,4 @@
-use crate::command::{Command, Plan};
 use crate::tests::fixtures::*;
-use crate::words::plan;
 use md5::{Digest, Md5};
 use parwindow::crc32;
 use std::alloc::{AllocError, Global};
@@ -128,15 +126,15 @@ fn set_without_any_file(rt: HostRuntime) -> Result<(), Fail> {
 
 #[test]
 fn renamed_file_beside_a_damaged_one_of_its_name(rt: HostRuntime) -> Result<(), Fail> {
-    verified(
-        &rt,
-        &set_of_one_file(rt.alloc())?,
-        &["verify", "v.par2", "g.bin", "h.bin", "i.bin"],
-        &[b"abcdefgX", b"abcdefgh", b"abcdefgh"],
-        "set 617cdc72ba53d94fe713fea2ae18f776 size 4 slices 2\nrenamed g.bin from h.bin\n\
-         need 0 have 0\nresult possible\n",
-        1,
-    )
+    let text = "set 617cdc72ba53d94fe713fea2ae18f776 size 4 slices 2\nrenamed g.bin from h.bin\n\
+                need 0 have 0\nresult possible\n";
+    let set = set_of_one_file(rt.alloc())?;
+    let words = ["verify", "v.par2", "g.bin", "h.bin"];
+    verified(&rt, &set, &words, &[b"abcdefgX", b"abcdefgh"], text, 1)?;
+    // Of two files of its content the first is named.
+    let words = ["verify", "v.par2", "g.bin", "h.bin", "i.bin"];
+    let scanned: [&[u8]; 3] = [b"abcdefgX", b"abcdefgh", b"abcdefgh"];
+    verified(&rt, &set, &words, &scanned, text, 1)
 }
 
 #[test]
@@ -205,12 +203,6 @@ fn damaged_file_with_and_without_a_recovery_slice(rt: HostRuntime) -> Result<(),
     )
 }
 
-// The plan of `verify v.par2 a.bin`.
-fn verify_plan(rt: &(impl Abort + AllocGlobal)) -> Result<Plan, Fail> {
-    let words = words_of(rt.alloc(), &["verify", "v.par2", "a.bin"])?;
-    Ok(plan(rt.alloc(), &words).ok().ok_or("plan")?)
-}
-
 #[test]
 fn levels_of_quiet(rt: HostRuntime) -> Result<(), Fail> {
     for (exponents, result, status) in [
@@ -218,13 +210,12 @@ fn levels_of_quiet(rt: HostRuntime) -> Result<(), Fail> {
         ([].as_slice(), "need 1 have 0\nresult impossible\n", 2),
     ] {
         let set = set_of_a(rt.alloc(), exponents)?;
-        let packets: [&[u8]; 1] = [&set];
-        for (quiet, text) in [(1, result), (2, ""), (3, "")] {
-            let mut plan = verify_plan(&rt)?;
-            plan.command = Command::Verify { quiet };
-            let ran = ran_plan(&rt, &plan, sound(&packets, &[b"abcd"]), ROOMY)?;
-            assert_eq!(rt; std::str::from_utf8(&ran.text), Ok(text));
-            assert_eq!(rt; ran.status, status);
+        for (words, text) in [
+            (["verify", "-q", "v.par2", "a.bin"].as_slice(), result),
+            (["verify", "-q", "-q", "v.par2", "a.bin"].as_slice(), ""),
+            (["verify", "-qqq", "v.par2", "a.bin"].as_slice(), ""),
+        ] {
+            verified(&rt, &set, words, &[b"abcd"], text, status)?;
         }
     }
     Ok(())
@@ -263,6 +254,12 @@ fn empty_file_of_the_set(rt: HostRuntime) -> Result<(), Fail> {
 fn damaged_file_without_sums(rt: HostRuntime) -> Result<(), Fail> {
     let mut set = main_of_one_file(rt.alloc())?;
     set.append(&mut description_of_one_file(rt.alloc())?)?;
+    set.append(&mut packet(
+        rt.alloc(),
+        &SET_ID,
+        &RECV_SLIC,
+        b"\0\0\0\0\0\x01\x02\x03\x04\x05\x06\x07",
+    )?)?;
     verified(
         &rt,
         &set,
@@ -276,6 +273,9 @@ fn damaged_file_without_sums(rt: HostRuntime) -> Result<(), Fail> {
 
 #[test]
 fn no_set_to_verify(rt: HostRuntime) -> Result<(), Fail> {
+    let empty = ran(&rt, &["verify", "e.par2"], &[b""])?;
+    assert!(rt; empty.text.is_empty());
+    assert_eq!(rt; empty.status, 4);
     // The scanned file can't be read, and is not.
     let files = Files {
         packets: &[b""],
@@ -343,7 +343,45 @@ fn writer_that_fails_at_each_byte_of_the_report(rt: HostRuntime) -> Result<(), F
         let files = sound(&packets, &[b"abcd"]);
         let ran = ran_with(&rt, &["verify", "v.par2", "a.bin"], files, room)?;
         assert_eq!(rt; ran.text.as_slice(), &DAMAGED.as_bytes()[..bytes]);
+        assert_eq!(rt; std::str::from_utf8(&ran.line), Ok("parv: write fault\n"));
         assert_eq!(rt; ran.status, 6);
     }
+    Ok(())
+}
+
+#[test]
+fn a_read_fault_names_the_second_file(rt: HostRuntime) -> Result<(), Fail> {
+    let set = set_of_a(rt.alloc(), &[0])?;
+    let packets: [&[u8]; 1] = [&set];
+    // The first file is read once for its digest, and then the second.
+    let files = Files {
+        packets: &packets,
+        scanned: &[b"abcd", b"abcdef"],
+        piece: 64,
+        failing_packet: 0,
+        failing_scanned: 2,
+    };
+    let ran = ran_with(&rt, &["verify", "v.par2", "a.bin", "b.bin"], files, ROOMY)?;
+    assert!(rt; ran.text.is_empty());
+    assert_eq!(rt;
+        std::str::from_utf8(&ran.line),
+        Ok("parv: read fault in b.bin\n")
+    );
+    Ok(())
+}
+
+#[test]
+fn writer_that_takes_one_byte_of_a_report_a_call(rt: HostRuntime) -> Result<(), Fail> {
+    let set = set_of_a(rt.alloc(), &[0])?;
+    let packets: [&[u8]; 1] = [&set];
+    let room = Room {
+        bytes: DAMAGED.len(),
+        piece: 1,
+        takes_zero: false,
+    };
+    let files = sound(&packets, &[b"abcd"]);
+    let ran = ran_with(&rt, &["verify", "v.par2", "a.bin"], files, room)?;
+    assert_eq!(rt; std::str::from_utf8(&ran.text), Ok(DAMAGED));
+    assert_eq!(rt; ran.status, 1);
     Ok(())
 }

@@ -5,6 +5,9 @@ use Rattle.std.specs.List.Sorted.{IsStrictlySortedBy}
 use Rattle.parfield.specs.HashOrder.{id_cmp}
 use Rattle.parset.specs.Choosing.{file_description_of}
 use Rattle.parset.specs.RecoverySet.{ids_in_order, set_over, with_sums}
+use Rattle.std.specs.List.{IsDistinct}
+use Rattle.std.specs.Str.{bytes_eq}
+use Rattle.parset.proofs.NameLaws.{files_differ}
 use Rattle.parset.proofs.SetLaws.{files_described, files_rise, length-files, not_described, not_few, not_named, set_made}
 use Rattle.parset.proofs.building.set_by.Goals as goal
 
@@ -58,3 +61,8 @@ set_over-requires-clause-rising c =
     (c.as_slice-2.ensures.value ∙ (c.in_ok-ids.ensures ∙ ap ids_in_order c.as_slice.ensures))
     c.in_ok-described.ensures c.in_ok-named.ensures c.in_ok-files.ensures in
     subst (λ files. IsStrictlySortedBy id_cmp (map (λ file. file.id) files)) (sym c.as_slice-3.ensures) up
+
+pub set_over-requires-clause-names : goal.set_over-requires-clause-names
+set_over-requires-clause-names c =
+    let differ = files_differ c.args.main.now.size c.in_ok-described.described c.in_ok-named.named c.in_ok-files.files c.in_ok-named.ensures c.in_ok-files.ensures in
+    subst (λ files. IsDistinct bytes_eq (map (λ file. file.name) files)) (sym c.as_slice-3.ensures) differ

@@ -1,14 +1,17 @@
 use Rattle.std.proofs.Common.{◌<◌, ◌≤◌, ◌∙◌, ap, arith, length, map, subst, sym}
-use Rattle.std.specs.List.{flat_map}
+use Rattle.std.specs.List.{IsDistinct, flat_map}
+use Rattle.std.specs.Str.{bytes_eq}
 use Rattle.std.specs.List.Sorted.{IsStrictlySortedBy}
 use Rattle.parfield.specs.HashOrder.{id_cmp}
 use Rattle.std.proofs.lemmas.Result.{IfOk-from_err}
-use Rattle.parset.specs.RecoverySet.{set_file_of, slices_of_file, with_sums}
+use Rattle.parset.specs.RecoverySet.{file_views, set_file_of, slices_of_file, with_sums}
+use Rattle.parset.proofs.CreatorLaws.{text_within}
+use Rattle.parset.proofs.NameLaws.{shown_names}
 use Rattle.parset.proofs.FileLaws.{set_over_is}
 use Rattle.std.proofs.lemmas.List.Elements.{All-same}
 use Rattle.parset.proofs.LimitLaws.{IsShownWithin, files_within}
 use Rattle.parset.proofs.RisingLaws.{shown_ids}
-use Rattle.parset.proofs.SliceLaws.{HasLength, exponents_within, length-shown, length-slices, slices_within}
+use Rattle.parset.proofs.SliceLaws.{HasLength, exponents_within, length-shown, length-slices, numbered_slices, slices_within}
 use Rattle.parset.proofs.building.set_over.Goals as goal
 
 pub returns-in_err-creator : goal.returns-in_err-creator
@@ -35,10 +38,13 @@ invariant_of-result c =
       multiple = c.requires.limits.3;
       files = omega (arith, many, c.requires.few);
       limits = All-same IsShownWithin _ _ c.in_ok-set_files.ensures (files_within own sums files c.requires.first);
+      names = subst (IsDistinct bytes_eq) (sym (ap (map (λ f. f.name)) c.in_ok-set_files.ensures ∙ shown_names sums files)) c.requires.names;
       rising = subst (IsStrictlySortedBy id_cmp) (sym (ap (map (λ f. f.id)) c.in_ok-set_files.ensures ∙ shown_ids sums files)) c.requires.rising;
       slices = subst (λ n. n ≤ 32768) (sym (ap length c.in_ok-set_slices.ensures ∙ length-slices main.size sums files)) c.requires.few_slices;
       lengths = All-same (HasLength main.size) _ _ c.in_ok-set_slices.ensures (slices_within main.size above sums files);
+      numbered = numbered_slices main.size (file_views sums files) _ _ c.in_ok-set_files.ensures c.in_ok-set_slices.ensures;
       others = omega (arith, c.len.ensures, c.requires.limits.2);
       all_ids = omega (arith, many, c.len.ensures, c.requires.few);
       have = subst (λ n. n ≤ 65535) (sym c.in_ok-exponent_count.ensures) (exponents_within main.size own);
+      creator = text_within own _ c.in_ok-creator.ensures;
     }

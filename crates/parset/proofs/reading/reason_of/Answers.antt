@@ -3,7 +3,7 @@ use Rattle.parset.proofs.reading.reason_of.Goals as goal
 pub returns-in-Main-Whole : goal.returns-in-Main-Whole
 returns-in-Main-Whole c =
     let given = c.reason.ensures _ _ c.main_body.ensures.answer in
-    rw (c.in-Main-Whole.is-0, c.in-Main-Whole.is-1, ← c.as_slice-in-Main-Whole.ensures) given
+    rw (c.in-Main-Whole.is-0, c.in-Main-Whole.is-1, ← c.as_slice.ensures) given
 
 pub returns-in-FileDesc-Whole : goal.returns-in-FileDesc-Whole
 returns-in-FileDesc-Whole c =

@@ -1,4 +1,4 @@
-use Rattle.std.proofs.Common.{rules, ◌≢◌, ◌≡◌, ◌∙◌, Some, Ok, Err, List, ℕ, ap}
+use Rattle.std.proofs.Common.{rules, ◌≢◌, ◌≡◌, Some, Ok, Err, List, ℕ}
 use Rattle.std.proofs.lemmas.Result.{err_from_is_err_and}
 use Rattle.parset.specs.RecoverySet.{SetView}
 use Rattle.parshelf.specs.Shelf.{ShelfState}
@@ -22,7 +22,7 @@ loop-left-preserved-in-Ok-Hit g c =
     record {
       belongs = c.in-Ok-Hit.ensures.belongs;
       reads = ReadsOnly_more old mid (g.Q.Shelf.state c.next.new.shelf) so_far.reads c.in-Ok-Hit.ensures.ok;
-      failures = ap (λ (s : SinkState). s.failures) line ∙ so_far.failures;
+      failures = rw line so_far.failures;
       handed = λ steady.
           let gives = gives_from set c.args.index.now old mid c.loop-left.finder.cursor c.next.new.self.cursor (Ok (Hit c.in-Ok-Hit.sighting)) c.requires.index
           so_far.reads steady (λ still. rw c.in-Ok-Hit.field-0-is at (c.in-Ok-Hit.ensures.answer still)) in

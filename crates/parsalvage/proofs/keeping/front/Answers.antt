@@ -1,5 +1,0 @@
-use Rattle.parsalvage.proofs.KeptLaws.{front_of-written}
-use Rattle.parsalvage.proofs.keeping.front.Goals as goal
-
-pub returns : goal.returns
-returns c = rw c.copy_from_slice.ensures.after (front_of-written c.args.body.now c.min-size.result c.min-size.ensures)

@@ -1,0 +1,184 @@
+use super::*;
+use parfield::{Kind, Sequence};
+use parsalvage::{Kept, KeptBody};
+
+// A packet of this kind and set at this offset, with this body.
+fn kept_at(at: u64, set: Hash16, kind: Kind, body: KeptBody) -> Kept {
+    Kept {
+        file: 0,
+        at,
+        length: 64,
+        set,
+        kind,
+        body,
+    }
+}
+
+// A packet of this kind and set, whose body is held whole.
+fn kept(alloc: Global, set: Hash16, kind: Kind, body: &[u8]) -> Result<Kept, AllocError> {
+    let body = Sequence::from_vec(Vec::from_slice(alloc, body)?);
+    Ok(kept_at(0, set, kind, KeptBody::Whole(body)))
+}
+
+// The Main packet of a recovery set of as many of these IDs as the count says.
+fn kept_main(alloc: Global, size: u64, count: u32, ids: &[u8]) -> Result<Kept, AllocError> {
+    let body = main_bytes(alloc, size, count, ids)?;
+    kept(alloc, Hash16(Md5::digest(&body)), Kind::Main, &body)
+}
+
+// The FileDesc packet of a file of this ID and name.
+fn kept_desc(alloc: Global, set: Hash16, id: u8, name: &[u8; 4]) -> Result<Kept, AllocError> {
+    let mut body = vec![in alloc; id; 16]?;
+    body.extend_from_slice(&[2; 32])?;
+    body.extend_from_slice(&6_u64.to_le_bytes())?;
+    body.extend_from_slice(name)?;
+    kept(alloc, set, Kind::FileDesc, &body)
+}
+
+// The IFSC packet of file 1 with these bytes as the MD5s of its slices.
+fn kept_sums(alloc: Global, set: Hash16, digests: &[u8]) -> Result<Kept, AllocError> {
+    let mut body = Vec::from_slice(alloc, &[1; 16])?;
+    for digest in digests {
+        body.extend_from_slice(&[*digest; 16])?;
+        body.extend_from_slice(&[*digest, 0, 0, 0])?;
+    }
+    kept(alloc, set, Kind::Ifsc, &body)
+}
+
+// The fault of a set of files of these IDs, of which those with a name have a description.
+fn fault_of(
+    alloc: Global,
+    ids: &[u8; 4],
+    names: &[(u8, &[u8; 4])],
+) -> Result<Option<SetFault>, AllocError> {
+    let main = kept_main(alloc, 4, 4, ids)?;
+    let set = main.set;
+    let mut packets = Vec::new(alloc);
+    packets.push(main)?;
+    for (id, name) in names {
+        packets.push(kept_desc(alloc, set, *id, name)?)?;
+    }
+    Ok(build(alloc, &packets, None).err())
+}
+
+#[test]
+fn slices_take_the_first_sums_of_the_right_number(rt: HostRuntime) -> Result<(), Fail> {
+    let main = kept_main(rt.alloc(), 4, 1, &[1])?;
+    let set = main.set;
+    let mut packets = Vec::new(rt.alloc());
+    packets.push(main)?;
+    packets.push(kept_sums(rt.alloc(), set, &[9])?)?;
+    packets.push(kept_sums(rt.alloc(), Hash16([8; 16]), &[8, 8])?)?;
+    packets.push(kept_sums(rt.alloc(), set, &[3, 4])?)?;
+    packets.push(kept_sums(rt.alloc(), set, &[5, 6])?)?;
+    packets.push(kept_desc(rt.alloc(), set, 1, b"name")?)?;
+    let built = build(rt.alloc(), &packets, None).ok().ok_or("set")?;
+    assert_eq!(rt; built.id(), set);
+    assert_eq!(rt; built.size(), 4);
+    let slices = built.slices();
+    assert_eq!(rt; slices.len(), 2);
+    let slice = |number, length, digest: u8| SetSlice {
+        id: Hash16([1; 16]),
+        number,
+        length,
+        sums: Some((Hash16([digest; 16]), u32::from(digest))),
+    };
+    assert_eq!(rt; slices[0], slice(0, 4, 3));
+    assert_eq!(rt; slices[1], slice(1, 2, 4));
+    let files = built.files();
+    assert_eq!(rt; files.len(), 1);
+    assert_eq!(rt; files[0].name.as_slice(), b"name".as_slice());
+    assert!(rt; files[0].known);
+    assert_eq!(rt;
+        (built.others(), built.have(), built.creator()),
+        (0, 0, None)
+    );
+    assert_eq!(rt; built.aside().len(), 0);
+    Ok(())
+}
+
+#[test]
+fn first_main_counts_and_of_a_chosen_set_the_first_of_its_id(rt: HostRuntime) -> Result<(), Fail> {
+    let first = kept_main(rt.alloc(), 4, 0, &[])?;
+    let second = kept_main(rt.alloc(), 8, 0, &[1])?;
+    let (one, other) = (first.set, second.set);
+    let mut packets = Vec::new(rt.alloc());
+    packets.push(first)?;
+    packets.push(second)?;
+    packets.push(kept_main(rt.alloc(), 4, 0, &[])?)?;
+    for (choice, id, size) in [(None, one, 4), (Some(one), one, 4), (Some(other), other, 8)] {
+        let built = build(rt.alloc(), &packets, choice).ok().ok_or("set")?;
+        assert_eq!(rt; (built.id(), built.size()), (id, size));
+        assert_eq!(rt; built.files().len(), 0);
+    }
+    let none = build(rt.alloc(), &packets, Some(Hash16([1; 16]))).err();
+    assert_eq!(rt; none, Some(SetFault::NoMain));
+    Ok(())
+}
+
+#[test]
+fn first_main_counts_though_its_set_has_a_fault(rt: HostRuntime) -> Result<(), Fail> {
+    let mut packets = Vec::new(rt.alloc());
+    packets.push(kept_main(rt.alloc(), 4, 1, &[1])?)?;
+    let second = kept_main(rt.alloc(), 4, 0, &[])?;
+    let set = second.set;
+    packets.push(second)?;
+    let built = build(rt.alloc(), &packets, Some(set)).ok().ok_or("set")?;
+    assert_eq!(rt; built.id(), set);
+    let first = build(rt.alloc(), &packets, None).err();
+    assert_eq!(rt; first, Some(SetFault::NoDesc(Hash16([1; 16]))));
+    Ok(())
+}
+
+#[test]
+fn least_id_without_a_description(rt: HostRuntime) -> Result<(), Fail> {
+    let fault = fault_of(
+        rt.alloc(),
+        &[4, 2, 1, 3],
+        &[(1, b"a\0\0\0"), (3, b"a\0\0\0")],
+    )?;
+    assert_eq!(rt; fault, Some(SetFault::NoDesc(Hash16([2; 16]))));
+    Ok(())
+}
+
+#[test]
+fn least_id_whose_name_a_smaller_id_has(rt: HostRuntime) -> Result<(), Fail> {
+    let names = [
+        (4, b"a\0\0\0"),
+        (3, b"b\0\0\0"),
+        (1, b"a\0\0\0"),
+        (2, b"b\0\0\0"),
+    ];
+    let fault = fault_of(rt.alloc(), &[4, 2, 1, 3], &names)?;
+    assert_eq!(rt; fault, Some(SetFault::NameTwice(Hash16([3; 16]))));
+    Ok(())
+}
+
+#[test]
+fn bodies_that_are_too_long_to_be_held(rt: HostRuntime) -> Result<(), Fail> {
+    let main = kept_main(rt.alloc(), 4, 0, &[])?;
+    let set = main.set;
+    let front = |at, kind, len| {
+        let first = [0; 4];
+        kept_at(at, set, kind, KeptBody::Front { first, len })
+    };
+    let mut packets = Vec::new(rt.alloc());
+    packets.push(front(0, Kind::Main, 1_048_577))?;
+    packets.push(front(1, Kind::FileDesc, 1_048_577))?;
+    packets.push(front(2, Kind::Ifsc, 1_048_577))?;
+    packets.push(front(3, Kind::Creator, 1_048_577))?;
+    packets.push(main)?;
+    packets.push(front(4, Kind::RecvSlic, 8))?;
+    packets.push(front(5, Kind::Other([0; 16]), 1_048_577))?;
+    let built = build(rt.alloc(), &packets, None).ok().ok_or("set")?;
+    let reason = Aside::OverLimit;
+    let aside = |at| SetAside {
+        file: 0,
+        at,
+        reason,
+    };
+    let asides = [aside(0), aside(1), aside(2), aside(3)];
+    assert_eq!(rt; built.aside(), asides.as_slice());
+    assert_eq!(rt; (built.have(), built.creator()), (1, None));
+    Ok(())
+}
