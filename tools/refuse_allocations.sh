@@ -25,7 +25,7 @@ for ((n = 1; n <= 100000; n++)); do
     fi
     if [ ! -e "$work/refused" ]; then
         [ $ended -eq 0 ] && echo "no refusal ended a run of: parv $*" && exit 1
-        [ $undisturbed = yes ] && echo "refused each of $((n - 1)) allocations of: parv $*" && exit 0
+        [ $undisturbed = yes ] && echo "refused each of $((n - 1)) allocations, $ended of them ended: parv $*" && exit 0
         echo "nothing refused, and the run is another: status $status"
         exit 1
     fi

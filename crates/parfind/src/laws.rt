@@ -1,5 +1,5 @@
 ghost use Rattle.std.specs.Prelude.{◌≡◌};
-ghost use Rattle.std.specs.Ordering.{is_lt};
+ghost use Rattle.std.specs.Ordering.{is_lt, is_gt};
 ghost use Rattle.parfind.specs.Order.{is_before};
 ghost use Rattle.parfind.specs.CursorText.{ReadsItsText, HasOnePair};
 ghost use Rattle.parfind.specs.Sightings.{SightingsRise, AllFromOrigin, RestFollows, BetweenJoins};
@@ -22,7 +22,8 @@ pub fn step_law()
 
 /// The order of cursors is that of searches: by file, then by offset, then by slice. Does nothing.
 pub fn cursor_order_law()
-    ensures { (a b : Cursor) → is_lt (⟦<Cursor as Ord>⟧.cmp a b) ≡ is_before a b }
+    ensures less { (a b : Cursor) → is_lt (⟦<Cursor as Ord>⟧.cmp a b) ≡ is_before a b }
+    ensures greater { (a b : Cursor) → is_gt (⟦<Cursor as Ord>⟧.cmp a b) ≡ is_before b a }
 {}
 
 /// The law of cursor texts: a text is read as one pair, and exactly as it was written. Does nothing.

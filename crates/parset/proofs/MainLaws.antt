@@ -10,7 +10,8 @@ use Rattle.parsalvage.specs.declared.kept.Kept.{Kept}
 use Rattle.parsalvage.specs.declared.kept.KeptBody.{KeptBody}
 use Rattle.parsalvage.specs.declared.kept.KeptBody.TheVariants.{Whole, Front}
 use Rattle.parset.specs.Bodies.{file_count_field, file_ids_of, main_of, slice_size_field}
-use Rattle.parset.specs.Choosing.{chosen_main_in, first_main_of, is_chosen, main_by, main_in, usable}
+use Rattle.parsalvage.specs.Kept.{is_chosen}
+use Rattle.parset.specs.Choosing.{chosen_main_in, first_main_of, main_by, main_in, usable}
 use Rattle.parset.specs.Reasons.{first_reason, has_repeat, has_wrong_main_length, has_wrong_size, is_large_main, is_over_limit, main_reason}
 use Rattle.md5.specs.Md5.{md5}
 use Rattle.parset.specs.declared.aside.Aside.TheVariants.{IdTwice, OverLimit, SetId, SliceSize, WrongLength}

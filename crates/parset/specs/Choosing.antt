@@ -6,7 +6,7 @@ use Rattle.std.specs.Str.{bytes_eq}
 use Rattle.parfield.specs.declared.hash16.Hash16.{Hash16}
 use Rattle.parfield.specs.declared.kind.Kind.{Kind}
 use Rattle.parfield.specs.declared.kind.Kind.TheVariants as kind
-use Rattle.parsalvage.specs.Kept.{held_front_of, held_length_of}
+use Rattle.parsalvage.specs.Kept.{held_front_of, held_length_of, is_chosen}
 use Rattle.parsalvage.specs.declared.kept.Kept.{Kept}
 use Rattle.parsalvage.specs.declared.kept.KeptBody.{KeptBody}
 use Rattle.parsalvage.specs.declared.kept.KeptBody.TheVariants.{Whole, Front}
@@ -101,11 +101,6 @@ reason_by size (kind.Other field) body set = None
 -- the same of a kept packet
 abbrev pub reason_in : ℕ → Kept → Option Aside
 reason_in size k = reason_by size k.kind k.body k.set
-
--- a Main packet is asked for: any, or those of the chosen set
-abbrev pub is_chosen : Option Hash16 → Kept → Bool
-is_chosen None k = true
-is_chosen (Some set) k = bytes_eq k.set.0 set.0
 
 -- the set ID and the fields of the Main packet, where it is asked for
 abbrev pub chosen_main_in : Option Hash16 → Kept → Option (Hash16 × Main)

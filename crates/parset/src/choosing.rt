@@ -4,7 +4,7 @@ ghost use Rattle.std.specs.Option.{option_or};
 ghost use Rattle.std.specs.Str.{bytes_eq};
 ghost use Rattle.std.specs.BTreeMap.{get};
 ghost use Rattle.parfield.specs.HashOrder.{id_cmp};
-ghost use Rattle.parset.specs.Choosing.{all_exponents, chosen_main_in, has_exponent, is_chosen, only_if, first_main_of, set_packets_of, file_description_of, file_sums_of, exponent_count_of, first_creator_of, asides_of};
+ghost use Rattle.parset.specs.Choosing.{all_exponents, chosen_main_in, has_exponent, only_if, first_main_of, set_packets_of, file_description_of, file_sums_of, exponent_count_of, first_creator_of, asides_of};
 
 use crate::checksums::Ifsc;
 use crate::description::Desc;
@@ -123,22 +123,12 @@ fn read_chosen_main(
 ) -> Result<Option<(Hash16, Main)>, AllocError>
     ensures { IfOk result (λ found. found ≡ chosen_main_in choice kept.now) }
 {
-    if !is_chosen(choice, kept) {
+    if !kept.is_chosen(choice) {
         return Ok(None);
     }
     match read_main(alloc, kept)? {
         Some(main) => Ok(Some((kept.set, main))),
         None => Ok(None),
-    }
-}
-
-// Whether a Main packet is asked for: any, or those of the chosen set.
-fn is_chosen(choice: Option<Hash16>, kept: &Kept) -> bool
-    ensures { result ≡ is_chosen choice kept.now }
-{
-    match choice {
-        Some(set) => kept.set == set,
-        None => true,
     }
 }
 

@@ -51,8 +51,8 @@ unfoldable pub find_text : List (List ℕ) → SetView → Option ℕ → List S
 find_text names set limit xs =
     flat_map (found_line names set) (limited limit xs) ++ last_line set.id limit xs
 
--- the lines of some first sightings from a cursor on were written, fewer than the limit has, but of all that
--- are in files before this one
+-- the lines of some first sightings from a cursor on were written, fewer than the limit has, among them all
+-- that lie in files before this one
 pub record WritesLinesBefore (names : List (List ℕ)) (set : SetView) (contents : List (List ℕ)) (limit : Option ℕ)
     (at : Cursor) (file : ℕ) (old new : SinkState) : Type 0 where
   pub handed : List Sighting

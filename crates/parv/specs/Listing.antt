@@ -1,15 +1,10 @@
 -- The text of `packets`.
-use Rattle.std.specs.Prelude.{ℕ, Bool, true, List, [], ◌++◌, filter, length, Option, Some, None, slice_index_or}
+use Rattle.std.specs.Prelude.{ℕ, List, [], ◌++◌, filter, length, Option, slice_index_or}
 use Rattle.std.specs.List.{flat_map}
-use Rattle.std.specs.Str.{bytes_eq}
 use Rattle.parfield.specs.declared.hash16.Hash16.{Hash16}
+use Rattle.parsalvage.specs.Kept.{is_chosen}
 use Rattle.parsalvage.specs.declared.kept.Kept.{Kept}
 use Rattle.parv.specs.Lines.{packet_line, count_line}
-
--- the packet is of the set that is asked for, if one is
-abbrev pub is_chosen : Option Hash16 → Kept → Bool
-is_chosen None packet = true
-is_chosen (Some set) packet = bytes_eq packet.set.0 set.0
 
 -- the packets that are asked for
 abbrev pub chosen_of : Option Hash16 → List Kept → List Kept

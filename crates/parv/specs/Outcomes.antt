@@ -39,7 +39,8 @@ HasLimit command.Set = ⊤
 HasLimit (command.Find limit cursor) = limit ≢ Some 0
 HasLimit (command.Verify quiet) = ⊤
 
--- after a failed read of a scanned file there are whole lines, of all sightings in files before it
+-- after a failed read of a scanned file there are the whole lines of some first sightings, among them all that
+-- lie in files before it
 pub record KeepsFound (plan : Plan) (limit : Option ℕ) (cursor : Option (Hash16 × Cursor)) (packets : List Kept)
     (scanned : List (List ℕ)) (file : ℕ) (old new : SinkState) : Type 0 where
   pub set : SetView

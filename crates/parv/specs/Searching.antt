@@ -25,7 +25,8 @@ WritesFound text (Err (Read file why)) old new = WritesFront old new text
 WritesFound text (Err Write) old new = RefusesFront old new text
 WritesFound text (Err Memory) old new = WritesFront old new text
 
--- after a failed read there are whole lines, of all sightings in files before the one that it names
+-- after a failed read there are the whole lines of some first sightings, among them all that lie in files
+-- before the one that it names
 abbrev pub KeepsLines :
     List (List ℕ) → SetView → List (List ℕ) → Option ℕ → Cursor → FindFault → SinkState → SinkState → Type 0
 KeepsLines names set contents limit at (Read file why) old new =

@@ -19,7 +19,7 @@ pub enum Command {
         limit: Option<u64>,
         cursor: Option<(Hash16, Cursor)>,
     },
-    /// Tells what of the set is there; with `quiet` 1 only the result, with more nothing is written.
+    /// Tells what of the set is there; with `quiet` 1 only its last two lines, with more nothing.
     Verify {
         quiet: u8,
     },

@@ -1,6 +1,6 @@
 ghost use Rattle.std.specs.Prelude.{◌≡◌, ◌++◌, IfOk, OnOk, filter, string_bytes, slice_index_or, []};
 ghost use Rattle.parv.specs.Lines.{packet_line, count_line, kind_word};
-ghost use Rattle.parv.specs.Listing.{packets_text, chosen_of, is_chosen, line_among};
+ghost use Rattle.parv.specs.Listing.{packets_text, chosen_of, line_among};
 
 use parfield::{Hash16, Kind, Shown, Text};
 use parsalvage::Kept;
@@ -20,23 +20,13 @@ pub fn list_packets(
     let mut text = String::new(alloc);
     let mut count = 0u64;
     for packet in packets {
-        if is_asked_for(choice, packet) {
+        if packet.is_chosen(choice) {
             push_packet(&mut text, name_at(names, packet.file), packet)?;
             count += 1;
         }
     }
     push_count(&mut text, count)?;
     Ok(text)
-}
-
-// Whether the packet is of the set that is asked for.
-fn is_asked_for(choice: Option<Hash16>, packet: &Kept) -> bool
-    ensures { result ≡ is_chosen choice packet.now }
-{
-    match choice {
-        None => true,
-        Some(set) => packet.set.0 == set.0,
-    }
 }
 
 // The name of a packet file.

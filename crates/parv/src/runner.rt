@@ -51,6 +51,8 @@ pub fn run<P: Shelf, Q: Shelf, W: Sink>(
         (Q.state scanned.old).files fault (W.state out.old) (W.state out.new)) }
 
     // On any shelf: the answer tells what failed, and nothing else did.
+    ensures silent { IfErr result (λ fault. IsTrue (is_packet_read fault)
+        → W.state out.new ≡ W.state out.old) }
     ensures packets { EndsPackets result (P.state packets.old) (P.state packets.new) }
     ensures scanned { EndsScanned result (Q.state scanned.old) (Q.state scanned.new) }
     ensures sink { EndsSink result (W.state out.old) (W.state out.new) }

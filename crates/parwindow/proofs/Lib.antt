@@ -2,4 +2,3 @@ pub mod XorLaws
 pub mod CrcLaws
 pub mod IndexLaws
 pub mod TableLaws
-pub mod WindowLaws

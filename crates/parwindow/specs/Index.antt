@@ -10,7 +10,7 @@ pub record SliceSet : Type 0 where
   pub slice_size : ℕ
   -- how many of these are the file's
   pub own_lengths : List ℕ
-  -- the MD5 and the CRC-32 of all of them, where they are known
+  -- the MD5 and the CRC-32 of each slice with its zeros, where they are known
   pub sums_of : List (Option (Hash16 × ℕ))
 
 -- the slices of a recovery set of this slice size
@@ -21,7 +21,7 @@ slice_set_of size slices = record {
   sums_of = map (λ slice. slice.sums) slices;
 }
 
--- what holds of every set
+-- what holds of the slices of an index
 pub record IsSliceSet (set : SliceSet) : Type 0 where
   pub least_size : 4 ≤ set.slice_size
   pub greatest_size : set.slice_size ≤ 268435456
