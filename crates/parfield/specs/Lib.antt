@@ -1,5 +1,6 @@
 pub mod Added
 pub mod Bytes
+pub mod Chain
 pub mod Hash16
 pub mod HashOrder
 pub mod Kind

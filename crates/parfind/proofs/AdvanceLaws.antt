@@ -4,15 +4,15 @@ use Rattle.parwindow.specs.Index.{SliceSet}
 use Rattle.parfind.specs.declared.cursor.Cursor.{Cursor}
 use Rattle.parfind.specs.declared.sighting.Sighting.{Sighting}
 use Rattle.parfind.specs.Order.{is_before, is_from, cursor_of, cursor_after}
-use Rattle.parfind.specs.Places.{cursor_at, cursor_past, start_of, places_of}
+use Rattle.parfind.specs.Places.{cursor_at, cursor_past, start_of, places_of, place_at}
 use Rattle.parfind.specs.Sightings.{triples_of}
-use Rattle.parfind.specs.Steps.{steps_left}
+use Rattle.parfind.specs.Moves.{steps_left}
 use Rattle.parfind.specs.Looking.{IsNextPlace}
-use Rattle.parfind.proofs.OrderLaws.{Before, From, is_before-true, is_from-true, from_true, From-trans, From-before, Before-after}
+use Rattle.parfind.proofs.OrderLaws.{Before, From, is_before-true, is_from-true, From-by_test, From-trans, From-before, Before-after}
 use Rattle.parfind.proofs.ListLaws.{Has, Has-filter}
 use Rattle.parfind.proofs.RisingLaws.{Rises, part_from, part_between, between_and_from}
 use Rattle.parfind.proofs.SightingLaws.{Rises-places_of, Rises-triples_of}
-use Rattle.parfind.proofs.PlaceLaws.{place_at, Has-triples_of, From-start, From-past, next_ahead}
+use Rattle.parfind.proofs.PlaceLaws.{Has-triples_of, From-start, From-past, next_ahead}
 
 some_from_has : {A : Type 0} (xs : List A) (x : A) → Has xs x → 0 < length xs
 some_from_has [] x has = absurd has
@@ -30,22 +30,31 @@ module _ {A : Type 0} (key : A → Cursor) (c d : Cursor) (on : From c d) (xs : 
       (Has-filter (λ y. is_from c (key y)) xs x has (is_from-true c (key x) from)) (is_before-true (key x) d before) in
       omega (arith, parts, some_from_has (part_between key c d xs) x here)
 
+-- further on there are no more steps
+pub no_more : (set : SliceSet) (lengths : List ℕ) (c d : Cursor) → From c d → steps_left set lengths d ≤ steps_left set lengths c
+no_more set lengths c d on =
+    omega (
+      arith,
+      parts cursor_of c d on (triples_of set lengths) (Rises-triples_of set lengths),
+      parts cursor_at (start_of c) (start_of d) (From-start c d on) (places_of lengths) (Rises-places_of lengths),
+    )
+
 module _ (set : SliceSet) (lengths : List ℕ) (c d : Cursor) (next : IsNextPlace lengths c d) where
   -- behind the next place
   pub fewer_past : steps_left set lengths (cursor_past (place_at d)) < steps_left set lengths c
   fewer_past =
       let past : Cursor = cursor_past (place_at d) in
-      let on : From c past = From-trans c d past (from_true c d next.onward) (From-past d) in
+      let on : From c past = From-trans c d past (From-by_test c d next.onward) (From-past d) in
       omega (arith, parts cursor_of c past on (triples_of set lengths) (Rises-triples_of set lengths), ap length (next_ahead lengths c d next))
 
   -- behind a slice at the next place
-  pub fewer_after : (n : ℕ) → d.slice ≤ n → n < length set.sums_of
+  pub fewer_after : (n : ℕ) → d.slice ≤ n → n < length set.slices
       → let x : Sighting = record { file = d.file; offset = d.offset; slice = n } in
       steps_left set lengths (cursor_after x) < steps_left set lengths c
   fewer_after n low few =
       let x : Sighting = record { file = d.file; offset = d.offset; slice = n } in
       let to : From d (cursor_of x) = record { by_file = omega arith; by_offset = λ _. omega arith; by_slice = λ _ _. low } in
-      let from : From c (cursor_of x) = From-trans c d (cursor_of x) (from_true c d next.onward) to in
+      let from : From c (cursor_of x) = From-trans c d (cursor_of x) (From-by_test c d next.onward) to in
       let over : From (cursor_of x) (cursor_after x) = From-before (cursor_of x) (cursor_after x) (Before-after x) in
       let on : From c (cursor_after x) = From-trans c (cursor_of x) (cursor_after x) from over in
       let there : Has (triples_of set lengths) x = Has-triples_of set lengths x next.counted next.there few in

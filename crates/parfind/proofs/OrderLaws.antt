@@ -19,8 +19,8 @@ pub record From (a b : Cursor) : Type 0 where
 
 -- what the tests say
 
-pub before_true : (a b : Cursor) → is_before a b ≡ true → Before a b
-before_true a b h = elim (or_cases _ _ h) [
+pub Before-by_test : (a b : Cursor) → is_before a b ≡ true → Before a b
+Before-by_test a b h = elim (or_cases _ _ h) [
   | inl p ↦
       let lt = ltb-true a.file b.file p in
       record { by_file = omega (arith, lt); by_offset = omega (arith, lt); by_slice = omega (arith, lt) }
@@ -39,8 +39,8 @@ before_true a b h = elim (or_cases _ _ h) [
       ]
 ]
 
-pub before_false : (a b : Cursor) → is_before a b ≡ false → From b a
-before_false a b h =
+pub From-by_not_before : (a b : Cursor) → is_before a b ≡ false → From b a
+From-by_not_before a b h =
     let parts = or_parts _ _ h in
     record {
       by_file = ltb-false a.file b.file parts.0;
@@ -64,13 +64,13 @@ not_both a b p q =
     omega (arith, p.by_slice same same', q.by_slice (sym same) (sym same'))
 
 pub is_before-true : (a b : Cursor) → Before a b → is_before a b ≡ true
-is_before-true a b h = true_from_ne_false (is_before a b) (λ e. not_both a b h (before_false a b e))
+is_before-true a b h = true_from_ne_false (is_before a b) (λ e. not_both a b h (From-by_not_before a b e))
 
 pub is_before-false : (a b : Cursor) → From b a → is_before a b ≡ false
-is_before-false a b h = false_from_ne_true (is_before a b) (λ e. not_both a b (before_true a b e) h)
+is_before-false a b h = false_from_ne_true (is_before a b) (λ e. not_both a b (Before-by_test a b e) h)
 
-pub from_true : (a b : Cursor) → is_from a b ≡ true → From a b
-from_true a b h = before_false b a (not-true _ h)
+pub From-by_test : (a b : Cursor) → is_from a b ≡ true → From a b
+From-by_test a b h = From-by_not_before b a (not-true _ h)
 
 pub is_from-true : (a b : Cursor) → From a b → is_from a b ≡ true
 is_from-true a b h = not_from_false _ (is_before-false b a h)

@@ -8,19 +8,15 @@ use Rattle.parwindow.specs.Index.{SliceSet}
 use Rattle.parfind.specs.declared.cursor.Cursor.{Cursor}
 use Rattle.parfind.specs.declared.sighting.Sighting.{Sighting}
 use Rattle.parfind.specs.Order.{is_from, cursor_of}
-use Rattle.parfind.specs.Places.{Place, cursor_at, cursor_past, place_of, start_of, places_in, places_of, places_ahead, places_between}
+use Rattle.parfind.specs.Places.{Place, place_at, cursor_at, cursor_past, place_of, start_of, places_in, places_of, places_ahead, places_between}
 use Rattle.parfind.specs.Sightings.{Scan, content_of, is_sighting, triples_at, triples_of, sightings_of}
 use Rattle.parfind.specs.Steps.{lengths_of}
 use Rattle.parfind.specs.Looking.{IsAtPlace, IsNextPlace}
-use Rattle.parfind.proofs.OrderLaws.{Before, From, is_from-true, from_true, From-refl}
+use Rattle.parfind.proofs.OrderLaws.{Before, From, is_from-true, From-by_test, From-refl}
 use Rattle.parfind.proofs.ListLaws.{Each, Each-any, Each-has, Each-passes, Each-range, Each-map, Each-flat_map, Has, Has-map, Has-flat_map, Has-range, Has-filter}
 use Rattle.parfind.proofs.RisingLaws.{part_between, between_and_from, none_between, only_between}
 use Rattle.parfind.proofs.SightingLaws.{Rises-places_of}
-use Rattle.parfind.proofs.SeenLaws.{seen_true}
-
--- the offset of a cursor, whatever its slice
-abbrev pub place_at : Cursor → Place
-place_at c = record { file = c.file; offset = c.offset }
+use Rattle.parfind.proofs.SeenLaws.{seen_inside}
 
 -- which places there are
 
@@ -59,22 +55,22 @@ sighting_seen scan x has =
 pub sighting_at_place : (scan : Scan) (x : Sighting) → Has (sightings_of scan) x → IsAtPlace (lengths_of scan) (cursor_of x)
 sighting_at_place scan x has =
     rw (length-content_of scan x.file)
-    (seen_true scan.set (content_of scan x.file) x.offset x.slice (sighting_seen scan x has)).inside
+    (seen_inside scan.set (content_of scan x.file) x.offset x.slice (sighting_seen scan x has))
 
 pub Has-triples_of : (set : SliceSet) (lengths : List ℕ) (x : Sighting) → x.file < length lengths
-    → x.offset < slice_index lengths x.file → x.slice < length set.sums_of → Has (triples_of set lengths) x
+    → x.offset < slice_index lengths x.file → x.slice < length set.slices → Has (triples_of set lengths) x
 Has-triples_of set lengths x counted inside few =
     let at : ℕ → Sighting = λ n. record { file = x.file; offset = x.offset; slice = n } in
     Has-flat_map (triples_at set) (places_of lengths) (place_of x) x (Has-places_of lengths x.file x.offset counted inside)
-    (Has-map at (range_with_len 0 (length set.sums_of)) x.slice
-    (Has-range 0 (length set.sums_of) x.slice (omega arith) (omega arith)))
+    (Has-map at (range_with_len 0 (length set.slices)) x.slice
+    (Has-range 0 (length set.slices) x.slice (omega arith) (omega arith)))
 
-pub Has-sightings_of : (scan : Scan) (x : Sighting) → x.file < length scan.contents → x.slice < length scan.set.sums_of
+pub Has-sightings_of : (scan : Scan) (x : Sighting) → x.file < length scan.contents → x.slice < length scan.set.slices
     → is_sighting scan x ≡ true → Has (sightings_of scan) x
 unfolding sightings_of
 Has-sightings_of scan x counted few seen =
     let inside : x.offset < slice_index (lengths_of scan) x.file =
-    rw (length-content_of scan x.file) (seen_true scan.set (content_of scan x.file) x.offset x.slice seen).inside in
+    rw (length-content_of scan x.file) (seen_inside scan.set (content_of scan x.file) x.offset x.slice seen) in
     let counted' : x.file < length (lengths_of scan) = rw (length-map scan.contents length) counted in
     Has-filter (is_sighting scan) (triples_of scan.set (lengths_of scan)) x
     (Has-triples_of scan.set (lengths_of scan) x counted' inside few) seen
@@ -98,7 +94,7 @@ next_over lengths c d next =
     (λ p has after.
     let at : Cursor = record { file = p.file; offset = p.offset; slice = c.slice } in
     let ahead : IsTrue (is_from c at) = is_from-true c at (ahead_of_start c p after) in
-    let found : From d at = from_true d at (next.least at ahead (place_at_place lengths p has)) in
+    let found : From d at = From-by_test d at (next.least at ahead (place_at_place lengths p has)) in
     record { by_file = found.by_file; by_offset = found.by_offset; by_slice = λ _ _. omega arith })
 
 -- of two places in one file the later one has the greater offset
@@ -108,18 +104,24 @@ later_offset a b before same slices = elim (cases_eq a.offset b.offset) [
   | inr ne ↦ omega (arith, before.by_offset same)
 ]
 
+pub Before-past : (p : Place) → Before (cursor_at p) (cursor_past p)
+Before-past p = record { by_file = omega arith; by_offset = λ _. omega arith; by_slice = λ _ e. absurd (omega arith) }
+
+-- the cursor behind a place is the next one at which a place can be
+pub From-past_place : (p q : Place) → Before (cursor_at p) (cursor_at q) → From (cursor_past p) (cursor_at q)
+From-past_place p q after = record {
+  by_file = after.by_file;
+  by_offset = λ same. let lt = later_offset (cursor_at p) (cursor_at q) after same refl in omega arith;
+  by_slice = λ _ _. omega arith;
+}
+
 -- a place lies alone between itself and the cursor behind it
 pub only_here : (lengths : List ℕ) (d : Cursor) → d.file < length lengths → IsAtPlace lengths d
     → part_between cursor_at (start_of d) (cursor_past (place_at d)) (places_of lengths) ≡ place_at d ∷ []
 only_here lengths d counted there =
     only_between cursor_at (start_of d) (cursor_past (place_at d)) (place_at d) (places_of lengths) (Rises-places_of lengths)
     (Has-places_of lengths d.file d.offset counted there) (From-refl (start_of d))
-    (record { by_file = omega arith; by_offset = λ _. omega arith; by_slice = λ _ e. absurd (omega arith) })
-    (λ q after. record {
-      by_file = after.by_file;
-      by_offset = λ same. let lt = later_offset (start_of d) (cursor_at q) after same refl in omega arith;
-      by_slice = λ _ _. omega arith;
-    })
+    (Before-past (place_at d)) (λ q after. From-past_place (place_at d) q after)
     (λ q before. before)
 
 -- the next place is ahead, and then those behind it
@@ -127,7 +129,7 @@ pub next_ahead : (lengths : List ℕ) (c d : Cursor) → IsNextPlace lengths c d
     → places_ahead lengths c ≡ place_at d ∷ places_ahead lengths (cursor_past (place_at d))
 next_ahead lengths c d next =
     let past : Cursor = cursor_past (place_at d) in
-    let on : From (start_of c) (start_of d) = From-start c d (from_true c d next.onward) in
+    let on : From (start_of c) (start_of d) = From-start c d (From-by_test c d next.onward) in
     let over : From (start_of d) past = From-past (start_of d) in
     sym (between_and_from cursor_at (start_of c) (start_of d) on (places_of lengths) (Rises-places_of lengths))
     ∙ (rw (next_over lengths c d next)

@@ -4,8 +4,8 @@ use Rattle.std.proofs.lemmas.Bool.{cases_Bool, not_from_false}
 use Rattle.std.proofs.lemmas.List.Elements.{filter-append}
 use Rattle.parfind.specs.declared.cursor.Cursor.{Cursor}
 use Rattle.parfind.specs.Order.{is_before, is_from}
-use Rattle.parfind.proofs.OrderLaws.{Before, From, before_true, before_false, from_true, is_before-true, is_before-false, is_from-true, is_from-false, From-trans, Before-From, From-before}
-use Rattle.parfind.proofs.ListLaws.{Each, Each-weaker, Each-has, Each-filter, Has, Pairs, Pairs-filter, filter_all, filter_none, filter_weaker, filter_stronger}
+use Rattle.parfind.proofs.OrderLaws.{Before, From, Before-by_test, From-by_not_before, From-by_test, is_before-true, is_before-false, is_from-true, is_from-false, From-trans, Before-From, From-before}
+use Rattle.parfind.proofs.ListLaws.{Each, Each-weaker, Each-has, Each-filter, Each-slice_get, Has, Pairs, Pairs-filter, filter_all, filter_none, filter_weaker, filter_stronger}
 
 module _ {A : Type 0} (key : A → Cursor) where
   abbrev pub Rises : List A → Type 0
@@ -32,7 +32,7 @@ module _ {A : Type 0} (key : A → Cursor) where
   before_and_from c (x ∷ xs) h = elim (cases_Bool (is_before (key x) c)) [
     | inl e ↦ rw e (ap (λ ys. x ∷ ys) (before_and_from c xs h.1))
     | inr e ↦
-        let here : From c (key x) = before_false (key x) c e in
+        let here : From c (key x) = From-by_not_before (key x) c e in
         let later : Each (λ y. is_before (key y) c ≡ false) xs =
         Each-weaker (λ y. Before (key x) (key y)) (λ y. is_before (key y) c ≡ false)
         (λ y b. is_before-false (key y) c (From-trans c (key x) (key y) here (From-before (key x) (key y) b))) xs h.0 in
@@ -45,7 +45,7 @@ module _ {A : Type 0} (key : A → Cursor) where
   from_later : (a b : Cursor) → From a b → (xs : List A) → part_from b (part_from a xs) ≡ part_from b xs
   from_later a b on xs =
       filter_weaker (λ x. is_from a (key x)) (λ x. is_from b (key x))
-      (λ x k. is_from-true a (key x) (From-trans a b (key x) on (from_true b (key x) k))) xs
+      (λ x k. is_from-true a (key x) (From-trans a b (key x) on (From-by_test b (key x) k))) xs
 
   pub between_and_from : (a b : Cursor) → From a b → (xs : List A) → Rises xs
       → part_between a b xs ++ part_from b xs ≡ part_from a xs
@@ -58,7 +58,7 @@ module _ {A : Type 0} (key : A → Cursor) where
   between_and_between a b c on on' xs rises =
       let early : part_before c (part_between a b xs) ≡ part_between a b xs =
       filter_stronger (λ x. is_before (key x) c) (λ x. is_before (key x) b)
-      (λ x e. is_before-true (key x) c (Before-From (key x) b c (before_true (key x) b e) on')) (part_from a xs) in
+      (λ x e. is_before-true (key x) c (Before-From (key x) b c (Before-by_test (key x) b e) on')) (part_from a xs) in
       ap (λ ys. ys ++ part_between b c xs) (sym early)
       ∙ sym (filter-append (λ x. is_before (key x) c) (part_between a b xs) (part_from b xs))
       ∙ ap (λ ys. part_before c ys) (between_and_from a b on xs rises)
@@ -106,22 +106,23 @@ module _ {A : Type 0} (key : A → Cursor) where
   none_between a b [] f = refl
   none_between a b (x ∷ xs) f = elim (cases_Bool (is_from a (key x))) [
     | inl e ↦
-        let late : is_before (key x) b ≡ false = is_before-false (key x) b (f x (inl refl) (from_true a (key x) e)) in
+        let late : is_before (key x) b ≡ false = is_before-false (key x) b (f x (inl refl) (From-by_test a (key x) e)) in
         rw (e, late) (none_between a b xs (λ y h. f y (inr h)))
     | inr e ↦ rw e (none_between a b xs (λ y h. f y (inr h)))
   ]
 
-  -- an element that is not behind the one at place m stands among the first m + 1
-  pub front_has : (xs : List A) (m : ℕ) (x y : A) → Rises xs → slice_get xs m ≡ Some x → Has xs y → (Before (key x) (key y) → ⊥)
-      → Has (take (suc m) xs) y
-  front_has [] m x y rises at has not_behind = absurd has
-  front_has (z ∷ xs) zero x y rises at has not_behind = elim has [
-    | inl e ↦ inl e
-    | inr k ↦
-        let same : z ≡ x = cc in
-        absurd (not_behind (subst (λ v. Before (key v) (key y)) same (Each-has (λ v. Before (key z) (key v)) xs y rises.0 k)))
-  ]
-  front_has (z ∷ xs) (suc m) x y rises at has not_behind = elim has [
-    | inl e ↦ inl e
-    | inr k ↦ inr (front_has xs m x y rises.1 at k not_behind)
-  ]
+  -- what lies before the cursor just behind the element at place m are the first m + 1
+  pub before_nth : (xs : List A) (m : ℕ) (x : A) (b : Cursor) → Rises xs → slice_get xs m ≡ Some x → Before (key x) b
+      → ((y : A) → Before (key x) (key y) → From b (key y)) → part_before b xs ≡ take (suc m) xs
+  before_nth [] m x b rises at here later = cc
+  before_nth (z ∷ xs) zero x b rises at here later =
+      let same : z ≡ x = cc in
+      let behind : Each (λ y. is_before (key y) b ≡ false) xs =
+      Each-weaker (λ y. Before (key z) (key y)) (λ y. is_before (key y) b ≡ false)
+      (λ y k. is_before-false (key y) b (later y (subst (λ v. Before (key v) (key y)) same k))) xs rises.0 in
+      let first : is_before (key z) b ≡ true = is_before-true (key z) b (subst (λ v. Before (key v) b) (sym same) here) in
+      rw (first, filter_none (λ y. is_before (key y) b) xs behind) refl
+  before_nth (z ∷ xs) (suc m) x b rises at here later =
+      let early : Before (key z) (key x) = Each-slice_get (λ y. Before (key z) (key y)) xs m x rises.0 at in
+      let first : is_before (key z) b ≡ true = is_before-true (key z) b (Before-From (key z) (key x) b early (From-before (key x) b here)) in
+      rw first (ap (λ ys. z ∷ ys) (before_nth xs m x b rises.1 at here later))

@@ -1,93 +1,88 @@
--- The window that was read, and the slices that are seen in it.
-use Rattle.std.proofs.Common.{◌≡◌, ℕ, ◌+◌, ◌-◌, ◌<◌, ◌≤◌, min, true, List, ◌++◌, length, take, drop, replicate, refl, sym, ap, ◌∙◌, arith, slice_index, slice_get, Option, Some, None, inl, inr, subst, append-nil}
-use Rattle.std.proofs.lemmas.Bool.{cases_lt, and_parts, and_from, ltb-true, leb-true, lt-ltb, le-leb, eqb-true, eq-eqb}
-use Rattle.std.proofs.lemmas.List.{take-append-le, drop-replicate, take-replicate}
-use Rattle.std.proofs.Math.Seq.{take-append-add, take-length}
-use Rattle.std.proofs.lemmas.Slice.Eq.{bytes_eq-Decides}
-use Rattle.parfield.specs.Md5.{md5}
+-- A window, and the slices that are seen in it.
+use Rattle.std.proofs.Common.{◌≡◌, ℕ, zero, suc, ◌+◌, ◌<◌, true, List, [], ◌∷◌, length, refl, sym, ap, ◌∙◌, arith, slice_get, Bool, false, ◌&&◌, ◌==◌, nat_le, Option, Some, None}
+use Rattle.std.proofs.lemmas.Bool.{and_parts, or_left, or_right, ltb-true, lt-ltb}
+use Rattle.std.specs.List.{list_any}
+use Rattle.std.specs.Str.{bytes_eq}
+use Rattle.std.specs.Option.{option_map_or}
+use Rattle.std.proofs.lemmas.Bool.Decides.{nat_tests}
+use Rattle.std.proofs.lemmas.Option.{slice_get_within}
 use Rattle.parfield.specs.declared.hash16.Hash16.{Hash16}
-use Rattle.parwindow.specs.Crc32.{crc_of}
+use Rattle.parset.specs.declared.recovery_set.SetSlice.{SetSlice}
 use Rattle.parwindow.specs.Window.{window_at}
-use Rattle.parwindow.specs.Index.{SliceSet, HasSums}
-use Rattle.parfind.specs.Sightings.{is_seen, are_sums_of}
-use Rattle.parfind.specs.Looking.{AreSums, IsFit, IsFirstFit, IsFirstSeen}
+use Rattle.parwindow.specs.Crc32.{crc_of}
+use Rattle.parwindow.specs.Index.{SliceSet, slice_passes, sums_of, has_crc_of, has_crc_in}
+use Rattle.parwindow.specs.Least.{IsLeastFrom}
+use Rattle.parfind.specs.Sightings.{is_seen, is_seen_in}
+use Rattle.parfind.specs.Looking.{is_fit}
 
--- the first n of the bytes and zeros, where k of the bytes stand before zeros
-pub take-zeros : (bytes : List ℕ) (n k : ℕ) → k ≡ min (length bytes) n
-    → take n (bytes ++ replicate n 0) ≡ take k bytes ++ drop k (replicate n 0)
-take-zeros bytes n k e = elim (cases_lt n (length bytes)) [
-  | inl more ↦
-      let all : k ≡ n = omega arith in
-      let fits : n ≤ length bytes = omega arith in
-      let none : n - n ≡ 0 = omega arith in
-      let gone : drop {A = ℕ} n (replicate n 0) ≡ replicate (n - n) 0 = drop-replicate {X = ℕ} n n 0 in
-      rw (all, gone, none, take-append-le n bytes (replicate n 0) fits) (sym (append-nil (take n bytes)))
-  | inr few ↦
-      let all : k ≡ length bytes = omega arith in
-      let sum : n ≡ length bytes + (n - length bytes) = omega arith in
-      let split : take n (bytes ++ replicate n 0) ≡ bytes ++ take (n - length bytes) (replicate n 0) =
-      subst (λ (m : ℕ). take m (bytes ++ replicate n 0) ≡ bytes ++ take (n - length bytes) (replicate n 0)) (sym sum)
-      (take-append-add bytes (replicate n 0) (n - length bytes)) in
-      let zeros : take {A = ℕ} (n - length bytes) (replicate n 0) ≡ replicate (n - length bytes) 0 =
-      take-replicate {X = ℕ} (n - length bytes) n 0 (omega arith) in
-      let gone : drop {A = ℕ} (length bytes) (replicate n 0) ≡ replicate (n - length bytes) 0 =
-      drop-replicate {X = ℕ} (length bytes) n 0 in
-      rw (all, take-length bytes, gone) (split ∙ ap (λ (zs : List ℕ). bytes ++ zs) zeros)
-]
+-- a slice that passes a test is there
+passing : {A : Type 0} (test : A → Bool) (found : Option A) → option_map_or test found false ≡ true
+    → (x : A) × (found ≡ Some x) × (test x ≡ true)
+passing test None h = cc
+passing test (Some x) h = (x, refl, h)
 
--- what the test of a slice says
-pub record Seen (set : SliceSet) (file : List ℕ) (offset n : ℕ) : Type 0 where
-  pub inside : offset < length file
-  pub fits : offset + slice_index set.own_lengths n ≤ length file
-  pub has_both :
-      HasSums set n (crc_of (window_at set.slice_size file offset)) (record { 0 = md5 (window_at set.slice_size file offset) })
+-- what the test of a sighting says
+module _ (set : SliceSet) (file : List ℕ) (offset n : ℕ) (seen : is_seen_in set file offset n ≡ true) where
+  pub seen_inside : offset < length file
+  seen_inside =
+      let slice = passing (is_seen set.slice_size file offset) (slice_get set.slices n) seen in
+      ltb-true _ _ (and_parts _ _ slice.2).0
 
-are_sums_true : (bytes : List ℕ) (sums : Option (Option (Hash16 × ℕ))) → are_sums_of bytes sums ≡ true
-    → sums ≡ Some (Some (record { 0 = md5 bytes }, crc_of bytes))
-are_sums_true bytes None h = cc
-are_sums_true bytes (Some None) h = cc
-are_sums_true bytes (Some (Some (digest, crc))) h =
-    let parts = and_parts _ _ h in
-    let same_crc : crc ≡ crc_of bytes = eqb-true _ _ parts.0 in
-    let same_md5 : digest.0 ≡ md5 bytes = (bytes_eq-Decides digest.0 (md5 bytes)).0 parts.1 in
-    rw (← same_crc, ← same_md5) refl
+  pub seen_there : n < length set.slices
+  seen_there =
+      let slice = passing (is_seen set.slice_size file offset) (slice_get set.slices n) seen in
+      slice_get_within set.slices n slice.0 slice.1
 
-are_sums_from : (bytes : List ℕ) → are_sums_of bytes (Some (Some (record { 0 = md5 bytes }, crc_of bytes))) ≡ true
-are_sums_from bytes =
-    and_from _ _ (eq-eqb (crc_of bytes) (crc_of bytes) refl) ((bytes_eq-Decides (md5 bytes) (md5 bytes)).1 refl)
+-- another test that says the same
+same_test : {A : Type 0} (p q : A → Bool) → ((x : A) → p x ≡ q x) → (found : Option A)
+    → option_map_or p found false ≡ option_map_or q found false
+same_test p q same None = refl
+same_test p q same (Some x) = same x
 
-pub seen_true : (set : SliceSet) (file : List ℕ) (offset n : ℕ) → is_seen set file offset n ≡ true → Seen set file offset n
-seen_true set file offset n h =
-    let parts = and_parts _ _ h in
-    let parts' = and_parts _ _ parts.1 in
-    record {
-      inside = ltb-true _ _ parts.0;
-      fits = leb-true _ _ parts'.0;
-      has_both = are_sums_true (window_at set.slice_size file offset) (slice_get set.sums_of n) parts'.1;
-    }
+least_same : (p q : ℕ → Bool) → ((n : ℕ) → p n ≡ q n) → (first : ℕ) (found : Option ℕ) → IsLeastFrom p first found
+    → IsLeastFrom q first found
+least_same p q same first None none = λ k from h. none k from (same k ∙ h)
+least_same p q same first (Some n) least = record {
+  at_or_above = least.at_or_above;
+  passes = sym (same n) ∙ least.passes;
+  least = λ k from below h. least.least k from below (same k ∙ h);
+}
 
-seen_from : (set : SliceSet) (file : List ℕ) (offset n : ℕ) → Seen set file offset n → is_seen set file offset n ≡ true
-seen_from set file offset n seen =
-    let both : are_sums_of (window_at set.slice_size file offset) (slice_get set.sums_of n) ≡ true =
-    rw seen.has_both (are_sums_from (window_at set.slice_size file offset)) in
-    and_from _ _ (lt-ltb _ _ seen.inside) (and_from _ _ (le-leb _ _ seen.fits) both)
+le_sum : (a b left all : ℕ) → b + left ≡ all → nat_le a left ≡ nat_le (b + a) all
+le_sum a b left all sum = grind (arith, nat_tests)
 
 -- where the window's sums and what is left of the file are known, the slices that fit are those that are seen
-module _ (set : SliceSet) (file : List ℕ) (offset left crc : ℕ) (digest : Hash16) (inside : offset < length file)
-    (all : offset + left ≡ length file) (sums : AreSums (window_at set.slice_size file offset) (digest, crc)) where
-  fit_seen : (n : ℕ) → IsFit set crc digest left n → is_seen set file offset n ≡ true
-  fit_seen n fit =
-      let w : List ℕ = window_at set.slice_size file offset in
-      let both : HasSums set n (crc_of w) (record { 0 = md5 w }) = rw (← sums.0, ← sums.1) fit.0 in
-      seen_from set file offset n (record { inside = inside; fits = omega (arith, fit.1); has_both = both })
+pub first_seen : (set : SliceSet) (file : List ℕ) (offset left : ℕ) (sums : Hash16 × ℕ) → offset < length file
+    → offset + left ≡ length file → sums ≡ sums_of (window_at set.slice_size file offset) → (first : ℕ) (found : Option ℕ)
+    → IsLeastFrom (slice_passes set (is_fit sums left)) first found → IsLeastFrom (is_seen_in set file offset) first found
+first_seen set file offset left sums inside all are first found least =
+    let fit : SetSlice → Bool = is_fit sums left in
+    let seen : SetSlice → Bool = is_seen set.slice_size file offset in
+    let same : (slice : SetSlice) → fit slice ≡ seen slice = λ slice.
+    rw (lt-ltb offset (length file) inside, are, le_sum slice.length offset left (length file) all) refl in
+    least_same (slice_passes set fit) (is_seen_in set file offset) (λ n. same_test fit seen same (slice_get set.slices n)) first found least
 
-  seen_fit : (n : ℕ) → is_seen set file offset n ≡ true → IsFit set crc digest left n
-  seen_fit n h =
-      let seen = seen_true set file offset n h in
-      (rw (sums.0, sums.1) seen.has_both, omega (arith, seen.fits))
+-- a slice that fits has the CRC-32 of the window
 
-  pub first_seen : (first : ℕ) (found : Option ℕ) → IsFirstFit set crc digest left first found
-      → IsFirstSeen set file offset first found
-  first_seen first None none = λ k from h. none k from (seen_fit k h)
-  first_seen first (Some n) fit =
-      (fit.0, fit_seen n fit.1, λ k from below h. fit.2 k from below (seen_fit k h))
+passing_has : {A : Type 0} (test : A → Bool) (xs : List A) (n : ℕ) (x : A) → slice_get xs n ≡ Some x → test x ≡ true → list_any test xs ≡ true
+passing_has test [] n x at h = cc
+passing_has test (y ∷ ys) zero x at h = let e : y ≡ x = cc in or_left (test y) (list_any test ys) (ap test e ∙ h)
+passing_has test (y ∷ ys) (suc n) x at h = or_right (test y) (list_any test ys) (passing_has test ys n x at h)
+
+has_both : (sums : Hash16 × ℕ) (known : Option (Hash16 × ℕ)) → option_map_or (λ k. k.1 == sums.1 && bytes_eq k.0.0 sums.0.0) known false ≡ true
+    → option_map_or (λ k. k.1 == sums.1) known false ≡ true
+has_both sums None h = h
+has_both sums (Some k) h = (and_parts _ _ h).0
+
+pub fit_has_crc : (set : SliceSet) (sums : Hash16 × ℕ) (left n : ℕ) → slice_passes set (is_fit sums left) n ≡ true → has_crc_in set sums.1 ≡ true
+fit_has_crc set sums left n fits =
+    let slice = passing (is_fit sums left) (slice_get set.slices n) fits in
+    passing_has (has_crc_of sums.1) set.slices n slice.0 slice.1 (has_both sums slice.0.sums (and_parts _ _ slice.2).1)
+
+pub seen_has_crc : (set : SliceSet) (file : List ℕ) (offset n : ℕ) → is_seen_in set file offset n ≡ true
+    → has_crc_in set (crc_of (window_at set.slice_size file offset)) ≡ true
+seen_has_crc set file offset n seen =
+    let sums : Hash16 × ℕ = sums_of (window_at set.slice_size file offset) in
+    let slice = passing (is_seen set.slice_size file offset) (slice_get set.slices n) seen in
+    passing_has (has_crc_of sums.1) set.slices n slice.0 slice.1
+    (has_both sums slice.0.sums (and_parts _ _ (and_parts _ _ slice.2).1).1)

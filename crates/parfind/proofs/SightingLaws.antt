@@ -6,7 +6,7 @@ use Rattle.parfind.specs.declared.sighting.Sighting.{Sighting}
 use Rattle.parfind.specs.Order.{is_before, is_from, origin, cursor_of, cursor_after}
 use Rattle.parfind.specs.Places.{Place, cursor_at, places_in, places_of}
 use Rattle.parfind.specs.Sightings.{Scan, is_sighting, triples_at, triples_of, sightings_of, SightingsRise, AllFromOrigin, RestFollows, BetweenJoins}
-use Rattle.parfind.proofs.OrderLaws.{Before, is_before-true, is_from-true, from_true, From-trans, From-before, From-after, Before-after}
+use Rattle.parfind.proofs.OrderLaws.{Before, is_before-true, is_from-true, From-by_test, From-trans, From-before, From-after, Before-after}
 use Rattle.parfind.proofs.ListLaws.{Each, Each-any, Each-passes, Each-map, Pairs, Pairs-weaker, Pairs-filter, Pairs-map, Pairs-flat_map, Pairs-range, AllPairs-from, filter_all}
 use Rattle.parfind.proofs.RisingLaws.{Rises, between_and_between, from_head}
 
@@ -33,11 +33,11 @@ pub Rises-triples_of : (set : SliceSet) (lengths : List ℕ) → Rises cursor_of
 Rises-triples_of set lengths =
     let S : Sighting → Sighting → Type 0 = λ x y. Before (cursor_of x) (cursor_of y) in
     let at : Place → ℕ → Sighting = λ p n. record { file = p.file; offset = p.offset; slice = n } in
-    let numbers : List ℕ = range_with_len 0 (length set.sums_of) in
+    let numbers : List ℕ = range_with_len 0 (length set.slices) in
     Pairs-flat_map (λ (p q : Place). Before (cursor_at p) (cursor_at q)) S (triples_at set)
     (λ p. Pairs-map (λ (n m : ℕ). n < m) S (at p)
     (λ n m h. record { by_file = omega arith; by_offset = λ _. omega arith; by_slice = λ _ _. omega arith })
-    numbers (Pairs-range 0 (length set.sums_of)))
+    numbers (Pairs-range 0 (length set.slices)))
     (λ p q h. Each-map (λ x. Each (S x) (triples_at set q)) (at p) numbers
     (Each-any (λ n. Each (S (at p n)) (triples_at set q))
     (λ n. Each-map (S (at p n)) (at q) numbers
@@ -73,10 +73,10 @@ rest_follows scan c x xs begins =
     subst (λ ys. Each (λ y. is_from c (cursor_of y) ≡ true) ys) begins
     (Each-passes (λ y. is_from c (cursor_of y)) (sightings_of scan)) in
     from_head cursor_of c (cursor_after x) x (sightings_of scan) xs (Rises-sightings_of scan) begins
-    (From-trans c (cursor_of x) (cursor_after x) (from_true c (cursor_of x) each.0)
+    (From-trans c (cursor_of x) (cursor_after x) (From-by_test c (cursor_of x) each.0)
     (From-before (cursor_of x) (cursor_after x) (Before-after x)))
     (Before-after x) (λ y h. From-after x (cursor_of y) h)
 
 pub between_joins : BetweenJoins
 between_joins scan a b c on on' =
-    between_and_between cursor_of a b c (from_true a b on) (from_true b c on') (sightings_of scan) (Rises-sightings_of scan)
+    between_and_between cursor_of a b c (From-by_test a b on) (From-by_test b c on') (sightings_of scan) (Rises-sightings_of scan)

@@ -1,157 +1,103 @@
--- What a step answers after it has passed some places.
-use Rattle.std.proofs.Common.{◌≡◌, ℕ, ◌+◌, ◌-◌, ◌<◌, ◌≤◌, true, List, [], ◌∷◌, ◌++◌, length, take, refl, sym, ap, ◌∙◌, subst, arith, IsTrue, Option, Some, None, Result, Ok, Err, get_or, suc, ◌⊎◌, inl, inr, length-append, append-nil, append_assoc}
+-- What a step gives over a steady shelf, by where it goes, what it sees and what was counted.
+use Rattle.std.proofs.Common.{◌≡◌, ◌≢◌, ℕ, zero, suc, ◌+◌, ◌-◌, ◌<◌, ◌≤◌, true, nat_eq, List, [], length, take, refl, sym, ap, ◌∙◌, subst, arith, IsTrue, Option, Some, None, Result, Ok, Err, option_map}
 use Rattle.std.specs.List.{All, Contains}
-use Rattle.std.proofs.Math.Seq.{take-append-add, take-append_seam}
-use Rattle.std.proofs.lemmas.Option.{slice_get-get_or}
-use Rattle.std.proofs.lemmas.List.{length-map}
-use Rattle.std.proofs.lemmas.List.Elements.{Contains-append_right, All-contains}
-use Rattle.parshelf.specs.Shelf.{ShelfState}
-use Rattle.parshelf.specs.Reads.{ReadsOnly}
+use Rattle.std.specs.Option.{option_eq}
+use Rattle.std.proofs.lemmas.Bool.{eqb-true}
+use Rattle.std.proofs.lemmas.List.Elements.{All-contains}
+use Rattle.parfield.specs.Added.{added_at}
+use Rattle.parshelf.specs.Shelf.{ShelfState, IsShelf}
+use Rattle.parshelf.specs.Reads.{ReadsOnly, FaultsIn}
 use Rattle.parshelf.specs.declared.reading.ReadFault.{ReadFault}
 use Rattle.parshelf.specs.declared.reading.ReadFault.TheVariants.{Failed, Ended}
+use Rattle.parshelf.proofs.ReadLaws.{ReadsOnly_more}
 use Rattle.parwindow.specs.Index.{SliceSet}
 use Rattle.parfind.specs.declared.cursor.Cursor.{Cursor}
 use Rattle.parfind.specs.declared.sighting.Sighting.{Sighting}
 use Rattle.parfind.specs.declared.finder.Step.{Step}
 use Rattle.parfind.specs.declared.finder.Step.TheVariants.{Hit, Spent, Done}
-use Rattle.parfind.specs.Order.{is_before, is_from, cursor_of, cursor_after}
+use Rattle.parfind.specs.Order.{is_before, is_from, cursor_of}
 use Rattle.parfind.specs.Places.{Place, cursor_at, place_of, start_of, places_ahead, places_between}
-use Rattle.parfind.specs.Sightings.{Scan, sightings_of, sightings_from}
-use Rattle.parfind.specs.Steps.{scan_of, lengths_of, covered, IsWithin, IsBelow, end_of, greater_of, HitsNext, SpendsAll, IsDone, GoesOn, StepGives, steps_left, Advances}
-use Rattle.parfind.specs.Visits.{VisitGives, Walks, FindsFirst, FindsEnd, PassesOne}
-use Rattle.parfind.proofs.OrderLaws.{From, before_true, from_true, not_both}
+use Rattle.parfind.specs.Sightings.{Scan, sightings_of, sightings_from, sightings_between}
+use Rattle.parfind.specs.Moves.{IsWithin, PassesAll, StepMoves, steps_left, Advances}
+use Rattle.parfind.specs.Steps.{scan_of, lengths_of, HitsNext, SpendsAll, IsDone, GoesOn, StepGives}
+use Rattle.parfind.specs.Visits.{StepSees}
+use Rattle.parfind.proofs.OrderLaws.{From, Before-by_test, From-by_test, not_both}
 use Rattle.parfind.proofs.ListLaws.{Each-weaker, Each-passes, All-from}
-use Rattle.parfind.proofs.WalkLaws.{Walks-none, Walks-join, Walks-ahead, Walks-same, greater-end}
+use Rattle.parfind.proofs.MoveLaws.{PassedTo, passes_onward, passes_front, moves_onward, passed_by, passed_more, more_moves, more_spent}
+use Rattle.parfind.proofs.WalkLaws.{same_left, more_sees}
+use Rattle.parfind.proofs.VisitLaws.{same_lengths}
 
--- the place behind few others is among the first
-covered-next : (budget : Option ℕ) (ps : List Place) (p : Place) (qs : List Place) → IsBelow (length ps) budget
-    → Contains (covered budget (ps ++ p ∷ qs)) p
-covered-next None ps p qs few = Contains-append_right ps (p ∷ qs) p (0, omega arith, refl)
-covered-next (Some n) ps p qs few =
-    let m : ℕ = n - length ps - 1 in
-    let sum : n ≡ length ps + suc m = omega arith in
-    let split : take n (ps ++ p ∷ qs) ≡ ps ++ p ∷ take m qs =
-    subst (λ (k : ℕ). take k (ps ++ p ∷ qs) ≡ ps ++ p ∷ take m qs) (sym sum) (take-append-add ps (p ∷ qs) (suc m)) in
-    subst (λ (ys : List Place). Contains ys p) (sym split) (Contains-append_right ps (p ∷ take m qs) p (0, omega arith, refl))
-
-get_or-behind : (ps : List Place) (p d : Place) (qs : List Place) → get_or (ps ++ p ∷ qs) (length ps) d ≡ p
-get_or-behind [] p d qs = refl
-get_or-behind (x ∷ ps) p d qs = get_or-behind ps p d qs
-
-below-within : (budget : Option ℕ) (k : ℕ) → IsBelow k budget → IsWithin k budget
-below-within None k h = tt
-below-within (Some n) k h = omega arith
+-- what was counted in a step
+abbrev pub StepCounts : ShelfState → ShelfState → Result Step ReadFault → Cursor → Type 0
+StepCounts old new (Ok step) d = ReadsOnly old new
+StepCounts old new (Err fault) d = FaultsIn old new d.file fault
 
 From-start_at : (e : Cursor) (x : Sighting) → From e (cursor_of x) → From (start_of e) (cursor_at (place_of x))
 From-start_at e x on = record { by_file = on.by_file; by_offset = on.by_offset; by_slice = λ _ _. omega arith }
 
--- where a search stands once it has passed k places from c on
-pub record WalkedTo (scan : Scan) (c d : Cursor) (k : ℕ) : Type 0 where
-  pub places : List Place
-  pub walks : Walks scan c d places
-  pub count : length places ≡ k
-  pub stays : (d ≡ c) ⊎ (d.file < length scan.contents)
+-- a budget that is spent over no sighting
+spends_all : (scan : Scan) (n : ℕ) (c d : Cursor) → PassesAll (lengths_of scan) n c d → sightings_between scan c d ≡ [] → SpendsAll scan n c d
+spends_all scan n c d all none =
+    let front : List Place = take n (places_ahead (lengths_of scan) c) in
+    let Early : Place → Type 0 = λ p. is_before (cursor_at p) (start_of d) ≡ true in
+    let early : All Early front =
+    subst (All Early) (passes_front (lengths_of scan) n c d all)
+    (All-from Early (places_between (lengths_of scan) c d)
+    (Each-passes (λ p. is_before (cursor_at p) (start_of d)) (places_ahead (lengths_of scan) c))) in
+    let Late : Sighting → Type 0 = λ x. is_from d (cursor_of x) ≡ true in
+    let Elsewhere : Sighting → Type 0 = λ x. ¬ Contains front (place_of x) in
+    let late : (x : Sighting) → Late x → Elsewhere x = λ x from has.
+    not_both (cursor_at (place_of x)) (start_of d)
+    (Before-by_test (cursor_at (place_of x)) (start_of d) (All-contains Early front (place_of x) early has))
+    (From-start_at d x (From-by_test d (cursor_of x) from)) in
+    record {
+      some = all.some;
+      last = all.last;
+      nth = all.nth;
+      none =
+          subst (All Elsewhere) (sym (same_left scan c d (passes_onward (lengths_of scan) n c d all) none))
+          (All-from Elsewhere (sightings_from scan d)
+          (Each-weaker Late Elsewhere late (sightings_from scan d) (Each-passes (λ x. is_from d (cursor_of x)) (sightings_of scan))));
+      behind = all.behind;
+    }
 
-pub walked_none : (scan : Scan) (c : Cursor) → WalkedTo scan c c 0
-walked_none scan c = record { places = []; walks = Walks-none scan c; count = refl; stays = inl refl }
+gives_in : (set : SliceSet) (old new : ShelfState) → IsTrue old.is_steady → (budget : Option ℕ) (c d : Cursor) (answer : Result Step ReadFault)
+    → StepMoves (lengths_of (scan_of set old)) budget c answer d → StepSees (scan_of set old) c answer d → StepCounts old new answer d
+    → StepGives set old new budget c answer d
+gives_in set old new steady budget c d (Ok (Hit x)) moves sees counts =
+    (record { first = sees; near = moves.near; behind = moves.behind }, counts)
+gives_in set old new steady (Some n) c d (Ok Spent) moves sees counts = (spends_all (scan_of set old) n c d moves sees, counts)
+gives_in set old new steady None c d (Ok Spent) moves sees counts = moves
+gives_in set old new steady budget c d (Ok Done) moves sees counts =
+    (record { few = moves.few; none = sees; behind = moves.behind }, counts)
+gives_in set old new steady budget c d (Err Failed) moves sees counts =
+    (record { onward = moves.onward; none = sees; near = moves.near }, counts)
+gives_in set old new steady budget c d (Err Ended) moves sees counts = counts.2 steady
 
-module _ (scan : Scan) (c d : Cursor) (k : ℕ) (w : WalkedTo scan c d k) where
-  -- one more place
-  walked_one : (e : Cursor) → PassesOne scan d e → WalkedTo scan c e (k + 1)
-  walked_one e one = record {
-    places = w.places ++ one.passed ∷ [];
-    walks = Walks-join scan c d e w.places (one.passed ∷ []) w.walks one.walks;
-    count = omega (arith, w.count, length-append w.places (one.passed ∷ []));
-    stays = inr (rw one.behind one.counted);
-  }
+-- where it goes is said by the shelf's lengths, which are those of its files
+pub gives_by : (set : SliceSet) (old new : ShelfState) → IsShelf old → IsTrue old.is_steady → (budget : Option ℕ) (c d : Cursor)
+    (answer : Result Step ReadFault) → StepMoves old.lengths budget c answer d → StepSees (scan_of set old) c answer d
+    → StepCounts old new answer d → StepGives set old new budget c answer d
+gives_by set old new shelf steady budget c d answer moves sees counts =
+    gives_in set old new steady budget c d answer
+    (subst (λ (ns : List ℕ). StepMoves ns budget c answer d) (sym (same_lengths set old shelf steady)) moves) sees counts
 
-  give_hit : (budget : Option ℕ) (x : Sighting) → IsBelow k budget → FindsFirst scan d x → HitsNext scan budget c x (cursor_after x)
-  give_hit budget x few found = record {
-    first = Walks-same scan c d w.places w.walks ∙ found.first;
-    near = rw (Walks-ahead scan c d w.places w.walks, found.here)
-        (covered-next budget w.places (place_of x) found.others (rw w.count few));
-    behind = refl;
-  }
-
-  give_done : (budget : Option ℕ) → IsBelow k budget → FindsEnd scan d → IsDone scan budget c (greater_of d (end_of (lengths_of scan)))
-  give_done budget few found = record {
-    few = rw (Walks-ahead scan c d w.places w.walks, found.places, append-nil, w.count) few;
-    none = Walks-same scan c d w.places w.walks ∙ found.sightings;
-    behind = elim w.stays [
-      | inl same ↦ ap (λ (b : Cursor). greater_of b (end_of (lengths_of scan))) same
-      | inr counted ↦
-          let on = from_true c d w.walks.onward in
-          let there : d.file < length (lengths_of scan) = omega (arith, length-map scan.contents length) in
-          greater-end (lengths_of scan) d there ∙ sym (greater-end (lengths_of scan) c (omega (arith, on.by_file)))
-    ];
-  }
-
-  give_failed : (budget : Option ℕ) (e : Cursor) → IsBelow k budget → Walks scan d e [] → GoesOn scan budget c e
-  give_failed budget e few next =
-      let all : Walks scan c e (w.places ++ []) = Walks-join scan c d e w.places [] w.walks next in
-      record {
-        onward = all.onward;
-        none = all.none;
-        near = rw (all.over, append-nil, w.count) (below-within budget k few);
-      }
-
-  give_spent : (n : ℕ) (e : Cursor) → k + 1 ≡ n → PassesOne scan d e → SpendsAll scan n c e
-  give_spent n e all one =
-      let ps : List Place = w.places ++ one.passed ∷ [] in
-      let qs : List Place = places_ahead (lengths_of scan) e in
-      let walks : Walks scan c e ps = Walks-join scan c d e w.places (one.passed ∷ []) w.walks one.walks in
-      let ahead' : places_ahead (lengths_of scan) c ≡ ps ++ qs = Walks-ahead scan c e ps walks in
-      let ahead : places_ahead (lengths_of scan) c ≡ w.places ++ one.passed ∷ qs =
-      ahead' ∙ append_assoc w.places (one.passed ∷ []) qs in
-      let at : n - 1 ≡ length w.places = omega (arith, w.count) in
-      let count : n ≡ length ps = omega (arith, w.count, length-append w.places (one.passed ∷ [])) in
-      let front : List Place = take n (places_ahead (lengths_of scan) c) in
-      let first : front ≡ places_between (lengths_of scan) c e =
-      ap (λ (ys : List Place). take n ys) ahead'
-      ∙ ap (λ (m : ℕ). take m (ps ++ qs)) count
-      ∙ take-append_seam ps qs
-      ∙ sym walks.over in
-      let Early : Place → Type 0 = λ p. is_before (cursor_at p) (start_of e) ≡ true in
-      let early : All Early front =
-      subst (All Early) (sym first)
-      (All-from Early (places_between (lengths_of scan) c e)
-      (Each-passes (λ p. is_before (cursor_at p) (start_of e)) (places_ahead (lengths_of scan) c))) in
-      let Late : Sighting → Type 0 = λ x. is_from e (cursor_of x) ≡ true in
-      let Elsewhere : Sighting → Type 0 = λ x. ¬ Contains front (place_of x) in
-      let late : (x : Sighting) → Late x → Elsewhere x = λ x from has.
-      not_both (cursor_at (place_of x)) (start_of e)
-      (before_true (cursor_at (place_of x)) (start_of e) (All-contains Early front (place_of x) early has))
-      (From-start_at e x (from_true e (cursor_of x) from)) in
-      record {
-        some = omega arith;
-        last = one.passed;
-        nth =
-            slice_get-get_or (places_ahead (lengths_of scan) c) (n - 1) one.passed
-            (omega (arith, ap length ahead, length-append w.places (one.passed ∷ qs)))
-            ∙ ap (λ (q : Place). Some q) (rw (ahead, at) (get_or-behind w.places one.passed one.passed qs));
-        none =
-            subst (All Elsewhere) (sym (Walks-same scan c e ps walks))
-            (All-from Elsewhere (sightings_from scan e)
-            (Each-weaker Late Elsewhere late (sightings_from scan e) (Each-passes (λ x. is_from e (cursor_of x)) (sightings_of scan))));
-        behind = one.behind;
-      }
-
--- the same over a shelf of which nothing changed meanwhile but how much was handed over
+-- over a shelf of which nothing changed meanwhile but how much was handed over
 
 module _ (set : SliceSet) (old mid : ShelfState) (reads : ReadsOnly old mid) where
   same_scan : scan_of set mid ≡ scan_of set old
   same_scan = ap (scan_of set) reads
 
-  visit_before : (d e : Cursor) (answer : Result Step ReadFault) → VisitGives (scan_of set mid) d answer e
-      → VisitGives (scan_of set old) d answer e
-  visit_before d e answer visit = subst (λ scan. VisitGives scan d answer e) same_scan visit
-
-  pub gives_before : (budget : Option ℕ) (c d : Cursor) (answer : Result Step ReadFault) → StepGives (scan_of set mid) budget c answer d
-      → StepGives (scan_of set old) budget c answer d
-  gives_before budget c d answer gives = subst (λ scan. StepGives scan budget c answer d) same_scan gives
-
   pub still_steady : IsTrue old.is_steady → IsTrue mid.is_steady
   still_steady steady = ap (λ (s : ShelfState). s.is_steady) reads ∙ steady
+
+  pub moves_before : (budget : Option ℕ) (c d : Cursor) (answer : Result Step ReadFault) → StepMoves mid.lengths budget c answer d
+      → StepMoves old.lengths budget c answer d
+  moves_before budget c d answer moves =
+      subst (λ (ns : List ℕ). StepMoves ns budget c answer d) (ap (λ (s : ShelfState). s.lengths) reads) moves
+
+  pub sees_before : (c d : Cursor) (answer : Result Step ReadFault) → StepSees (scan_of set mid) c answer d → StepSees (scan_of set old) c answer d
+  sees_before c d answer sees = subst (λ scan. StepSees scan c answer d) same_scan sees
 
   -- the search comes nearer to its end
   module _ (c d e : Cursor) (near : steps_left set old.lengths d ≤ steps_left set old.lengths c) where
@@ -168,26 +114,123 @@ module _ (set : SliceSet) (old mid : ShelfState) (reads : ReadsOnly old mid) whe
     advances budget Spent other next = absurd (other refl)
     advances budget Done other next = tt
 
-  module _ (c d : Cursor) (k : ℕ) (w : WalkedTo (scan_of set old) c d k) (e : Cursor) where
-    pub walked_more : VisitGives (scan_of set mid) d (Ok Spent) e → WalkedTo (scan_of set old) c e (k + 1)
-    walked_more visit = walked_one (scan_of set old) c d k w e (visit_before d e (Ok Spent) visit)
+-- k places of a budget were passed, and so many are left
+abbrev pub Leaves : Option ℕ → Option ℕ → ℕ → Type 0
+Leaves None None k = Unit {0}
+Leaves None (Some left) k = ⊥
+Leaves (Some n) None k = ⊥
+Leaves (Some n) (Some left) k = (k + left ≡ n) × (0 < left)
 
-    pub give_answer : (budget : Option ℕ) (step : Step) → IsBelow k budget → (step ≡ Spent → ⊥)
-        → VisitGives (scan_of set mid) d (Ok step) e → StepGives (scan_of set old) budget c (Ok step) e
-    give_answer budget (Hit x) few other visit =
-        let found = visit_before d e (Ok (Hit x)) visit in
-        rw found.1 (give_hit (scan_of set old) c d k w budget x few found.0)
-    give_answer budget Done few other visit =
-        let found = visit_before d e (Ok Done) visit in
-        rw found.1 (give_done (scan_of set old) c d k w budget few found.0)
-    give_answer budget Spent few other visit = absurd (other refl)
+-- so many places fewer
+abbrev pub fewer : Option ℕ → ℕ → Option ℕ
+fewer left m = option_map (λ places. places - m) left
 
-    pub give_all_spent : (n : ℕ) → k + 1 ≡ n → VisitGives (scan_of set mid) d (Ok Spent) e
-        → StepGives (scan_of set old) (Some n) c (Ok Spent) e
-    give_all_spent n all visit = give_spent (scan_of set old) c d k w n e all (visit_before d e (Ok Spent) visit)
+pub none_left : (left : Option ℕ) → option_eq nat_eq left (Some 0) ≡ true → left ≡ Some 0
+none_left None h = cc
+none_left (Some n) h = ap (λ (m : ℕ). Some m) (eqb-true n 0 h)
 
-    pub give_fault : (budget : Option ℕ) (answer : Result Step ReadFault) (fault : ReadFault) → IsBelow k budget
-        → answer ≡ Err fault → VisitGives (scan_of set mid) d (Err fault) e → StepGives (scan_of set old) budget c answer e
-    give_fault budget answer Failed few is visit =
-        rw is (give_failed (scan_of set old) c d k w budget e few (visit_before d e (Err Failed) visit))
-    give_fault budget answer Ended few is visit = absurd visit
+pub leaves_all : (budget : Option ℕ) → budget ≢ Some 0 → Leaves budget budget 0
+leaves_all None some = tt
+leaves_all (Some zero) some = absurd (some refl)
+leaves_all (Some (suc n)) some = (omega arith, omega arith)
+
+pub leaves_some : (budget left : Option ℕ) (k : ℕ) → Leaves budget left k → left ≢ Some 0
+leaves_some None None k leaves none = cc
+leaves_some None (Some left) k leaves none = absurd leaves
+leaves_some (Some n) None k leaves none = absurd leaves
+leaves_some (Some n) (Some left) k leaves none = let last : left ≡ 0 = cc in absurd (omega (arith, leaves.1))
+
+pub leaves_one : (budget left : Option ℕ) (k : ℕ) → Leaves budget left k → IsWithin 1 left
+leaves_one budget None k leaves = tt
+leaves_one None (Some left) k leaves = absurd leaves
+leaves_one (Some n) (Some left) k leaves = leaves.1
+
+leaves_within : (budget left : Option ℕ) (k m : ℕ) → Leaves budget left k → IsWithin m left → IsWithin (k + m) budget
+leaves_within None left k m leaves within = tt
+leaves_within (Some n) None k m leaves within = absurd leaves
+leaves_within (Some n) (Some left) k m leaves within = omega (arith, leaves.0)
+
+pub leaves_more : (budget left : Option ℕ) (k m : ℕ) → Leaves budget left k → IsWithin m left → fewer left m ≢ Some 0
+    → Leaves budget (fewer left m) (k + m)
+leaves_more None None k m leaves within some = tt
+leaves_more None (Some left) k m leaves within some = leaves
+leaves_more (Some n) None k m leaves within some = leaves
+leaves_more (Some n) (Some left) k m leaves within some =
+    let more : left - m ≢ 0 = λ e. some (ap (λ (j : ℕ). Some j) e) in
+    (omega (arith, leaves.0), omega arith)
+
+leaves_none : (budget left : Option ℕ) (k m : ℕ) → Leaves budget left k → IsWithin m left → fewer left m ≡ Some 0 → budget ≡ Some (k + m)
+leaves_none None None k m leaves within none = cc
+leaves_none None (Some left) k m leaves within none = absurd leaves
+leaves_none (Some n) None k m leaves within none = absurd leaves
+leaves_none (Some n) (Some left) k m leaves within none =
+    let last : left - m ≡ 0 = cc in
+    ap (λ (j : ℕ). Some j) (omega (arith, leaves.0))
+
+-- what a fault leaves, after other calls that only read
+pub faults_before : (old mid new : ShelfState) (file : ℕ) (fault : ReadFault) → ReadsOnly old mid → FaultsIn mid new file fault
+    → FaultsIn old new file fault
+faults_before old mid new file Failed reads counts = (
+  rw (ap (λ (s : ShelfState). length s.lengths) reads) at counts.0,
+  counts.1 ∙ ap (λ (s : ShelfState). record s { failures = added_at s.failures file 1; handed = new.handed }) reads,
+)
+faults_before old mid new file Ended reads counts = (
+  rw (ap (λ (s : ShelfState). length s.lengths) reads) at counts.0,
+  counts.1 ∙ ap (λ (s : ShelfState). record s { early_ends = added_at s.early_ends file 1; handed = new.handed }) reads,
+  λ steady. counts.2 (ap (λ (s : ShelfState). s.is_steady) reads ∙ steady),
+)
+
+-- what was counted in a step, after other calls that only read
+counts_before : (old mid new : ShelfState) (answer : Result Step ReadFault) (e : Cursor) → ReadsOnly old mid → StepCounts mid new answer e
+    → StepCounts old new answer e
+counts_before old mid new (Ok step) e reads counts = ReadsOnly_more old mid new reads counts
+counts_before old mid new (Err fault) e reads counts = faults_before old mid new e.file fault reads counts
+
+-- a step over a shelf of which only bytes had been handed over before
+pub gives_before : (set : SliceSet) (old mid new : ShelfState) → ReadsOnly old mid → (budget : Option ℕ) (c d : Cursor)
+    (answer : Result Step ReadFault) → StepGives set mid new budget c answer d → StepGives set old new budget c answer d
+gives_before set old mid new reads budget c d (Ok (Hit x)) gives =
+    (subst (λ scan. HitsNext scan budget c x d) (same_scan set old mid reads) gives.0, ReadsOnly_more old mid new reads gives.1)
+gives_before set old mid new reads (Some n) c d (Ok Spent) gives =
+    (subst (λ scan. SpendsAll scan n c d) (same_scan set old mid reads) gives.0, ReadsOnly_more old mid new reads gives.1)
+gives_before set old mid new reads None c d (Ok Spent) gives = gives
+gives_before set old mid new reads budget c d (Ok Done) gives =
+    (subst (λ scan. IsDone scan budget c d) (same_scan set old mid reads) gives.0, ReadsOnly_more old mid new reads gives.1)
+gives_before set old mid new reads budget c d (Err Failed) gives =
+    (subst (λ scan. GoesOn scan budget c d) (same_scan set old mid reads) gives.0, counts_before old mid new (Err Failed) d reads gives.1)
+gives_before set old mid new reads budget c d (Err Ended) gives = gives
+
+-- a step of m places, once k places were passed of a budget
+module _ (set : SliceSet) (old mid : ShelfState) (reads : ReadsOnly old mid) (budget left : Option ℕ) (c d : Cursor) (k : ℕ)
+    (leaves : Leaves budget left k) (w : PassedTo old.lengths c d k) (e : Cursor) (m : ℕ) (within : IsWithin m left) where
+  pub then_moves : (answer : Result Step ReadFault) → (answer ≡ Ok Spent → ⊥) → StepMoves mid.lengths (Some m) d answer e
+      → StepMoves old.lengths budget c answer e
+  then_moves answer other moves =
+      more_moves old.lengths c d k w budget m answer e (leaves_within budget left k m leaves within) other
+      (moves_before set old mid reads (Some m) d e answer moves)
+
+  pub then_spent : fewer left m ≡ Some 0 → StepMoves mid.lengths (Some m) d (Ok Spent) e → StepMoves old.lengths budget c (Ok Spent) e
+  then_spent none moves =
+      rw (leaves_none budget left k m leaves within none)
+      (more_spent old.lengths c d k w (k + m) m e refl (moves_before set old mid reads (Some m) d e (Ok Spent) moves))
+
+  pub then_advances : fewer left m ≡ Some 0 → steps_left set old.lengths d ≤ steps_left set old.lengths c
+      → Advances set mid.lengths (Some 1) d Spent e → Advances set old.lengths budget c Spent e
+  then_advances none near next = rw (leaves_none budget left k m leaves within none) (nearer set old mid reads c d e near next)
+
+  pub then_passed : StepMoves mid.lengths (Some m) d (Ok Spent) e → PassedTo old.lengths c e (k + m)
+  then_passed moves =
+      passed_more old.lengths c d e k m w
+      (passed_by old.lengths m d e (moves_before set old mid reads (Some m) d e (Ok Spent) moves))
+
+  module _ (unseen : sightings_between (scan_of set old) c d ≡ []) (answer : Result Step ReadFault)
+      (moves : StepMoves mid.lengths (Some m) d answer e) (sees : StepSees (scan_of set mid) d answer e) where
+    pub then_sees : StepSees (scan_of set old) c answer e
+    then_sees =
+        let on : From d e = moves_onward old.lengths (Some m) d e answer (moves_before set old mid reads (Some m) d e answer moves) in
+        more_sees (scan_of set old) c d w.onward unseen answer e on (sees_before set old mid reads d e answer sees)
+
+    pub then_gives : (new : ShelfState) → IsShelf old → IsTrue old.is_steady → StepMoves old.lengths budget c answer e
+        → StepCounts mid new answer e → StepGives set old new budget c answer e
+    then_gives new shelf steady all counts =
+        gives_by set old new shelf steady budget c e answer all then_sees (counts_before old mid new answer e reads counts)

@@ -1,14 +1,19 @@
 -- The marks of a survey, one sighting after another.
-use Rattle.std.proofs.Common.{◌≡◌, ℕ, ◌<◌, Bool, true, false, ◌||◌, ◌==◌, List, [], ◌∷◌, ◌++◌, length, refl, sym, ap, ◌∙◌, inl, inr, append_assoc, get_or-set_same, get_or-set_other, slice_set}
+use Rattle.std.proofs.Common.{◌≡◌, ℕ, ◌<◌, Bool, true, false, None, Ok, ◌||◌, ◌==◌, List, [], ◌∷◌, ◌++◌, length, refl, sym, ap, ◌∙◌, inl, inr, append_assoc, append-nil, get_or-set_same, get_or-set_other, slice_set}
 use Rattle.std.specs.List.{list_any}
 use Rattle.std.proofs.lemmas.Bool.{cases_eq, eq-eqb, ne_eqb, or_cases, or_left, or_right}
 use Rattle.std.proofs.lemmas.List.Folds.{list_any-append}
 use Rattle.std.proofs.Math.Bool.{or-false, or_assoc}
 use Rattle.parfind.specs.declared.cursor.Cursor.{Cursor}
 use Rattle.parfind.specs.declared.sighting.Sighting.{Sighting}
+use Rattle.parshelf.specs.Shelf.{ShelfState}
+use Rattle.parwindow.specs.Index.{SliceSet}
+use Rattle.parfind.specs.declared.finder.Step.{Step}
+use Rattle.parfind.specs.declared.finder.Step.TheVariants.{Hit, Spent, Done}
+use Rattle.parfind.specs.Steps.{scan_of, StepGives}
 use Rattle.parfind.specs.Order.{origin}
 use Rattle.parfind.specs.Sightings.{Scan, sightings_of, sightings_from}
-use Rattle.parfind.specs.Surveys.{mark_of, is_sighted, MarksNoOther, KeepsMarks}
+use Rattle.parfind.specs.Surveys.{mark_of, is_sighted, MarksNoOther, MarksSighted, KeepsMarks}
 use Rattle.parfind.proofs.SightingLaws.{all_from_origin}
 
 -- some of the sightings is one of slice n
@@ -73,3 +78,15 @@ module _ (scan : Scan) (was now : List Bool) (c : Cursor) (so_far : SurveyedTo s
     | inl before ↦ or_left (mark_of was n) (is_sighted scan n) before
     | inr h ↦ or_right (mark_of was n) (is_sighted scan n) (sighted n h)
   ]
+
+  pub surveyed_all : sightings_from scan c ≡ [] → MarksSighted scan was now
+  surveyed_all none n within =
+      let all : so_far.handed ≡ sightings_of scan = sym (append-nil so_far.handed) ∙ ap (λ xs. so_far.handed ++ xs) (sym none) ∙ so_far.split in
+      so_far.marks n ∙ ap (λ xs. mark_of was n || has_slice xs n) all
+
+-- `next` gives a hit, or there is none
+pub next_none : (set : SliceSet) (old new : ShelfState) (c d : Cursor) (step : Step) → ((x : Sighting) → step ≡ Hit x → ⊥)
+    → StepGives set old new None c (Ok step) d → sightings_from (scan_of set old) c ≡ []
+next_none set old new c d (Hit x) other gives = absurd (other x refl)
+next_none set old new c d Spent other gives = absurd gives
+next_none set old new c d Done other gives = gives.0.none

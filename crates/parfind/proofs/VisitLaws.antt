@@ -1,46 +1,82 @@
--- What a visit of the next place gives on a steady shelf.
-use Rattle.std.proofs.Common.{◌≡◌, ℕ, List, sym, ap, ◌∙◌, subst, refl, IsTrue, Some, None, Result, Ok, Err}
+-- A visit of the next place is a step with a budget of one place: where it goes, and what it sees on a steady shelf.
+use Rattle.std.proofs.Common.{◌≤◌, refl, arith, false, ◌≡◌, ℕ, List, [], ◌∷◌, sym, subst, IsTrue, Some, None}
 use Rattle.parshelf.specs.Shelf.{ShelfState, IsShelf, file_of}
-use Rattle.parshelf.specs.Reads.{FaultsIn}
-use Rattle.parshelf.specs.declared.reading.ReadFault.{ReadFault}
-use Rattle.parshelf.specs.declared.reading.ReadFault.TheVariants.{Failed, Ended}
 use Rattle.parwindow.specs.Index.{SliceSet}
+use Rattle.parwindow.specs.Least.{IsLeastFrom}
 use Rattle.parfind.specs.declared.cursor.Cursor.{Cursor}
 use Rattle.parfind.specs.declared.sighting.Sighting.{Sighting}
-use Rattle.parfind.specs.declared.finder.Step.{Step}
-use Rattle.parfind.specs.declared.finder.Step.TheVariants.{Hit, Spent, Done}
-use Rattle.parfind.specs.Order.{cursor_after}
-use Rattle.parfind.specs.Places.{cursor_past}
-use Rattle.parfind.specs.Steps.{scan_of, lengths_of, end_of, greater_of}
-use Rattle.parfind.specs.Looking.{IsNextPlace, NoPlaceFrom, IsFirstSeen}
-use Rattle.parfind.specs.Visits.{VisitGives}
-use Rattle.parfind.proofs.PlaceLaws.{place_at}
-use Rattle.parfind.proofs.WalkLaws.{next_walks, end_found, past_walks, hit_found}
+use Rattle.parfind.specs.Order.{is_from, cursor_of, cursor_after}
+use Rattle.parfind.specs.Places.{cursor_at, cursor_past, start_of, places_of, places_ahead, place_at}
+use Rattle.parfind.specs.Moves.{end_of, greater_of, HitsWithin, PassesAll, ComesToEnd, StaysWithin}
+use Rattle.parfind.specs.Sightings.{is_seen_in, sightings_from, sightings_between}
+use Rattle.parfind.specs.Steps.{scan_of, lengths_of}
+use Rattle.parfind.specs.Looking.{IsNextPlace, NoPlaceFrom}
+use Rattle.std.proofs.lemmas.Bool.{false_from_ne_true}
+use Rattle.parfind.proofs.OrderLaws.{From, From-by_test, is_from-true, From-trans}
+use Rattle.parfind.proofs.ListLaws.{Each-from_has, filter_none}
+use Rattle.parfind.proofs.PlaceLaws.{place_at_place, ahead_of_start, next_over, next_ahead}
+use Rattle.parfind.proofs.WalkLaws.{next_unseen, end_unseen, past_unseen, hit_seen}
 
-module _ (set : SliceSet) (s : ShelfState) (shelf : IsShelf s) (steady : IsTrue s.is_steady) (c : Cursor) where
-  same_lengths : lengths_of (scan_of set s) ≡ s.lengths
+-- what it sees on a steady shelf
+
+module _ (set : SliceSet) (s : ShelfState) (shelf : IsShelf s) (steady : IsTrue s.is_steady) where
+  pub same_lengths : lengths_of (scan_of set s) ≡ s.lengths
   same_lengths = shelf.files_each steady
 
-  next_of_scan : (d : Cursor) → IsNextPlace s.lengths c d → IsNextPlace (lengths_of (scan_of set s)) c d
-  next_of_scan d next = subst (λ (ns : List ℕ). IsNextPlace ns c d) (sym same_lengths) next
+  module _ (c : Cursor) where
+    pub visit_ended : NoPlaceFrom s.lengths c → sightings_from (scan_of set s) c ≡ []
+    visit_ended none = end_unseen (scan_of set s) c (subst (λ (ns : List ℕ). NoPlaceFrom ns c) (sym same_lengths) none)
 
-  pub visit_hit : (d : Cursor) (n : ℕ) → IsNextPlace s.lengths c d → IsFirstSeen set (file_of s d.file) d.offset d.slice (Some n)
+    module _ (d : Cursor) (next : IsNextPlace s.lengths c d) where
+      next_of_scan : IsNextPlace (lengths_of (scan_of set s)) c d
+      next_of_scan = subst (λ (ns : List ℕ). IsNextPlace ns c d) (sym same_lengths) next
+
+      pub visit_hit : (n : ℕ) → IsLeastFrom (is_seen_in set (file_of s d.file) d.offset) d.slice (Some n)
+          → let x : Sighting = record { file = d.file; offset = d.offset; slice = n } in
+          sightings_from (scan_of set s) c ≡ x ∷ sightings_from (scan_of set s) (cursor_after x)
+      visit_hit n first = hit_seen (scan_of set s) c d n next_of_scan first
+
+      pub visit_past : IsLeastFrom (is_seen_in set (file_of s d.file) d.offset) d.slice None
+          → sightings_between (scan_of set s) c (cursor_past (place_at d)) ≡ []
+      visit_past none = past_unseen (scan_of set s) c d next_of_scan none
+
+      pub visit_stopped : sightings_between (scan_of set s) c d ≡ []
+      visit_stopped = next_unseen (scan_of set s) c d next_of_scan
+
+-- where it goes on any shelf
+
+module _ (lengths : List ℕ) (c d : Cursor) (next : IsNextPlace lengths c d) where
+  pub visit_hits : (n : ℕ) → d.slice ≤ n
       → let x : Sighting = record { file = d.file; offset = d.offset; slice = n } in
-      VisitGives (scan_of set s) c (Ok (Hit x)) (cursor_after x)
-  visit_hit d n next first = (hit_found (scan_of set s) c d n (next_of_scan d next) first, refl)
+      HitsWithin lengths (Some 1) c x (cursor_after x)
+  visit_hits n low =
+      let x : Sighting = record { file = d.file; offset = d.offset; slice = n } in
+      let to : From d (cursor_of x) = record { by_file = omega arith; by_offset = λ _. omega arith; by_slice = λ _ _. low } in
+      record {
+        onward = is_from-true c (cursor_of x) (From-trans c d (cursor_of x) (From-by_test c d next.onward) to);
+        near = rw (next_ahead lengths c d next) (0, omega arith, refl);
+        behind = refl;
+      }
 
-  pub visit_past : (d : Cursor) → IsNextPlace s.lengths c d → IsFirstSeen set (file_of s d.file) d.offset d.slice None
-      → VisitGives (scan_of set s) c (Ok Spent) (cursor_past (place_at d))
-  visit_past d next none = past_walks (scan_of set s) c d (next_of_scan d next) none
+  pub visit_passes : PassesAll lengths 1 c (cursor_past (place_at d))
+  visit_passes = record {
+    some = omega arith;
+    last = place_at d;
+    nth = rw (next_ahead lengths c d next) refl;
+    behind = refl;
+  }
 
-  pub visit_end : (d : Cursor) → NoPlaceFrom s.lengths c → d ≡ greater_of c (end_of s.lengths)
-      → VisitGives (scan_of set s) c (Ok Done) d
-  visit_end d none is = (
-    end_found (scan_of set s) c (subst (λ (ns : List ℕ). NoPlaceFrom ns c) (sym same_lengths) none),
-    is ∙ ap (λ (ns : List ℕ). greater_of c (end_of ns)) (sym same_lengths),
-  )
+  pub visit_stays : StaysWithin lengths (Some 1) c d
+  visit_stays = record { onward = next.onward; near = rw (next_over lengths c d next) (omega arith) }
 
-  pub visit_fault : (t : ShelfState) (d : Cursor) (answer : Result Step ReadFault) (fault : ReadFault) → IsNextPlace s.lengths c d
-      → answer ≡ Err fault → FaultsIn s t d.file fault → VisitGives (scan_of set s) c answer d
-  visit_fault t d answer Failed next is leaves = rw is (next_walks (scan_of set s) c d (next_of_scan d next))
-  visit_fault t d answer Ended next is leaves = absurd (leaves.2 steady)
+pub visit_ends : (lengths : List ℕ) (c d : Cursor) → NoPlaceFrom lengths c → d ≡ greater_of c (end_of lengths)
+    → ComesToEnd lengths (Some 1) c d
+visit_ends lengths c d none is =
+    let nothing : places_ahead lengths c ≡ [] =
+    filter_none (λ p. is_from (start_of c) (cursor_at p)) (places_of lengths)
+    (Each-from_has (λ p. is_from (start_of c) (cursor_at p) ≡ false) (places_of lengths)
+    (λ p has. false_from_ne_true _ (λ after.
+    let at : Cursor = record { file = p.file; offset = p.offset; slice = c.slice } in
+    let on : From c at = ahead_of_start c p (From-by_test (start_of c) (cursor_at p) after) in
+    none at (is_from-true c at on) (place_at_place lengths p has)))) in
+    record { few = rw nothing (omega arith); behind = is }

@@ -18,6 +18,10 @@ cursor_at p = record { file = p.file; offset = p.offset; slice = 0 }
 abbrev pub cursor_past : Place → Cursor
 cursor_past p = record { file = p.file; offset = p.offset + 1; slice = 0 }
 
+-- the place at which a cursor stands, whatever its slice
+abbrev pub place_at : Cursor → Place
+place_at c = record { file = c.file; offset = c.offset }
+
 -- the place of a sighting
 abbrev pub place_of : Sighting → Place
 place_of x = record { file = x.file; offset = x.offset }

@@ -1,11 +1,8 @@
 -- Sightings: a slice of the set at an offset of a scanned file (PAR2 2.0, Input File Slice Checksum).
-use Rattle.std.specs.Prelude.{◌≡◌, ℕ, ◌+◌, ◌==◌, ◌&&◌, nat_lt, nat_le, Bool, false, List, [], ◌∷◌, ◌++◌, length, map, filter, slice_index, slice_index_or, slice_get, Option, None, Some, AllPairs, IsTrue}
+use Rattle.std.specs.Prelude.{◌≡◌, ℕ, ◌+◌, ◌&&◌, nat_lt, nat_le, Bool, List, [], ◌∷◌, ◌++◌, length, map, filter, slice_index_or, AllPairs, IsTrue}
 use Rattle.std.specs.List.{flat_map, range_with_len}
-use Rattle.std.specs.Str.{bytes_eq}
-use Rattle.parfield.specs.Md5.{md5}
-use Rattle.parfield.specs.declared.hash16.Hash16.{Hash16}
-use Rattle.parwindow.specs.Crc32.{crc_of}
-use Rattle.parwindow.specs.Index.{SliceSet}
+use Rattle.parset.specs.declared.recovery_set.SetSlice.{SetSlice}
+use Rattle.parwindow.specs.Index.{SliceSet, slice_passes, has_sums, sums_of}
 use Rattle.parwindow.specs.Window.{window_at}
 use Rattle.parfind.specs.declared.cursor.Cursor.{Cursor}
 use Rattle.parfind.specs.declared.sighting.Sighting.{Sighting}
@@ -21,26 +18,25 @@ pub record Scan : Type 0 where
 abbrev pub content_of : Scan → ℕ → List ℕ
 content_of scan file = slice_index_or scan.contents file []
 
--- a slice has sums, and they are those of the bytes
-abbrev pub are_sums_of : List ℕ → Option (Option (Hash16 × ℕ)) → Bool
-are_sums_of bytes None = false
-are_sums_of bytes (Some None) = false
-are_sums_of bytes (Some (Some (digest, crc))) = crc == crc_of bytes && bytes_eq digest.0 (md5 bytes)
+-- the offset and the slice's own bytes lie in the file, and the window there has both sums of the
+-- slice
+abbrev pub is_seen : ℕ → List ℕ → ℕ → SetSlice → Bool
+is_seen size file offset slice =
+    nat_lt offset (length file) && (nat_le (offset + slice.length) (length file)
+    && has_sums (sums_of (window_at size file offset)) slice)
 
--- the offset and the slice's own bytes lie in the file, and the window has both sums of the slice
-abbrev pub is_seen : SliceSet → List ℕ → ℕ → ℕ → Bool
-is_seen set file offset n =
-    nat_lt offset (length file) && (nat_le (offset + slice_index set.own_lengths n) (length file)
-    && are_sums_of (window_at set.slice_size file offset) (slice_get set.sums_of n))
+-- the same of slice n of a set, which is there
+abbrev pub is_seen_in : SliceSet → List ℕ → ℕ → ℕ → Bool
+is_seen_in set file offset n = slice_passes set (is_seen set.slice_size file offset) n
 
 abbrev pub is_sighting : Scan → Sighting → Bool
-is_sighting scan x = is_seen scan.set (content_of scan x.file) x.offset x.slice
+is_sighting scan x = is_seen_in scan.set (content_of scan x.file) x.offset x.slice
 
 -- a place with each slice of the set
 abbrev pub triples_at : SliceSet → Place → List Sighting
 triples_at set p =
     map (λ n. record { file = p.file; offset = p.offset; slice = n })
-    (range_with_len 0 (length set.sums_of))
+    (range_with_len 0 (length set.slices))
 
 -- each place of files of these lengths with each slice of the set, in order
 abbrev pub triples_of : SliceSet → List ℕ → List Sighting

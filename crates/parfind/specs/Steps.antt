@@ -1,6 +1,7 @@
 -- What a step of a search answers, and where it leaves the cursor.
-use Rattle.std.specs.Prelude.{◌≡◌, ℕ, ◌+◌, ◌-◌, ◌<◌, ◌≤◌, List, [], ◌∷◌, length, map, take, filter, All, Contains, IsTrue, Option, None, Some, Result, Ok, Err, slice_get, if◌then◌else◌}
+use Rattle.std.specs.Prelude.{◌≡◌, ℕ, ◌-◌, ◌<◌, List, [], ◌∷◌, length, map, take, All, Contains, IsTrue, Option, None, Some, Result, Ok, Err, slice_get}
 use Rattle.parshelf.specs.Shelf.{ShelfState}
+use Rattle.parshelf.specs.Reads.{ReadsOnly, FaultsIn}
 use Rattle.parshelf.specs.declared.reading.ReadFault.{ReadFault}
 use Rattle.parshelf.specs.declared.reading.ReadFault.TheVariants.{Failed, Ended}
 use Rattle.parwindow.specs.Index.{SliceSet}
@@ -8,9 +9,10 @@ use Rattle.parfind.specs.declared.cursor.Cursor.{Cursor}
 use Rattle.parfind.specs.declared.sighting.Sighting.{Sighting}
 use Rattle.parfind.specs.declared.finder.Step.{Step}
 use Rattle.parfind.specs.declared.finder.Step.TheVariants.{Hit, Spent, Done}
-use Rattle.parfind.specs.Order.{is_before, is_from, cursor_of, cursor_after}
+use Rattle.parfind.specs.Order.{is_from, cursor_after}
 use Rattle.parfind.specs.Places.{Place, cursor_past, place_of, places_ahead, places_between}
-use Rattle.parfind.specs.Sightings.{Scan, triples_of, sightings_from, sightings_between}
+use Rattle.parfind.specs.Sightings.{Scan, sightings_from, sightings_between}
+use Rattle.parfind.specs.Moves.{covered, IsWithin, IsBelow, end_of, greater_of}
 
 -- these slices, looked for in the files of a steady shelf
 abbrev pub scan_of : SliceSet → ShelfState → Scan
@@ -19,28 +21,6 @@ scan_of set shelf = record { set = set; contents = shelf.files }
 -- the lengths of the scanned files
 abbrev pub lengths_of : Scan → List ℕ
 lengths_of scan = map length scan.contents
-
--- the first places that a budget covers: all where there is none
-abbrev pub covered : Option ℕ → List Place → List Place
-covered None places = places
-covered (Some n) places = take n places
-
--- the number is within the budget
-abbrev pub IsWithin : ℕ → Option ℕ → Type 0
-IsWithin k None = Unit {0}
-IsWithin k (Some n) = k ≤ n
-
--- the number does not use the budget up
-abbrev pub IsBelow : ℕ → Option ℕ → Type 0
-IsBelow k None = Unit {0}
-IsBelow k (Some n) = k < n
-
--- the cursor behind all files
-abbrev pub end_of : List ℕ → Cursor
-end_of lengths = record { file = length lengths; offset = 0; slice = 0 }
-
-abbrev pub greater_of : Cursor → Cursor → Cursor
-greater_of c d = if is_before c d then d else c
 
 -- x is the first sighting from c on, its place is covered, and d is the cursor after it
 pub record HitsNext (scan : Scan) (budget : Option ℕ) (c : Cursor) (x : Sighting) (d : Cursor)
@@ -65,20 +45,26 @@ pub record IsDone (scan : Scan) (budget : Option ℕ) (c d : Cursor) : Type 0 wh
   pub none : sightings_from scan c ≡ []
   pub behind : d ≡ greater_of c (end_of (lengths_of scan))
 
--- the cursor went on to d, over places within the budget and over no sighting
+-- d is not before c, no sighting lies between them, and no more places than the budget has
 pub record GoesOn (scan : Scan) (budget : Option ℕ) (c d : Cursor) : Type 0 where
   pub onward : IsTrue (is_from c d)
   pub none : sightings_between scan c d ≡ []
   pub near : IsWithin (length (places_between (lengths_of scan) c d)) budget
 
--- the answer to a step from c, with a budget of places or with none, and the cursor d behind it
-abbrev pub StepGives : Scan → Option ℕ → Cursor → Result Step ReadFault → Cursor → Type 0
-StepGives scan budget c (Ok (Hit x)) d = HitsNext scan budget c x d
-StepGives scan (Some n) c (Ok Spent) d = SpendsAll scan n c d
-StepGives scan None c (Ok Spent) d = ⊥
-StepGives scan budget c (Ok Done) d = IsDone scan budget c d
-StepGives scan budget c (Err Failed) d = GoesOn scan budget c d
-StepGives scan budget c (Err Ended) d = ⊥
+-- a step from c over a steady shelf, with a budget of places or with none: its answer, the cursor d
+-- behind it, and what it counted in the shelf
+abbrev pub StepGives :
+    SliceSet → ShelfState → ShelfState → Option ℕ → Cursor → Result Step ReadFault → Cursor → Type 0
+StepGives set old new budget c (Ok (Hit x)) d =
+    HitsNext (scan_of set old) budget c x d × ReadsOnly old new
+StepGives set old new (Some n) c (Ok Spent) d =
+    SpendsAll (scan_of set old) n c d × ReadsOnly old new
+StepGives set old new None c (Ok Spent) d = ⊥
+StepGives set old new budget c (Ok Done) d =
+    IsDone (scan_of set old) budget c d × ReadsOnly old new
+StepGives set old new budget c (Err Failed) d =
+    GoesOn (scan_of set old) budget c d × FaultsIn old new d.file Failed
+StepGives set old new budget c (Err Ended) d = ⊥
 
 -- the sighting of an answer, where it is a hit
 abbrev pub hit_of : Result Step ReadFault → List Sighting
@@ -90,21 +76,6 @@ hit_of (Err fault) = []
 -- a step goes on, and hands out exactly the sightings that it passes
 abbrev pub StepHandsOut : Type 0
 StepHandsOut =
-    (scan : Scan) (budget : Option ℕ) (c d : Cursor) (answer : Result Step ReadFault)
-    → StepGives scan budget c answer d
-    → IsTrue (is_from c d) × (sightings_between scan c d ≡ hit_of answer)
-
--- how many steps may still be a hit or spend a budget: each passes a place, or a slice at a place
-abbrev pub steps_left : SliceSet → List ℕ → Cursor → ℕ
-steps_left set lengths c =
-    length (filter (λ x. is_from c (cursor_of x)) (triples_of set lengths))
-    + length (places_ahead lengths c)
-
--- a hit names a file and a slice that are there; after it, and once a budget is spent, fewer steps are left
-abbrev pub Advances : SliceSet → List ℕ → Option ℕ → Cursor → Step → Cursor → Type 0
-Advances set lengths budget c (Hit x) d =
-    (x.file < length lengths) × (x.slice < length set.sums_of)
-    × (steps_left set lengths d < steps_left set lengths c)
-Advances set lengths (Some n) c Spent d = steps_left set lengths d < steps_left set lengths c
-Advances set lengths None c Spent d = ⊥
-Advances set lengths budget c Done d = Unit {0}
+    (set : SliceSet) (old new : ShelfState) (budget : Option ℕ) (c d : Cursor)
+    (answer : Result Step ReadFault) → StepGives set old new budget c answer d
+    → IsTrue (is_from c d) × (sightings_between (scan_of set old) c d ≡ hit_of answer)

@@ -1,44 +1,25 @@
--- What a visit of the next place answers.
-use Rattle.std.specs.Prelude.{◌≡◌, ◌<◌, List, [], ◌∷◌, length, IsTrue, Result, Ok, Err}
+-- What a search sees on its way over a steady shelf.
+use Rattle.std.specs.Prelude.{◌≡◌, ℕ, [], ◌∷◌, Result, Ok, Err}
 use Rattle.parshelf.specs.declared.reading.ReadFault.{ReadFault}
-use Rattle.parshelf.specs.declared.reading.ReadFault.TheVariants.{Failed, Ended}
 use Rattle.parfind.specs.declared.cursor.Cursor.{Cursor}
-use Rattle.parfind.specs.declared.sighting.Sighting.{Sighting}
 use Rattle.parfind.specs.declared.finder.Step.{Step}
 use Rattle.parfind.specs.declared.finder.Step.TheVariants.{Hit, Spent, Done}
-use Rattle.parfind.specs.Order.{is_from, cursor_after}
-use Rattle.parfind.specs.Places.{Place, cursor_past, place_of, places_ahead, places_between}
 use Rattle.parfind.specs.Sightings.{Scan, sightings_from, sightings_between}
-use Rattle.parfind.specs.Steps.{lengths_of, end_of, greater_of}
 
--- the cursor went on over these places and over no sighting
-pub record Walks (scan : Scan) (c d : Cursor) (passed : List Place) : Type 0 where
-  pub onward : IsTrue (is_from c d)
-  pub none : sightings_between scan c d ≡ []
-  pub over : places_between (lengths_of scan) c d ≡ passed
+-- a hit is the first sighting from c on, `Done` comes where there is none, and any other answer
+-- where there is none between c and the cursor d behind it
+abbrev pub StepSees : Scan → Cursor → Result Step ReadFault → Cursor → Type 0
+StepSees scan c (Ok (Hit x)) d = sightings_from scan c ≡ x ∷ sightings_from scan d
+StepSees scan c (Ok Spent) d = sightings_between scan c d ≡ []
+StepSees scan c (Ok Done) d = sightings_from scan c ≡ []
+StepSees scan c (Err fault) d = sightings_between scan c d ≡ []
 
--- x is the first sighting from c on, and its place the first that is ahead
-pub record FindsFirst (scan : Scan) (c : Cursor) (x : Sighting) : Type 0 where
-  pub first : sightings_from scan c ≡ x ∷ sightings_from scan (cursor_after x)
-  pub others : List Place
-  pub here : places_ahead (lengths_of scan) c ≡ place_of x ∷ others
+-- the step of an answer that also says with which budget of places
+abbrev pub step_of : Result (Step × ℕ) ReadFault → Result Step ReadFault
+step_of (Ok answer) = Ok answer.0
+step_of (Err fault) = Err fault
 
--- no place is ahead, and no sighting
-pub record FindsEnd (scan : Scan) (c : Cursor) : Type 0 where
-  pub places : places_ahead (lengths_of scan) c ≡ []
-  pub sightings : sightings_from scan c ≡ []
-
--- the cursor went on over one place, and stands behind it
-pub record PassesOne (scan : Scan) (c d : Cursor) : Type 0 where
-  pub passed : Place
-  pub walks : Walks scan c d (passed ∷ [])
-  pub counted : passed.file < length scan.contents
-  pub behind : d ≡ cursor_past passed
-
--- the answer to a visit from c, and the cursor d that it leaves
-abbrev pub VisitGives : Scan → Cursor → Result Step ReadFault → Cursor → Type 0
-VisitGives scan c (Ok (Hit x)) d = FindsFirst scan c x × (d ≡ cursor_after x)
-VisitGives scan c (Ok Spent) d = PassesOne scan c d
-VisitGives scan c (Ok Done) d = FindsEnd scan c × (d ≡ greater_of c (end_of (lengths_of scan)))
-VisitGives scan c (Err Failed) d = Walks scan c d []
-VisitGives scan c (Err Ended) d = ⊥
+-- that budget; a fault comes at the first place
+abbrev pub count_of : Result (Step × ℕ) ReadFault → ℕ
+count_of (Ok answer) = answer.1
+count_of (Err fault) = 1

@@ -1,13 +1,18 @@
-ghost use Rattle.std.specs.Prelude.{◌≡◌, ◌<◌, None, Some, IsTrue, OnOk, IfOk, IfErr};
+ghost use Rattle.std.specs.Prelude.{◌≡◌, ◌≢◌, ◌-◌, ◌<◌, ◌≤◌, None, Some, length, option_map, IsTrue, OnOk, IfOk, IfErr};
 ghost use Rattle.parshelf.specs.Reads.{ReadsOnly, FaultsIn};
-ghost use Rattle.parfind.specs.Searches.{BelongsTo};
-ghost use Rattle.parfind.specs.Steps.{StepGives, Advances, scan_of};
-ghost use Rattle.parfind.specs.Visits.{VisitGives};
+ghost use Rattle.parfind.specs.Finders.{BelongsTo};
+ghost use Rattle.parfind.specs.Looking.{IsAtPlace, IsNextPlace};
+ghost use Rattle.parfind.specs.Marks.{marks};
+ghost use Rattle.parfind.specs.Moves.{StepMoves, IsWithin, Advances};
+ghost use Rattle.parfind.specs.Places.{place_at};
+ghost use Rattle.parfind.specs.Reach.{ReadsUpTo, IsNear};
+ghost use Rattle.parfind.specs.Steps.{StepGives, scan_of};
+ghost use Rattle.parfind.specs.Visits.{StepSees, step_of, count_of};
 
 use crate::cursor::Cursor;
-use crate::looking::look;
 use crate::places::next_place;
 use crate::sighting::Sighting;
+use crate::track::Track;
 use parshelf::{ReadFault, Shelf};
 use parwindow::{Index, Window};
 use std::alloc::{AllocError, Global};
@@ -18,29 +23,35 @@ use std::marker::Model;
 pub enum Step {
     /// The next sighting.
     Hit(Sighting),
-    /// As many places as the step may look at were passed, with no sighting from the cursor on.
+    /// As many places as the step may look at were passed, with no sighting from the cursor on at any of them.
     Spent,
     /// There is no further sighting.
     Done,
 }
 
-/// A search that stands at a cursor. It reads and hashes the window of each place anew.
+/// A search that stands at a cursor, in one pass over each file.
 #[derive(Drop)]
 pub struct Finder {
+    opening: Cursor,
     cursor: Cursor,
-    room: Vec<u8>,
     window: Window,
+    track: Track,
 }
 
 impl Model for Finder {
-    ghost use Rattle.std.specs.Prelude.{◌≡◌, vec_len};
-    ghost use Rattle.parfind.specs.Searches.{FinderState};
+    ghost use Rattle.parfind.specs.Finders.{FinderState};
+    ghost use Rattle.parfind.specs.Tracks.{fetched_of};
 
     ghost Value = { FinderState };
 
-    ghost view = { λ f. record { cursor = f.cursor; window_size = vec_len f.room } };
-
-    ghost invariant = { λ f. f.window.capacity ≡ vec_len f.room };
+    ghost view = { λ f. record {
+      cursor = f.cursor;
+      opening = f.opening;
+      fetched = fetched_of f.track;
+      digests = f.window.digests;
+      window = f.window;
+      track = f.track;
+    } };
 }
 
 impl Finder {
@@ -52,16 +63,18 @@ impl Finder {
         at: Cursor,
     ) -> Result<Finder, AllocError>
         ensures cursor { IfOk result (λ finder. finder.cursor ≡ at) }
+        ensures opening { IfOk result (λ finder. finder.opening ≡ at) }
+        ensures fetched { IfOk result (λ finder. finder.fetched ≡ place_at at) }
+        ensures digests { IfOk result (λ finder. finder.digests ≡ 0) }
         ensures belongs { IfOk result (λ finder. BelongsTo finder index.now (H.state shelf.now)) }
     {
         let _ = shelf;
-        let size = index.size() as usize;
-        let window = Window::new(alloc, size)?;
-        let room = vec![in alloc; 0; size]?;
+        let window = Window::new(alloc, index.size() as usize)?;
         Ok(Finder {
+            opening: at,
             cursor: at,
-            room,
             window,
+            track: Track::new(at.file, at.offset),
         })
     }
 
@@ -77,25 +90,31 @@ impl Finder {
         requires { BelongsTo self.old index.now (H.state shelf.old) }
         ensures belongs { BelongsTo self.new index.now (H.state shelf.new) }
 
-        // The answer and the cursor on a steady shelf.
+        // The answer, the cursor and the shelf, where it is steady.
         ensures answer { IsTrue (H.state shelf.old).is_steady →
-            StepGives (scan_of index.now (H.state shelf.old)) None
+            StepGives index.now (H.state shelf.old) (H.state shelf.new) None
             self.old.cursor result self.new.cursor }
 
-        // On any shelf: what a hit names, that the search comes nearer to its end, what was counted.
+        // On any shelf: where the search goes, that it comes nearer to its end, what was counted.
+        ensures moves { StepMoves (H.state shelf.old).lengths None
+            self.old.cursor result self.new.cursor }
         ensures advances { IfOk result (λ step.
             Advances index.now (H.state shelf.old).lengths None
             self.old.cursor step self.new.cursor) }
         ensures ok { OnOk result (ReadsOnly (H.state shelf.old) (H.state shelf.new)) }
         ensures fault { IfErr result
             (FaultsIn (H.state shelf.old) (H.state shelf.new) self.new.cursor.file) }
+
+        // How much is read, on any shelf.
+        ensures reads { ReadsUpTo (H.state shelf.old) (H.state shelf.new)
+            self.old.fetched self.new.fetched }
+        ensures near { IsNear index.now.slice_size self.new.fetched self.new.cursor }
+        ensures digests { IsTrue (H.state shelf.new).is_steady → self.new.digests
+            ≤ marks (scan_of index.now (H.state shelf.new)) self.new.opening self.new.cursor }
+        ensures opening { self.new.opening ≡ self.old.opening }
+        ensures no_fewer { self.old.digests ≤ self.new.digests }
     {
-        loop {
-            match self.visit(index, shelf)? {
-                Step::Spent => {}
-                answer => return Ok(answer),
-            }
-        }
+        self.advance(index, shelf, None)
     }
 
     /// The next sighting, if it is at one of the first `budget` places; `Done`, where fewer places
@@ -110,25 +129,69 @@ impl Finder {
         requires belongs { BelongsTo self.old index.now (H.state shelf.old) }
         ensures belongs { BelongsTo self.new index.now (H.state shelf.new) }
 
-        // The answer and the cursor on a steady shelf.
+        // The answer, the cursor and the shelf, where it is steady.
         ensures answer { IsTrue (H.state shelf.old).is_steady →
-            StepGives (scan_of index.now (H.state shelf.old)) (Some budget)
+            StepGives index.now (H.state shelf.old) (H.state shelf.new) (Some budget)
             self.old.cursor result self.new.cursor }
 
-        // On any shelf: what a hit names, that the search comes nearer to its end, what was counted.
+        // On any shelf: where the search goes, that it comes nearer to its end, what was counted.
+        ensures moves { StepMoves (H.state shelf.old).lengths (Some budget)
+            self.old.cursor result self.new.cursor }
         ensures advances { IfOk result (λ step.
             Advances index.now (H.state shelf.old).lengths (Some budget)
             self.old.cursor step self.new.cursor) }
         ensures ok { OnOk result (ReadsOnly (H.state shelf.old) (H.state shelf.new)) }
         ensures fault { IfErr result
             (FaultsIn (H.state shelf.old) (H.state shelf.new) self.new.cursor.file) }
+
+        // How much is read, on any shelf.
+        ensures reads { ReadsUpTo (H.state shelf.old) (H.state shelf.new)
+            self.old.fetched self.new.fetched }
+        ensures near { IsNear index.now.slice_size self.new.fetched self.new.cursor }
+        ensures digests { IsTrue (H.state shelf.new).is_steady → self.new.digests
+            ≤ marks (scan_of index.now (H.state shelf.new)) self.new.opening self.new.cursor }
+        ensures opening { self.new.opening ≡ self.old.opening }
+        ensures no_fewer { self.old.digests ≤ self.new.digests }
+    {
+        self.advance(index, shelf, Some(budget))
+    }
+
+    // A step with a budget of places, or with none.
+    fn advance<H: Shelf>(
+        &mut self,
+        index: &Index,
+        shelf: &mut H,
+        budget: Option<u64>,
+    ) -> Result<Step, ReadFault>
+        requires budget { budget ≢ Some 0 }
+        requires belongs { BelongsTo self.old index.now (H.state shelf.old) }
+        ensures belongs { BelongsTo self.new index.now (H.state shelf.new) }
+
+        ensures answer { IsTrue (H.state shelf.old).is_steady →
+            StepGives index.now (H.state shelf.old) (H.state shelf.new) budget
+            self.old.cursor result self.new.cursor }
+        ensures moves { StepMoves (H.state shelf.old).lengths budget
+            self.old.cursor result self.new.cursor }
+        ensures advances { IfOk result (λ step.
+            Advances index.now (H.state shelf.old).lengths budget
+            self.old.cursor step self.new.cursor) }
+
+        ensures ok { OnOk result (ReadsOnly (H.state shelf.old) (H.state shelf.new)) }
+        ensures fault { IfErr result
+            (FaultsIn (H.state shelf.old) (H.state shelf.new) self.new.cursor.file) }
+
+        ensures reads { ReadsUpTo (H.state shelf.old) (H.state shelf.new)
+            self.old.fetched self.new.fetched }
+        ensures opening { self.new.opening ≡ self.old.opening }
+        ensures no_fewer { self.old.digests ≤ self.new.digests }
     {
         let mut left = budget;
         loop {
-            match self.visit(index, shelf)? {
+            let (step, count) = self.visit(index, shelf, left)?;
+            match step {
                 Step::Spent => {
-                    left -= 1;
-                    if left == 0 {
+                    left = fewer(left, count);
+                    if left == Some(0) {
                         return Ok(Step::Spent);
                     }
                 }
@@ -137,21 +200,35 @@ impl Finder {
         }
     }
 
-    // Looks at the first place from the cursor on.
-    fn visit<H: Shelf>(&mut self, index: &Index, shelf: &mut H) -> Result<Step, ReadFault>
-        requires { BelongsTo self.old index.now (H.state shelf.old) }
+    // A step with a budget that it names, which is within the one that is left: the first place
+    // from the cursor on, and those behind it where the window's CRC-32 is no slice's.
+    fn visit<H: Shelf>(
+        &mut self,
+        index: &Index,
+        shelf: &mut H,
+        left: Option<u64>,
+    ) -> Result<(Step, u64), ReadFault>
+        requires left { left ≢ Some 0 }
+        requires belongs { BelongsTo self.old index.now (H.state shelf.old) }
         ensures belongs { BelongsTo self.new index.now (H.state shelf.new) }
 
-        ensures answer { IsTrue (H.state shelf.old).is_steady →
-            VisitGives (scan_of index.now (H.state shelf.old))
-            self.old.cursor result self.new.cursor }
+        ensures sees { IsTrue (H.state shelf.old).is_steady →
+            StepSees (scan_of index.now (H.state shelf.old))
+            self.old.cursor (step_of result) self.new.cursor }
+        ensures moves { StepMoves (H.state shelf.old).lengths (Some (count_of result))
+            self.old.cursor (step_of result) self.new.cursor }
         ensures advances { IfOk result (λ step.
             Advances index.now (H.state shelf.old).lengths (Some 1)
-            self.old.cursor step self.new.cursor) }
+            self.old.cursor step.0 self.new.cursor) }
+        ensures within { IfOk result (λ step. (0 < step.1) × IsWithin step.1 left) }
 
         ensures ok { OnOk result (ReadsOnly (H.state shelf.old) (H.state shelf.new)) }
         ensures fault { IfErr result
             (FaultsIn (H.state shelf.old) (H.state shelf.new) self.new.cursor.file) }
+        ensures reads { ReadsUpTo (H.state shelf.old) (H.state shelf.new)
+            self.old.fetched self.new.fetched }
+        ensures opening { self.new.opening ≡ self.old.opening }
+        ensures no_fewer { self.old.digests ≤ self.new.digests }
     {
         let Some(at) = next_place(shelf, self.cursor) else {
             if self.cursor.file < shelf.count() {
@@ -161,26 +238,104 @@ impl Finder {
                     slice: 0,
                 };
             }
-            return Ok(Step::Done);
+            return Ok((Step::Done, 1));
         };
+        self.arrive(index, shelf, at)?;
+        self.look(index, shelf, left)
+    }
+
+    // Goes to the next place, and brings the window there.
+    fn arrive<H: Shelf>(
+        &mut self,
+        index: &Index,
+        shelf: &mut H,
+        at: Cursor,
+    ) -> Result<(), ReadFault>
+        requires next { IsNextPlace (H.state shelf.old).lengths self.old.cursor at }
+        requires belongs { BelongsTo self.old index.now (H.state shelf.old) }
+        ensures belongs { BelongsTo self.new index.now (H.state shelf.new) }
+        ensures cursor { self.new.cursor ≡ at }
+        ensures same { self.new.track.file ≡ at.file }
+        ensures full { OnOk result (length self.new.window.content ≡ self.new.window.capacity) }
+
+        ensures ok { OnOk result (ReadsOnly (H.state shelf.old) (H.state shelf.new)) }
+        ensures fault { IfErr result (FaultsIn (H.state shelf.old) (H.state shelf.new) at.file) }
+        ensures reads { ReadsUpTo (H.state shelf.old) (H.state shelf.new)
+            self.old.fetched self.new.fetched }
+        ensures opening { self.new.opening ≡ self.old.opening }
+        ensures no_fewer { self.old.digests ≤ self.new.digests }
+    {
+        let _ = index;
         self.cursor = at;
-        match look(index, shelf, at, &mut self.room, &mut self.window)? {
-            Some(slice) => {
-                self.cursor.slice = slice + 1;
-                Ok(Step::Hit(Sighting {
-                    file: at.file,
-                    offset: at.offset,
-                    slice,
-                }))
-            }
-            None => {
-                self.cursor = Cursor {
-                    file: at.file,
-                    offset: at.offset + 1,
-                    slice: 0,
-                };
-                Ok(Step::Spent)
-            }
+        self.track.enter(&mut self.window, at.file, at.offset);
+        self.track.fill(&mut self.window, shelf)
+    }
+
+    // The same at a place, whose window is there.
+    fn look<H: Shelf>(
+        &mut self,
+        index: &Index,
+        shelf: &mut H,
+        left: Option<u64>,
+    ) -> Result<(Step, u64), ReadFault>
+        requires left { left ≢ Some 0 }
+        requires file { self.old.cursor.file < length (H.state shelf.old).lengths }
+        requires there { IsAtPlace (H.state shelf.old).lengths self.old.cursor }
+        requires same { self.old.track.file ≡ self.old.cursor.file }
+        requires full { length self.old.window.content ≡ self.old.window.capacity }
+        requires belongs { BelongsTo self.old index.now (H.state shelf.old) }
+        ensures belongs { BelongsTo self.new index.now (H.state shelf.new) }
+
+        ensures sees { IsTrue (H.state shelf.old).is_steady →
+            StepSees (scan_of index.now (H.state shelf.old))
+            self.old.cursor (step_of result) self.new.cursor }
+        ensures moves { StepMoves (H.state shelf.old).lengths (Some (count_of result))
+            self.old.cursor (step_of result) self.new.cursor }
+        ensures advances { IfOk result (λ step.
+            Advances index.now (H.state shelf.old).lengths (Some 1)
+            self.old.cursor step.0 self.new.cursor) }
+        ensures within { IfOk result (λ step. (0 < step.1) × IsWithin step.1 left) }
+
+        ensures ok { OnOk result (ReadsOnly (H.state shelf.old) (H.state shelf.new)) }
+        ensures fault { IfErr result
+            (FaultsIn (H.state shelf.old) (H.state shelf.new) self.new.cursor.file) }
+        ensures reads { ReadsUpTo (H.state shelf.old) (H.state shelf.new)
+            self.old.fetched self.new.fetched }
+        ensures opening { self.new.opening ≡ self.old.opening }
+        ensures no_fewer { self.old.digests ≤ self.new.digests }
+    {
+        let at = self.cursor;
+        let rest = shelf.length(at.file) - at.offset;
+        if let Some(slice) = self
+            .track
+            .first_seen(&mut self.window, index, rest, at.slice)
+        {
+            self.cursor.slice = slice + 1;
+            let sighting = Sighting {
+                file: at.file,
+                offset: at.offset,
+                slice,
+            };
+            return Ok((Step::Hit(sighting), 1));
         }
+        let most = left.unwrap_or(u64::MAX);
+        let count = self.track.pass(&mut self.window, index, shelf, most)?;
+        self.cursor = Cursor {
+            file: at.file,
+            offset: at.offset + count,
+            slice: 0,
+        };
+        Ok((Step::Spent, count))
+    }
+}
+
+// What is left of a budget after so many more places.
+fn fewer(budget: Option<u64>, count: u64) -> Option<u64>
+    requires { IsWithin count budget }
+    ensures { result ≡ option_map (λ places. places - count) budget }
+{
+    match budget {
+        None => None,
+        Some(places) => Some(places - count),
     }
 }

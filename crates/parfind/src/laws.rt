@@ -3,6 +3,7 @@ ghost use Rattle.std.specs.Ordering.{is_lt, is_gt};
 ghost use Rattle.parfind.specs.Order.{is_before};
 ghost use Rattle.parfind.specs.CursorText.{ReadsItsText, HasOnePair};
 ghost use Rattle.parfind.specs.Sightings.{SightingsRise, AllFromOrigin, RestFollows, BetweenJoins};
+ghost use Rattle.parfind.specs.Reach.{ReachAddsUp};
 ghost use Rattle.parfind.specs.Steps.{StepHandsOut};
 
 use crate::cursor::Cursor;
@@ -18,6 +19,12 @@ pub fn sighting_laws()
 /// The law of steps: each hands out exactly the sightings that it passes. Does nothing.
 pub fn step_law()
     ensures { StepHandsOut }
+{}
+
+/// The law of reading: what calls were handed since an opening, by what is said of each of them.
+/// Does nothing.
+pub fn reach_law()
+    ensures { ReachAddsUp }
 {}
 
 /// The order of cursors is that of searches: by file, then by offset, then by slice. Does nothing.

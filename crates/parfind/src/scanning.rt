@@ -34,7 +34,7 @@ pub fn survey<H: Shelf>(
     shelf: &mut H,
     found: &mut [bool],
 ) -> Result<(), SurveyFault>
-    requires { length found.old ≡ length index.now.sums_of }
+    requires { length found.old ≡ length index.now.slices }
 
     // The marks on a steady shelf.
     ensures found { IsTrue (H.state shelf.old).is_steady →

@@ -1,10 +1,14 @@
+ghost use Rattle.std.specs.Prelude.{◌≡◌, ◌∷◌, []};
 ghost use Rattle.parshelf.specs.Memory.{shelf_state_of};
-ghost use Rattle.parfind.specs.Searches.{BelongsTo};
+ghost use Rattle.parfind.specs.Finders.{BelongsTo};
+ghost use Rattle.parfind.specs.Marks.{marks};
+ghost use Rattle.parfind.specs.Moves.{end_of};
+ghost use Rattle.parfind.specs.Order.{origin};
+ghost use Rattle.parfind.specs.Worked.{two_slices, equal_slices};
 
 use super::*;
-use md5::{Digest, Md5};
-use parfield::{Hash16, Kind, Sequence};
-use parsalvage::{Kept, KeptBody};
+use parfield::{Hash16, Kind};
+use parsalvage::{Kept, KeptBody, Part};
 use parset::{RecoverySet, build};
 use parshelf::{MemShelf, ReadFault};
 use parwindow::{Index, Window};
@@ -35,15 +39,25 @@ fn hit(file: u32, offset: u64, slice: u32) -> Step {
 }
 
 // A packet of a set.
-fn packet(set: Hash16, kind: Kind, body: Vec<u8>) -> Kept {
-    Kept {
+fn packet(set: Hash16, kind: Kind, body: Vec<u8>) -> Result<Kept, Fail> {
+    let length = 64 + body.len() as u64;
+    Ok(Kept {
         file: 0,
         at: 0,
-        length: 64 + body.len() as u64,
+        length,
         set,
         kind,
-        body: KeptBody::Whole(Sequence::from_vec(body)),
+        body: KeptBody::Whole(Part::from_vec(body)?),
+    })
+}
+
+// The MD5 of bytes.
+fn digest_of(alloc: Global, bytes: &[u8]) -> Result<Hash16, Fail> {
+    let mut window = Window::new(alloc, 64)?;
+    for &byte in bytes {
+        let _ = window.push(byte);
     }
+    Ok(window.digest())
 }
 
 // The set of one file of these bytes, in slices of four, whose sums are known.
@@ -51,7 +65,7 @@ fn set_of(alloc: Global, content: &[u8]) -> Result<RecoverySet, Fail> {
     let mut main = Vec::new(alloc);
     main.extend_from_slice(b"\x04\0\0\0\0\0\0\0\x01\0\0\0")?;
     main.extend_from_slice(&[7; 16])?;
-    let set = Hash16(Md5::digest(main.as_slice()));
+    let set = digest_of(alloc, main.as_slice())?;
     let mut description = vec![in alloc; 7; 48]?;
     description.extend_from_slice(&(content.len() as u64).to_le_bytes())?;
     description.extend_from_slice(b"name")?;
@@ -65,9 +79,9 @@ fn set_of(alloc: Global, content: &[u8]) -> Result<RecoverySet, Fail> {
         sums.extend_from_slice(&window.crc().to_le_bytes())?;
     }
     let packets = vec![in alloc;
-        packet(set, Kind::Main, main),
-        packet(set, Kind::FileDesc, description),
-        packet(set, Kind::Ifsc, sums),
+        packet(set, Kind::Main, main)?,
+        packet(set, Kind::FileDesc, description)?,
+        packet(set, Kind::Ifsc, sums)?,
     ]?;
     Ok(build(alloc, &packets, None)?)
 }
@@ -315,12 +329,60 @@ fn a_search_goes_on_after_a_failed_read(rt: HostRuntime) -> Result<(), Fail> {
     Ok(())
 }
 
+// Looks for two slices in one file from a cursor on, which is read in small pieces and in one;
+// wants these answers, and no more bytes handed over.
+fn reads_at_most(
+    rt: &(impl Abort + AllocGlobal),
+    at: Cursor,
+    wanted: &[Step],
+    most: u64,
+) -> Result<(), Fail> {
+    let index = index_of(rt, b"abcdefgh")?;
+    for piece in [1, 3, 64] {
+        let mut shelf = shelf_of(rt, &[b"XXabcdefgh"], piece, 0)?;
+        let mut finder = Finder::open(rt.alloc(), &index, &shelf, at)?;
+        gives(rt, &mut finder, &index, &mut shelf, wanted);
+        assert!(rt; shelf.handed() <= most, "pieces of {piece}");
+    }
+    Ok(())
+}
+
+#[test]
+fn each_byte_is_read_once(rt: HostRuntime) -> Result<(), Fail> {
+    let wanted = [hit(0, 2, 0), hit(0, 6, 1), Step::Done];
+    reads_at_most(&rt, START, &wanted, 10)?;
+    reads_at_most(&rt, cursor(0, 3, 0), &[hit(0, 6, 1), Step::Done], 7)
+}
+
+#[test]
+fn a_step_reads_little_further_than_its_window(rt: HostRuntime) -> Result<(), Fail> {
+    let index = index_of(&rt, b"abcdefgh")?;
+    let file = vec![in rt.alloc(); b'x'; 20_000]?;
+    let mut shelf = shelf_of(&rt, &[file.as_slice()], 20_000, 0)?;
+    let mut finder = Finder::open(rt.alloc(), &index, &shelf, START)?;
+    let wanted = [(1, Step::Spent, cursor(0, 1, 0))];
+    steps_give(&rt, &mut finder, &index, &mut shelf, &wanted);
+    assert!(rt; shelf.handed() <= 4_101);
+    Ok(())
+}
+
+// What the word counts that bounds the digests. Does nothing.
+fn marks_law()
+    ensures two { marks two_slices origin (end_of (10 ∷ [])) ≡ 2 }
+    ensures equal { marks equal_slices origin (end_of (6 ∷ [])) ≡ 6 }
+{}
+
+#[test]
+fn marks_are_the_places_with_the_crc_of_a_slice(_rt: HostRuntime) {
+    marks_law();
+}
+
 #[test]
 fn a_survey_marks_what_a_search_finds(rt: HostRuntime) -> Result<(), Fail> {
     let index = index_of(&rt, b"abcdefghijkl")?;
     let mut found = [false, false, true];
     assert_eq!(rt; index.slices(), 3);
-    let mut failing = shelf_of(&rt, &[b"ab", b"XXabcdefgh"], 64, 3)?;
+    let mut failing = shelf_of(&rt, &[b"ab", b"XXabcdefgh"], 64, 2)?;
     let fault = survey(rt.alloc(), &index, &mut failing, &mut found);
     assert_eq!(rt; fault, Err(SurveyFault::Read(1, ReadFault::Failed)));
     assert_eq!(rt; found, [false, false, true]);

@@ -1,2 +1,13 @@
+pub mod BodyLaws
+pub mod ExamineLaws
+pub mod FileLaws
+pub mod FoundLaws
+pub mod FrontLaws
+pub mod HandLaws
 pub mod KeptLaws
+pub mod LimitLaws
+pub mod MagicLaws
+pub mod NoteLaws
+pub mod PieceLaws
+pub mod RangeLaws
 pub mod SearchLaws

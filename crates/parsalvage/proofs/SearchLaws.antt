@@ -1,20 +1,187 @@
--- Walking the offsets of a list in order.
-use Rattle.std.proofs.Common.{◌≡◌, ◌<◌, ◌+◌, ◌-◌, ◌∙◌, ℕ, suc, Bool, true, false, List, [], ◌∷◌, ◌++◌, map, filter, ap, sym, arith, append_assoc}
+-- A search of a piece of a file, as far as it has come.
+use Rattle.std.proofs.Common.{◌≡◌, ◌≢◌, ◌≤◌, ◌+◌, ◌*◌, ◌-◌, ◌∙◌, ℕ, true, false, List, [], ◌∷◌, length, take, drop, filter, map, ap, refl, sym, subst, arith, IsTrue, ⊎_elim, length-drop}
 use Rattle.std.specs.List.{range_with_len}
+use Rattle.std.proofs.lemmas.Bool.{cases_Bool, cases_lt, false≢true}
+use Rattle.std.proofs.lemmas.List.{drop-take, take-take, drop-drop, length-take}
+use Rattle.memchr.specs.Find.{occurs_at, matches}
+use Rattle.memchr.proofs.lemmas.MatchLemmas.{OccursAt-true, occurs_at-true, OccursAt-part, OccursAt-from_part}
+use Rattle.parfield.specs.Packet.{magic_bytes}
+use Rattle.parshelf.specs.Shelf.{ShelfState, file_of}
+use Rattle.parsalvage.specs.declared.files.SalvageFault.{SalvageFault}
+use Rattle.parsalvage.specs.declared.noting.Found.{Found}
+use Rattle.parsalvage.specs.Packets.{is_packet_at, packet_found_at, packets_of}
+use Rattle.parsalvage.specs.Pieces.{IsPiece}
+use Rattle.parsalvage.specs.MagicPlaces.{is_magic_at, framed_size, limit_between}
+use Rattle.parsalvage.specs.Notes.{LiesIn, FoundBelow}
+use Rattle.parsalvage.specs.Hands.{Hands, FaultsEarly}
+use Rattle.parsalvage.proofs.HandLaws.{Hands-none, Hands-more, Hands-file, Hands-lengths, Hands-steady, Hands-was_steady, FaultsEarly-more}
+use Rattle.parsalvage.proofs.LimitLaws.{limit_between-split, limit_between-one}
+use Rattle.parsalvage.proofs.MagicLaws.{matches-all, packet_has_magic}
+use Rattle.parsalvage.proofs.NoteLaws.{LiesIn-later, FoundBelow-none, no_packet_late}
+use Rattle.parsalvage.proofs.RangeLaws.{PassesFirst, passes_first, passes_none}
 
--- what passes among the offsets from a on, as f gives it
-module _ {X : Type 0} (f : ℕ → X) (p : ℕ → Bool) (a n : ℕ) (below : a < n) (so_far all : List X)
-    (is : so_far ++ map f (filter p (range_with_len a (n - a))) ≡ all) where
-  left : n - a ≡ suc (n - (a + 1))
-  left = omega arith
+nothing_mapped : {X Y : Type 0} (f : X → Y) (xs : List X) → map f xs ≡ [] → xs ≡ []
+nothing_mapped f [] e = refl
+nothing_mapped f (x ∷ xs) e = cc
 
-  at_next : so_far ++ map f (filter p (a ∷ range_with_len (a + 1) (n - (a + 1)))) ≡ all
-  at_next = ap (λ k. so_far ++ map f (filter p (range_with_len a k))) (sym left) ∙ is
+-- a packet that is somewhere is among all
+pub some_packet : (bytes : List ℕ) (at : ℕ) → IsTrue (is_packet_at bytes at) → packets_of bytes ≢ []
+unfolding packets_of
+some_packet bytes at is none =
+    let nothing : filter (is_packet_at bytes) (range_with_len 0 (length bytes)) ≡ []
+    = nothing_mapped (packet_found_at bytes) _ none in
+    ⊎_elim
+    (λ inside. false≢true (sym (passes_none (is_packet_at bytes) 0 (length bytes) nothing at (omega arith) (omega (arith, inside))) ∙ is))
+    (λ late. false≢true (sym (no_packet_late bytes at (omega (arith, late))) ∙ is))
+    (cases_lt at (length bytes))
 
-  -- one more that passes
-  pub one_more : (x : X) → true ≡ p a → x ≡ f a → (so_far ++ x ∷ []) ++ map f (filter p (range_with_len (a + 1) (n - (a + 1)))) ≡ all
-  one_more x passes e = rw e (append_assoc so_far (f a ∷ []) _ ∙ (rw (sym passes) at at_next))
+-- the piece has the magic where the file has it
+module _ (bytes : List ℕ) (base : ℕ) (window : List ℕ) (piece : IsPiece bytes base window) where
+  inside : length window ≤ length bytes - base
+  inside = omega (arith, ap length piece, length-take (length window) (drop base bytes), length-drop base bytes)
 
-  -- one that does not pass
-  pub none_more : false ≡ p a → so_far ++ map f (filter p (range_with_len (a + 1) (n - (a + 1)))) ≡ all
-  none_more fails = rw (sym fails) at at_next
+  part_same : (k : ℕ) → k + 8 ≤ length window → take 8 (drop k window) ≡ take 8 (drop (base + k) bytes)
+  part_same k fits =
+      let split : length window ≡ k + (length window - k) = omega arith in
+      ap (λ (xs : List ℕ). take 8 (drop k xs)) piece
+      ∙ (ap (λ (n : ℕ). take 8 (drop k (take n (drop base bytes)))) split
+      ∙ (ap (take 8) (drop-take k (length window - k) (drop base bytes))
+      ∙ (take-take 8 (length window - k) (drop k (drop base bytes)) (omega arith)
+      ∙ ap (take 8) (drop-drop k base bytes))))
+
+  pub magic_in_file : (k : ℕ) → k + 8 ≤ length window → occurs_at window magic_bytes k ≡ true → is_magic_at bytes (base + k) ≡ true
+  magic_in_file k fits is =
+      occurs_at-true bytes magic_bytes (base + k) (OccursAt-from_part bytes magic_bytes (base + k) (omega (arith, inside))
+      (sym (part_same k fits) ∙ OccursAt-part window magic_bytes k (OccursAt-true window magic_bytes k is)))
+
+  no_packet_without : (k : ℕ) → base ≤ k → (k - base) + 8 ≤ length window → occurs_at window magic_bytes (k - base) ≡ false → is_packet_at bytes k ≡ false
+  no_packet_without k low fits none =
+      let place : base + (k - base) ≡ k = omega arith in
+      ⊎_elim
+      (λ is.
+      let magic = OccursAt-true bytes magic_bytes k (packet_has_magic bytes k is) in
+      let there : take 8 (drop (k - base) window) ≡ magic_bytes
+      = part_same (k - base) fits ∙ (ap (λ (n : ℕ). take 8 (drop n bytes)) place ∙ OccursAt-part bytes magic_bytes k magic) in
+      absurd (false≢true (sym none ∙ occurs_at-true window magic_bytes (k - base) (OccursAt-from_part window magic_bytes (k - base) fits there))))
+      (λ not. not) (cases_Bool (is_packet_at bytes k))
+
+-- the places of the piece before `next` were searched; these are left
+pub record SearchedTo (s t : ShelfState) (file size base : ℕ) (window left : List ℕ) (found : Found) : Type 0 where
+  pub next : ℕ
+  pub low : base ≤ next
+  pub high : next ≤ base + (length window - 7)
+  pub left_are : left ≡ filter (occurs_at window magic_bytes) (range_with_len (next - base) ((length window + 1) - (next - base)))
+  pub lies : LiesIn size next found
+  pub packets : IsTrue s.is_steady → FoundBelow file (file_of s file) next found
+  pub hands : Hands s t file (limit_between (file_of s file) base next)
+
+pub SearchedTo-start : (s : ShelfState) (file size base : ℕ) (window : List ℕ) (found : Found) → LiesIn size base found
+    → (IsTrue s.is_steady → FoundBelow file (file_of s file) base found)
+    → SearchedTo s s file size base window (matches window magic_bytes 0) found
+SearchedTo-start s file size base window found lies packets = record {
+  next = base;
+  low = omega arith;
+  high = omega arith;
+  left_are =
+      let zero : base - base ≡ 0 = omega arith in
+      let all : length window + 1 ≡ (length window + 1) - 0 = omega arith in
+      matches-all window ∙ ap (λ (n : ℕ). filter (occurs_at window magic_bytes) (range_with_len 0 n)) all ∙ sym (ap (λ (n : ℕ). filter (occurs_at window magic_bytes) (range_with_len n ((length window + 1) - n))) zero);
+  lies = lies;
+  packets = packets;
+  hands = Hands-none s file _;
+}
+
+-- the first place that is left
+module _ (s t : ShelfState) (file size base place : ℕ) (window later : List ℕ) (found : Found)
+    (piece : IsTrue s.is_steady → IsPiece (file_of s file) base window) (so_far : SearchedTo s t file size base window (place ∷ later) found) where
+  first : PassesFirst (occurs_at window magic_bytes) (so_far.next - base) ((length window + 1) - (so_far.next - base)) place later
+  first = passes_first _ _ _ place later (sym so_far.left_are)
+
+  pub place_fits : place + 8 ≤ length window
+  place_fits = (OccursAt-true window magic_bytes place first.passes).fits
+
+  same : file_of t file ≡ file_of s file
+  same = Hands-file s t file _ file so_far.hands
+
+  behind : so_far.next ≤ base + place
+  behind = omega (arith, first.low, so_far.low)
+
+  pub lies_before : LiesIn size (base + place) found
+  lies_before = LiesIn-later size so_far.next (base + place) found so_far.lies behind
+
+  pub packets_before : IsTrue s.is_steady → FoundBelow file (file_of s file) (base + place) found
+  packets_before steady =
+      FoundBelow-none file so_far.next (base + place) (file_of s file) found (so_far.packets steady) behind
+      (λ k low high. no_packet_without (file_of s file) base window (piece steady) k (omega (arith, low, so_far.low)) (omega (arith, high, place_fits))
+      (first.none (k - base) (omega (arith, low, so_far.low)) (omega (arith, high, low, so_far.low))))
+
+  pub packets_before_now : IsTrue t.is_steady → FoundBelow file (file_of t file) (base + place) found
+  packets_before_now steady =
+      subst (λ (bytes : List ℕ). FoundBelow file bytes (base + place) found) (sym same)
+      (packets_before (Hands-was_steady s t file _ so_far.hands steady))
+
+  pub piece_now : IsTrue t.is_steady → IsPiece (file_of t file) base window
+  piece_now steady =
+      subst (λ (bytes : List ℕ). IsPiece bytes base window) (sym same) (piece (Hands-was_steady s t file _ so_far.hands steady))
+
+  pub lengths_now : t.lengths ≡ s.lengths
+  lengths_now = Hands-lengths s t file _ so_far.hands
+
+  cost : IsTrue s.is_steady → limit_between (file_of s file) base so_far.next + (64 + 2 * framed_size (drop (base + place) (file_of t file)))
+      ≤ limit_between (file_of s file) base ((base + place) + 1)
+  cost steady =
+      let magic = magic_in_file (file_of s file) base window (piece steady) place place_fits first.passes in
+      let one = limit_between-one (file_of s file) (base + place) magic in
+      let whole = limit_between-split (file_of s file) base so_far.next ((base + place) + 1) so_far.low (omega (arith, behind)) in
+      let rest = limit_between-split (file_of s file) so_far.next (base + place) ((base + place) + 1) behind (omega arith) in
+      let now = ap (λ (bytes : List ℕ). framed_size (drop (base + place) bytes)) same in
+      omega (arith, one, whole, rest, now)
+
+  pub SearchedTo-next : (u : ShelfState) (more : Found) → LiesIn size ((base + place) + 1) more
+      → (IsTrue t.is_steady → FoundBelow file (file_of t file) ((base + place) + 1) more)
+      → Hands t u file (64 + 2 * framed_size (drop (base + place) (file_of t file)))
+      → SearchedTo s u file size base window later more
+  SearchedTo-next u more lies packets hands = record {
+    next = (base + place) + 1;
+    low = omega arith;
+    high = omega (arith, place_fits);
+    left_are =
+        let begin : place + 1 ≡ ((base + place) + 1) - base = omega arith in
+        let count : (so_far.next - base) + ((length window + 1) - (so_far.next - base)) ≡ length window + 1
+        = omega (arith, so_far.low, so_far.high) in
+        first.later_are
+        ∙ (ap (λ (n : ℕ). filter (occurs_at window magic_bytes) (range_with_len (place + 1) (n - (place + 1)))) count
+        ∙ ap (λ (n : ℕ). filter (occurs_at window magic_bytes) (range_with_len n ((length window + 1) - n))) begin);
+    lies = lies;
+    packets = λ steady.
+        subst (λ (bytes : List ℕ). FoundBelow file bytes ((base + place) + 1) more) same (packets (Hands-steady s t file _ so_far.hands steady));
+    hands = Hands-more s t u file _ _ _ so_far.hands hands cost;
+  }
+
+  pub SearchedTo-fault : (u : ShelfState) (fault : SalvageFault)
+      → FaultsEarly t u file (64 + 2 * framed_size (drop (base + place) (file_of t file))) (IsTrue (is_packet_at (file_of t file) (base + place))) fault
+      → FaultsEarly s u file (limit_between (file_of s file) base (base + (length window - 7))) (packets_of (file_of s file) ≢ []) fault
+  SearchedTo-fault u fault faults =
+      FaultsEarly-more s t u file _ _ _ _ _ fault so_far.hands faults
+      (λ steady.
+      let all = limit_between-split (file_of s file) base ((base + place) + 1) (base + (length window - 7)) (omega arith) (omega (arith, place_fits)) in
+      omega (arith, cost steady, all))
+      (λ _ is. some_packet (file_of s file) (base + place) (ap (λ (bytes : List ℕ). is_packet_at bytes (base + place)) (sym same) ∙ is))
+
+-- no place is left
+module _ (s t : ShelfState) (file size base : ℕ) (window : List ℕ) (found : Found)
+    (piece : IsTrue s.is_steady → IsPiece (file_of s file) base window) (all : SearchedTo s t file size base window [] found) where
+  pub lies_after : LiesIn size (base + (length window - 7)) found
+  lies_after = LiesIn-later size all.next (base + (length window - 7)) found all.lies all.high
+
+  pub packets_after : IsTrue s.is_steady → FoundBelow file (file_of s file) (base + (length window - 7)) found
+  packets_after steady =
+      FoundBelow-none file all.next (base + (length window - 7)) (file_of s file) found (all.packets steady) all.high
+      (λ k low high. no_packet_without (file_of s file) base window (piece steady) k (omega (arith, low, all.low)) (omega (arith, high, low, all.low))
+      (passes_none (occurs_at window magic_bytes) (all.next - base) ((length window + 1) - (all.next - base)) (sym all.left_are) (k - base)
+      (omega (arith, low, all.low)) (omega (arith, high, low, all.low))))
+
+  pub hands_after : Hands s t file (limit_between (file_of s file) base (base + (length window - 7)))
+  hands_after =
+      let rest = limit_between-split (file_of s file) base all.next (base + (length window - 7)) all.low all.high in
+      Hands-more s t t file _ 0 _ all.hands (Hands-none t file 0) (λ _. omega (arith, rest))

@@ -1,6 +1,11 @@
+pub mod Hands
+pub mod HeldBodies
 pub mod Kept
 pub mod Leaves
+pub mod MagicPlaces
+pub mod Notes
 pub mod Packets
+pub mod Pieces
 pub use Rattle.parfield.specs.Packet
 pub use Rattle.parshelf.specs.Reads
 pub use Rattle.parshelf.specs.Shelf

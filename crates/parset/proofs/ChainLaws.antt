@@ -1,6 +1,7 @@
 -- Answers one after another: the first fault is the answer of all.
 use Rattle.std.proofs.Common.{◌≡◌, ◌∙◌, Err, Ok, Result, ap, subst, sym}
-use Rattle.parset.specs.RecoverySet.{◌>>=◌, AnswersSet}
+use Rattle.parfield.specs.Chain.{◌>>=◌}
+use Rattle.parset.specs.RecoverySet.{AnswersSet}
 use Rattle.parset.specs.declared.recovery_set.SetFault.{SetFault}
 use Rattle.parset.specs.declared.recovery_set.SetFault.TheVariants.{Memory, NameTwice, NoDesc, NoMain, TooManySlices}
 

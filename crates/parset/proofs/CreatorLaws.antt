@@ -8,9 +8,10 @@ use Rattle.parsalvage.specs.declared.kept.Kept.{Kept}
 use Rattle.parsalvage.specs.declared.kept.KeptBody.{KeptBody}
 use Rattle.parsalvage.specs.declared.kept.KeptBody.TheVariants.{Whole, Front}
 use Rattle.parset.specs.Bodies.{creator_text_of, without_end_zeros}
-use Rattle.parset.specs.Choosing.{creator_by, creator_in, first_creator_of, only_if, usable}
+use Rattle.parset.specs.Choosing.{creator_in, first_creator_of, only_if}
+use Rattle.parset.specs.PacketFields.{creator_text_in, usable}
 use Rattle.parset.specs.Reasons.{creator_reason, first_reason, is_over_limit}
-use Rattle.parset.specs.RecoverySet.{HasTextLimits}
+use Rattle.parset.specs.SetLimits.{HasTextLimits}
 use Rattle.parset.specs.declared.aside.Aside.{Aside}
 use Rattle.parset.specs.declared.aside.Aside.TheVariants.{OverLimit}
 use Rattle.parset.proofs.LimitLaws.{passed_is}
@@ -45,21 +46,24 @@ usable_text body None text r e =
 above_none : (n : ℕ) → not (n == 0) ≡ true → 0 < n
 above_none n e = grind (arith, nat_tests)
 
-text_limits : (k : Kind) (b : KeptBody) (text : List ℕ) → creator_by k b ≡ Some text → HasTextLimits text
-text_limits kind.Creator (Whole body) text e =
-    let has_some : List ℕ → Bool = λ t. not (length t == 0) in let found = usable (creator_reason body) (creator_text_of body) in
-    (above_none (length text) (passes has_some found text e), usable_text body (creator_reason body) text refl (passed_is has_some found text e))
-text_limits kind.Creator (Front first len) text e = absurd (cc)
-text_limits kind.Main b text e = absurd (cc)
-text_limits kind.FileDesc b text e = absurd (cc)
-text_limits kind.Ifsc b text e = absurd (cc)
-text_limits kind.RecvSlic b text e = absurd (cc)
-text_limits (kind.Other field) b text e = absurd (cc)
+text_limit : (k : Kind) (b : KeptBody) (text : List ℕ) → creator_text_in k b ≡ Some text → length text ≤ 1048576
+text_limit kind.Creator (Whole body) text e = usable_text body (creator_reason body) text refl e
+text_limit kind.Creator (Front first len) text e = absurd (cc)
+text_limit kind.Main b text e = absurd (cc)
+text_limit kind.FileDesc b text e = absurd (cc)
+text_limit kind.Ifsc b text e = absurd (cc)
+text_limit kind.RecvSlic b text e = absurd (cc)
+text_limit (kind.Other field) b text e = absurd (cc)
+
+text_limits : (k : Kept) (text : List ℕ) → creator_in k ≡ Some text → HasTextLimits text
+text_limits k text e =
+    let has_some : List ℕ → Bool = λ t. not (length t == 0) in let found = creator_text_in k.kind k.body in
+    (above_none (length text) (passes has_some found text e), text_limit k.kind k.body text (passed_is has_some found text e))
 
 found_text : (own : List Kept) (text : List ℕ) → first_creator_of own ≡ Some text → HasTextLimits text
 found_text [] text e = absurd (cc)
 found_text (k ∷ own) text e =
-    ⊎_elim (λ here. text_limits k.kind k.body text here) (λ later. found_text own text later)
+    ⊎_elim (λ here. text_limits k text here) (λ later. found_text own text later)
     (first_is (creator_in k) (first_creator_of own) text e)
 
 pub text_within : (own : List Kept) (text : Option (List ℕ)) → text ≡ first_creator_of own → IfSome text HasTextLimits

@@ -13,7 +13,8 @@ use Rattle.parsalvage.specs.declared.kept.Kept.{Kept}
 use Rattle.parsalvage.specs.declared.kept.KeptBody.{KeptBody}
 use Rattle.parsalvage.specs.Kept.{held_front_of, held_length_of}
 use Rattle.parset.specs.Bodies.{exponent_of}
-use Rattle.parset.specs.Choosing.{all_exponents, exponent_by, exponent_in, has_exponent, only_if, usable}
+use Rattle.parset.specs.Choosing.{all_exponents, has_exponent, only_if}
+use Rattle.parset.specs.PacketFields.{exponent_in, usable}
 use Rattle.parset.specs.Reasons.{first_reason, slice_reason}
 use Rattle.parset.specs.declared.aside.Aside.TheVariants.{OverLimit, WrongLength}
 use Rattle.parset.proofs.ChoosingLaws.{map_take_at}
@@ -25,14 +26,14 @@ usable_below true over n e test h = cc
 usable_below false true n e test h = cc
 usable_below false false n e test h = let low = ltb-false 65534 n test in let same : n ≡ e = cc in omega arith
 
-exponent_by_below : (size : ℕ) (kind : Kind) (body : KeptBody) (e : ℕ) → exponent_by size kind body ≡ Some e → e < 65535
+exponent_in_below : (size : ℕ) (kind : Kind) (body : KeptBody) (e : ℕ) → exponent_in size kind body ≡ Some e → e < 65535
 unfolding slice_reason
-exponent_by_below size kind.RecvSlic body e h =
+exponent_in_below size kind.RecvSlic body e h =
     usable_below (nat_lt (held_length_of body) 4 || not (held_length_of body - 4 == size)) _ (exponent_of (held_front_of body)) e refl h
-exponent_by_below size _ _ e h = cc
+exponent_in_below size _ _ e h = cc
 
-pub exponent_below : (size : ℕ) (k : Kept) (e : ℕ) → Some e ≡ exponent_in size k → e < 65535
-exponent_below size k e h = exponent_by_below size k.kind k.body e (sym h)
+pub exponent_below : (size : ℕ) (k : Kept) (e : ℕ) → Some e ≡ exponent_in size k.kind k.body → e < 65535
+exponent_below size k e h = exponent_in_below size k.kind k.body e (sym h)
 
 -- ---- one packet more
 any_more : {X Y : Type 0} (p : X → Bool) (g : Y → X) (ys : List Y) (i : ℕ) (y : Y) → i < length ys → y ≡ get_or ys i y
@@ -52,7 +53,7 @@ flag_set flags e q before below so_far =
     (cases_eq q e)
 
 pub seen_more : {Y : Type 0} (size : ℕ) (g : Y → Kept) (ys : List Y) (i : ℕ) (y : Y) (flags : List Bool) (e q : ℕ)
-    → i < length ys → y ≡ get_or ys i y → e < length flags → Some e ≡ exponent_in size (g y)
+    → i < length ys → y ≡ get_or ys i y → e < length flags → Some e ≡ exponent_in size (g y).kind (g y).body
     → get_or flags q false ≡ list_any (has_exponent size q) (map g (take i ys))
     → get_or (set flags e true) q false ≡ list_any (has_exponent size q) (map g (take (i + 1) ys))
 seen_more size g ys i y flags e q below item fits some so_far =
@@ -62,7 +63,7 @@ seen_more size g ys i y flags e q below item fits some so_far =
     ∙ sym (any_more (has_exponent size q) g ys i y below item)
 
 pub seen_same : {Y : Type 0} (size : ℕ) (g : Y → Kept) (ys : List Y) (i : ℕ) (y : Y) (q : ℕ) (before : Bool)
-    → i < length ys → y ≡ get_or ys i y → None ≡ exponent_in size (g y)
+    → i < length ys → y ≡ get_or ys i y → None ≡ exponent_in size (g y).kind (g y).body
     → before ≡ list_any (has_exponent size q) (map g (take i ys))
     → before ≡ list_any (has_exponent size q) (map g (take (i + 1) ys))
 seen_same size g ys i y q before below item none so_far =

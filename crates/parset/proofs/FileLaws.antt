@@ -14,7 +14,8 @@ use Rattle.std.specs.List.{flat_map}
 use Rattle.std.proofs.lemmas.List.{flat_map_more, get_or-take, length-take, map-append, map_more, take-take}
 use Rattle.parfield.specs.HashOrder.{id_cmp}
 use Rattle.parfield.specs.declared.hash16.Hash16.{Hash16}
-use Rattle.parset.specs.RecoverySet.{FileView, HasCounts, SetView, set_file_of, set_over, slices_of_file, file_view, file_views, slice_count, with_sums}
+use Rattle.parset.specs.RecoverySet.{SetView, set_over}
+use Rattle.parset.specs.Slices.{FileView, HasCounts, set_file_of, slices_of_file, file_view, file_views, slice_count, with_sums}
 use Rattle.parset.specs.declared.checksums.Ifsc.{Ifsc}
 use Rattle.parset.specs.declared.description.Desc.{Desc}
 use Rattle.parset.specs.declared.main_packet.Main.{Main}

@@ -11,4 +11,5 @@ pub mod NameLaws
 pub mod RepeatLaws
 pub mod RisingLaws
 pub mod SetLaws
+pub mod SharedNameLaws
 pub mod SliceLaws

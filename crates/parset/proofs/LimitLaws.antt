@@ -12,9 +12,11 @@ use Rattle.parsalvage.specs.declared.kept.Kept.{Kept}
 use Rattle.parsalvage.specs.declared.kept.KeptBody.{KeptBody}
 use Rattle.parsalvage.specs.declared.kept.KeptBody.TheVariants.{Whole, Front}
 use Rattle.parset.specs.Bodies.{description_of, file_length_field, name_of}
-use Rattle.parset.specs.Choosing.{description_by, description_in, file_description_of, only_if, usable}
+use Rattle.parset.specs.Choosing.{file_description_of, only_if}
+use Rattle.parset.specs.PacketFields.{description_in, usable}
 use Rattle.parset.specs.Reasons.{description_reason, is_over_limit, is_wrong_name}
-use Rattle.parset.specs.RecoverySet.{HasFileLimits, file_views, set_file_of}
+use Rattle.parset.specs.SetLimits.{HasFileLimits}
+use Rattle.parset.specs.Slices.{file_views, set_file_of}
 use Rattle.parset.specs.declared.aside.Aside.{Aside}
 use Rattle.parset.specs.declared.aside.Aside.TheVariants.{Name, OverLimit, WrongLength}
 use Rattle.parset.specs.declared.checksums.Ifsc.{Ifsc}
@@ -58,7 +60,7 @@ usable_limits body (Some why) file r e = absurd (cc)
 usable_limits body None file r e =
     let is : description_of body ≡ file = cc in subst IsDescribedWithin is (body_limits body r)
 
-description_limits : (k : Kind) (b : KeptBody) (file : Desc) → description_by k b ≡ Some file → IsDescribedWithin file
+description_limits : (k : Kind) (b : KeptBody) (file : Desc) → description_in k b ≡ Some file → IsDescribedWithin file
 description_limits kind.FileDesc (Whole body) file e = usable_limits body (description_reason body) file refl e
 description_limits kind.FileDesc (Front first len) file e = absurd (cc)
 description_limits kind.Main b file e = absurd (cc)
@@ -80,9 +82,9 @@ found_limits : (id : Hash16) (own : List Kept) (file : Desc) → file_descriptio
 found_limits id [] file e = absurd (cc)
 found_limits id (k ∷ own) file e =
     ⊎_elim
-    (λ here. description_limits k.kind k.body file (passed_is (λ d. bytes_eq d.id.0 id.0) (description_in k) file here))
+    (λ here. description_limits k.kind k.body file (passed_is (λ d. bytes_eq d.id.0 id.0) (description_in k.kind k.body) file here))
     (λ later. found_limits id own file later)
-    (first_is (only_if (λ d. bytes_eq d.id.0 id.0) (description_in k)) (file_description_of id own) file e)
+    (first_is (only_if (λ d. bytes_eq d.id.0 id.0) (description_in k.kind k.body)) (file_description_of id own) file e)
 
 abbrev pub IsShownWithin : SetFile → Type 0
 IsShownWithin file = HasFileLimits file.length file.name

@@ -11,11 +11,12 @@ use Rattle.parsalvage.specs.declared.kept.KeptBody.{KeptBody}
 use Rattle.parsalvage.specs.declared.kept.KeptBody.TheVariants.{Whole, Front}
 use Rattle.parset.specs.Bodies.{file_count_field, file_ids_of, main_of, slice_size_field}
 use Rattle.parsalvage.specs.Kept.{is_chosen}
-use Rattle.parset.specs.Choosing.{chosen_main_in, first_main_of, main_by, main_in, usable}
+use Rattle.parset.specs.Choosing.{chosen_main_in, first_main_of}
+use Rattle.parset.specs.PacketFields.{main_in, usable}
 use Rattle.parset.specs.Reasons.{first_reason, has_repeat, has_wrong_main_length, has_wrong_size, is_large_main, is_over_limit, main_reason}
 use Rattle.md5.specs.Md5.{md5}
 use Rattle.parset.specs.declared.aside.Aside.TheVariants.{IdTwice, OverLimit, SetId, SliceSize, WrongLength}
-use Rattle.parset.specs.RecoverySet.{IsWithinLimits}
+use Rattle.parset.specs.SetLimits.{IsWithinLimits}
 use Rattle.parset.specs.declared.aside.Aside.{Aside}
 use Rattle.parset.specs.declared.main_packet.Main.{Main}
 use Rattle.parset.proofs.RisingLaws.{front_has_no_repeat}
@@ -72,7 +73,7 @@ usable_bounds body set None main r e =
     let is : main_of body ≡ main = cc in
     subst IsWithinLimits is (b.0, b.1, omega (arith, parts (file_count_field body) (file_ids_of body), b.2), b.3, front_has_no_repeat (file_count_field body) (file_ids_of body) (body_repeats body set r))
 
-main_bounds : (k : Kind) (b : KeptBody) (set : Hash16) (main : Main) → main_by k b set ≡ Some main → IsWithinLimits main
+main_bounds : (k : Kind) (b : KeptBody) (set : Hash16) (main : Main) → main_in k b set ≡ Some main → IsWithinLimits main
 main_bounds kind.Main (Whole body) set main e = usable_bounds body set (main_reason body set) main refl e
 main_bounds kind.Main (Front first len) set main e = absurd (cc)
 main_bounds kind.FileDesc b set main e = absurd (cc)
@@ -81,7 +82,7 @@ main_bounds kind.RecvSlic b set main e = absurd (cc)
 main_bounds kind.Creator b set main e = absurd (cc)
 main_bounds (kind.Other field) b set main e = absurd (cc)
 
-chosen_bounds : (k : Kept) (chosen : Bool) (o : Option Main) (id : Hash16) (main : Main) → main_in k ≡ o
+chosen_bounds : (k : Kept) (chosen : Bool) (o : Option Main) (id : Hash16) (main : Main) → main_in k.kind k.body k.set ≡ o
     → cond chosen (option_map {U = Hash16 × Main} (λ fields. (k.set, fields)) o) None ≡ Some (id, main) → IsWithinLimits main
 chosen_bounds k false o id main is e = absurd (cc)
 chosen_bounds k true None id main is e = absurd (cc)
@@ -98,6 +99,6 @@ pub first_main_bounds : (choice : Option Hash16) (packets : List Kept) (id : Has
 first_main_bounds choice [] id main e = absurd (cc)
 first_main_bounds choice (k ∷ packets) id main e =
     ⊎_elim
-    (λ here. chosen_bounds k (is_chosen choice k) (main_in k) id main refl here)
+    (λ here. chosen_bounds k (is_chosen choice k) (main_in k.kind k.body k.set) id main refl here)
     (λ later. first_main_bounds choice packets id main later)
     (first_is (chosen_main_in choice k) (first_main_of choice packets) (id, main) e)

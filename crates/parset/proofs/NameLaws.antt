@@ -7,7 +7,13 @@ use Rattle.std.proofs.lemmas.Cmp.{nat_list_eq_equiv}
 use Rattle.std.proofs.lemmas.List.{append-nil, map-append}
 use Rattle.std.proofs.lemmas.Map.Keys.{IsDistinct-push}
 use Rattle.parfield.specs.declared.hash16.Hash16.{Hash16}
-use Rattle.parset.specs.RecoverySet.{file_views, has_name, names_by, names_checked, repeated_name, set_file_of, slices_checked}
+use Rattle.parset.specs.SharedNames.{has_name, repeated_name}
+use Rattle.parset.specs.RecoverySet.{names_checked, slices_checked}
+use Rattle.parset.specs.Slices.{file_views, set_file_of}
+use Rattle.std.specs.Prelude.{option_map}
+use Rattle.parset.specs.BodyAnswers.{answer_of}
+use Rattle.parset.specs.declared.recovery_set.SetFault.TheVariants.{NameTwice}
+use Rattle.parset.proofs.SharedNameLaws.{repeated_from, repeated_name-from}
 use Rattle.parset.specs.declared.checksums.Ifsc.{Ifsc}
 use Rattle.parset.specs.declared.description.Desc.{Desc}
 use Rattle.parset.proofs.DescribingLaws.{slices_checked_same, names_checked_same}
@@ -28,12 +34,11 @@ one_more before file d e =
     subst (IsDistinct bytes_eq) (sym (map-append (λ f. f.name) before (file ∷ [])))
     (IsDistinct-push nat_list_eq_equiv (names_of before) file.name d (name_among file.name before ∙ e))
 
-distinct_with : (before files : List Desc) → IsDistinct bytes_eq (names_of before) → repeated_name before files ≡ None
+distinct_with : (before files : List Desc) → IsDistinct bytes_eq (names_of before) → repeated_from before files ≡ None
     → IsDistinct bytes_eq (names_of (before ++ files))
-unfolding repeated_name
 distinct_with before [] d e = subst (λ files. IsDistinct bytes_eq (names_of files)) (sym (append-nil before)) d
 distinct_with before (file ∷ files) d e =
-    let next : Bool → Option Desc = λ b. cond b (Some file) (repeated_name (before ++ file ∷ []) files) in
+    let next : Bool → Option Desc = λ b. cond b (Some file) (repeated_from (before ++ file ∷ []) files) in
     let Distinct : List Desc → Type 0 = λ all. IsDistinct bytes_eq (names_of all) in
     ⊎_elim
     (λ yes. let some : Some file ≡ None = sym (ap next yes) ∙ e in absurd (cc))
@@ -41,13 +46,14 @@ distinct_with before (file ∷ files) d e =
     (distinct_with (before ++ file ∷ []) files (one_more before file d no) (sym (ap next no) ∙ e)))
     (cases_Bool (list_any (has_name file.name) before))
 
-none_repeated : (found : Option Desc) (files named : List Desc) → names_by found files ≡ Ok named → found ≡ None
+none_repeated : (found : Option Desc) (files named : List Desc)
+    → answer_of (option_map (λ file. NameTwice file.id) found) files ≡ Ok named → found ≡ None
 none_repeated None files named e = refl
 none_repeated (Some file) files named e = absurd (cc)
 
 names_differ : (files named : List Desc) → names_checked files ≡ Ok named → IsDistinct bytes_eq (names_of files)
 unfolding IsDistinct
-names_differ files named e = distinct_with [] files tt (none_repeated (repeated_name [] files) files named e)
+names_differ files named e = distinct_with [] files tt (sym (repeated_name-from files) ∙ none_repeated (repeated_name files) files named e)
 
 pub files_differ : (size : ℕ) (described named files : List Desc) → names_checked described ≡ Ok named → slices_checked size named ≡ Ok files
     → IsDistinct bytes_eq (names_of files)

@@ -3,11 +3,13 @@ use Rattle.std.proofs.Common.{◌≡◌, ◌∙◌, ℕ, Err, List, Ok, Option, 
 use Rattle.std.specs.List.{All}
 use Rattle.std.specs.List.Sorted.{IsStrictlySortedBy}
 use Rattle.std.proofs.lemmas.List.Elements.{All-same}
+use Rattle.parfield.specs.Chain.{◌>>=◌}
 use Rattle.parfield.specs.HashOrder.{id_cmp}
 use Rattle.parfield.specs.declared.hash16.Hash16.{Hash16}
 use Rattle.parsalvage.specs.declared.kept.Kept.{Kept}
 use Rattle.parset.specs.Choosing.{file_description_of, first_main_of, set_packets_of}
-use Rattle.parset.specs.RecoverySet.{◌>>=◌, AnswersSet, SetView, descriptions_of, ids_in_order, names_checked, needed, set_by, set_of, set_over, slices_checked, with_sums}
+use Rattle.parset.specs.RecoverySet.{AnswersSet, SetView, descriptions_of, ids_in_order, names_checked, needed, set_by, set_of, set_over, slices_checked}
+use Rattle.parset.specs.Slices.{with_sums}
 use Rattle.parset.specs.declared.description.Desc.{Desc}
 use Rattle.parset.specs.declared.main_packet.Main.{Main}
 use Rattle.parset.specs.declared.recovery_set.SetFault.{SetFault}

@@ -1,4 +1,5 @@
--- Fields of packet bodies (PAR2 2.0, Main, File Description, Input File Slice Checksum, Recovery Slice and Creator packet).
+-- Fields of packet bodies (PAR2 2.0: Main, File Description, Input File Slice Checksum, Recovery
+-- Slice and Creator packet).
 use Rattle.std.specs.Prelude.{ℕ, ◌-◌, ◌/◌, ◌==◌, List, length, take, drop, map, slice_range}
 use Rattle.std.specs.List.{suffix_len}
 use Rattle.std.specs.Simd.{first_chunks}

@@ -1,7 +1,12 @@
 pub mod Bodies
+pub mod BodyAnswers
 pub mod Choosing
+pub mod PacketFields
 pub mod Reasons
 pub mod RecoverySet
+pub mod SetLimits
+pub mod SharedNames
+pub mod Slices
 pub use Rattle.parfield.specs.Bytes
 pub use Rattle.parfield.specs.HashOrder
 pub use Rattle.parfield.specs.Md5

@@ -1,13 +1,16 @@
--- Why a packet body is not usable: the limits of this implementation, and what PAR2 2.0 says of each body.
-use Rattle.std.specs.Prelude.{◌≡◌, ℕ, ◌-◌, ◌%◌, ◌^◌, ◌==◌, ◌||◌, not, nat_lt, nat_le, Bool, false, Option, Some, None, Result, Ok, Err, ⊤, List, [], ◌∷◌, length, if◌then◌else◌}
+-- Why a packet body is not usable: the limits of this implementation, and what PAR2 2.0 says of
+-- each body.
+use Rattle.std.specs.Prelude.{ℕ, ◌-◌, ◌%◌, ◌^◌, ◌==◌, ◌||◌, not, nat_lt, nat_le, Bool, false}
+use Rattle.std.specs.Prelude.{Option, Some, None, List, [], ◌∷◌, ◌++◌, length, if◌then◌else◌}
 use Rattle.std.specs.List.{list_any}
 use Rattle.std.specs.Str.{bytes_eq}
 use Rattle.md5.specs.Md5.{md5}
 use Rattle.parfield.specs.declared.hash16.Hash16.{Hash16}
-use Rattle.parset.specs.Bodies.{slice_size_field, file_count_field, file_ids_of, file_length_field, name_of, pairs_of, exponent_of}
+use Rattle.parset.specs.Bodies.{slice_size_field, file_count_field, file_ids_of, file_length_field}
+use Rattle.parset.specs.Bodies.{name_of, pairs_of, exponent_of}
 use Rattle.parset.specs.declared.aside.Aside.{Aside}
-use Rattle.parset.specs.declared.aside.Aside.TheVariants.{WrongLength, SliceSize, IdTwice, SetId, Name, OverLimit}
-use Rattle.parset.specs.declared.aside.BodyFault.{BodyFault}
+use Rattle.parset.specs.declared.aside.Aside.TheVariants.{WrongLength, SliceSize, IdTwice, SetId}
+use Rattle.parset.specs.declared.aside.Aside.TheVariants.{Name, OverLimit}
 use Rattle.parset.specs.declared.aside.BodyFault.TheVariants as faults
 
 -- the number of a reason; 6 is none
@@ -23,17 +26,6 @@ reason_number OverLimit = 7
 abbrev pub first_reason : List (Bool × Aside) → Option Aside
 first_reason [] = None
 first_reason (line ∷ lines) = if line.0 then Some line.1 else first_reason lines
-
--- the fields where there is no reason against them, and else the reason
-abbrev pub answer_of : {T : Type 0} → Option Aside → T → Result T Aside
-answer_of None fields = Ok fields
-answer_of (Some reason) fields = Err reason
-
--- a reader answered so, or for want of memory
-abbrev pub AnswersBody : {T : Type 0} → Option Aside → T → Result T BodyFault → Type 0
-AnswersBody reason fields (Ok found) = (reason ≡ None) × (found ≡ fields)
-AnswersBody reason fields (Err (faults.Aside why)) = reason ≡ Some why
-AnswersBody reason fields (Err faults.Memory) = ⊤
 
 -- a body of more bytes than are kept
 abbrev pub is_over_limit : List ℕ → Bool
@@ -59,16 +51,25 @@ unfoldable pub has_repeat : List Hash16 → Bool
 has_repeat [] = false
 has_repeat (x ∷ xs) = list_any (λ y. bytes_eq x.0 y.0) xs || has_repeat xs
 
--- why a Main body of this recovery set ID is not usable
-unfoldable pub main_reason : List ℕ → Hash16 → Option Aside
-main_reason body set = first_reason (
+-- the reasons that the lengths and numbers of a Main body give
+abbrev pub early_main_lines : List ℕ → List (Bool × Aside)
+early_main_lines body =
     (is_over_limit body, OverLimit)
     ∷ (has_wrong_main_length body, WrongLength)
     ∷ (has_wrong_size body, SliceSize)
     ∷ (is_large_main body, OverLimit)
-    ∷ (has_repeat (file_ids_of body), IdTwice)
+    ∷ []
+
+-- the first of them, an early one, which takes no memory
+unfoldable pub early_main_reason : List ℕ → Option Aside
+early_main_reason body = first_reason (early_main_lines body)
+
+-- why a Main body of this recovery set ID is not usable
+unfoldable pub main_reason : List ℕ → Hash16 → Option Aside
+main_reason body set = first_reason (early_main_lines body ++ (
+    (has_repeat (file_ids_of body), IdTwice)
     ∷ (not (bytes_eq (md5 body) set.0), SetId)
-    ∷ [])
+    ∷ []))
 
 -- the name is empty, has more than 4,096 bytes, or has a zero byte inside
 unfoldable pub is_wrong_name : List ℕ → Bool

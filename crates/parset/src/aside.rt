@@ -35,7 +35,7 @@ impl Aside {
 pub enum BodyFault {
     /// The body is not usable; the first reason that applies.
     Aside(Aside),
-    /// Memory ran out; this may come in the place of any other answer.
+    /// Memory ran out: for the fields of a usable body, or while looking for an ID twice.
     Memory,
 }
 

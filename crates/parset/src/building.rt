@@ -4,7 +4,9 @@ ghost use Rattle.std.specs.List.Sorted.{IsStrictlySortedBy};
 ghost use Rattle.std.specs.Str.{bytes_eq};
 ghost use Rattle.parfield.specs.HashOrder.{id_cmp};
 ghost use Rattle.parset.specs.Choosing.{file_description_of};
-ghost use Rattle.parset.specs.RecoverySet.{AnswersSet, IsWithinLimits, file_views, set_by, set_of, set_over, slice_total, with_sums};
+ghost use Rattle.parset.specs.RecoverySet.{AnswersSet, set_by, set_of, set_over};
+ghost use Rattle.parset.specs.SetLimits.{IsWithinLimits};
+ghost use Rattle.parset.specs.Slices.{file_views, slice_total, with_sums};
 
 use crate::checksums::Ifsc;
 use crate::choosing::{asides, checksums, creator, exponent_count, first_main, set_packets};
@@ -60,10 +62,12 @@ fn set_over(
     requires limits { IsWithinLimits main.now }
     requires few { length files.now + length main.now.others ≤ 32768 }
     requires few_slices { slice_total main.now.size files.now ≤ 32768 }
-    requires first { All (λ file. file_description_of file.id (map (λ k. k.now) own.now) ≡ Some file) files.now }
+    requires first { All (λ file. file_description_of file.id (map (λ k. k.now) own.now)
+        ≡ Some file) files.now }
     requires names { IsDistinct bytes_eq (map (λ file. file.name) files.now) }
     requires rising { IsStrictlySortedBy id_cmp (map (λ file. file.id) files.now) }
-    ensures { IfOk result (λ set. set ≡ set_over id main.now (map (λ k. k.now) own.now) (map (with_sums main.now.size (map (λ k. k.now) own.now)) files.now)) }
+    ensures { IfOk result (λ set. set ≡ set_over id main.now (map (λ k. k.now) own.now)
+        (map (with_sums main.now.size (map (λ k. k.now) own.now)) files.now)) }
 {
     let sums = sums_of(alloc, main.size, own, files)?;
     Ok(RecoverySet {
@@ -86,8 +90,10 @@ fn sums_of(
     files: &[Desc],
 ) -> Result<BTreeMap<Hash16, Ifsc>, AllocError>
     requires size { 0 < size }
-    requires first { All (λ file. file_description_of file.id (map (λ k. k.now) own.now) ≡ Some file) files.now }
-    ensures { IfOk result (λ sums. file_views sums files.now ≡ map (with_sums size (map (λ k. k.now) own.now)) files.now) }
+    requires first { All (λ file. file_description_of file.id (map (λ k. k.now) own.now)
+        ≡ Some file) files.now }
+    ensures { IfOk result (λ sums. file_views sums files.now
+        ≡ map (with_sums size (map (λ k. k.now) own.now)) files.now) }
 {
     let counts = slice_counts(alloc, size, files)?;
     checksums(alloc, own, &counts)

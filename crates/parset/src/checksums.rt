@@ -1,6 +1,7 @@
-ghost use Rattle.std.specs.Prelude.{◌≡◌, IfOk, map};
-ghost use Rattle.parset.specs.Bodies.{checksums_of, pair_of};
-ghost use Rattle.parset.specs.Reasons.{AnswersBody, checksums_reason};
+ghost use Rattle.std.specs.Prelude.{◌≡◌, ◌≤◌, IfNone, IfOk, length, map};
+ghost use Rattle.parset.specs.Bodies.{checksums_of, pair_of, pairs_of};
+ghost use Rattle.parset.specs.BodyAnswers.{AnswersBody};
+ghost use Rattle.parset.specs.Reasons.{checksums_reason};
 
 use crate::aside::{Aside, BodyFault};
 use crate::fields::{hash_at, is_over_limit, u32_at};
@@ -20,24 +21,52 @@ pub struct Ifsc {
 }
 
 /// The fields of an Input File Slice Checksum body.
-#[tactic(auto, unfolding(crate::specs::Reasons::checksums_reason, crate::specs::Bodies::pairs_of))]
 pub fn ifsc_body(alloc: Global, body: &[u8]) -> Result<Ifsc, BodyFault>
     ensures answer { AnswersBody (checksums_reason body.now) (checksums_of body.now) result }
 {
+    match checksums_reason(body) {
+        Some(reason) => Err(reason.into()),
+        None => Ok(fields_in(alloc, body)?),
+    }
+}
+
+// Why an Input File Slice Checksum body is not usable.
+#[tactic(auto, unfolding(crate::specs::Reasons::checksums_reason))]
+pub fn checksums_reason(body: &[u8]) -> Option<Aside>
+    ensures reason { result ≡ checksums_reason body.now }
+    ensures long { IfNone result (16 ≤ length body.now) }
+{
     if is_over_limit(body) {
-        return Err(Aside::OverLimit.into());
+        return Some(Aside::OverLimit);
     }
     if body.len() < 16 || (body.len() - 16) % 20 != 0 {
-        return Err(Aside::WrongLength.into());
+        return Some(Aside::WrongLength);
     }
-    let (pairs, _) = body[16..].as_chunks::<20>();
-    if pairs.len() > SLICES_LIMIT {
-        return Err(Aside::OverLimit.into());
+    if pairs_in(body).len() > SLICES_LIMIT {
+        return Some(Aside::OverLimit);
     }
+    None
+}
+
+// The fields of a body that is long enough for them.
+fn fields_in(alloc: Global, body: &[u8]) -> Result<Ifsc, AllocError>
+    requires { 16 ≤ length body.now }
+    ensures { IfOk result (λ fields. fields ≡ checksums_of body.now) }
+{
     Ok(Ifsc {
         id: hash_at(body, 0),
-        sums: Sequence::from_vec(sums_of(alloc, pairs)?),
+        sums: Sequence::from_vec(sums_of(alloc, pairs_in(body))?),
     })
+}
+
+// The sums of the slices, in twenty bytes each.
+#[tactic(auto, unfolding(crate::specs::Bodies::pairs_of))]
+fn pairs_in(body: &[u8]) -> &[[u8; 20]]
+    requires { 16 ≤ length body.now }
+    ensures { map pair_of result.now ≡ pairs_of body.now }
+{
+    let (pairs, _) = body[16..].as_chunks::<20>();
+    pairs
 }
 
 // The sums of each slice.

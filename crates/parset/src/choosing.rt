@@ -1,10 +1,14 @@
-ghost use Rattle.std.specs.Prelude.{◌≡◌, ◌==◌, ℕ, count_by, length, map, is_some, IfOk, OnOk, Some, None, if◌then◌else◌};
+ghost use Rattle.std.specs.Prelude.{◌≡◌, ◌==◌, ℕ, count_by, length, map, is_some, IfOk, OnOk, Some};
+ghost use Rattle.std.specs.Prelude.{None, if◌then◌else◌};
 ghost use Rattle.std.specs.List.{list_any};
 ghost use Rattle.std.specs.Option.{option_or};
 ghost use Rattle.std.specs.Str.{bytes_eq};
 ghost use Rattle.std.specs.BTreeMap.{get};
 ghost use Rattle.parfield.specs.HashOrder.{id_cmp};
-ghost use Rattle.parset.specs.Choosing.{all_exponents, chosen_main_in, has_exponent, only_if, first_main_of, set_packets_of, file_description_of, file_sums_of, exponent_count_of, first_creator_of, asides_of};
+ghost use Rattle.parset.specs.Choosing.{all_exponents, chosen_main_in, has_exponent, only_if};
+ghost use Rattle.parset.specs.Choosing.{first_main_of, set_packets_of, file_description_of};
+ghost use Rattle.parset.specs.Choosing.{file_sums_of, exponent_count_of, first_creator_of};
+ghost use Rattle.parset.specs.Choosing.{asides_of};
 
 use crate::checksums::Ifsc;
 use crate::description::Desc;
@@ -44,14 +48,16 @@ pub fn set_packets<'a>(
     packets: &'a [Kept],
     set: Hash16,
 ) -> Result<Vec<&'a Kept>, AllocError>
-    ensures { IfOk result (λ own. map (λ k. k.now) own.items ≡ set_packets_of set packets.entry.now) }
+    ensures { IfOk result (λ own. map (λ k. k.now) own.items
+        ≡ set_packets_of set packets.entry.now) }
 {
     packets.iter().filter(|kept| kept.set == set).collect(alloc)
 }
 
 // The first usable description of each file ID.
 pub fn descriptions(alloc: Global, own: &[&Kept]) -> Result<BTreeMap<Hash16, Desc>, AllocError>
-    ensures { IfOk result (λ found. (id : Hash16) → get id_cmp found id ≡ file_description_of id (map (λ k. k.now) own.now)) }
+    ensures { IfOk result (λ found. (id : Hash16) → get id_cmp found id
+        ≡ file_description_of id (map (λ k. k.now) own.now)) }
 {
     let mut found = BTreeMap::new(alloc);
     for kept in own {
@@ -68,7 +74,8 @@ pub fn checksums(
     own: &[&Kept],
     counts: &BTreeMap<Hash16, u64>,
 ) -> Result<BTreeMap<Hash16, Ifsc>, AllocError>
-    ensures { IfOk result (λ found. (id : Hash16) (count : ℕ) → get id_cmp counts.now id ≡ Some count
+    ensures { IfOk result (λ found. (id : Hash16) (count : ℕ)
+        → get id_cmp counts.now id ≡ Some count
         → get id_cmp found id ≡ file_sums_of id count (map (λ k. k.now) own.now)) }
 {
     let mut found = BTreeMap::new(alloc);
@@ -149,7 +156,8 @@ fn put_first<T: Drop>(
 
 // Whether the sums are as many as the slices of their file.
 fn is_counted(sums: &Ifsc, counts: &BTreeMap<Hash16, u64>) -> bool
-    ensures { result ≡ is_some (only_if (λ count. length sums.now.sums == count) (get id_cmp counts.now sums.now.id)) }
+    ensures { result ≡ is_some (only_if (λ count. length sums.now.sums == count)
+        (get id_cmp counts.now sums.now.id)) }
 {
     match counts.get(&sums.id) {
         Some(count) => sums.sums.len() as u64 == *count,

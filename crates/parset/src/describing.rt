@@ -1,5 +1,6 @@
 ghost use Rattle.std.specs.Prelude.{◌≡◌, [], ◌∷◌, ◌++◌, map, IfOk, option_map};
-ghost use Rattle.parset.specs.RecoverySet.{AnswersSet, descriptions_of, names_checked, repeated_name};
+ghost use Rattle.parset.specs.RecoverySet.{AnswersSet, descriptions_of, names_checked};
+ghost use Rattle.parset.specs.SharedNames.{repeated_name};
 
 use crate::choosing::descriptions;
 use crate::description::Desc;
@@ -57,7 +58,8 @@ pub fn names_checked(alloc: Global, files: Sequence<Desc>) -> Result<Sequence<De
 
 // The ID of the first file whose name a file before has.
 fn repeated_name(alloc: Global, files: &[Desc]) -> Result<Option<Hash16>, AllocError>
-    ensures { IfOk result (λ found. found ≡ option_map (λ file. file.id) (repeated_name [] files.now)) }
+    ensures { IfOk result (λ found. found
+        ≡ option_map (λ file. file.id) (repeated_name files.now)) }
 {
     let mut names = BTreeSet::new(alloc);
     for file in files {

@@ -1,11 +1,12 @@
-ghost use Rattle.std.specs.Prelude.{◌≡◌, ◌≤◌, length};
+ghost use Rattle.std.specs.Prelude.{◌≡◌, ◌≤◌, length, IfNone, IfOk};
 ghost use Rattle.parset.specs.Bodies.{description_of, name_of};
-ghost use Rattle.parset.specs.Reasons.{AnswersBody, description_reason, is_wrong_name};
+ghost use Rattle.parset.specs.BodyAnswers.{AnswersBody};
+ghost use Rattle.parset.specs.Reasons.{description_reason, is_wrong_name};
 
 use crate::aside::{Aside, BodyFault};
 use crate::fields::{hash_at, is_over_limit, trimmed, u64_at};
 use parfield::{Hash16, Sequence};
-use std::alloc::Global;
+use std::alloc::{AllocError, Global};
 
 // The most bytes of a name.
 const NAME_LIMIT: usize = 4_096;
@@ -29,30 +30,48 @@ pub struct Desc {
 }
 
 /// The fields of a File Description body.
-#[tactic(auto, unfolding(crate::specs::Reasons::description_reason, crate::specs::Bodies::file_length_field))]
 pub fn desc_body(alloc: Global, body: &[u8]) -> Result<Desc, BodyFault>
     ensures answer { AnswersBody (description_reason body.now) (description_of body.now) result }
 {
+    match description_reason(body) {
+        Some(reason) => Err(reason.into()),
+        None => Ok(fields_in(alloc, body)?),
+    }
+}
+
+// Why a File Description body is not usable.
+#[tactic(auto, unfolding(crate::specs::Reasons::description_reason, crate::specs::Bodies::file_length_field))]
+pub fn description_reason(body: &[u8]) -> Option<Aside>
+    ensures reason { result ≡ description_reason body.now }
+    ensures long { IfNone result (56 ≤ length body.now) }
+{
     if is_over_limit(body) {
-        return Err(Aside::OverLimit.into());
+        return Some(Aside::OverLimit);
     }
     if body.len() < 56 || body.len() % 4 != 0 {
-        return Err(Aside::WrongLength.into());
+        return Some(Aside::WrongLength);
     }
-    let name = name_in(body);
-    if is_wrong_name(name) {
-        return Err(Aside::Name.into());
+    if is_wrong_name(name_in(body)) {
+        return Some(Aside::Name);
     }
-    let length = u64_at(body, 48);
-    if length >= LENGTH_LIMIT {
-        return Err(Aside::OverLimit.into());
+    if u64_at(body, 48) >= LENGTH_LIMIT {
+        return Some(Aside::OverLimit);
     }
+    None
+}
+
+// The fields of a body that is long enough for them.
+#[tactic(auto, unfolding(crate::specs::Bodies::file_length_field))]
+fn fields_in(alloc: Global, body: &[u8]) -> Result<Desc, AllocError>
+    requires { 56 ≤ length body.now }
+    ensures { IfOk result (λ fields. fields ≡ description_of body.now) }
+{
     Ok(Desc {
         id: hash_at(body, 0),
         whole: hash_at(body, 16),
         front: hash_at(body, 32),
-        length,
-        name: Sequence::from_vec(Vec::from_slice(alloc, name)?),
+        length: u64_at(body, 48),
+        name: Sequence::from_vec(Vec::from_slice(alloc, name_in(body))?),
     })
 }
 

@@ -1,6 +1,10 @@
-ghost use Rattle.std.specs.Prelude.{◌≡◌, ◌≤◌, false, length, map, IfOk};
-ghost use Rattle.parset.specs.Bodies.{file_count_field, file_ids_of, hash_of, main_of, slice_size_field};
-ghost use Rattle.parset.specs.Reasons.{AnswersBody, has_repeat, has_wrong_main_length, has_wrong_size, is_large_main, main_reason};
+ghost use Rattle.std.specs.Prelude.{◌≡◌, ◌≤◌, false, length, map, IfErr, IfNone, IfOk, None};
+ghost use Rattle.parset.specs.Bodies.{file_count_field, file_ids_of, hash_of, main_of};
+ghost use Rattle.parset.specs.Bodies.{slice_size_field};
+ghost use Rattle.parset.specs.BodyAnswers.{AnswersBodyAfter};
+ghost use Rattle.parset.specs.Reasons.{early_main_reason, has_repeat};
+ghost use Rattle.parset.specs.Reasons.{has_wrong_main_length, has_wrong_size, is_large_main};
+ghost use Rattle.parset.specs.Reasons.{main_reason};
 
 use crate::aside::{Aside, BodyFault};
 use crate::fields::{is_over_limit, u32_at, u64_at};
@@ -26,29 +30,55 @@ pub struct Main {
 }
 
 /// The fields of a Main body in a packet of this recovery set ID.
-#[tactic(auto, unfolding(crate::specs::Reasons::main_reason))]
 pub fn main_body(alloc: Global, body: &[u8], set: Hash16) -> Result<Main, BodyFault>
-    ensures answer { AnswersBody (main_reason body.now set) (main_of body.now) result }
+    ensures answer { AnswersBodyAfter (early_main_reason body.now) (main_reason body.now set)
+        (main_of body.now) result }
 {
-    if is_over_limit(body) {
-        return Err(Aside::OverLimit.into());
+    match main_reason(alloc, body, set)? {
+        Some(reason) => Err(reason.into()),
+        None => Ok(fields_in(alloc, body)?),
     }
-    if has_wrong_main_length(body) {
-        return Err(Aside::WrongLength.into());
-    }
-    if has_wrong_size(body) {
-        return Err(Aside::SliceSize.into());
-    }
-    if is_large_main(body) {
-        return Err(Aside::OverLimit.into());
+}
+
+// Why a Main body in a packet of this recovery set ID is not usable.
+#[tactic(auto, unfolding(crate::specs::Reasons::main_reason, crate::specs::Reasons::early_main_reason))]
+pub fn main_reason(alloc: Global, body: &[u8], set: Hash16) -> Result<Option<Aside>, AllocError>
+    ensures reason { IfOk result (λ reason. reason ≡ main_reason body.now set) }
+    ensures memory { IfErr result (λ _. early_main_reason body.now ≡ None) }
+    ensures early { IfOk result (λ reason. reason ≡ None → early_main_reason body.now ≡ None) }
+    ensures long { IfOk result (λ reason. reason ≡ None → has_wrong_main_length body.now ≡ false) }
+{
+    if let Some(reason) = early_main_reason(body) {
+        return Ok(Some(reason));
     }
     if repeats(alloc, file_ids(body))? {
-        return Err(Aside::IdTwice.into());
+        return Ok(Some(Aside::IdTwice));
     }
     if Md5::digest(body) != set.0 {
-        return Err(Aside::SetId.into());
+        return Ok(Some(Aside::SetId));
     }
-    Ok(fields_in(alloc, body)?)
+    Ok(None)
+}
+
+// The first reason that the lengths and numbers of a Main body give.
+#[tactic(auto, unfolding(crate::specs::Reasons::early_main_reason))]
+fn early_main_reason(body: &[u8]) -> Option<Aside>
+    ensures reason { result ≡ early_main_reason body.now }
+    ensures long { IfNone result (has_wrong_main_length body.now ≡ false) }
+{
+    if is_over_limit(body) {
+        return Some(Aside::OverLimit);
+    }
+    if has_wrong_main_length(body) {
+        return Some(Aside::WrongLength);
+    }
+    if has_wrong_size(body) {
+        return Some(Aside::SliceSize);
+    }
+    if is_large_main(body) {
+        return Some(Aside::OverLimit);
+    }
+    None
 }
 
 // Whether the body ends within a field or an ID, or has fewer IDs than its count says.

@@ -1,13 +1,16 @@
-ghost use Rattle.std.specs.Prelude.{◌≡◌, Option, IfOk};
-ghost use Rattle.parset.specs.Choosing.{aside_in, checksums_in, creator_in, description_in, exponent_in, main_in, reason_in, usable};
-ghost use Rattle.parset.specs.Reasons.{AnswersBody};
+ghost use Rattle.std.specs.Prelude.{◌≡◌, true, Option, None, is_some, IfErr, IfOk};
+ghost use Rattle.parfield.specs.declared.kind.Kind.TheVariants as kind;
+ghost use Rattle.parset.specs.Choosing.{aside_in, creator_in};
+ghost use Rattle.parset.specs.PacketFields.{checksums_in, creator_text_in, description_in};
+ghost use Rattle.parset.specs.PacketFields.{exponent_in, main_in, reason_in, usable};
+ghost use Rattle.parset.specs.BodyAnswers.{AnswersBodyAfter};
 ghost use Rattle.parset.specs.declared.aside.Aside.{Aside};
 
 use crate::aside::{Aside, BodyFault};
-use crate::checksums::{Ifsc, ifsc_body};
-use crate::creator::creator_body;
-use crate::description::{Desc, desc_body};
-use crate::main_packet::{Main, main_body};
+use crate::checksums::{Ifsc, checksums_reason, ifsc_body};
+use crate::creator::{creator_body, creator_reason};
+use crate::description::{Desc, desc_body, description_reason};
+use crate::main_packet::{Main, main_body, main_reason};
 use crate::recovery_set::SetAside;
 use crate::recovery_slice::slice_body;
 use parfield::{Hash16, Kind, Sequence};
@@ -16,7 +19,7 @@ use std::alloc::{AllocError, Global};
 
 // The fields of a usable Main packet.
 pub fn read_main(alloc: Global, kept: &Kept) -> Result<Option<Main>, AllocError>
-    ensures { IfOk result (λ found. found ≡ main_in kept.now) }
+    ensures { IfOk result (λ found. found ≡ main_in kept.now.kind kept.now.body kept.now.set) }
 {
     match (kept.kind, &kept.body) {
         (Kind::Main, KeptBody::Whole(body)) => usable(main_body(alloc, body.as_slice(), kept.set)),
@@ -26,7 +29,9 @@ pub fn read_main(alloc: Global, kept: &Kept) -> Result<Option<Main>, AllocError>
 
 // The fields of a usable FileDesc packet.
 pub fn read_description(alloc: Global, kept: &Kept) -> Result<Option<Desc>, AllocError>
-    ensures { IfOk result (λ found. found ≡ description_in kept.now) }
+    ensures found { IfOk result (λ found. found ≡ description_in kept.now.kind kept.now.body) }
+    ensures memory { IfErr result (λ _.
+        is_some (description_in kept.now.kind kept.now.body) ≡ true) }
 {
     match (kept.kind, &kept.body) {
         (Kind::FileDesc, KeptBody::Whole(body)) => usable(desc_body(alloc, body.as_slice())),
@@ -36,7 +41,9 @@ pub fn read_description(alloc: Global, kept: &Kept) -> Result<Option<Desc>, Allo
 
 // The fields of a usable IFSC packet.
 pub fn read_checksums(alloc: Global, kept: &Kept) -> Result<Option<Ifsc>, AllocError>
-    ensures { IfOk result (λ found. found ≡ checksums_in kept.now) }
+    ensures found { IfOk result (λ found. found ≡ checksums_in kept.now.kind kept.now.body) }
+    ensures memory { IfErr result (λ _.
+        is_some (checksums_in kept.now.kind kept.now.body) ≡ true) }
 {
     match (kept.kind, &kept.body) {
         (Kind::Ifsc, KeptBody::Whole(body)) => usable(ifsc_body(alloc, body.as_slice())),
@@ -46,7 +53,9 @@ pub fn read_checksums(alloc: Global, kept: &Kept) -> Result<Option<Ifsc>, AllocE
 
 // The text of a usable Creator packet, where it is not empty.
 pub fn read_creator(alloc: Global, kept: &Kept) -> Result<Option<Sequence<u8>>, AllocError>
-    ensures { IfOk result (λ text. text ≡ creator_in kept.now) }
+    ensures text { IfOk result (λ text. text ≡ creator_in kept.now) }
+    ensures memory { IfErr result (λ _.
+        is_some (creator_text_in kept.now.kind kept.now.body) ≡ true) }
 {
     match (kept.kind, &kept.body) {
         (Kind::Creator, KeptBody::Whole(body)) => {
@@ -59,7 +68,7 @@ pub fn read_creator(alloc: Global, kept: &Kept) -> Result<Option<Sequence<u8>>, 
 
 // The exponent of a RecvSlic packet that is usable in a set of this slice size.
 pub fn read_exponent(kept: &Kept, size: u64) -> Option<u32>
-    ensures { result ≡ exponent_in size kept.now }
+    ensures { result ≡ exponent_in size kept.now.kind kept.now.body }
 {
     match kept.kind {
         Kind::RecvSlic => slice_body(kept.body.front(), kept.body.len(), size).ok(),
@@ -69,7 +78,8 @@ pub fn read_exponent(kept: &Kept, size: u64) -> Option<u32>
 
 // The packet with the reason why it is put aside, in a set of this slice size.
 pub fn read_aside(alloc: Global, kept: &Kept, size: u64) -> Result<Option<SetAside>, AllocError>
-    ensures { IfOk result (λ found. found ≡ aside_in size kept.now) }
+    ensures aside { IfOk result (λ found. found ≡ aside_in size kept.now) }
+    ensures memory { IfErr result (λ _. kept.now.kind ≡ kind.Main) }
 {
     let reason = reason_of(alloc, kept, size)?;
     Ok(reason.map(|reason| SetAside {
@@ -81,39 +91,33 @@ pub fn read_aside(alloc: Global, kept: &Kept, size: u64) -> Result<Option<SetAsi
 
 // Why the body is not usable in a set of this slice size.
 fn reason_of(alloc: Global, kept: &Kept, size: u64) -> Result<Option<Aside>, AllocError>
-    ensures { IfOk result (λ found. found ≡ reason_in size kept.now) }
+    ensures reason { IfOk result (λ found. found
+        ≡ reason_in size kept.now.kind kept.now.body kept.now.set) }
+    ensures memory { IfErr result (λ _. kept.now.kind ≡ kind.Main) }
 {
     match (kept.kind, &kept.body) {
         (Kind::Other(_), _) => Ok(None),
         (Kind::RecvSlic, body) => Ok(slice_body(body.front(), body.len(), size).err()),
         (_, KeptBody::Front { .. }) => Ok(Some(Aside::OverLimit)),
-        (Kind::Main, KeptBody::Whole(body)) => reason(main_body(alloc, body.as_slice(), kept.set)),
-        (Kind::FileDesc, KeptBody::Whole(body)) => reason(desc_body(alloc, body.as_slice())),
-        (Kind::Ifsc, KeptBody::Whole(body)) => reason(ifsc_body(alloc, body.as_slice())),
-        (Kind::Creator, KeptBody::Whole(body)) => reason(creator_body(alloc, body.as_slice())),
+        (Kind::Main, KeptBody::Whole(body)) => main_reason(alloc, body.as_slice(), kept.set),
+        (Kind::FileDesc, KeptBody::Whole(body)) => Ok(description_reason(body.as_slice())),
+        (Kind::Ifsc, KeptBody::Whole(body)) => Ok(checksums_reason(body.as_slice())),
+        (Kind::Creator, KeptBody::Whole(body)) => Ok(creator_reason(body.as_slice())),
     }
 }
 
 // The fields, where there is no reason against them.
 fn usable<T: Drop>(answer: Result<T, BodyFault>) -> Result<Option<T>, AllocError>
-    ensures { (reason : Option Aside) (fields : T) → AnswersBody reason fields answer
+    ensures found { (early reason : Option Aside) (fields : T)
+        → AnswersBodyAfter early reason fields answer
         → IfOk result (λ found. found ≡ usable reason fields) }
+    ensures memory { (early reason : Option Aside) (fields : T)
+        → AnswersBodyAfter early reason fields answer
+        → IfErr result (λ _. is_some (usable early fields) ≡ true) }
 {
     match answer {
         Ok(fields) => Ok(Some(fields)),
         Err(BodyFault::Aside(_)) => Ok(None),
-        Err(BodyFault::Memory) => Err(AllocError),
-    }
-}
-
-// The reason, where there is one.
-fn reason<T: Drop>(answer: Result<T, BodyFault>) -> Result<Option<Aside>, AllocError>
-    ensures { (reason : Option Aside) (fields : T) → AnswersBody reason fields answer
-        → IfOk result (λ found. found ≡ reason) }
-{
-    match answer {
-        Ok(_) => Ok(None),
-        Err(BodyFault::Aside(reason)) => Ok(Some(reason)),
         Err(BodyFault::Memory) => Err(AllocError),
     }
 }

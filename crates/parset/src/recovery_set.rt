@@ -3,7 +3,8 @@ ghost use Rattle.std.specs.List.{All, IsDistinct, flat_map};
 ghost use Rattle.std.specs.List.Sorted.{IsStrictlySortedBy};
 ghost use Rattle.std.specs.Str.{bytes_eq};
 ghost use Rattle.parfield.specs.HashOrder.{id_cmp};
-ghost use Rattle.parset.specs.RecoverySet.{HasFileLimits, HasTextLimits, numbers_of_file};
+ghost use Rattle.parset.specs.SetLimits.{HasFileLimits, HasTextLimits};
+ghost use Rattle.parset.specs.Slices.{numbers_of_file};
 
 use crate::aside::Aside;
 use parfield::{Hash16, Sequence};
@@ -94,7 +95,9 @@ impl Model for RecoverySet {
     ghost use Rattle.std.specs.List.Sorted.{IsStrictlySortedBy};
     ghost use Rattle.std.specs.Str.{bytes_eq};
     ghost use Rattle.parfield.specs.HashOrder.{id_cmp};
-    ghost use Rattle.parset.specs.RecoverySet.{AreNumbered, HasFileLimits, HasTextLimits, SetView};
+    ghost use Rattle.parset.specs.RecoverySet.{SetView};
+    ghost use Rattle.parset.specs.SetLimits.{HasFileLimits, HasTextLimits};
+    ghost use Rattle.parset.specs.Slices.{AreNumbered};
 
     ghost Value = { SetView };
 
@@ -155,7 +158,7 @@ impl RecoverySet {
     }
 
     /// The slices of all files, by file ID and number.
-    #[tactic(auto, unfolding(crate::specs::RecoverySet::AreNumbered))]
+    #[tactic(auto, unfolding(crate::specs::Slices::AreNumbered))]
     pub fn slices(&self) -> &[SetSlice]
         ensures field { result.now ≡ self.now.slices }
         ensures few { length result.now ≤ 32768 }

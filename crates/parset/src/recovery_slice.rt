@@ -1,6 +1,7 @@
 ghost use Rattle.std.specs.Prelude.{◌≡◌};
 ghost use Rattle.parset.specs.Bodies.{exponent_of};
-ghost use Rattle.parset.specs.Reasons.{answer_of, slice_reason};
+ghost use Rattle.parset.specs.BodyAnswers.{answer_of};
+ghost use Rattle.parset.specs.Reasons.{slice_reason};
 
 use crate::aside::Aside;
 use crate::fields::u32_at;

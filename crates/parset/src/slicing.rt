@@ -1,7 +1,10 @@
-ghost use Rattle.std.specs.Prelude.{◌≡◌, ◌<◌, ◌≤◌, ◌++◌, map, IfOk, Option, is_some, nat_lt, option_map};
+ghost use Rattle.std.specs.Prelude.{◌≡◌, ◌<◌, ◌≤◌, ◌++◌, map, IfOk, Option, is_some, nat_lt};
+ghost use Rattle.std.specs.Prelude.{option_map};
 ghost use Rattle.std.specs.List.{flat_map};
 ghost use Rattle.parset.specs.declared.checksums.Ifsc.{Ifsc};
-ghost use Rattle.parset.specs.RecoverySet.{AnswersSet, HasCounts, file_view, file_views, set_file_of, slice_count, slice_of, slice_total, slices_checked, slices_of_file};
+ghost use Rattle.parset.specs.RecoverySet.{AnswersSet, slices_checked};
+ghost use Rattle.parset.specs.Slices.{HasCounts, file_view, file_views, set_file_of, slice_count};
+ghost use Rattle.parset.specs.Slices.{slice_of, slice_total, slices_of_file};
 
 use crate::checksums::{Ifsc, SLICES_LIMIT};
 use crate::description::Desc;
@@ -78,7 +81,8 @@ pub fn set_files(
 
 // A file as a recovery set shows it.
 fn set_file(alloc: Global, file: &Desc, known: bool) -> Result<SetFile, AllocError>
-    ensures { IfOk result (λ shown. (sums : Option Ifsc) → known ≡ is_some sums → shown ≡ set_file_of (file_view file.now sums)) }
+    ensures { IfOk result (λ shown. (sums : Option Ifsc) → known ≡ is_some sums
+        → shown ≡ set_file_of (file_view file.now sums)) }
 {
     Ok(SetFile {
         id: file.id,
@@ -98,7 +102,8 @@ pub fn set_slices(
 ) -> Result<Vec<SetSlice>, AllocError>
     requires size { 0 < size }
     requires few { slice_total size files.now ≤ 32768 }
-    ensures { IfOk result (λ slices. slices.items ≡ flat_map (slices_of_file size) (file_views sums.now files.now)) }
+    ensures { IfOk result (λ slices. slices.items
+        ≡ flat_map (slices_of_file size) (file_views sums.now files.now)) }
 {
     let mut slices = Vec::new(alloc);
     for file in files {
@@ -116,7 +121,8 @@ fn add_slices(
 ) -> Result<(), AllocError>
     requires size { 0 < size }
     requires few { slice_count size file.now.length ≤ 32768 }
-    ensures { IfOk result (λ _. slices.new.items ≡ slices.old.items ++ slices_of_file size (file_view file.now (option_map (λ c. c.now) sums.entry))) }
+    ensures { IfOk result (λ _. slices.new.items ≡ slices.old.items
+        ++ slices_of_file size (file_view file.now (option_map (λ c. c.now) sums.entry))) }
 {
     for number in 0..slice_count(size, file.length) as u32 {
         slices.push(set_slice(size, file, sums, number))?;
@@ -127,7 +133,8 @@ fn add_slices(
 // A slice of a file.
 fn set_slice(size: u64, file: &Desc, sums: Option<&Ifsc>, number: u32) -> SetSlice
     requires { number < slice_count size file.now.length }
-    ensures { result ≡ slice_of size (file_view file.now (option_map (λ c. c.now) sums.entry)) number }
+    ensures { result
+        ≡ slice_of size (file_view file.now (option_map (λ c. c.now) sums.entry)) number }
 {
     SetSlice {
         id: file.id,

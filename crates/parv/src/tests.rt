@@ -1,8 +1,15 @@
 mod describing;
 mod disk;
+mod ending;
 mod finding;
 mod fixtures;
+mod large;
 mod listing;
-mod refusals;
+mod packet_files;
+mod packet_sets;
+mod reads;
+mod rows;
 mod verifying;
+mod whole_rows;
 mod words;
+mod writers;

@@ -18,7 +18,7 @@ crc_step-odd : (r : ℕ) → r % 2 ≡ 1 → crc_step r ≡ bit_xor (r / 2) 0xED
 unfolding crc_step
 crc_step-odd r odd = rw odd
 
-in_first : (a b p : ℕ) → bit_xor (bit_xor a b) p ≡ bit_xor (bit_xor a p) b
+pub in_first : (a b p : ℕ) → bit_xor (bit_xor a b) p ≡ bit_xor (bit_xor a p) b
 in_first a b p = simp xor_laws
 
 in_second : (a b p : ℕ) → bit_xor (bit_xor a b) p ≡ bit_xor a (bit_xor b p)
@@ -57,7 +57,8 @@ unfolding crc_steps
 crc_steps-add zero n r = rw zero-add
 crc_steps-add (suc m) n r = rw suc-add (crc_steps-add m n (crc_step r))
 
-register_after-xor : (a d byte : ℕ) → register_after (bit_xor a d) byte ≡ bit_xor (register_after a byte) (crc_steps 8 d)
+pub register_after-xor : (a d byte : ℕ)
+    → register_after (bit_xor a d) byte ≡ bit_xor (register_after a byte) (crc_steps 8 d)
 unfolding register_after
 register_after-xor a d byte = rw (in_first a d byte) (crc_steps-xor 8 (bit_xor a byte) d)
 
@@ -75,7 +76,8 @@ fold-register_after-xor (x ∷ xs) a d =
     rw (register_after-xor a d x, one_byte_first (length xs) d)
     (fold-register_after-xor xs (register_after a x) (crc_steps 8 d))
 
-pub register_of-push : (bytes : List ℕ) (last : ℕ) → register_of (bytes ++ last ∷ []) ≡ register_after (register_of bytes) last
+pub register_of-push : (bytes : List ℕ) (last : ℕ)
+    → register_of (bytes ++ last ∷ []) ≡ register_after (register_of bytes) last
 unfolding register_of
 register_of-push bytes last = fold_push register_after 0xFFFFFFFF bytes last
 

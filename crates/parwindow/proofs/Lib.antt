@@ -1,4 +1,14 @@
 pub mod XorLaws
 pub mod CrcLaws
-pub mod IndexLaws
 pub mod TableLaws
+pub mod RunLaws
+pub mod MoveLaws
+pub mod RollLaws
+pub mod StopLaws
+pub mod SlideLaws
+pub mod FilterLaws
+pub mod OrderLaws
+pub mod SumLaws
+pub mod SearchLaws
+pub mod EntryLaws
+pub mod LeastLaws

@@ -1,4 +1,12 @@
 pub mod Crc32
+pub mod Entries
+pub mod FilterBits
+pub mod Filtered
 pub mod Index
+pub mod Least
+pub mod Rolled
+pub mod Slide
+pub mod Tables
+pub mod Until
 pub mod Window
 pub use Rattle.parfield.specs.Md5

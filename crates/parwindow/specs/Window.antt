@@ -7,10 +7,12 @@ pub record WindowState : Type 0 where
   pub content : List ℕ
   -- how many there may be
   pub capacity : ℕ
+  -- how many digests were taken of it
+  pub digests : ℕ
 
 -- a window without bytes
 abbrev pub empty_window : ℕ → WindowState
-empty_window size = record { content = []; capacity = size }
+empty_window size = record { content = []; capacity = size; digests = 0 }
 
 -- the content once a byte is pushed: that byte last, and the first byte gone where the window was full
 abbrev pub content_after : WindowState → ℕ → List ℕ

@@ -14,9 +14,9 @@ pub fn crc32(bytes: &[u8]) -> u32
     register ^ 0xFFFF_FFFF
 }
 
-// The register after one more byte, by one look-up in place of eight steps.
+/// The register after one more byte, by one look-up in place of eight steps.
 #[tactic(auto, using(crate::proofs::TableLaws::look_up))]
-fn after_byte(register: u32, byte: u8) -> u32
+pub fn after_byte(register: u32, byte: u8) -> u32
     ensures { result ≡ register_after register byte }
 {
     (register >> 8) ^ STEPPED_BYTES[((register ^ u32::from(byte)) & 0xFF) as usize]

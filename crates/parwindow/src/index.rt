@@ -1,6 +1,11 @@
-ghost use Rattle.std.specs.Prelude.{◌≡◌, ◌<◌, ◌≤◌, ◌%◌, ◌↔◌, length, slice_index, slice_get, IsTrue, Some, IfOk, IfSome, IfNone};
-ghost use Rattle.parwindow.specs.Index.{slice_set_of, HasCrc, IsNextMatch, NoMatch};
+ghost use Rattle.std.specs.Prelude.{◌≡◌, ◌<◌, ◌≤◌, ◌%◌, ◌↔◌, length, slice_get, IfOk, IfSome, IsTrue};
+ghost use Rattle.std.specs.Option.{IsSomeAnd};
+ghost use Rattle.parwindow.specs.Index.{slice_set_of, slice_passes, has_sums, has_crc_of, has_crc_in};
+ghost use Rattle.parwindow.specs.Least.{IsLeastFrom};
+ghost use Rattle.parwindow.specs.Slide.{HasRegister};
 
+use crate::entries::Entries;
+use crate::filter::Filter;
 use parfield::{Hash16, Sequence};
 use parset::{RecoverySet, SetSlice};
 use std::alloc::{AllocError, Global};
@@ -11,16 +16,20 @@ use std::marker::Model;
 pub struct Index {
     size: u64,
     slices: Sequence<SetSlice>,
+    filter: Filter,
+    entries: Entries,
 }
 
 impl Model for Index {
-    ghost use Rattle.parwindow.specs.Index.{SliceSet, slice_set_of, IsSliceSet};
+    ghost use Rattle.parwindow.specs.Index.{SliceSet, slice_set_of};
 
     ghost Value = { SliceSet };
 
+    ghost use Rattle.parwindow.specs.Filtered.{IsFiltered};
+
     ghost view = { λ i. slice_set_of i.size i.slices };
 
-    ghost invariant = { λ i. IsSliceSet (slice_set_of i.size i.slices) };
+    ghost invariant = { IsFiltered };
 }
 
 impl Index {
@@ -32,6 +41,8 @@ impl Index {
         Ok(Index {
             size: set.size(),
             slices: Sequence::from_vec(slices),
+            filter: Filter::of(alloc, set.slices())?,
+            entries: Entries::of(alloc, set.slices())?,
         })
     }
 
@@ -47,8 +58,7 @@ impl Index {
 
     /// How many slices there are.
     pub fn slices(&self) -> u32
-        ensures slices { result ≡ length self.now.sums_of }
-        ensures own { result ≡ length self.now.own_lengths }
+        ensures slices { result ≡ length self.now.slices }
         ensures few { result ≤ 32768 }
     {
         self.slices.len() as u32
@@ -56,8 +66,8 @@ impl Index {
 
     /// How many bytes of a slice are its file's.
     pub fn own_length(&self, slice: u32) -> u64
-        requires { slice < length self.now.sums_of }
-        ensures own { result ≡ slice_index self.now.own_lengths slice }
+        requires { slice < length self.now.slices }
+        ensures own { IsSomeAnd (slice_get self.now.slices slice) (λ own. result ≡ own.length) }
         ensures some { 0 < result }
         ensures within { result ≤ self.now.slice_size }
     {
@@ -66,39 +76,34 @@ impl Index {
 
     /// Whether some slice has this CRC-32.
     pub fn has_crc(&self, crc: u32) -> bool
-        ensures { IsTrue result ↔ HasCrc self.now crc }
+        ensures { result ≡ has_crc_in self.now crc }
     {
-        for slice in 0..self.slices() {
-            match self.sums(slice) {
-                Some((_, known)) if known == crc => return true,
-                _ => {}
-            }
-        }
-        false
+        self.filter.is_marked(crc ^ 0xFFFF_FFFF) && self.entries.has_crc(crc)
+    }
+
+    /// The first slice from a number on that has this CRC-32.
+    pub fn next_crc(&self, crc: u32, from: u32) -> Option<u32>
+        ensures found { IsLeastFrom (slice_passes self.now (has_crc_of crc)) from result }
+        ensures there { IfSome result (λ n. n < length self.now.slices) }
+    {
+        self.entries.next_crc(crc, from)
+    }
+
+    // Whether some slice has the CRC-32 of this register.
+    pub(crate) fn has_register(&self, register: u32) -> bool
+        ensures { IsTrue result ↔ HasRegister self.now register }
+    {
+        self.has_crc(register ^ 0xFFFF_FFFF)
     }
 
     /// The first slice from a number on that has both sums.
     pub fn next_match(&self, crc: u32, digest: Hash16, from: u32) -> Option<u32>
-        ensures found { IfSome result (IsNextMatch self.now crc digest from) }
-        ensures none { IfNone result (NoMatch self.now crc digest from) }
+        ensures found { IsLeastFrom (slice_passes self.now (has_sums (digest, crc))) from result }
 
         // It is the number of a slice, of which there are few.
-        ensures there { IfSome result (λ n. n < length self.now.sums_of) }
-        ensures few { length self.now.sums_of ≤ 32768 }
+        ensures there { IfSome result (λ n. n < length self.now.slices) }
+        ensures few { length self.now.slices ≤ 32768 }
     {
-        for slice in from..self.slices() {
-            if self.sums(slice) == Some((digest, crc)) {
-                return Some(slice);
-            }
-        }
-        None
-    }
-
-    // The sums of a slice, where they are known.
-    fn sums(&self, slice: u32) -> Option<(Hash16, u32)>
-        requires { slice < length self.now.sums_of }
-        ensures { slice_get self.now.sums_of slice ≡ Some result }
-    {
-        self.slices.as_slice()[slice as usize].sums
+        self.entries.next_match(crc, digest, from)
     }
 }

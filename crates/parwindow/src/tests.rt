@@ -1,7 +1,7 @@
 use super::*;
 use md5::{Digest, Md5};
-use parfield::{Hash16, Kind, Sequence};
-use parsalvage::{Kept, KeptBody};
+use parfield::{Hash16, Kind};
+use parsalvage::{Kept, KeptBody, Part};
 use parset::{RecoverySet, build};
 use std::alloc::Global;
 use std::test::Fail;
@@ -44,11 +44,26 @@ fn a_window_of_four_slides_over_six_bytes(rt: HostRuntime) -> Result<(), Fail> {
 }
 
 #[test]
+fn the_crc_follows_windows_of_any_size(rt: HostRuntime) -> Result<(), Fail> {
+    let bytes = b"\x00\xff\x00the bytes of a stream\x80";
+    for size in [1, 2, 3, 5, 16, 64usize] {
+        let mut window = Window::new(rt.alloc(), size)?;
+        for (last, &byte) in bytes.iter().enumerate() {
+            let _ = window.push(byte);
+            let first = (last + 1).saturating_sub(size);
+            assert_eq!(rt; window.crc(), crc32(&bytes[first..=last]));
+        }
+    }
+    Ok(())
+}
+
+#[test]
 fn a_window_is_full_until_it_is_cleared(rt: HostRuntime) -> Result<(), Fail> {
     let mut window = Window::new(rt.alloc(), 1)?;
     assert!(rt; !window.is_full());
     let _ = window.push(b'x');
     assert!(rt; window.is_full());
+    assert_eq!(rt; window.size(), 1);
     window.clear();
     assert_eq!(rt; window.len(), 0);
     assert_eq!(rt; window.crc(), 0);
@@ -62,14 +77,14 @@ fn a_window_is_full_until_it_is_cleared(rt: HostRuntime) -> Result<(), Fail> {
 const FILE: [u8; 16] = [7; 16];
 
 // A packet of the set.
-fn packet(set: Hash16, kind: Kind, body: Vec<u8>) -> Kept {
+fn packet(set: Hash16, kind: Kind, body: Part) -> Kept {
     Kept {
         file: 0,
         at: 0,
         length: 64 + body.len() as u64,
         set,
         kind,
-        body: KeptBody::Whole(Sequence::from_vec(body)),
+        body: KeptBody::Whole(body),
     }
 }
 
@@ -84,9 +99,9 @@ fn set_of(alloc: Global, length: u64, sums: &[u8]) -> Result<RecoverySet, Fail> 
     let mut checksums = Vec::from_slice(alloc, &FILE)?;
     checksums.extend_from_slice(sums)?;
     let packets = vec![in alloc;
-        packet(set, Kind::Main, main),
-        packet(set, Kind::FileDesc, description),
-        packet(set, Kind::Ifsc, checksums),
+        packet(set, Kind::Main, Part::from_vec(main)?),
+        packet(set, Kind::FileDesc, Part::from_vec(description)?),
+        packet(set, Kind::Ifsc, Part::from_vec(checksums)?),
     ]?;
     Ok(build(alloc, &packets, None)?)
 }
@@ -116,8 +131,40 @@ fn equal_slices_are_found_by_number(rt: HostRuntime) -> Result<(), Fail> {
     for (from, found) in [(0, Some(0)), (1, Some(1)), (2, None), (3, None)] {
         assert_eq!(rt; index.next_match(0xed82_cd11, Hash16(ABCD), from), found);
     }
+    for (from, found) in [(0, Some(0)), (1, Some(1)), (2, None)] {
+        assert_eq!(rt; index.next_crc(0xed82_cd11, from), found);
+    }
     assert_eq!(rt; index.next_match(AB_CRC, Hash16(AB), 0), Some(2));
     assert_eq!(rt; index.next_match(AB_CRC, Hash16(ABCD), 0), None);
+    Ok(())
+}
+
+#[test]
+fn pieces_stop_where_a_slice_ends(rt: HostRuntime) -> Result<(), Fail> {
+    let mut sums = Vec::new(rt.alloc());
+    for (digest, crc) in [(ABCD, 0xed82_cd11u32), (AB, AB_CRC)] {
+        sums.extend_from_slice(&digest)?;
+        sums.extend_from_slice(&crc.to_le_bytes())?;
+    }
+    let set = set_of(rt.alloc(), 6, &sums)?;
+    let index = Index::new(rt.alloc(), &set)?;
+    let mut window = Window::new(rt.alloc(), 4)?;
+    for byte in *b"xyab" {
+        let _ = window.push(byte);
+    }
+    for (bytes, count, seen) in [
+        (&b"cdxx"[..], 2, true),
+        (b"", 0, true),
+        (b"xabcdab\0\0xx", 5, true),
+        (b"ab\0\0xx", 4, true),
+        (b"xx", 2, false),
+        (b"a stream without a slic", 23, false),
+        (b"abcd", 4, true),
+    ] {
+        assert!(rt; window.is_full());
+        assert_eq!(rt; window.push_until(&index, bytes), count);
+        assert_eq!(rt; index.has_crc(window.crc()), seen);
+    }
     Ok(())
 }
 

@@ -1,6 +1,6 @@
 use super::*;
-use parfield::{Kind, Sequence};
-use parsalvage::{Kept, KeptBody};
+use parfield::Kind;
+use parsalvage::{Kept, KeptBody, Part};
 
 // A packet of this kind and set at this offset, with this body.
 fn kept_at(at: u64, set: Hash16, kind: Kind, body: KeptBody) -> Kept {
@@ -16,7 +16,7 @@ fn kept_at(at: u64, set: Hash16, kind: Kind, body: KeptBody) -> Kept {
 
 // A packet of this kind and set, whose body is held whole.
 fn kept(alloc: Global, set: Hash16, kind: Kind, body: &[u8]) -> Result<Kept, AllocError> {
-    let body = Sequence::from_vec(Vec::from_slice(alloc, body)?);
+    let body = Part::from_vec(Vec::from_slice(alloc, body)?)?;
     Ok(kept_at(0, set, kind, KeptBody::Whole(body)))
 }
 
@@ -26,9 +26,9 @@ fn kept_main(alloc: Global, size: u64, count: u32, ids: &[u8]) -> Result<Kept, A
     kept(alloc, Hash16(Md5::digest(&body)), Kind::Main, &body)
 }
 
-// The FileDesc packet of a file of this ID and name.
-fn kept_desc(alloc: Global, set: Hash16, id: u8, name: &[u8; 4]) -> Result<Kept, AllocError> {
-    let mut body = vec![in alloc; id; 16]?;
+// The FileDesc packet of a file of this ID and name, of 6 bytes.
+fn kept_desc(alloc: Global, set: Hash16, id: &[u8; 16], name: &[u8]) -> Result<Kept, AllocError> {
+    let mut body = Vec::from_slice(alloc, id)?;
     body.extend_from_slice(&[2; 32])?;
     body.extend_from_slice(&6_u64.to_le_bytes())?;
     body.extend_from_slice(name)?;
@@ -56,7 +56,7 @@ fn fault_of(
     let mut packets = Vec::new(alloc);
     packets.push(main)?;
     for (id, name) in names {
-        packets.push(kept_desc(alloc, set, *id, name)?)?;
+        packets.push(kept_desc(alloc, set, &[*id; 16], *name)?)?;
     }
     Ok(build(alloc, &packets, None).err())
 }
@@ -71,7 +71,7 @@ fn slices_take_the_first_sums_of_the_right_number(rt: HostRuntime) -> Result<(),
     packets.push(kept_sums(rt.alloc(), Hash16([8; 16]), &[8, 8])?)?;
     packets.push(kept_sums(rt.alloc(), set, &[3, 4])?)?;
     packets.push(kept_sums(rt.alloc(), set, &[5, 6])?)?;
-    packets.push(kept_desc(rt.alloc(), set, 1, b"name")?)?;
+    packets.push(kept_desc(rt.alloc(), set, &[1; 16], b"name")?)?;
     let built = build(rt.alloc(), &packets, None).ok().ok_or("set")?;
     assert_eq!(rt; built.id(), set);
     assert_eq!(rt; built.size(), 4);
@@ -180,5 +180,67 @@ fn bodies_that_are_too_long_to_be_held(rt: HostRuntime) -> Result<(), Fail> {
     let asides = [aside(0), aside(1), aside(2), aside(3)];
     assert_eq!(rt; built.aside(), asides.as_slice());
     assert_eq!(rt; (built.have(), built.creator()), (1, None));
+    Ok(())
+}
+
+#[test]
+fn a_usable_set_puts_aside_a_packet_for_each_reason(rt: HostRuntime) -> Result<(), Fail> {
+    let main = kept_main(rt.alloc(), 4, 1, &[1])?;
+    let set = main.set;
+    let mut packets = Vec::new(rt.alloc());
+    let mut asides = Vec::new(rt.alloc());
+    for (kind, letter, letters, zeros, reason) in [
+        (Kind::Main, 0, 0, 11, Aside::WrongLength),
+        (Kind::Main, 0, 0, 12, Aside::SliceSize),
+        (Kind::Main, 4, 8, 4, Aside::OverLimit),
+        (Kind::Main, 4, 1, 43, Aside::IdTwice),
+        (Kind::Main, 4, 1, 27, Aside::SetId),
+        (Kind::FileDesc, 0, 0, 55, Aside::WrongLength),
+        (Kind::FileDesc, 0, 0, 56, Aside::Name),
+        (Kind::FileDesc, 255, 57, 3, Aside::OverLimit),
+        (Kind::Ifsc, 0, 0, 15, Aside::WrongLength),
+        (Kind::Ifsc, 0, 0, 655_396, Aside::OverLimit),
+        (Kind::RecvSlic, 0, 0, 9, Aside::WrongLength),
+        (Kind::RecvSlic, 255, 4, 4, Aside::OverLimit),
+        (Kind::Creator, 0, 0, 1_048_577, Aside::OverLimit),
+    ] {
+        let mut body = vec![in rt.alloc(); letter; letters]?;
+        body.extend_from_slice(&vec![in rt.alloc(); 0; zeros]?)?;
+        let at = asides.len() as u64;
+        let whole = KeptBody::Whole(Part::from_vec(body)?);
+        packets.push(kept_at(at, set, kind, whole))?;
+        asides.push(SetAside {
+            file: 0,
+            at,
+            reason,
+        })?;
+    }
+    packets.push(main)?;
+    packets.push(kept_desc(rt.alloc(), set, &[1; 16], b"name")?)?;
+    let built = build(rt.alloc(), &packets, None).ok().ok_or("set")?;
+    assert_eq!(rt; built.aside(), asides.as_slice());
+    assert_eq!(rt; (built.id(), built.files().len()), (set, 1));
+    Ok(())
+}
+
+#[test]
+fn a_set_of_more_than_1000_packets_is_built(rt: HostRuntime) -> Result<(), Fail> {
+    let mut main = main_bytes(rt.alloc(), 4, 1_100, &[])?;
+    for high in 1..11_u8 {
+        for low in 1..111_u8 {
+            main.extend_from_slice(&[low, high, 1, 1])?;
+            main.extend_from_slice(&[0; 12])?;
+        }
+    }
+    let set = Hash16(Md5::digest(&main));
+    let mut packets = Vec::new(rt.alloc());
+    let (ids, _) = main.get(12..).ok_or("ids")?.as_chunks::<16>();
+    for id in ids {
+        packets.push(kept_desc(rt.alloc(), set, id, &id[..4])?)?;
+    }
+    packets.push(kept(rt.alloc(), set, Kind::Main, &main)?)?;
+    let built = build(rt.alloc(), &packets, None).ok().ok_or("set")?;
+    assert_eq!(rt; (built.files().len(), built.slices().len()), (1_100, 2_200));
+    assert!(rt; built.aside().is_empty());
     Ok(())
 }

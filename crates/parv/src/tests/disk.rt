@@ -1,102 +1,109 @@
-use crate::command::{Command, Plan};
-use crate::memory_sink::MemSink;
-use crate::messages::ending;
-use crate::runner::run;
-use crate::status::{End, Status};
-use crate::tests::fixtures::*;
-use crate::words::plan;
-use parfield::Text;
+use crate::tests::fixtures::{packet_file, shelf_of, words_of};
+use parreport::{Command, End, MemSink, Plan, Status, ending, plan, run};
 use parshelf::{DiskShelf, OpenFault, Shelf};
+use std::alloc::AllocError;
 use std::test::Fail;
 use std::{fs, process};
 
-// A file of this test's own with these bytes; gives its path.
-fn written(rt: &HostRuntime, name: &str, bytes: &[u8]) -> Result<String, Fail> {
+// Packet files, and their lines without the path that each but the last begins with.
+static LISTED: [(&str, &[&str], &str); 3] = [
+    (
+        "creator",
+        &[" 0 64 creator 00000000000000000000000000000000\n"],
+        "packets 1\n",
+    ),
+    (
+        "packet_in_packet",
+        &[
+            " 3 132 recvslic 00000000000000000000000000000000\n",
+            " 71 64 creator 00000000000000000000000000000000\n",
+        ],
+        "packets 2\n",
+    ),
+    (
+        "g",
+        &[
+            " 0 92 main 617cdc72ba53d94fe713fea2ae18f776\n",
+            " 92 128 filedesc 617cdc72ba53d94fe713fea2ae18f776\n",
+            " 220 120 ifsc 617cdc72ba53d94fe713fea2ae18f776\n",
+            " 340 76 recvslic 617cdc72ba53d94fe713fea2ae18f776\n",
+        ],
+        "packets 4\n",
+    ),
+];
+
+// The path of a file of this test's own.
+fn path_for(rt: &HostRuntime, name: &str) -> Result<String, AllocError> {
     let number = process::id(rt.process());
-    let path = format!(in rt.alloc(); "/tmp/parv_{number}_{name}.par2")?;
-    fs::write(rt, path.as_str(), bytes)?;
-    Ok(path)
+    format!(in rt.alloc(); "/tmp/parv_{number}_{name}.par2")
 }
 
 // The plan of `packets` over one file.
 fn plan_over(rt: &HostRuntime, path: &str) -> Result<Plan, Fail> {
     let words = words_of(rt.alloc(), &["packets", path])?;
-    Ok(plan(rt.alloc(), &words).ok().ok_or("plan")?)
+    let plan = plan(rt.alloc(), &words).ok().ok_or("plan")?;
+    Ok(plan)
+}
+
+// What the plan of `packets` over one file writes.
+fn listed(rt: &HostRuntime, plan: &Plan, shelf: &mut DiskShelf) -> Result<Vec<u8>, Fail> {
+    let alloc = rt.alloc();
+    let mut scanned = shelf_of(alloc, &[], 1, 0)?;
+    let mut out = MemSink::new(alloc, 4096, 4096, false)?;
+    if shelf.count() as usize != plan.packets.len() || plan.command != Command::Packets {
+        return Err("another plan".into());
+    }
+    match run(alloc, plan, shelf, &mut scanned, &mut out) {
+        Ok(Status::Listed) => Ok(Vec::from_slice(alloc, out.text())?),
+        _ => Err("no list".into()),
+    }
+}
+
+// The files on disk of the plan of `packets` over one file.
+fn on_disk(rt: &HostRuntime, plan: &Plan) -> Result<DiskShelf, OpenFault> {
+    if plan.packets.len() != 1 {
+        return Err(OpenFault::Memory);
+    }
+    DiskShelf::open(rt, rt.alloc(), plan.packets.as_slice())
+}
+
+// The text of `packets` over a file that is written first, and taken away again.
+fn listed_from(rt: &HostRuntime, path: &str, bytes: &[u8]) -> Result<Vec<u8>, Fail> {
+    let plan = plan_over(rt, path)?;
+    fs::write(rt, path, bytes)?;
+    let mut shelf = on_disk(rt, &plan)?;
+    fs::remove_file(rt, path)?;
+    listed(rt, &plan, &mut shelf)
 }
 
 #[test]
 fn packets_of_files_on_disk(rt: HostRuntime) -> Result<(), Fail> {
-    let mut body = Vec::from_slice(rt.alloc(), &[0; 4])?;
-    body.append(&mut creator(rt.alloc())?)?;
-    let mut around = Vec::from_slice(rt.alloc(), b"xyz")?;
-    around.append(&mut packet(rt.alloc(), &ZEROS, &RECV_SLIC, &body)?)?;
-    for (name, bytes, lines) in [
-        (
-            "alone",
-            creator(rt.alloc())?,
-            [" 0 64 creator 00000000000000000000000000000000\n"].as_slice(),
-        ),
-        (
-            "around",
-            around,
-            [
-                " 3 132 recvslic 00000000000000000000000000000000\n",
-                " 71 64 creator 00000000000000000000000000000000\n",
-            ]
-            .as_slice(),
-        ),
-        (
-            "set",
-            set_of_one_file(rt.alloc())?,
-            [
-                " 0 92 main 617cdc72ba53d94fe713fea2ae18f776\n",
-                " 92 128 filedesc 617cdc72ba53d94fe713fea2ae18f776\n",
-                " 220 120 ifsc 617cdc72ba53d94fe713fea2ae18f776\n",
-                " 340 76 recvslic 617cdc72ba53d94fe713fea2ae18f776\n",
-            ]
-            .as_slice(),
-        ),
-    ] {
-        let path = written(&rt, name, &bytes)?;
-        let plan = plan_over(&rt, path.as_str())?;
-        assert_eq!(rt; plan.packets.len(), 1);
-        let mut shelf = DiskShelf::open(&rt, rt.alloc(), plan.packets.as_slice())?;
-        fs::remove_file(&rt, path.as_str())?;
-        let none: [Text; 0] = [];
-        let mut scanned = DiskShelf::open(&rt, rt.alloc(), &none)?;
-        let mut out = MemSink::new(rt.alloc(), 4096, 4096, false)?;
-        assert_eq!(rt; shelf.count() as usize, plan.packets.len());
-        assert_eq!(rt; plan.command, Command::Packets);
-        let result = run(rt.alloc(), &plan, &mut shelf, &mut scanned, &mut out);
-        assert_eq!(rt; result, Ok(Status::Listed));
-        // Each line but the last begins with the path and a blank.
+    for (name, lines, last) in &LISTED {
+        let bytes = packet_file(name).ok_or("no such packet file")?;
+        let path = path_for(&rt, name)?;
+        let listed = listed_from(&rt, path.as_str(), bytes)?;
         let mut text = String::new(rt.alloc());
-        for line in lines {
+        for line in *lines {
             text.push_str(path.as_str())?;
             text.push_str(line)?;
         }
-        let count = lines.len();
-        text.push_str(format!(in rt.alloc(); "packets {count}\n")?.as_str())?;
-        assert_eq!(rt; std::str::from_utf8(out.text()), Ok(text.as_str()));
+        text.push_str(last)?;
+        assert_eq!(rt; std::str::from_utf8(&listed), Ok(text.as_str()));
     }
     Ok(())
 }
 
 #[test]
 fn a_packet_file_that_is_not_there(rt: HostRuntime) -> Result<(), Fail> {
-    let plan = plan_over(&rt, "/tmp/parv_has_no_such_file.par2")?;
-    assert_eq!(rt; plan.packets.len(), 1);
-    let fault = DiskShelf::open(&rt, rt.alloc(), plan.packets.as_slice()).err();
+    let path = "/tmp/parv_has_no_such_file.par2";
+    let plan = plan_over(&rt, path)?;
+    let fault = on_disk(&rt, &plan).err();
     assert_eq!(rt; fault, Some(OpenFault::CannotOpen(0)));
-    let (status, line) = ending(
-        rt.alloc(),
-        &End::CannotOpen,
-        "/tmp/parv_has_no_such_file.par2",
-    )?;
+    let (status, line) = ending(rt.alloc(), &End::CannotOpen, path)?;
     assert_eq!(rt; status, 6);
     assert_eq!(rt;
-        line.as_slice(),
-        b"parv: cannot open /tmp/parv_has_no_such_file.par2\n".as_slice()
+        std::str::from_utf8(&line),
+        Ok("parv: cannot open /tmp/parv_has_no_such_file.par2\n")
     );
     Ok(())
 }

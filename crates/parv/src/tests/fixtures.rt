@@ -1,136 +1,44 @@
-// Packets and files that the tests run on, and runs over files in memory.
+// Runs of command lines over files in memory.
 ghost use Rattle.std.specs.Prelude.{◌≡◌, ◌<◌, ◌^◌, length, IfOk};
 ghost use Rattle.parshelf.specs.Memory.{shelf_state_of};
-ghost use Rattle.parv.specs.Outcomes.{HasLimit};
+ghost use Rattle.parreport.specs.Commands.{HasLimit};
 
-use crate::arguments::{argument_of, reads_scanned};
-use crate::command::Plan;
-use crate::memory_sink::MemSink;
-use crate::messages::ending;
-use crate::runner::run;
-use crate::status::End;
-use crate::words::plan;
-use md5::{Digest, Md5};
+use crate::tests::packet_files::PACKET_FILES;
+use crate::tests::packet_sets::PACKET_SETS;
+use parreport::{End, MemSink, Plan, RunFault, ending, plan, reads_scanned, run, run_end};
 use parshelf::{MemShelf, Shelf};
 use std::alloc::{AllocError, Global};
 use std::process::Abort;
 use std::test::Fail;
 
-/// The set ID of the set with the one file `g.bin`, as it is written and as bytes.
-pub const SET: &str = "617cdc72ba53d94fe713fea2ae18f776";
-
-pub const SET_ID: [u8; 16] = *b"\x61\x7c\xdc\x72\xba\x53\xd9\x4f\xe7\x13\xfe\xa2\xae\x18\xf7\x76";
-
-/// The file ID of `g.bin`.
-pub const FILE_ID: [u8; 16] = *b"\xe3\x45\xea\xcb\xe6\x56\xc0\xe6\xfd\x20\xed\x63\xcb\x7b\x06\x2c";
-
-pub const ZEROS: [u8; 16] = [0; 16];
-
-pub const MAIN: [u8; 16] = *b"PAR 2.0\0Main\0\0\0\0";
-
-pub const FILE_DESC: [u8; 16] = *b"PAR 2.0\0FileDesc";
-
-pub const IFSC: [u8; 16] = *b"PAR 2.0\0IFSC\0\0\0\0";
-
-pub const RECV_SLIC: [u8; 16] = *b"PAR 2.0\0RecvSlic";
-
-pub const CREATOR: [u8; 16] = *b"PAR 2.0\0Creator\0";
-
-/// A packet with the length and the hash that its fields ask for.
-pub fn packet(
-    alloc: Global,
-    set: &[u8; 16],
-    kind: &[u8; 16],
-    body: &[u8],
-) -> Result<Vec<u8>, AllocError> {
-    let length = (body.len() as u64).saturating_add(64);
-    let mut hasher = Md5::new();
-    hasher.update(set);
-    hasher.update(kind);
-    hasher.update(body);
-    let mut bytes = Vec::from_slice(alloc, b"PAR2\0PKT")?;
-    bytes.extend_from_slice(&length.to_le_bytes())?;
-    bytes.extend_from_slice(&hasher.finalize())?;
-    bytes.extend_from_slice(set)?;
-    bytes.extend_from_slice(kind)?;
-    bytes.extend_from_slice(body)?;
-    Ok(bytes)
-}
-
-/// A Creator packet of set ID zeros, without a body.
-pub fn creator(alloc: Global) -> Result<Vec<u8>, AllocError> {
-    packet(alloc, &ZEROS, &CREATOR, b"")
-}
-
-/// The body of a Main packet with slices of 4 bytes.
-pub fn main_body(
-    alloc: Global,
-    recovery: &[[u8; 16]],
-    others: &[[u8; 16]],
-) -> Result<Vec<u8>, AllocError> {
-    let mut body = Vec::from_slice(alloc, &[4, 0, 0, 0, 0, 0, 0, 0])?;
-    body.extend_from_slice(&(recovery.len().min(1000) as u32).to_le_bytes())?;
-    for id in recovery {
-        body.extend_from_slice(id)?;
+// The bytes of the file that goes by this name among some.
+fn named(files: &'static [(&'static str, &'static [u8])], name: &str) -> Option<&'static [u8]> {
+    for (known, bytes) in files {
+        if *known == name {
+            return Some(*bytes);
+        }
     }
-    for id in others {
-        body.extend_from_slice(id)?;
+    None
+}
+
+/// The bytes of the packet file that goes by this name.
+pub fn packet_file(name: &str) -> Option<&'static [u8]> {
+    match named(&PACKET_FILES, name) {
+        Some(bytes) => Some(bytes),
+        None => named(&PACKET_SETS, name),
     }
-    Ok(body)
 }
 
-/// The body of a FileDesc packet of a file with this content but another length field; the name is
-/// filled up by the caller.
-pub fn description(
-    alloc: Global,
-    id: &[u8; 16],
-    content: &[u8],
-    length: u64,
-    name: &[u8],
-) -> Result<Vec<u8>, AllocError> {
-    let digest = Md5::digest(content);
-    let mut body = Vec::from_slice(alloc, id)?;
-    body.extend_from_slice(&digest)?;
-    body.extend_from_slice(&digest)?;
-    body.extend_from_slice(&length.to_le_bytes())?;
-    body.extend_from_slice(name)?;
-    Ok(body)
-}
-
-/// The Main packet of the set with slices of 4 bytes and the one file `g.bin`.
-pub fn main_of_one_file(alloc: Global) -> Result<Vec<u8>, AllocError> {
-    packet(alloc, &SET_ID, &MAIN, &main_body(alloc, &[FILE_ID], &[])?)
-}
-
-/// The FileDesc packet of `g.bin`, which holds `abcdefgh`.
-pub fn description_of_one_file(alloc: Global) -> Result<Vec<u8>, AllocError> {
-    let body = description(alloc, &FILE_ID, b"abcdefgh", 8, b"g.bin\0\0\0")?;
-    packet(alloc, &SET_ID, &FILE_DESC, &body)
-}
-
-/// The IFSC packet of `g.bin`.
-pub fn sums_of_one_file(alloc: Global) -> Result<Vec<u8>, AllocError> {
-    let mut sums = Vec::from_slice(alloc, &FILE_ID)?;
-    sums.extend_from_slice(&Md5::digest(b"abcd"))?;
-    sums.extend_from_slice(b"\x11\xcd\x82\xed")?;
-    sums.extend_from_slice(&Md5::digest(b"efgh"))?;
-    sums.extend_from_slice(b"\xb5\x7b\x33\x08")?;
-    packet(alloc, &SET_ID, &IFSC, &sums)
-}
-
-/// The set with slices of 4 bytes and the one file `g.bin`, which holds `abcdefgh`: Main, FileDesc,
-/// IFSC, and a RecvSlic packet whose data has another length than a slice.
-pub fn set_of_one_file(alloc: Global) -> Result<Vec<u8>, AllocError> {
-    let mut bytes = main_of_one_file(alloc)?;
-    bytes.append(&mut description_of_one_file(alloc)?)?;
-    bytes.append(&mut sums_of_one_file(alloc)?)?;
-    bytes.append(&mut packet(
-        alloc,
-        &SET_ID,
-        &RECV_SLIC,
-        b"\0\0\0\0\0\x01\x02\x03\x04\x05\x06\x07",
-    )?)?;
-    Ok(bytes)
+/// The bytes of the packet files that go by these names.
+pub fn packet_files(
+    rt: &(impl Abort + AllocGlobal),
+    names: &[&str],
+) -> Result<Vec<&'static [u8]>, Fail> {
+    let mut files = Vec::new(rt.alloc());
+    for name in names {
+        files.push(packet_file(name).ok_or("no such packet file")?)?;
+    }
+    Ok(files)
 }
 
 /// The words of a command line.
@@ -163,9 +71,11 @@ pub fn shelf_of(
     Ok(MemShelf::new(all, piece, numbers))
 }
 
-/// How a run ended: its exit status, what it wrote, and the line for standard error.
+/// How a command line ended: the fault of its run, its exit status, what it wrote, and the line for
+/// standard error.
 #[derive(Drop)]
 pub struct Outcome {
+    pub fault: Option<RunFault>,
     pub status: u8,
     pub text: Vec<u8>,
     pub line: Vec<u8>,
@@ -180,17 +90,6 @@ pub struct Files<'p, 's> {
     pub piece: usize,
     pub failing_packet: u64,
     pub failing_scanned: u64,
-}
-
-/// Files of which no read fails.
-pub fn sound<'p, 's>(packets: &'p [&'p [u8]], scanned: &'s [&'s [u8]]) -> Files<'p, 's> {
-    Files {
-        packets,
-        scanned,
-        piece: 64,
-        failing_packet: 0,
-        failing_scanned: 0,
-    }
 }
 
 /// The room of a sink in memory.
@@ -208,15 +107,6 @@ pub const ROOMY: Room = Room {
     takes_zero: false,
 };
 
-/// Runs a command over packet files.
-pub fn ran(
-    rt: &(impl Abort + AllocGlobal),
-    words: &[&str],
-    packets: &[&[u8]],
-) -> Result<Outcome, Fail> {
-    ran_with(rt, words, sound(packets, &[]), ROOMY)
-}
-
 /// Runs a command over files, with a sink of some room.
 pub fn ran_with(
     rt: &(impl Abort + AllocGlobal),
@@ -231,6 +121,7 @@ pub fn ran_with(
         Err(fault) => {
             let (status, line) = ending(alloc, &End::Plan(fault), "")?;
             Ok(Outcome {
+                fault: None,
                 status,
                 text: Vec::new(alloc),
                 line,
@@ -259,16 +150,14 @@ pub fn ran_plan(
         assert_eq!(rt; scanned.count() as usize, plan.scanned.len());
     }
     let result = run(alloc, plan, &mut packets, &mut scanned, &mut out);
-    let (end, argument) = match result {
-        Ok(status) => (End::Status(status), None),
-        Err(fault) => (End::Run(fault), argument_of(plan, fault)),
-    };
+    let (end, argument) = run_end(plan, result);
     let argument = match argument {
         Some(argument) => argument.as_str(),
         None => "",
     };
     let (status, line) = ending(alloc, &end, argument)?;
     Ok(Outcome {
+        fault: result.err(),
         status,
         text: Vec::from_slice(alloc, out.text())?,
         line,

@@ -1,7 +1,8 @@
 use Rattle.std.proofs.Common.{IsTrue}
 use Rattle.parshelf.specs.Reads.{ReadsOnly}
-use Rattle.parfind.specs.Searches.{BelongsTo}
-use Rattle.parfind.specs.Steps.{scan_of, steps_left}
+use Rattle.parfind.specs.Finders.{BelongsTo}
+use Rattle.parfind.specs.Moves.{steps_left}
+use Rattle.parfind.specs.Steps.{scan_of}
 use Rattle.parfind.specs.Surveys.{KeepsMarks}
 use Rattle.parfind.proofs.SurveyLaws.{SurveyedTo}
 use Rattle.parfind.proofs.scanning.survey.Given as goal

@@ -1,5 +1,5 @@
 use Rattle.parshelf.specs.Memory.{shelf_state_of}
-use Rattle.parfind.specs.Searches.{BelongsTo}
+use Rattle.parfind.specs.Finders.{BelongsTo}
 use Rattle.parfind.proofs.tests.gives.Given as goal
 
 abbrev pub invariant-loop-want : goal.invariant-loop-want

@@ -4,7 +4,8 @@ use Rattle.std.proofs.lemmas.List.Elements.{All-same}
 use Rattle.std.specs.List.Sorted.{IsStrictlySortedBy}
 use Rattle.parfield.specs.HashOrder.{id_cmp}
 use Rattle.parset.specs.Choosing.{file_description_of}
-use Rattle.parset.specs.RecoverySet.{ids_in_order, set_over, with_sums}
+use Rattle.parset.specs.RecoverySet.{ids_in_order, set_over}
+use Rattle.parset.specs.Slices.{with_sums}
 use Rattle.std.specs.List.{IsDistinct}
 use Rattle.std.specs.Str.{bytes_eq}
 use Rattle.parset.proofs.NameLaws.{files_differ}

@@ -4,7 +4,7 @@ use Rattle.std.specs.Str.{bytes_eq}
 use Rattle.std.specs.List.Sorted.{IsStrictlySortedBy}
 use Rattle.parfield.specs.HashOrder.{id_cmp}
 use Rattle.std.proofs.lemmas.Result.{IfOk-from_err}
-use Rattle.parset.specs.RecoverySet.{file_views, set_file_of, slices_of_file, with_sums}
+use Rattle.parset.specs.Slices.{file_views, set_file_of, slices_of_file, with_sums}
 use Rattle.parset.proofs.CreatorLaws.{text_within}
 use Rattle.parset.proofs.NameLaws.{shown_names}
 use Rattle.parset.proofs.FileLaws.{set_over_is}

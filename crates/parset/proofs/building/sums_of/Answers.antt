@@ -1,6 +1,6 @@
 use Rattle.std.proofs.Common.{◌≡◌, map}
 use Rattle.std.proofs.lemmas.Result.{IfOk-weaker}
-use Rattle.parset.specs.RecoverySet.{file_views, with_sums}
+use Rattle.parset.specs.Slices.{file_views, with_sums}
 use Rattle.parset.proofs.FileLaws.{all_told, told_length, views_are}
 use Rattle.parset.proofs.building.sums_of.Goals as goal
 

@@ -11,10 +11,10 @@ loop-kept-preserved c =
     elim c.match-branch-2.branch [
       | in-Some+in_ok-push w ↦
           ap (λ v. v.items) w.asides-is ∙ w.in_ok-push.ensures.items
-          ∙ ap (λ o. before ++ cons_option o []) (sym w.in-Some.is ∙ c.in_ok-aside.ensures)
+          ∙ ap (λ o. before ++ cons_option o []) (sym w.in-Some.is ∙ c.in_ok-aside.ensures.aside)
           ∙ filter_map_more (aside_in c.args.size) (λ k. k.now) own i k before c.loop-kept-test.true c.kept-item.is c.loop-kept.invariant
       | in_default w ↦
           ap (λ v. v.items) w.asides-is
           ∙ filter_map_same (aside_in c.args.size) (λ k. k.now) own i k before c.loop-kept-test.true c.kept-item.is c.loop-kept.invariant
-          (sym w.in_default.is ∙ c.in_ok-aside.ensures)
+          (sym w.in_default.is ∙ c.in_ok-aside.ensures.aside)
     ]

@@ -5,12 +5,12 @@ use Rattle.parset.proofs.choosing.creator.Goals as goal
 
 pub loop-kept-preserved : goal.loop-kept-preserved
 loop-kept-preserved c =
-    first_found_passes creator_in _ _ _ (sym c.in_default.is ∙ c.in_ok-text.ensures)
+    first_found_passes creator_in _ _ _ (sym c.in_default.is ∙ c.in_ok-text.ensures.text)
     (map_drop_at (λ k. k.now) c.args.own.now c.loop-kept.kept-index c.kept-item.result c.loop-kept-test.true c.kept-item.is)
     ∙ c.loop-kept.invariant
 
 pub returns-in-Some : goal.returns-in-Some
 returns-in-Some c =
-    first_found_stops creator_in _ _ _ _ (sym c.in-Some.is ∙ c.in_ok-text.ensures)
+    first_found_stops creator_in _ _ _ _ (sym c.in-Some.is ∙ c.in_ok-text.ensures.text)
     (map_drop_at (λ k. k.now) c.args.own.now c.loop-kept.kept-index c.kept-item.result c.loop-kept-test.true c.kept-item.is)
     ∙ c.loop-kept.invariant

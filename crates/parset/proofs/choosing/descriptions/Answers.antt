@@ -4,7 +4,8 @@ use Rattle.std.specs.Option.{option_or}
 use Rattle.std.specs.Str.{bytes_eq}
 use Rattle.parfield.specs.HashOrder.{id_cmp}
 use Rattle.parsalvage.specs.declared.kept.Kept.{Kept}
-use Rattle.parset.specs.Choosing.{description_in, only_if}
+use Rattle.parset.specs.Choosing.{only_if}
+use Rattle.parset.specs.PacketFields.{description_in}
 use Rattle.parset.specs.declared.description.Desc.{Desc}
 use Rattle.parset.proofs.ChoosingLaws.{first_found_more, first_found_same}
 use Rattle.parset.proofs.choosing.descriptions.Goals as goal
@@ -14,16 +15,16 @@ pub loop-kept-preserved : goal.loop-kept-preserved
 loop-kept-preserved c q =
     let own = c.args.own.now in let i = c.loop-kept.kept-index in let k = c.kept-item.result in
     let passes = λ (d : Desc). bytes_eq d.id.0 q.0 in
-    let find = λ (k : Kept). only_if passes (description_in k) in
+    let find = λ (k : Kept). only_if passes (description_in k.kind k.body) in
     let before = get id_cmp c.loop-kept.found q in
     elim c.match-branch-2.branch [
       | in-Some+in_ok-put_first w ↦
           first_found_more find (λ k. k.now) own i k before (get id_cmp c.match-branch-2.found q)
           c.loop-kept-test.true c.kept-item.is (c.loop-kept.invariant q)
           (ap (λ m. get id_cmp m q) w.found-is ∙ w.in_ok-put_first.ensures q
-          ∙ ap (λ o. option_or before (only_if passes o)) (sym w.in-Some.is ∙ c.in_ok-description.ensures))
+          ∙ ap (λ o. option_or before (only_if passes o)) (sym w.in-Some.is ∙ c.in_ok-description.ensures.found))
       | in_default w ↦
           ap (λ m. get id_cmp m q) w.found-is
           ∙ first_found_same find (λ k. k.now) own i k before c.loop-kept-test.true c.kept-item.is (c.loop-kept.invariant q)
-          (ap (only_if passes) (sym w.in_default.is ∙ c.in_ok-description.ensures))
+          (ap (only_if passes) (sym w.in_default.is ∙ c.in_ok-description.ensures.found))
     ]

@@ -1,5 +1,6 @@
 use Rattle.std.proofs.Common.{◌≡◌, ◌++◌, map, drop, Ok}
-use Rattle.parset.specs.RecoverySet.{◌>>=◌, descriptions_of}
+use Rattle.parfield.specs.Chain.{◌>>=◌}
+use Rattle.parset.specs.RecoverySet.{descriptions_of}
 use Rattle.parset.proofs.describing.described.Given as goal
 
 -- the files so far stand before those that are left

@@ -1,10 +1,10 @@
-use Rattle.std.proofs.Common.{◌≡◌, ◌∙◌, Some, Bool, Bor, List, ap, cond, false, get_or, nat_cmp, not, option_map, sym, take, true, ℕ}
+use Rattle.std.proofs.Common.{◌≡◌, ◌∙◌, rules, Some, Bool, Bor, List, ap, cond, false, get_or, nat_cmp, not, option_map, sym, take, true, ℕ}
 use Rattle.std.specs.BTreeSet.{contains_by}
 use Rattle.std.specs.Cmp.Lexicographic.{slice_cmp}
 use Rattle.std.specs.List.{list_any}
 use Rattle.std.specs.Ordering.{is_eq}
-use Rattle.parset.specs.RecoverySet.{has_name}
-use Rattle.parset.proofs.DescribingLaws.{name_more, repeated_here, repeated_later, repeated_nowhere}
+use Rattle.parset.specs.SharedNames.{has_name}
+use Rattle.parset.proofs.SharedNameLaws.{name_more, repeated_here, repeated_later, repeated_name-from, repeated_nowhere}
 use Rattle.parset.proofs.describing.repeated_name.Goals as goal
 
 not_true : (a b : Bool) → b ≡ not a → b ≡ true → a ≡ false
@@ -39,6 +39,9 @@ loop-file-preserved c =
           ∙ ap (λ own. cond (is_eq (slice_cmp nat_cmp own name)) true (contains_by (λ k. slice_cmp nat_cmp name k.now) c.loop-file.names)) c.as_slice.ensures);
       distinct = c.loop-file.invariant.distinct ∙ repeated_later files i file c.loop-file-test.true lacks;
     }
+
+pub loop-file-init : goal.loop-file-init
+loop-file-init c = record { names = λ name. search rules; distinct = repeated_name-from c.args.files.now }
 
 pub returns : goal.returns
 returns c =

@@ -1,7 +1,7 @@
 use Rattle.std.proofs.Common.{◌++◌, ◌∷◌, ◌∙◌, [], ap, append_assoc, map, option_map, sym, zero-add}
 use Rattle.std.specs.List.{range_with_len}
 use Rattle.std.proofs.lemmas.List.FromFn.{map-range_with_len_more}
-use Rattle.parset.specs.RecoverySet.{file_view, slice_of}
+use Rattle.parset.specs.Slices.{file_view, slice_of}
 use Rattle.parset.proofs.slicing.add_slices.Goals as goal
 
 pub loop-number-preserved : goal.loop-number-preserved

@@ -1,6 +1,6 @@
 use Rattle.std.proofs.Common.{◌≡◌, ◌++◌, map, option_map}
 use Rattle.std.specs.List.{range_with_len}
-use Rattle.parset.specs.RecoverySet.{file_view, slice_of}
+use Rattle.parset.specs.Slices.{file_view, slice_of}
 use Rattle.parset.proofs.slicing.add_slices.Given as goal
 
 abbrev pub invariant-loop-number : goal.invariant-loop-number

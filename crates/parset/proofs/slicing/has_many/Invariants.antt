@@ -1,5 +1,5 @@
 use Rattle.std.proofs.Common.{◌≡◌, ◌+◌, take}
-use Rattle.parset.specs.RecoverySet.{slice_total}
+use Rattle.parset.specs.Slices.{slice_total}
 use Rattle.parset.proofs.slicing.has_many.Given as goal
 
 abbrev pub invariant-loop-file : goal.invariant-loop-file

@@ -1,7 +1,7 @@
 use Rattle.std.proofs.Common.{◌≡◌}
 use Rattle.std.specs.BTreeMap.{get}
 use Rattle.parfield.specs.HashOrder.{id_cmp}
-use Rattle.parset.specs.RecoverySet.{set_file_of}
+use Rattle.parset.specs.Slices.{set_file_of}
 use Rattle.parset.proofs.FileLaws.{map_views_more, viewed}
 use Rattle.parset.proofs.slicing.set_files.Goals as goal
 

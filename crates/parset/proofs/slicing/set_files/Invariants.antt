@@ -1,5 +1,5 @@
 use Rattle.std.proofs.Common.{◌≡◌, map, take}
-use Rattle.parset.specs.RecoverySet.{file_views, set_file_of}
+use Rattle.parset.specs.Slices.{file_views, set_file_of}
 use Rattle.parset.proofs.slicing.set_files.Given as goal
 
 abbrev pub invariant-loop-file : goal.invariant-loop-file

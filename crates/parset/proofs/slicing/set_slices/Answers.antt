@@ -1,5 +1,5 @@
 use Rattle.std.proofs.Common.{ap}
-use Rattle.parset.specs.RecoverySet.{file_view, slices_of_file}
+use Rattle.parset.specs.Slices.{file_view, slices_of_file}
 use Rattle.parset.proofs.FileLaws.{flat_map_views_more}
 use Rattle.parset.proofs.slicing.set_slices.Goals as goal
 

@@ -3,7 +3,7 @@ use Rattle.std.specs.BTreeMap.{get}
 use Rattle.std.specs.Ordering.{is_eq}
 use Rattle.std.proofs.lemmas.List.{take_all}
 use Rattle.parfield.specs.HashOrder.{id_cmp}
-use Rattle.parset.specs.RecoverySet.{HasCounts}
+use Rattle.parset.specs.Slices.{HasCounts}
 use Rattle.parset.proofs.FileLaws.{counts_more}
 use Rattle.parset.proofs.slicing.slice_counts.Goals as goal
 

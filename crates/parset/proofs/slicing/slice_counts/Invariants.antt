@@ -1,5 +1,5 @@
 use Rattle.std.proofs.Common.{take}
-use Rattle.parset.specs.RecoverySet.{HasCounts}
+use Rattle.parset.specs.Slices.{HasCounts}
 use Rattle.parset.proofs.slicing.slice_counts.Given as goal
 
 abbrev pub invariant-loop-file : goal.invariant-loop-file

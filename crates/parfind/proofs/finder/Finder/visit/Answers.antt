@@ -1,61 +1,110 @@
-use Rattle.std.proofs.Common.{sym, ap, ◌∙◌, arith, Err}
+use Rattle.std.proofs.Common.{sym, ap, subst, arith, Some}
 use Rattle.std.proofs.lemmas.Result.{err_from_is_err_and}
-use Rattle.parfind.specs.Searches.{FinderState}
-use Rattle.parfind.proofs.AdvanceLaws.{fewer_past, fewer_after}
-use Rattle.parfind.proofs.WalkLaws.{greater-end, greater-same}
-use Rattle.parfind.proofs.VisitLaws.{visit_hit, visit_past, visit_end, visit_fault}
+use Rattle.parshelf.specs.Shelf.{ShelfState}
+use Rattle.parwindow.specs.Index.{SliceSet}
+use Rattle.parfind.specs.Finders.{FinderState}
+use Rattle.parfind.specs.Moves.{StepMoves}
+use Rattle.parfind.specs.Steps.{scan_of}
+use Rattle.parfind.specs.Visits.{StepSees, step_of, count_of}
+use Rattle.parfind.specs.Looking.{IsNextPlace}
+use Rattle.parfind.proofs.MoveLaws.{greater-end, greater-same}
+use Rattle.parfind.proofs.PassLaws.{look_moves, look_sees, look_advances, look_faults}
+use Rattle.parfind.proofs.ReachLaws.{hands_more}
+use Rattle.parfind.proofs.StepLaws.{still_steady}
+use Rattle.parfind.proofs.VisitLaws.{visit_ended, visit_stopped, visit_stays, visit_ends}
 use Rattle.parfind.proofs.finder.Finder.visit.Goals as goal
 
-pub returns-then-self-count-clause-answer : goal.returns-then-self-count-clause-answer
-returns-then-self-count-clause-answer g c = λ steady.
+pub returns-then-self-count-clause-moves : goal.returns-then-self-count-clause-moves
+returns-then-self-count-clause-moves g c =
     let s = g.H.Shelf.state c.args.shelf.now in
     let same = ap (λ (f : FinderState). f.cursor) c.self.view_is in
     let none = rw same at c.in_default.ensures.none in
     let end = greater-end s.lengths c.args.self.now.cursor (omega (arith, c.if-self-count.true, c.count.ensures, ap (λ (f : FinderState). f.cursor.file) c.self.view_is)) in
-    visit_end c.args.index.now s (g.met.H.Shelf.in_order c.args.shelf.now) steady c.args.self.now.cursor _
-    none (rw (end, c.count-then-self-count.ensures))
+    visit_ends s.lengths c.args.self.now.cursor _ none (rw (end, c.count-then-self-count.ensures))
 
-pub returns-else-self-count-clause-answer : goal.returns-else-self-count-clause-answer
-returns-else-self-count-clause-answer g c = λ steady.
+pub returns-else-self-count-clause-moves : goal.returns-else-self-count-clause-moves
+returns-else-self-count-clause-moves g c =
     let s = g.H.Shelf.state c.args.shelf.now in
     let same = ap (λ (f : FinderState). f.cursor) c.self.view_is in
     let none = rw same at c.in_default.ensures.none in
     let end = greater-same s.lengths c.args.self.now.cursor (omega (arith, c.if-self-count.false, c.count.ensures, ap (λ (f : FinderState). f.cursor.file) c.self.view_is)) in
-    visit_end c.args.index.now s (g.met.H.Shelf.in_order c.args.shelf.now) steady c.args.self.now.cursor _
-    none (sym end)
+    visit_ends s.lengths c.args.self.now.cursor _ none (sym end)
 
-pub returns-in_err-slice-clause-answer : goal.returns-in_err-slice-clause-answer
-returns-in_err-slice-clause-answer g c = λ steady.
+pub returns-then-self-count-clause-sees : goal.returns-then-self-count-clause-sees
+returns-then-self-count-clause-sees g c = λ steady.
+    let same = ap (λ (f : FinderState). f.cursor) c.self.view_is in
+    let none = rw same at c.in_default.ensures.none in
+    visit_ended c.args.index.now (g.H.Shelf.state c.args.shelf.now) (g.met.H.Shelf.in_order c.args.shelf.now) steady c.args.self.now.cursor none
+
+pub returns-else-self-count-clause-sees : goal.returns-else-self-count-clause-sees
+returns-else-self-count-clause-sees g c = λ steady.
+    let same = ap (λ (f : FinderState). f.cursor) c.self.view_is in
+    let none = rw same at c.in_default.ensures.none in
+    visit_ended c.args.index.now (g.H.Shelf.state c.args.shelf.now) (g.met.H.Shelf.in_order c.args.shelf.now) steady c.args.self.now.cursor none
+
+pub returns-in_err-arrive-clause-moves : goal.returns-in_err-arrive-clause-moves
+returns-in_err-arrive-clause-moves g c =
+    let s : ShelfState = g.H.Shelf.state c.args.shelf.now in
     let same = ap (λ (f : FinderState). f.cursor) c.self.view_is in
     let found = rw same at c.in-Some.ensures.found in
     let failed = err_from_is_err_and c.from_residual.result c.from_residual.ensures.1 in
-    visit_fault c.args.index.now (g.H.Shelf.state c.args.shelf.now) (g.met.H.Shelf.in_order c.args.shelf.now) steady c.args.self.now.cursor
-    (g.H.Shelf.state c.look.new.shelf) c.in-Some.at c.from_residual.result c.in_err-slice.field-0.0
-    found (failed.1 ∙ ap Err failed.2) c.in_err-slice.ensures.fault
+    subst (λ answer. StepMoves s.lengths (Some (count_of answer)) c.args.self.now.cursor (step_of answer) c.arrive.new.self.cursor) (sym failed.1)
+    (rw c.in_err-arrive.ensures.cursor (visit_stays s.lengths c.args.self.now.cursor c.in-Some.at found))
 
-pub returns-in-Some-2-clause-answer : goal.returns-in-Some-2-clause-answer
-returns-in-Some-2-clause-answer g c = λ steady.
+pub returns-in_err-arrive-clause-sees : goal.returns-in_err-arrive-clause-sees
+returns-in_err-arrive-clause-sees g c = λ steady.
+    let s : ShelfState = g.H.Shelf.state c.args.shelf.now in
     let same = ap (λ (f : FinderState). f.cursor) c.self.view_is in
     let found = rw same at c.in-Some.ensures.found in
-    visit_hit c.args.index.now (g.H.Shelf.state c.args.shelf.now) (g.met.H.Shelf.in_order c.args.shelf.now) steady c.args.self.now.cursor
-    c.in-Some.at c.in-Some-2.slice found (rw c.in-Some-2.is at (c.in_ok-slice.ensures.seen steady))
+    let failed = err_from_is_err_and c.from_residual.result c.from_residual.ensures.1 in
+    subst (λ answer. StepSees (scan_of c.args.index.now s) c.args.self.now.cursor (step_of answer) c.arrive.new.self.cursor) (sym failed.1)
+    (rw c.in_err-arrive.ensures.cursor
+    (visit_stopped c.args.index.now s (g.met.H.Shelf.in_order c.args.shelf.now) steady c.args.self.now.cursor c.in-Some.at found))
 
-pub returns-in-None-clause-answer : goal.returns-in-None-clause-answer
-returns-in-None-clause-answer g c = λ steady.
+pub returns-clause-moves : goal.returns-clause-moves
+returns-clause-moves g c =
+    let set : SliceSet = c.args.index.now in
+    let old : ShelfState = g.H.Shelf.state c.args.shelf.now in
+    let mid : ShelfState = g.H.Shelf.state c.arrive.new.shelf in
+    let new : ShelfState = g.H.Shelf.state c.look.new.shelf in
     let same = ap (λ (f : FinderState). f.cursor) c.self.view_is in
     let found = rw same at c.in-Some.ensures.found in
-    visit_past c.args.index.now (g.H.Shelf.state c.args.shelf.now) (g.met.H.Shelf.in_order c.args.shelf.now) steady c.args.self.now.cursor
-    c.in-Some.at found (rw c.in-None.is at (c.in_ok-slice.ensures.seen steady))
+    let next = subst (IsNextPlace old.lengths c.args.self.now.cursor) (sym c.in_ok-arrive.ensures.cursor) found in
+    look_moves set old mid new c.in_ok-arrive.ensures.ok c.args.self.now.cursor c.arrive.new.self.cursor c.look.new.self.cursor next c.look.result
+    c.look.ensures.moves
 
-pub returns-in-None-clause-advances : goal.returns-in-None-clause-advances
-returns-in-None-clause-advances g c =
+pub returns-clause-sees : goal.returns-clause-sees
+returns-clause-sees g c = λ steady.
+    let set : SliceSet = c.args.index.now in
+    let old : ShelfState = g.H.Shelf.state c.args.shelf.now in
+    let mid : ShelfState = g.H.Shelf.state c.arrive.new.shelf in
+    let new : ShelfState = g.H.Shelf.state c.look.new.shelf in
     let same = ap (λ (f : FinderState). f.cursor) c.self.view_is in
     let found = rw same at c.in-Some.ensures.found in
-    fewer_past c.args.index.now (g.H.Shelf.state c.args.shelf.now).lengths c.args.self.now.cursor c.in-Some.at found
+    let next = subst (IsNextPlace old.lengths c.args.self.now.cursor) (sym c.in_ok-arrive.ensures.cursor) found in
+    look_sees set old mid new c.in_ok-arrive.ensures.ok c.args.self.now.cursor c.arrive.new.self.cursor c.look.new.self.cursor next c.look.result
+    (g.met.H.Shelf.in_order c.args.shelf.now) steady c.look.ensures.moves (c.look.ensures.sees (still_steady set old mid c.in_ok-arrive.ensures.ok steady))
 
-pub returns-in-Some-2-clause-advances : goal.returns-in-Some-2-clause-advances
-returns-in-Some-2-clause-advances g c =
+pub returns-clause-advances : goal.returns-clause-advances
+returns-clause-advances g c =
+    let set : SliceSet = c.args.index.now in
+    let old : ShelfState = g.H.Shelf.state c.args.shelf.now in
+    let mid : ShelfState = g.H.Shelf.state c.arrive.new.shelf in
+    let new : ShelfState = g.H.Shelf.state c.look.new.shelf in
     let same = ap (λ (f : FinderState). f.cursor) c.self.view_is in
     let found = rw same at c.in-Some.ensures.found in
-    let there = rw c.in-Some-2.is at c.in_ok-slice.ensures.there in
-    (found.counted, there.1, fewer_after c.args.index.now (g.H.Shelf.state c.args.shelf.now).lengths c.args.self.now.cursor c.in-Some.at found c.in-Some-2.slice there.0 there.1)
+    let next = subst (IsNextPlace old.lengths c.args.self.now.cursor) (sym c.in_ok-arrive.ensures.cursor) found in
+    look_advances set old mid new c.in_ok-arrive.ensures.ok c.args.self.now.cursor c.arrive.new.self.cursor c.look.new.self.cursor next c.look.result
+    c.look.ensures.advances
+
+pub returns-clause-fault : goal.returns-clause-fault
+returns-clause-fault g c =
+    look_faults (g.H.Shelf.state c.args.shelf.now) (g.H.Shelf.state c.arrive.new.shelf) (g.H.Shelf.state c.look.new.shelf)
+    c.look.new.self.cursor.file c.look.result c.in_ok-arrive.ensures.ok c.look.ensures.fault
+
+pub returns-clause-reads : goal.returns-clause-reads
+returns-clause-reads g c =
+    let s : ShelfState = g.H.Shelf.state c.args.shelf.now in
+    let mid : ShelfState = g.H.Shelf.state c.arrive.new.shelf in
+    hands_more s.lengths s.handed mid.handed (g.H.Shelf.state c.look.new.shelf).handed c.args.self.now.fetched c.arrive.new.self.fetched c.look.new.self.fetched
+    c.in_ok-arrive.ensures.reads (rw (ap (λ (u : ShelfState). u.lengths) c.in_ok-arrive.ensures.ok) at c.look.ensures.reads)

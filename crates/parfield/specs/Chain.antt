@@ -1,0 +1,8 @@
+-- Answers chained: the `?` of the logic.
+use Rattle.std.specs.Prelude.{Result, Ok, Err}
+
+-- what follows an Ok, or the first Err
+infixl 10 ◌>>=◌
+abbrev pub ◌>>=◌ : {A B E : Type 0} → Result A E → (A → Result B E) → Result B E
+Ok x >>= f = f x
+Err e >>= f = Err e

@@ -1,0 +1,114 @@
+-- A finder that goes to the next place: its window stays with its file, or begins anew in another.
+use Rattle.std.proofs.Common.{◌≡◌, ◌≢◌, ℕ, ◌<◌, ◌≤◌, ◌^◌, [], slice_index, sym, ap, ◌∙◌, subst, arith, inl, inr}
+use Rattle.std.proofs.lemmas.Bool.{cases_eq}
+use Rattle.parshelf.specs.Shelf.{ShelfState, IsShelf, file_of}
+use Rattle.parwindow.specs.Index.{SliceSet}
+use Rattle.parwindow.specs.Window.{WindowState}
+use Rattle.parfind.specs.declared.cursor.Cursor.{Cursor}
+use Rattle.parfind.specs.declared.track.Track.{Track}
+use Rattle.parfind.specs.Finders.{FinderState, BelongsTo}
+use Rattle.parfind.specs.Looking.{IsNextPlace}
+use Rattle.parfind.specs.Places.{Place}
+use Rattle.parfind.specs.Reach.{HandsUpTo, ReadsUpTo}
+use Rattle.parfind.specs.Tracks.{IsTied, IsUnread, fetched_of, hashed_of}
+use Rattle.parfind.proofs.OrderLaws.{From, From-by_test, From-refl, is_from-true}
+use Rattle.parfind.proofs.ReachLaws.{hands_none, hands_enter}
+use Rattle.parfind.proofs.TrackLaws.{no_bytes}
+
+-- a window without bytes goes along any file
+unread_follows : (s : ShelfState) (v w : WindowState) (file offset : ℕ) (t : Track) → offset < 2 ^ 63 → v.capacity ≤ 268435456
+    → IsUnread file offset t → w ≡ record v { content = [] } → IsTied s w t
+unread_follows s v w file offset t small few unread empty =
+    subst (λ (x : WindowState). IsTied s x t) (sym empty) (record {
+      within = omega arith;
+      few = few;
+      end_fits = omega (arith, unread.end_is);
+      small = omega (arith, unread.base_is, unread.end_is);
+      behind = omega (arith, unread.base_is, unread.held_is);
+      reached = λ _. omega (arith, unread.base_is, unread.held_is, unread.end_is);
+      remembers = rw unread.digest_is tt;
+      content = λ _. no_bytes (file_of s t.file) t.held;
+      ahead = λ _. rw unread.end_is (no_bytes (file_of s t.file) t.base);
+    })
+
+module _ (f : FinderState) (set : SliceSet) (s : ShelfState) (shelf : IsShelf s) (belongs : BelongsTo f set s) (at : Cursor)
+    (next : IsNextPlace s.lengths f.cursor at) where
+  -- in one file the next place is where the cursor stands
+  next_offset_same : f.cursor.file ≡ at.file → f.cursor.offset ≡ at.offset
+  next_offset_same same =
+      let on : From f.cursor at = From-by_test f.cursor at next.onward in
+      let place : slice_index s.lengths f.cursor.file ≡ slice_index s.lengths at.file = ap (λ (n : ℕ). slice_index s.lengths n) same in
+      let inside : f.cursor.offset < slice_index s.lengths f.cursor.file = omega (arith, on.by_offset same, next.there, place) in
+      let back : From at f.cursor =
+      From-by_test at f.cursor (next.least f.cursor (is_from-true f.cursor f.cursor (From-refl f.cursor)) inside) in
+      omega (arith, on.by_offset same, back.by_offset (sym same))
+
+  module _ (w : WindowState) (t : Track) (stays : f.track.file ≡ at.file → (t ≡ f.track) × (w ≡ f.window))
+      (enters : f.track.file ≢ at.file → IsUnread at.file at.offset t × (w ≡ record f.window { content = [] })) where
+    small_offset : at.offset < 2 ^ 63
+    small_offset = omega (arith, next.there, shelf.short at.file 0 next.counted)
+
+    pub enter_tied : IsTied s w t
+    enter_tied = elim (cases_eq f.track.file at.file) [
+      | inl same ↦
+          let here = stays same in
+          subst (λ (x : WindowState). IsTied s x t) (sym here.1) (subst (λ (u : Track). IsTied s f.window u) (sym here.0) belongs.tied)
+      | inr other ↦
+          let there = enters other in
+          unread_follows s f.window w at.file at.offset t small_offset belongs.tied.few there.0 there.1
+    ]
+
+    pub enter_sized : w.capacity ≡ set.slice_size
+    enter_sized = elim (cases_eq f.track.file at.file) [
+      | inl same ↦ ap (λ (x : WindowState). x.capacity) (stays same).1 ∙ belongs.sized
+      | inr other ↦ ap (λ (x : WindowState). x.capacity) (enters other).1 ∙ belongs.sized
+    ]
+
+    pub enter_file : t.file ≡ at.file
+    enter_file = elim (cases_eq f.track.file at.file) [
+      | inl same ↦ ap (λ (u : Track). u.file) (stays same).0 ∙ same
+      | inr other ↦ (enters other).0.file_is
+    ]
+
+    pub enter_held : t.held ≡ at.offset
+    enter_held = elim (cases_eq f.track.file at.file) [
+      | inl same ↦
+          let on : From f.cursor at = From-by_test f.cursor at next.onward in
+          let files : f.cursor.file ≡ at.file = omega (arith, on.by_file, belongs.behind) in
+          ap (λ (u : Track). u.held) (stays same).0 ∙ belongs.here (same ∙ sym files) ∙ next_offset_same files
+      | inr other ↦ (enters other).0.held_is
+    ]
+
+    pub enter_hands : ReadsUpTo s s f.fetched (fetched_of t)
+    enter_hands =
+        let from : f.fetched ≡ fetched_of f.track = belongs.fetched_is in
+        elim (cases_eq f.track.file at.file) [
+          | inl same ↦
+              let is : f.fetched ≡ fetched_of t = from ∙ sym (ap fetched_of (stays same).0) in
+              subst (λ (q : Place). HandsUpTo s.lengths s.handed s.handed f.fetched q) is (hands_none s.lengths s.handed f.fetched)
+          | inr other ↦
+              let on : From f.cursor at = From-by_test f.cursor at next.onward in
+              hands_enter s.lengths s.handed f.fetched (fetched_of t)
+              (omega (arith, ap (λ (p : Place). p.file) from, (enters other).0.file_is, on.by_file, belongs.behind))
+        ]
+
+    pub enter_onward : From (hashed_of f.track) (hashed_of t)
+    enter_onward = elim (cases_eq f.track.file at.file) [
+      | inl same ↦
+          let here = ap hashed_of (stays same).0 in
+          subst (From (hashed_of f.track)) (sym here) (From-refl (hashed_of f.track))
+      | inr other ↦
+          let on : From f.cursor at = From-by_test f.cursor at next.onward in
+          let file : t.file ≡ at.file = (enters other).0.file_is in
+          record {
+            by_file = omega (arith, belongs.behind, on.by_file);
+            by_offset = λ e. absurd (other (e ∙ file));
+            by_slice = λ e _. absurd (other (e ∙ file));
+          }
+    ]
+
+    pub enter_digests : w.digests ≡ f.window.digests
+    enter_digests = elim (cases_eq f.track.file at.file) [
+      | inl same ↦ ap (λ (x : WindowState). x.digests) (stays same).1
+      | inr other ↦ ap (λ (x : WindowState). x.digests) (enters other).1
+    ]

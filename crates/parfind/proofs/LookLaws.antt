@@ -1,0 +1,46 @@
+-- What a finder sees at a place whose window is there.
+use Rattle.std.proofs.Common.{◌≡◌, ℕ, ◌+◌, ◌<◌, ◌≤◌, List, length, slice_index, ap, ◌∙◌, arith, IsTrue, Option, Some, None}
+use Rattle.std.specs.Option.{unwrap_or}
+use Rattle.parshelf.specs.Shelf.{ShelfState, IsShelf, file_of}
+use Rattle.parshelf.proofs.ShelfLaws.{length-file_of}
+use Rattle.parwindow.specs.Index.{SliceSet, slice_passes, sums_of}
+use Rattle.parwindow.specs.Least.{IsLeastFrom}
+use Rattle.parwindow.specs.Window.{window_at}
+use Rattle.parfind.specs.Finders.{FinderState, BelongsTo}
+use Rattle.parfind.specs.Looking.{is_fit}
+use Rattle.parfind.specs.Moves.{IsWithin}
+use Rattle.parfind.specs.Sightings.{is_seen_in}
+use Rattle.parfind.specs.Tracks.{HasNoCrc}
+use Rattle.parfind.proofs.SeenLaws.{first_seen}
+use Rattle.parfind.proofs.TrackLaws.{whole_window}
+
+module _ (f : FinderState) (set : SliceSet) (s : ShelfState) (belongs : BelongsTo f set s) (shelf : IsShelf s) (steady : IsTrue s.is_steady)
+    (same : f.track.file ≡ f.cursor.file) where
+  -- the full window is that of the cursor's place
+  pub window_there : length f.window.content ≡ f.window.capacity
+      → f.window.content ≡ window_at set.slice_size (file_of s f.cursor.file) f.cursor.offset
+  window_there full =
+      let there : f.window.content ≡ window_at set.slice_size (file_of s f.track.file) f.track.held =
+      whole_window (file_of s f.track.file) set.slice_size f.track.held f.window.content (full ∙ belongs.sized) (belongs.tied.content steady) in
+      there ∙ ap (λ (n : ℕ). window_at set.slice_size (file_of s n) f.track.held) same
+      ∙ ap (window_at set.slice_size (file_of s f.cursor.file)) (belongs.here same)
+
+  -- the slices that fit are those that are seen
+  pub look_seen : length f.window.content ≡ f.window.capacity → (left : ℕ) → f.cursor.offset < slice_index s.lengths f.cursor.file
+      → f.cursor.offset + left ≡ slice_index s.lengths f.cursor.file → (found : Option ℕ)
+      → IsLeastFrom (slice_passes set (is_fit (sums_of f.window.content) left)) f.cursor.slice found
+      → IsLeastFrom (is_seen_in set (file_of s f.cursor.file) f.cursor.offset) f.cursor.slice found
+  look_seen full left inside all found least =
+      let file : List ℕ = file_of s f.cursor.file in
+      let whole : length file ≡ slice_index s.lengths f.cursor.file = length-file_of s f.cursor.file shelf steady in
+      first_seen set file f.cursor.offset left (sums_of f.window.content) (omega (arith, whole)) (omega (arith, whole))
+      (ap sums_of (window_there full)) f.cursor.slice found least
+
+  -- the windows that are passed
+  pub none_there : (n : ℕ) → HasNoCrc set (file_of s f.track.file) f.track.held n → HasNoCrc set (file_of s f.cursor.file) f.cursor.offset n
+  none_there n none = rw (← same, ← belongs.here same) none
+
+-- within what is left, where that is above all numbers if there is no budget
+pub within_left : (left : Option ℕ) (n most : ℕ) → n ≤ unwrap_or left most → IsWithin n left
+within_left None n most less = tt
+within_left (Some m) n most less = less

@@ -1,0 +1,73 @@
+-- How many places may have been hashed: as a search goes on there are no fewer, and one more behind one with a slice's CRC-32.
+use Rattle.std.proofs.Common.{◌≡◌, ℕ, ◌+◌, ◌<◌, ◌≤◌, true, List, [], ◌∷◌, ◌++◌, filter, length, map, refl, sym, ap, ◌∙◌, subst, arith, slice_index, Option, None, Some, inl, inr, length-append}
+use Rattle.std.proofs.lemmas.Bool.{cases_eq}
+use Rattle.parfield.specs.declared.hash16.Hash16.{Hash16}
+use Rattle.parfind.specs.declared.track.Track.{Track}
+use Rattle.parfind.specs.Tracks.{remembered, hashed_of}
+use Rattle.std.proofs.lemmas.List.Elements.{filter-append}
+use Rattle.parfind.specs.declared.cursor.Cursor.{Cursor}
+use Rattle.parfind.specs.Looking.{IsAtPlace}
+use Rattle.parfind.specs.Marks.{is_marked, marked_between}
+use Rattle.parfind.specs.Places.{Place, cursor_past, place_at, start_of, places_between}
+use Rattle.parfind.specs.Sightings.{Scan}
+use Rattle.parfind.specs.Steps.{lengths_of}
+use Rattle.parfind.proofs.OrderLaws.{From}
+use Rattle.parfind.proofs.MoveLaws.{places_then_between}
+use Rattle.parfind.proofs.PlaceLaws.{only_here, From-past}
+
+module _ (scan : Scan) (c d e : Cursor) (on : From (start_of c) d) (next : From d e) where
+  marked_split : marked_between scan c e ≡ marked_between scan c d + marked_between scan d e
+  marked_split =
+      let parts : places_between (lengths_of scan) c d ++ places_between (lengths_of scan) d e ≡ places_between (lengths_of scan) c e =
+      places_then_between (lengths_of scan) (start_of c) d on e next in
+      ap (λ (ps : List Place). length (filter (is_marked scan) ps)) (sym parts)
+      ∙ ap length (filter-append (is_marked scan) (places_between (lengths_of scan) c d) (places_between (lengths_of scan) d e))
+      ∙ length-append (filter (is_marked scan) (places_between (lengths_of scan) c d)) (filter (is_marked scan) (places_between (lengths_of scan) d e))
+
+  pub marked_rises : marked_between scan c d ≤ marked_between scan c e
+  marked_rises = omega (arith, marked_split)
+
+pub marked_more : (scan : Scan) (c d : Cursor) → From (start_of c) d → d.slice ≡ 0 → d.file < length (lengths_of scan)
+    → IsAtPlace (lengths_of scan) d → is_marked scan (place_at d) ≡ true
+    → marked_between scan c d + 1 ≡ marked_between scan c (cursor_past (place_at d))
+marked_more scan c d on first counted there marked =
+    let one : marked_between scan d (cursor_past (place_at d)) ≡ 1 =
+    ap (λ (ps : List Place). length (filter (is_marked scan) ps)) (only_here (lengths_of scan) d counted there) ∙ (rw marked refl) in
+    omega (arith, marked_split scan c d (cursor_past (place_at d)) on (From-past d), one)
+
+-- a track that stands where it stood, or further on
+
+pub remembered-most : (digest : Option Hash16) → remembered digest ≤ 1
+remembered-most None = omega arith
+remembered-most (Some d) = omega arith
+
+pub From-further : (a b : Track) → a.file ≡ b.file → a.held + remembered a.digest ≤ b.held + remembered b.digest → From (hashed_of a) (hashed_of b)
+From-further a b same more = record { by_file = omega arith; by_offset = λ _. more; by_slice = λ _ _. omega arith }
+
+-- one digest more, of a window with a slice's CRC-32, or none
+pub counted_look : (scan : Scan) (opening : Cursor) (a b : Track) (m n : ℕ) → From (start_of opening) (hashed_of a)
+    → b.file ≡ a.file → b.held ≡ a.held → n + remembered a.digest ≡ m + remembered b.digest → remembered a.digest ≤ remembered b.digest
+    → a.file < length (lengths_of scan) → a.held < slice_index (lengths_of scan) a.file
+    → (remembered a.digest < remembered b.digest → is_marked scan (record { file = a.file; offset = a.held }) ≡ true)
+    → m ≤ marked_between scan opening (hashed_of a) → n ≤ marked_between scan opening (hashed_of b)
+counted_look scan opening a b m n on file held counts kept counted there marked most = elim (cases_eq (remembered a.digest) (remembered b.digest)) [
+  | inl same ↦
+      let less : n ≤ marked_between scan opening (hashed_of a) = omega arith in
+      omega (arith, less, marked_rises scan opening (hashed_of a) (hashed_of b) on (From-further a b (sym file) (omega arith)))
+  | inr other ↦
+      let none : remembered a.digest ≡ 0 = omega (arith, remembered-most b.digest) in
+      let one : remembered b.digest ≡ 1 = omega (arith, remembered-most b.digest) in
+      let d : Cursor = record { file = a.file; offset = a.held; slice = 0 } in
+      let offset : a.held + remembered a.digest ≡ a.held = omega arith in
+      let before : hashed_of a ≡ d = ap (λ (o : ℕ). record { file = a.file; offset = o; slice = 0 }) offset in
+      let behind : b.held + remembered b.digest ≡ a.held + 1 = omega arith in
+      let after : cursor_past (place_at d) ≡ hashed_of b =
+      ap (λ (o : ℕ). record { file = a.file; offset = o; slice = 0 }) (sym behind)
+      ∙ ap (λ (f : ℕ). record { file = f; offset = b.held + remembered b.digest; slice = 0 }) (sym file) in
+      let from : From (start_of opening) d = rw before at on in
+      let more : marked_between scan opening d + 1 ≡ marked_between scan opening (cursor_past (place_at d)) =
+      marked_more scan opening d from refl counted there (marked (omega arith)) in
+      let few : m ≤ marked_between scan opening d =
+      subst (λ (e : Cursor). m ≤ marked_between scan opening e) before most in
+      subst (λ (e : Cursor). n ≤ marked_between scan opening e) after (omega (arith, more))
+]

@@ -1,0 +1,84 @@
+use Rattle.std.proofs.Common.{◌≡◌, ℕ, refl, ap, ◌∙◌, arith, subst, IfErr}
+use Rattle.parshelf.specs.Reads.{FaultsIn}
+use Rattle.parshelf.specs.Shelf.{ShelfState}
+use Rattle.parwindow.specs.Index.{SliceSet}
+use Rattle.parwindow.specs.Window.{WindowState}
+use Rattle.parfind.specs.Finders.{FinderState}
+use Rattle.parfind.specs.Tracks.{fetched_of}
+use Rattle.parfind.proofs.EnterLaws.{enter_tied, enter_sized, enter_file, enter_held, enter_hands, enter_onward, enter_digests}
+use Rattle.parfind.proofs.BelongsLaws.{with_window, arrives_belongs, call_files}
+use Rattle.parfind.proofs.ReachLaws.{hands_more}
+use Rattle.parfind.proofs.finder.Finder.arrive.Goals as goal
+
+pub fill-requires-clause-tied : goal.fill-requires-clause-tied
+fill-requires-clause-tied g c =
+    let s : ShelfState = g.H.Shelf.state c.args.shelf.now in
+    let track = ap (λ (f : FinderState). f.track) c.self.view_is in
+    let window = ap (λ (f : FinderState). f.window) c.self.view_is in
+    enter_tied c.args.self.now c.args.index.now s (g.met.H.Shelf.in_order c.args.shelf.now) c.requires.belongs c.args.at c.requires.next
+    c.enter.new.window c.enter.new.self (rw (track, window) at c.enter.ensures.same) (rw (track, window) at c.enter.ensures.other)
+
+pub returns-clause-same : goal.returns-clause-same
+returns-clause-same g c =
+    let s : ShelfState = g.H.Shelf.state c.args.shelf.now in
+    let track = ap (λ (f : FinderState). f.track) c.self.view_is in
+    let window = ap (λ (f : FinderState). f.window) c.self.view_is in
+    c.fill.ensures.same.file_is
+    ∙ enter_file c.args.self.now c.args.index.now s (g.met.H.Shelf.in_order c.args.shelf.now) c.requires.belongs c.args.at c.requires.next
+    c.enter.new.window c.enter.new.self (rw (track, window) at c.enter.ensures.same) (rw (track, window) at c.enter.ensures.other)
+
+pub returns-clause-belongs : goal.returns-clause-belongs
+returns-clause-belongs g c =
+    let set : SliceSet = c.args.index.now in
+    let s : ShelfState = g.H.Shelf.state c.args.shelf.now in
+    let t : ShelfState = g.H.Shelf.state c.fill.new.shelf in
+    let i = c.self.inside in
+    let track = ap (λ (f : FinderState). f.track) c.self.view_is in
+    let window = ap (λ (f : FinderState). f.window) c.self.view_is in
+    let r = c.fill.ensures in
+    let file = enter_file c.args.self.now set s (g.met.H.Shelf.in_order c.args.shelf.now) c.requires.belongs c.args.at c.requires.next
+    c.enter.new.window c.enter.new.self (rw (track, window) at c.enter.ensures.same) (rw (track, window) at c.enter.ensures.other) in
+    let held = enter_held c.args.self.now set s (g.met.H.Shelf.in_order c.args.shelf.now) c.requires.belongs c.args.at c.requires.next
+    c.enter.new.window c.enter.new.self (rw (track, window) at c.enter.ensures.same) (rw (track, window) at c.enter.ensures.other) in
+    let sized = enter_sized c.args.self.now set s (g.met.H.Shelf.in_order c.args.shelf.now) c.requires.belongs c.args.at c.requires.next
+    c.enter.new.window c.enter.new.self (rw (track, window) at c.enter.ensures.same) (rw (track, window) at c.enter.ensures.other) in
+    let onward = enter_onward c.args.self.now set s (g.met.H.Shelf.in_order c.args.shelf.now) c.requires.belongs c.args.at c.requires.next
+    c.enter.new.window c.enter.new.self (rw (track, window) at c.enter.ensures.same) (rw (track, window) at c.enter.ensures.other) in
+    let digests = enter_digests c.args.self.now set s (g.met.H.Shelf.in_order c.args.shelf.now) c.requires.belongs c.args.at c.requires.next
+    c.enter.new.window c.enter.new.self (rw (track, window) at c.enter.ensures.same) (rw (track, window) at c.enter.ensures.other) in
+    let f : FinderState = with_window (record c.args.self.now { opening = i.opening }) i.cursor i.window i.track in
+    let is : f ≡ c.args.self.now = c.self.view_is in
+    arrives_belongs c.args.self.now set s t c.requires.belongs (call_files set s t c.enter.new.self.file c.fill.result r.ok r.fault)
+    c.args.at c.enter.new.window c.enter.new.self c.fill.new.window c.fill.new.self r.tied r.window r.same sized digests onward file held
+    i.opening (ap (λ (x : FinderState). x.opening) is)
+
+pub returns-clause-fault : goal.returns-clause-fault
+returns-clause-fault g c =
+    let s : ShelfState = g.H.Shelf.state c.args.shelf.now in
+    let track = ap (λ (f : FinderState). f.track) c.self.view_is in
+    let window = ap (λ (f : FinderState). f.window) c.self.view_is in
+    let file : c.enter.new.self.file ≡ c.args.at.file =
+    enter_file c.args.self.now c.args.index.now s (g.met.H.Shelf.in_order c.args.shelf.now) c.requires.belongs c.args.at c.requires.next
+    c.enter.new.window c.enter.new.self (rw (track, window) at c.enter.ensures.same) (rw (track, window) at c.enter.ensures.other) in
+    subst (λ (n : ℕ). IfErr c.fill.result (FaultsIn s (g.H.Shelf.state c.fill.new.shelf) n)) file c.fill.ensures.fault
+
+pub returns-clause-reads : goal.returns-clause-reads
+returns-clause-reads g c =
+    let s : ShelfState = g.H.Shelf.state c.args.shelf.now in
+    let track = ap (λ (f : FinderState). f.track) c.self.view_is in
+    let window = ap (λ (f : FinderState). f.window) c.self.view_is in
+    hands_more s.lengths s.handed s.handed (g.H.Shelf.state c.fill.new.shelf).handed c.args.self.now.fetched (fetched_of c.enter.new.self) (fetched_of c.fill.new.self)
+    (enter_hands c.args.self.now c.args.index.now s (g.met.H.Shelf.in_order c.args.shelf.now) c.requires.belongs c.args.at c.requires.next
+    c.enter.new.window c.enter.new.self (rw (track, window) at c.enter.ensures.same) (rw (track, window) at c.enter.ensures.other))
+    c.fill.ensures.reads
+
+pub returns-clause-no_fewer : goal.returns-clause-no_fewer
+returns-clause-no_fewer g c =
+    let s : ShelfState = g.H.Shelf.state c.args.shelf.now in
+    let track = ap (λ (f : FinderState). f.track) c.self.view_is in
+    let window = ap (λ (f : FinderState). f.window) c.self.view_is in
+    let counted = ap (λ (f : FinderState). f.digests) c.self.view_is in
+    let same = enter_digests c.args.self.now c.args.index.now s (g.met.H.Shelf.in_order c.args.shelf.now) c.requires.belongs c.args.at c.requires.next
+    c.enter.new.window c.enter.new.self (rw (track, window) at c.enter.ensures.same) (rw (track, window) at c.enter.ensures.other) in
+    let filled = ap (λ (w : WindowState). w.digests) c.fill.ensures.window in
+    omega (arith, counted, same, filled, window)

@@ -1,0 +1,11 @@
+use Rattle.std.proofs.Common.{◌≡◌, true}
+use Rattle.parwindow.specs.Crc32.{crc_of}
+use Rattle.parwindow.specs.Index.{sums_of, has_crc_in}
+use Rattle.parfind.proofs.SeenLaws.{fit_has_crc}
+use Rattle.parfind.proofs.track.Track.first_seen.Goals as goal
+
+pub returns-then-not-has_crc-clause-first : goal.returns-then-not-has_crc-clause-first
+returns-then-not-has_crc-clause-first c = λ k from fits.
+    let has : has_crc_in c.args.index.now (crc_of c.args.window.now.content) ≡ true =
+    fit_has_crc c.args.index.now (sums_of c.args.window.now.content) c.args.left k fits in
+    cc

@@ -1,0 +1,40 @@
+-- A search that stands at a cursor.
+use Rattle.std.specs.Prelude.{◌≡◌, ◌≤◌, ℕ, IsTrue}
+use Rattle.parshelf.specs.Shelf.{ShelfState}
+use Rattle.parwindow.specs.Index.{SliceSet}
+use Rattle.parwindow.specs.Window.{WindowState}
+use Rattle.parfind.specs.declared.cursor.Cursor.{Cursor}
+use Rattle.parfind.specs.declared.track.Track.{Track}
+use Rattle.parfind.specs.Marks.{marked_between}
+use Rattle.parfind.specs.Order.{is_from}
+use Rattle.parfind.specs.Places.{Place, start_of}
+use Rattle.parfind.specs.Steps.{scan_of}
+use Rattle.parfind.specs.Tracks.{IsTied, fetched_of, hashed_of}
+
+-- a finder, as contracts see it
+pub record FinderState : Type 0 where
+  -- where it stands
+  pub cursor : Cursor
+  -- where it was opened
+  pub opening : Cursor
+  -- up to where files were read
+  pub fetched : Place
+  -- how many digests it took of its window
+  pub digests : ℕ
+  -- its window, and where that goes along a file
+  pub window : WindowState
+  pub track : Track
+
+-- the finder searches for these slices in these files: its window has their size and goes along a
+-- file, at the cursor if that is in this file; on a steady shelf it was hashed at marked places only
+pub record BelongsTo (finder : FinderState) (set : SliceSet) (shelf : ShelfState) : Type 0 where
+  pub sized : finder.window.capacity ≡ set.slice_size
+  pub tied : IsTied shelf finder.window finder.track
+  pub behind : finder.track.file ≤ finder.cursor.file
+  pub here : finder.track.file ≡ finder.cursor.file → finder.track.held ≡ finder.cursor.offset
+  pub fetched_is : finder.fetched ≡ fetched_of finder.track
+  pub digests_are : finder.digests ≡ finder.window.digests
+  pub onward : IsTrue (is_from (start_of finder.opening) (hashed_of finder.track))
+  pub counted : IsTrue shelf.is_steady
+      → finder.window.digests
+      ≤ marked_between (scan_of set shelf) finder.opening (hashed_of finder.track)

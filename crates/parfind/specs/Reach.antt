@@ -1,0 +1,69 @@
+-- How far files are read, and how many of their bytes are handed over.
+use Rattle.std.specs.Prelude.{◌≡◌, ℕ, ◌+◌, ◌-◌, ◌<◌, ◌≤◌, ◌==◌, nat_lt, min, List, [], ◌∷◌, slice_index, if◌then◌else◌}
+use Rattle.parshelf.specs.Shelf.{ShelfState}
+use Rattle.parfind.specs.declared.cursor.Cursor.{Cursor}
+use Rattle.parfind.specs.Places.{Place, place_at}
+
+-- how many bytes of a file lie before a place: all of an earlier file, none of a later one
+abbrev pub upto : List ℕ → Place → ℕ → ℕ
+upto lengths p f =
+    if nat_lt f p.file then slice_index lengths f
+    else if f == p.file then min p.offset (slice_index lengths f) else 0
+
+-- q is not before p, and no file handed over more than lies between them
+pub record HandsUpTo (lengths before after : List ℕ) (p q : Place) : Type 0 where
+  pub file_onward : p.file ≤ q.file
+  pub onward : p.file ≡ q.file → p.offset ≤ q.offset
+  pub handed :
+      (f : ℕ) → slice_index after f + upto lengths p f ≤ slice_index before f + upto lengths q f
+
+-- the same of a shelf before a call and after it, of which p and q are the fetched places
+abbrev pub ReadsUpTo : ShelfState → ShelfState → Place → Place → Type 0
+ReadsUpTo old new p q = HandsUpTo old.lengths old.handed new.handed p q
+
+-- no file after the cursor's was read, and the cursor's at most a window and 4,096 bytes further
+pub record IsNear (size : ℕ) (fetched : Place) (d : Cursor) : Type 0 where
+  pub file_is : fetched.file ≤ d.file
+  pub offset_is : fetched.file ≡ d.file → fetched.offset ≤ d.offset + size + 4096
+
+-- where a search stands between two calls
+pub record SearchState : Type 0 where
+  pub shelf : ShelfState
+  -- up to where files were read
+  pub fetched : Place
+  pub cursor : Cursor
+
+-- what is said of each call, whatever it answers
+pub record CallReads (size : ℕ) (old new : SearchState) : Type 0 where
+  pub lengths_are : new.shelf.lengths ≡ old.shelf.lengths
+  pub reads : ReadsUpTo old.shelf new.shelf old.fetched new.fetched
+  pub near : IsNear size new.fetched new.cursor
+
+-- calls one after another, and where the search stands after the last
+abbrev pub CallsRead : ℕ → SearchState → List SearchState → SearchState → Type 0
+CallsRead size old [] new = new ≡ old
+CallsRead size old (next ∷ others) new = CallReads size old next × CallsRead size next others new
+
+-- the offset at which a search from a cursor enters a file that is not before the cursor's
+abbrev pub entry_of : Cursor → ℕ → ℕ
+entry_of c f = if f == c.file then c.offset else 0
+
+-- how many bytes of a file are ahead of a cursor
+abbrev pub room_of : List ℕ → Cursor → ℕ → ℕ
+room_of lengths c f = if nat_lt f c.file then 0 else slice_index lengths f - entry_of c f
+
+-- of each file at most what was ahead was handed over: of a file behind the cursor's nothing, and of
+-- the cursor's no more than a window and 4,096 bytes further
+pub record HandsWithin (size : ℕ) (old new : SearchState) : Type 0 where
+  pub room : (f : ℕ) → slice_index new.shelf.handed f
+      ≤ slice_index old.shelf.handed f + room_of old.shelf.lengths old.cursor f
+  pub none : (f : ℕ) → new.cursor.file < f
+      → slice_index new.shelf.handed f ≤ slice_index old.shelf.handed f
+  pub near : slice_index new.shelf.handed new.cursor.file
+      ≤ slice_index old.shelf.handed new.cursor.file + (new.cursor.offset - entry_of old.cursor new.cursor.file + size + 4096)
+
+-- that is so after all calls since an opening, however many there were
+abbrev pub ReachAddsUp : Type 0
+ReachAddsUp =
+    (size : ℕ) (opened now : SearchState) (calls : List SearchState)
+    → opened.fetched ≡ place_at opened.cursor → CallsRead size opened calls now → HandsWithin size opened now

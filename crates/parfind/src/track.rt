@@ -1,0 +1,18 @@
+use parfield::Hash16;
+
+// How many bytes are read ahead at most.
+pub const AHEAD: usize = 4096;
+
+// Where a window goes along a file, and what was read ahead of it. The window is lent to each call.
+#[derive(Drop)]
+pub struct Track {
+    pub file: u32,
+    // The offset whose window is held, or is being filled.
+    pub held: u64,
+    // The MD5 of the window's content, once it was taken.
+    pub digest: Option<Hash16>,
+    // What was read last, `end` bytes from the offset `base` on.
+    pub base: u64,
+    pub bytes: [u8; AHEAD],
+    pub end: usize,
+}

@@ -1,0 +1,9 @@
+pub mod ContentLaws
+pub mod CountLaws
+pub mod FindLaws
+pub mod FrontLaws
+pub mod GrammarLaws
+pub mod LimitLaws
+pub mod RunLaws
+pub mod SalvageLaws
+pub mod StateLaws

@@ -1,0 +1,97 @@
+ghost use Rattle.std.specs.Prelude.{◌≡◌, option_map, slice_get};
+ghost use Rattle.parreport.specs.Ends.{argument_in, run_end_of, open_end_of};
+ghost use Rattle.parreport.specs.FileWords.{scanned_paths_of};
+
+use crate::faults::RunFault;
+use crate::plans::command::{Plan, PlanFault, reads_scanned};
+use parfield::Text;
+use parshelf::OpenFault;
+
+/// What a run found.
+#[derive(Clone, Copy, Debug, PartialEq, Eq)]
+pub enum Status {
+    /// The list, the set or the sightings were written.
+    Listed,
+    /// Every file of the set is complete.
+    Complete,
+    /// No more slices are needed than there are recovery slices.
+    Possible,
+    /// More are needed.
+    Impossible,
+}
+
+/// How the program ends.
+#[derive(Clone, Copy, Debug, PartialEq, Eq)]
+pub enum End {
+    /// The run found this.
+    Status(Status),
+    /// The words are no plan.
+    Plan(PlanFault),
+    /// A file that the words name can't be opened.
+    CannotOpen,
+    /// Memory was refused before the run.
+    Memory,
+    /// The run wrote no whole text.
+    Run(RunFault),
+}
+
+/// The end of a run, and the argument that it is about.
+pub fn run_end(plan: &Plan, answer: Result<Status, RunFault>) -> (End, Option<&Text>)
+    ensures { (result.0, option_map (λ file. file.now) result.1) ≡ run_end_of plan.now answer }
+{
+    match answer {
+        Ok(status) => (End::Status(status), None),
+        Err(fault) => (End::Run(fault), argument_of(plan, fault)),
+    }
+}
+
+/// The end where the packet files can't all be opened, and the argument that it is about.
+pub fn packets_end(plan: &Plan, why: OpenFault) -> (End, Option<&Text>)
+    ensures { (result.0, option_map (λ file. file.now) result.1)
+        ≡ open_end_of plan.now.packets why }
+{
+    match why {
+        OpenFault::CannotOpen(file) => (End::CannotOpen, plan.packets.as_slice().get(file)),
+        OpenFault::Memory => (End::Memory, None),
+    }
+}
+
+/// The end where the scanned files can't all be opened, and the argument that it is about.
+pub fn scanned_end(plan: &Plan, why: OpenFault) -> (End, Option<&Text>)
+    ensures { (result.0, option_map (λ file. file.now) result.1)
+        ≡ open_end_of (scanned_paths_of plan.now) why }
+{
+    match why {
+        OpenFault::CannotOpen(file) => (End::CannotOpen, scanned_path(plan, file)),
+        OpenFault::Memory => (End::Memory, None),
+    }
+}
+
+/// The argument that a fault of a run is about.
+pub fn argument_of(plan: &Plan, fault: RunFault) -> Option<&Text>
+    ensures { option_map (λ file. file.now) result ≡ argument_in plan.now fault }
+{
+    let RunFault::Read { packet, file, .. } = fault else {
+        return None;
+    };
+    if packet {
+        return plan.packets.as_slice().get(file as usize);
+    }
+    match plan.scanned.as_slice().get(file as usize) {
+        Some(file) => Some(&file.path),
+        None => None,
+    }
+}
+
+// The path of a file that is scanned.
+fn scanned_path(plan: &Plan, file: usize) -> Option<&Text>
+    ensures { option_map (λ file. file.now) result ≡ slice_get (scanned_paths_of plan.now) file }
+{
+    if !reads_scanned(plan.command) {
+        return None;
+    }
+    match plan.scanned.as_slice().get(file) {
+        Some(file) => Some(&file.path),
+        None => None,
+    }
+}

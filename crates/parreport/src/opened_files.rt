@@ -1,0 +1,91 @@
+ghost use Rattle.std.specs.Prelude.{◌≡◌, length, option_map, IsTrue, IsOkAnd, IfOk, IfErr};
+ghost use Rattle.parreport.specs.Commands.{reads_scanned, HasLimit};
+ghost use Rattle.parreport.specs.Ends.{opened_of};
+ghost use Rattle.parreport.specs.OpenedFiles.{TellsEnd, TellsRun};
+
+use crate::ends::{End, packets_end, run_end, scanned_end};
+use crate::messages::ending;
+use crate::plans::command::Plan;
+use crate::report::run;
+use crate::sinks::Sink;
+use parfield::Text;
+use parshelf::{OpenFault, Shelf};
+use std::alloc::{AllocError, Global};
+
+/// Writes what the plan asks for of the files, if all could be opened, and gives the exit status
+/// and the line for standard error.
+pub fn run_opened<P: Shelf, Q: Shelf, W: Sink>(
+    alloc: Global,
+    plan: &Plan,
+    packets: &mut Result<P, OpenFault>,
+    scanned: &mut Result<Q, OpenFault>,
+    out: &mut W,
+) -> Result<(u8, Vec<u8>), AllocError>
+    requires packets { IfOk packets.old (λ files.
+        length (P.state files).lengths ≡ length plan.now.packets) }
+    requires scanned { IfOk scanned.old (λ files. IsTrue (reads_scanned plan.now.command)
+        → length (Q.state files).lengths ≡ length plan.now.scanned) }
+    requires limit { HasLimit plan.now.command }
+
+    // Where all files are opened, they are run over, and the end of that run is told.
+    ensures ran { IfOk (opened_of plan.now packets.old scanned.old) (λ files.
+        IsOkAnd (opened_of plan.now packets.new scanned.new) (λ after.
+        TellsRun plan.now (P.state files.0) (P.state after.0) (Q.state files.1) (Q.state after.1)
+        (W.state out.old) (W.state out.new)
+        (λ end. IfOk result (λ told. TellsEnd end told.0 told.1.items)))) }
+
+    // Where some are not, that is told, and nothing is read or written.
+    ensures unopened { IfErr (opened_of plan.now packets.old scanned.old) (λ end.
+        IfOk result (λ told. TellsEnd end told.0 told.1.items)) }
+    ensures silent { IfErr (opened_of plan.now packets.old scanned.old) (λ _.
+        W.state out.new ≡ W.state out.old) }
+    ensures packets { IfErr (opened_of plan.now packets.old scanned.old) (λ _.
+        packets.new ≡ packets.old) }
+    ensures scanned { IfErr (opened_of plan.now packets.old scanned.old) (λ _.
+        scanned.new ≡ scanned.old) }
+{
+    match (packets, scanned) {
+        (Ok(packets), Ok(scanned)) => run_and_tell(alloc, plan, packets, scanned, out),
+        (Err(why), _) => {
+            let (end, argument) = packets_end(plan, *why);
+            tell(alloc, end, argument)
+        }
+        (Ok(_), Err(why)) => {
+            let (end, argument) = scanned_end(plan, *why);
+            tell(alloc, end, argument)
+        }
+    }
+}
+
+// Runs the plan over its files, and gives the exit status and the line of the end.
+fn run_and_tell<P: Shelf, Q: Shelf, W: Sink>(
+    alloc: Global,
+    plan: &Plan,
+    packets: &mut P,
+    scanned: &mut Q,
+    out: &mut W,
+) -> Result<(u8, Vec<u8>), AllocError>
+    requires packets { length (P.state packets.old).lengths ≡ length plan.now.packets }
+    requires scanned { IsTrue (reads_scanned plan.now.command)
+        → length (Q.state scanned.old).lengths ≡ length plan.now.scanned }
+    requires limit { HasLimit plan.now.command }
+    ensures { TellsRun plan.now (P.state packets.old) (P.state packets.new)
+        (Q.state scanned.old) (Q.state scanned.new) (W.state out.old) (W.state out.new)
+        (λ end. IfOk result (λ told. TellsEnd end told.0 told.1.items)) }
+{
+    let answer = run(alloc, plan, packets, scanned, out);
+    let (end, argument) = run_end(plan, answer);
+    tell(alloc, end, argument)
+}
+
+// The exit status and the line of an end, about this argument.
+fn tell(alloc: Global, end: End, argument: Option<&Text>) -> Result<(u8, Vec<u8>), AllocError>
+    ensures { IfOk result (λ told.
+        TellsEnd (end, option_map (λ file. file.now) argument.entry) told.0 told.1.items) }
+{
+    let argument = match argument {
+        Some(file) => file.as_str(),
+        None => "",
+    };
+    ending(alloc, &end, argument)
+}

@@ -1,0 +1,56 @@
+ghost use Rattle.std.specs.Prelude.{◌≡◌, ℕ, ◌<◌, ◌≤◌, length, take, Ok, IfOk, OnOk, OnErr, IfErr};
+ghost use Rattle.parreport.specs.SinkState.{SinkState, appended, refused, RefusesFront};
+ghost use Rattle.parreport.specs.Outcomes.{Answers, EndsSink};
+ghost use Rattle.parreport.specs.declared.faults.RunFault.TheVariants as run_fault;
+
+use crate::ends::Status;
+use crate::faults::RunFault;
+use parshelf::Failed;
+
+pub mod memory;
+pub mod writer;
+
+/// A place that bytes are written to.
+pub trait Sink {
+    // The bytes written to it, and how often it refused some.
+    ghost state: { Self → SinkState };
+
+    /// Writes some first bytes of `part`, and gives their number.
+    fn put(&mut self, part: &[u8]) -> Result<usize, Failed>
+        ensures bound { IfOk result (λ n. n ≤ length part.now) }
+        ensures taken { IfOk result (λ n. 0 < n
+            → state self.new ≡ appended (state self.old) (take n part.now)) }
+
+        // Nothing is taken of an empty part; nothing taken of another is a failure.
+        ensures nothing { IfOk result (λ _. length part.now ≡ 0 → state self.new ≡ state self.old) }
+        ensures full { IfOk result (λ n. n ≡ 0 → 0 < length part.now
+            → state self.new ≡ refused (state self.old)) }
+        ensures failed { OnErr result (state self.new ≡ refused (state self.old)) };
+}
+
+/// Writes a whole text; a sink that takes nothing of a part that is not empty has failed.
+pub fn write_text<W: Sink>(out: &mut W, text: &[u8]) -> Result<(), Failed>
+    ensures ok { OnOk result (W.state out.new ≡ appended (W.state out.old) text.now) }
+    ensures err { OnErr result (RefusesFront (W.state out.old) (W.state out.new) text.now) }
+{
+    let mut done = 0;
+    while done < text.len() {
+        match out.put(&text[done..]) {
+            Ok(0) => return Err(Failed),
+            Ok(n) => done += n,
+            Err(Failed) => return Err(Failed),
+        }
+    }
+    Ok(())
+}
+
+/// Writes a whole text, and gives the status that goes with it.
+pub fn write_whole<W: Sink>(out: &mut W, text: &[u8], status: Status) -> Result<Status, RunFault>
+    ensures text { Answers (record { text = text.now; answer = Ok status }) result
+        (W.state out.old) (W.state out.new) }
+    ensures fault { IfErr result (λ fault. fault ≡ run_fault.Write) }
+    ensures sink { EndsSink result (W.state out.old) (W.state out.new) }
+{
+    write_text(out, text)?;
+    Ok(status)
+}

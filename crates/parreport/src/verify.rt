@@ -1,0 +1,139 @@
+ghost use Rattle.std.specs.Prelude.{◌≡◌, length, string_bytes, IsTrue, false, IfOk, OnOk, IfErr};
+ghost use Rattle.parset.specs.RecoverySet.{set_of};
+ghost use Rattle.parshelf.specs.Reads.{ReadsOnly};
+ghost use Rattle.parreport.specs.Faults.{FilesLeave};
+ghost use Rattle.parreport.specs.Outcomes.{is_packet_read, follows_text, Answers, KeepsText, EndsScanned, EndsSink};
+ghost use Rattle.parreport.specs.Report.{report_with_set, verify_report};
+ghost use Rattle.parreport.specs.States.{findings_of, named_files};
+ghost use Rattle.parreport.specs.VerifyText.{verify_text, verify_status_of};
+ghost use Rattle.parreport.specs.declared.plans.command.Command.TheVariants as command;
+
+use crate::ends::Status;
+use crate::faults::{FilesFault, RunFault};
+use crate::plans::command::{Plan, Scanned};
+use crate::set::asked_set;
+use crate::sinks::{Sink, write_whole};
+use crate::verify::contents::contents;
+use crate::verify::found::{found_slices, need_of};
+use crate::verify::lines::text_by;
+use crate::verify::states::{State, states, status_of, whole_ids};
+use parfield::Sequence;
+use parsalvage::Kept;
+use parset::RecoverySet;
+use parshelf::Shelf;
+use std::alloc::Global;
+
+mod contents;
+mod counts;
+mod found;
+mod lines;
+mod states;
+
+/// What the scanned files show of a recovery set.
+#[derive(Debug, Drop)]
+pub struct Findings {
+    /// The state of each file, by ID.
+    pub states: Sequence<State>,
+    /// Whether each slice is found, by number.
+    pub found: Sequence<bool>,
+}
+
+impl Findings {
+    ghost use Rattle.parreport.specs.States.{need_of};
+    ghost use Rattle.parreport.specs.VerifyText.{status_by};
+
+    /// How many slices are not found.
+    pub fn need(&self) -> usize
+        ensures { result ≡ need_of self.now.found }
+    {
+        need_of(self.found.as_slice())
+    }
+
+    /// The status that they come to.
+    pub fn status(&self, set: &RecoverySet) -> Status
+        ensures { result ≡ status_by set.now self.now }
+    {
+        status_of(self.states.as_slice(), self.need(), set.have())
+    }
+}
+
+/// Writes what of the set is there.
+pub fn verify<Q: Shelf, W: Sink>(
+    alloc: Global,
+    plan: &Plan,
+    quiet: u8,
+    kept: &[Kept],
+    scanned: &mut Q,
+    out: &mut W,
+) -> Result<Status, RunFault>
+    requires { length (Q.state scanned.old).lengths ≡ length plan.now.scanned }
+
+    ensures text { IsTrue (Q.state scanned.old).is_steady
+        → Answers (report_with_set (set_of kept.now plan.now.set)
+        (verify_report plan.now quiet (Q.state scanned.old).files)) result
+        (W.state out.old) (W.state out.new) }
+    ensures lines { IfErr result (λ fault.
+        KeepsText (command.Verify quiet) plan.now kept.now (Q.state scanned.old).files fault
+        (W.state out.old) (W.state out.new)) }
+    ensures no_packet { IfErr result (λ fault. is_packet_read fault ≡ false) }
+    ensures silent { IfErr result (λ fault. follows_text (command.Verify quiet) fault ≡ false
+        → W.state out.new ≡ W.state out.old) }
+    ensures scanned { EndsScanned result (Q.state scanned.old) (Q.state scanned.new) }
+    ensures sink { EndsSink result (W.state out.old) (W.state out.new) }
+{
+    let set = asked_set(alloc, plan, kept)?;
+    let (text, status) = text_and_status(alloc, quiet, plan.scanned.as_slice(), &set, scanned)?;
+    write_whole(out, text.as_bytes(), status)
+}
+
+// The text and the status: how the files on the shelf, of these names, stand to the
+// files of the set. Each is read whole, and then they are searched for the set's slices.
+fn text_and_status<Q: Shelf>(
+    alloc: Global,
+    quiet: u8,
+    files: &[Scanned],
+    set: &RecoverySet,
+    shelf: &mut Q,
+) -> Result<(String, Status), FilesFault>
+    requires { length (Q.state shelf.old).lengths ≡ length files.now }
+
+    // The text and the status, where the files are read unchanged.
+    ensures text { IsTrue (Q.state shelf.old).is_steady → IfOk result (λ answer.
+        string_bytes answer.0
+        ≡ verify_text quiet set.now (named_files files.now (Q.state shelf.old).files)) }
+    ensures status { IsTrue (Q.state shelf.old).is_steady → IfOk result (λ answer. answer.1
+        ≡ verify_status_of set.now (named_files files.now (Q.state shelf.old).files)) }
+
+    // On any shelf: the answer tells what failed, and nothing else did.
+    ensures ok { OnOk result (ReadsOnly (Q.state shelf.old) (Q.state shelf.new)) }
+    ensures fault { IfErr result (FilesLeave (Q.state shelf.old) (Q.state shelf.new)) }
+{
+    let findings = findings_on(alloc, files, set, shelf)?;
+    let text = text_by(alloc, quiet, files, set, &findings)?;
+    Ok((text, findings.status(set)))
+}
+
+// The findings of the scanned files, which are read whole and then searched for slices.
+fn findings_on<Q: Shelf>(
+    alloc: Global,
+    files: &[Scanned],
+    set: &RecoverySet,
+    shelf: &mut Q,
+) -> Result<Findings, FilesFault>
+    requires { length (Q.state shelf.old).lengths ≡ length files.now }
+    ensures findings { IsTrue (Q.state shelf.old).is_steady → IfOk result (λ findings.
+        findings ≡ findings_of set.now (named_files files.now (Q.state shelf.old).files)) }
+    ensures states { IfOk result (λ findings. length findings.states ≡ length set.now.files) }
+    ensures slices { IfOk result (λ findings. length findings.found ≡ length set.now.slices) }
+    ensures ok { OnOk result (ReadsOnly (Q.state shelf.old) (Q.state shelf.new)) }
+    ensures fault { IfErr result (FilesLeave (Q.state shelf.old) (Q.state shelf.new)) }
+{
+    let contents = contents(alloc, shelf)?;
+    let states = states(alloc, files, &contents, set.files())?;
+    let whole = whole_ids(alloc, set.files(), states.as_slice())?;
+    let found = found_slices(alloc, set, &whole, shelf)?;
+    Ok(Findings {
+        states: Sequence::from_vec(states),
+        found: Sequence::from_vec(found),
+    })
+}

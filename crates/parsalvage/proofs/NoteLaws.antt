@@ -1,0 +1,177 @@
+-- One packet more, or one place without one.
+use Rattle.std.proofs.Common.{◌≡◌, ◌<◌, ◌≤◌, ◌+◌, ◌-◌, ◌∙◌, ℕ, true, false, cond, List, [], ◌∷◌, ◌++◌, length, take, drop, map, filter, All, ap, sym, subst, arith, ⊎_elim, length-drop, refl, append-nil}
+use Rattle.std.specs.List.{range_with_len}
+use Rattle.std.specs.List.Sorted.{IsStrictlyIncreasing}
+use Rattle.std.proofs.lemmas.Bool.{cases_eq, cases_Bool, cond-true, and_parts, leb-true}
+use Rattle.std.proofs.lemmas.List.{map-append, drop-drop, drop-take, take-take, length_push, get_or_push, get_or_append_left, length-take}
+use Rattle.std.proofs.lemmas.List.Elements.{All-push, All-weaker, All-head, All-tail, All-map, filter-append}
+use Rattle.parfield.specs.Packet.{has_header, header_of, length_field}
+use Rattle.parfield.specs.declared.fields.Header.{Header}
+use Rattle.parsalvage.specs.Packets.{is_packet_at, packet_found_at}
+use Rattle.parsalvage.specs.HeldBodies.{IsStore, HoldsRun}
+use Rattle.parsalvage.specs.Kept.{kept_as, body_kept}
+use Rattle.parsalvage.specs.Notes.{body_in, FitsStore, kept_note, packets_below, LiesIn, FoundBelow}
+use Rattle.parsalvage.specs.declared.holding.Held.{Held}
+use Rattle.parsalvage.specs.declared.holding.Held.TheVariants.{Whole, Front}
+use Rattle.parsalvage.specs.declared.kept.Kept.{Kept}
+use Rattle.parsalvage.specs.declared.kept.KeptBody.{KeptBody}
+use Rattle.parsalvage.specs.declared.kept.KeptBody.TheVariants as kept
+use Rattle.parsalvage.specs.declared.noting.Note.{Note}
+use Rattle.parsalvage.specs.declared.noting.Found.{Found}
+use Rattle.parsalvage.proofs.RangeLaws.{range_with_len-split, filter_between, filter_none_between}
+
+-- a number above all rises behind them
+pub rising_more : (xs : List ℕ) (a : ℕ) → IsStrictlyIncreasing xs → All (λ x. x < a) xs → IsStrictlyIncreasing (xs ++ a ∷ [])
+rising_more xs a rises below k within =
+    let long = length_push xs a in
+    let here = get_or_append_left xs (a ∷ []) 0 k (omega (arith, long)) in
+    ⊎_elim
+    (λ last. omega (arith, here, get_or_push xs a 0 (k + 1) (sym last), below k 0 (omega (arith, long))))
+    (λ inside. omega (arith, here, get_or_append_left xs (a ∷ []) 0 (k + 1) (omega (arith, long, inside)), rises k (omega (arith, long, inside))))
+    (cases_eq (k + 1) (length xs))
+
+taken_of : (n : ℕ) (xs ys : List ℕ) → take n xs ≡ ys → length ys ≡ n → n ≤ length xs
+taken_of n xs ys is long = omega (arith, ap length is, length-take n xs, long)
+
+fits_longer : (m n : ℕ) (held : Held) → m ≤ n → FitsStore m held → FitsStore n held
+fits_longer m n (Whole place size) longer fits = omega arith
+fits_longer m n (Front first len) longer fits = tt
+
+-- a packet behind those that were found
+pub LiesIn-more : (size at : ℕ) (old new : Found) (note : Note) → LiesIn size at old
+    → IsStore size new.bodies → new.bodies.start ≤ at + 64 → FitsStore (length new.bodies.bytes.items) note.body
+    → take (length old.bodies.bytes.items) new.bodies.bytes.items ≡ old.bodies.bytes.items
+    → new.notes.items ≡ old.notes.items ++ note ∷ [] → note.at ≡ at → note.at + note.length ≤ size
+    → LiesIn size (at + 1) new
+LiesIn-more size at old new note lies store begins fits keeps more here within =
+    let longer : length old.bodies.bytes.items ≤ length new.bodies.bytes.items = taken_of (length old.bodies.bytes.items) new.bodies.bytes.items old.bodies.bytes.items keeps refl in
+    let offsets : map (λ (n : Note). n.at) new.notes.items ≡ map (λ (n : Note). n.at) old.notes.items ++ at ∷ []
+    = ap (map (λ (n : Note). n.at)) more ∙ (map-append (λ (n : Note). n.at) old.notes.items (note ∷ [])
+    ∙ ap (λ (a : ℕ). map (λ (n : Note). n.at) old.notes.items ++ a ∷ []) here) in
+    record {
+      store = store;
+      begins = omega arith;
+      held = subst (All (λ (n : Note). FitsStore (length new.bodies.bytes.items) n.body)) (sym more)
+          (All-push (λ (n : Note). FitsStore (length new.bodies.bytes.items) n.body) old.notes.items note (All-weaker (λ (n : Note). FitsStore (length old.bodies.bytes.items) n.body) (λ (n : Note). FitsStore (length new.bodies.bytes.items) n.body)
+          (λ (n : Note). fits_longer _ _ n.body longer) old.notes.items lies.held) fits);
+      rising = subst IsStrictlyIncreasing (sym offsets)
+          (rising_more _ at lies.rising (All-map (λ (x : ℕ). x < at) (λ (n : Note). n.at) old.notes.items lies.before));
+      before = subst (All (λ (n : Note). n.at < at + 1)) (sym more)
+          (All-push (λ (n : Note). n.at < at + 1) old.notes.items note
+          (All-weaker (λ (n : Note). n.at < at) (λ (n : Note). n.at < at + 1) (λ (n : Note) h. omega (arith, h)) old.notes.items lies.before) (omega arith));
+      within = subst (All (λ (n : Note). n.at + n.length ≤ size)) (sym more) (All-push (λ (n : Note). n.at + n.length ≤ size) old.notes.items note lies.within within);
+    }
+
+-- a place without a packet
+pub LiesIn-later : (size at next : ℕ) (found : Found) → LiesIn size at found → at ≤ next → LiesIn size next found
+LiesIn-later size at next found lies behind = record {
+  store = lies.store;
+  begins = omega (arith, lies.begins);
+  held = lies.held;
+  rising = lies.rising;
+  before = All-weaker (λ (n : Note). n.at < at) (λ (n : Note). n.at < next) (λ (n : Note) h. omega (arith, h)) found.notes.items lies.before;
+  within = lies.within;
+}
+
+pub packets_below-zero : (bytes : List ℕ) → packets_below bytes 0 ≡ []
+unfolding packets_below
+packets_below-zero bytes = refl
+
+packets_below-next : (bytes : List ℕ) (at : ℕ)
+    → packets_below bytes (at + 1) ≡ packets_below bytes at ++ map (packet_found_at bytes) (cond (is_packet_at bytes at) (at ∷ []) [])
+unfolding packets_below
+packets_below-next bytes at =
+    let zero : 0 + at ≡ at = omega arith in
+    ap (λ (xs : List ℕ). map (packet_found_at bytes) (filter (is_packet_at bytes) xs))
+    (range_with_len-split 0 at 1 ∙ ap (λ (k : ℕ). range_with_len 0 at ++ range_with_len k 1) zero)
+    ∙ (ap (map (packet_found_at bytes)) (filter-append (is_packet_at bytes) (range_with_len 0 at) (at ∷ []))
+    ∙ map-append (packet_found_at bytes) (filter (is_packet_at bytes) (range_with_len 0 at)) _)
+
+pub packets_below-packet : (bytes : List ℕ) (at : ℕ) → is_packet_at bytes at ≡ true
+    → packets_below bytes (at + 1) ≡ packets_below bytes at ++ packet_found_at bytes at ∷ []
+packets_below-packet bytes at is =
+    packets_below-next bytes at
+    ∙ ap (λ (xs : List ℕ). packets_below bytes at ++ map (packet_found_at bytes) xs) (cond-true (is_packet_at bytes at) (at ∷ []) [] is)
+
+-- nothing begins from `at` up to `next`
+pub packets_below-none : (bytes : List ℕ) (at next : ℕ) → at ≤ next → ((k : ℕ) → at ≤ k → k < next → is_packet_at bytes k ≡ false)
+    → packets_below bytes next ≡ packets_below bytes at
+unfolding packets_below
+packets_below-none bytes at next behind none =
+    let none_between : filter (is_packet_at bytes) (range_with_len at (next - at)) ≡ [] = filter_none_between (is_packet_at bytes) at next none in
+    let to_next : next ≡ next - 0 = omega arith in
+    let to_at : at - 0 ≡ at = omega arith in
+    ap (map (packet_found_at bytes))
+    (ap (λ (n : ℕ). filter (is_packet_at bytes) (range_with_len 0 n)) to_next
+    ∙ (filter_between (is_packet_at bytes) 0 at next (omega arith) behind
+    ∙ (ap (λ (n : ℕ). filter (is_packet_at bytes) (range_with_len 0 n) ++ filter (is_packet_at bytes) (range_with_len at (next - at))) to_at
+    ∙ (ap (λ (xs : List ℕ). filter (is_packet_at bytes) (range_with_len 0 at) ++ xs) none_between ∙ append-nil _))))
+
+pub FoundBelow-none : (file at next : ℕ) (bytes : List ℕ) (found : Found) → FoundBelow file bytes at found → at ≤ next
+    → ((k : ℕ) → at ≤ k → k < next → is_packet_at bytes k ≡ false) → FoundBelow file bytes next found
+FoundBelow-none file at next bytes found so_far behind none = record {
+  run = so_far.run;
+  packets = so_far.packets ∙ ap (map (kept_as file)) (sym (packets_below-none bytes at next behind none));
+}
+
+-- what lay in the old store lies at the same place of the new one
+body_in-longer : (old new : List ℕ) (held : Held) → take (length old) new ≡ old → FitsStore (length old) held → body_in new held ≡ body_in old held
+body_in-longer old new (Whole place size) keeps fits =
+    let split : length old ≡ place + (length old - place) = omega arith in
+    ap kept.Whole (sym (ap (λ (xs : List ℕ). take size (drop place xs)) (sym keeps)
+    ∙ (ap (λ (n : ℕ). take size (drop place (take n new))) split
+    ∙ (ap (take size) (drop-take place (length old - place) new)
+    ∙ take-take size (length old - place) (drop place new) (omega arith)))))
+body_in-longer old new (Front first len) keeps fits = refl
+
+kept_notes-longer : (file : ℕ) (old new : List ℕ) (notes : List Note) → take (length old) new ≡ old
+    → All (λ n. FitsStore (length old) n.body) notes → map (kept_note file new) notes ≡ map (kept_note file old) notes
+kept_notes-longer file old new [] keeps fit = refl
+kept_notes-longer file old new (note ∷ notes) keeps fit =
+    let here : kept_note file new note ≡ kept_note file old note
+    = ap (λ (body : KeptBody). record (kept_note file old note) { body = body }) (body_in-longer old new note.body keeps (All-head (λ (n : Note). FitsStore (length old) n.body) note notes fit)) in
+    ap (λ (k : Kept). k ∷ map (kept_note file new) notes) here
+    ∙ ap (λ (ks : List Kept). kept_note file old note ∷ ks) (kept_notes-longer file old new notes keeps (All-tail (λ (n : Note). FitsStore (length old) n.body) note notes fit))
+
+-- the packet that begins here, noted
+pub noted_packet : (file at : ℕ) (bytes store : List ℕ) (head : Header) (note : Note) → head ≡ header_of (drop at bytes)
+    → note.at ≡ at → note.length ≡ head.length → note.set ≡ head.set → note.kind ≡ head.kind
+    → body_in store note.body ≡ body_kept head.kind (take (head.length - 64) (drop (at + 64) bytes))
+    → kept_note file store note ≡ kept_as file (packet_found_at bytes at)
+noted_packet file at bytes store head note is at_is length_is set_is kind_is body_is =
+    let behind : drop (at + 64) bytes ≡ drop 64 (drop at bytes) = sym (drop-drop 64 at bytes) in
+    let body : body_in store note.body ≡ body_kept (header_of (drop at bytes)).kind (take (length_field (drop at bytes) - 64) (drop 64 (drop at bytes)))
+    = body_is ∙ (ap (λ (h : Header). body_kept h.kind (take (h.length - 64) (drop (at + 64) bytes))) is
+    ∙ ap (λ (xs : List ℕ). body_kept (header_of (drop at bytes)).kind (take (length_field (drop at bytes) - 64) xs)) behind) in
+    let length_now = length_is ∙ ap (λ (h : Header). h.length) is in
+    let set_now = set_is ∙ ap (λ (h : Header). h.set) is in
+    let kind_now = kind_is ∙ ap (λ (h : Header). h.kind) is in
+    cc
+
+pub FoundBelow-packet : (file at : ℕ) (bytes : List ℕ) (old new : Found) (note : Note) → FoundBelow file bytes at old
+    → is_packet_at bytes at ≡ true → HoldsRun bytes new.bodies
+    → take (length old.bodies.bytes.items) new.bodies.bytes.items ≡ old.bodies.bytes.items
+    → All (λ n. FitsStore (length old.bodies.bytes.items) n.body) old.notes.items
+    → new.notes.items ≡ old.notes.items ++ note ∷ []
+    → kept_note file new.bodies.bytes.items note ≡ kept_as file (packet_found_at bytes at)
+    → FoundBelow file bytes (at + 1) new
+FoundBelow-packet file at bytes old new note so_far is run keeps fit more same =
+    let store : List ℕ = new.bodies.bytes.items in record {
+      run = run;
+      packets =
+          ap (map (kept_note file new.bodies.bytes.items)) more
+          ∙ (map-append (kept_note file new.bodies.bytes.items) old.notes.items (note ∷ [])
+          ∙ (ap (λ (k : Kept). map (kept_note file new.bodies.bytes.items) old.notes.items ++ k ∷ []) same
+          ∙ (ap (λ (ks : List Kept). ks ++ kept_as file (packet_found_at bytes at) ∷ []) (kept_notes-longer file old.bodies.bytes.items new.bodies.bytes.items old.notes.items keeps fit ∙ so_far.packets)
+          ∙ (sym (map-append (kept_as file) (packets_below bytes at) (packet_found_at bytes at ∷ []))
+          ∙ ap (map (kept_as file)) (sym (packets_below-packet bytes at is))))));
+    }
+
+-- no packet is shorter than its header
+pub no_packet_late : (bytes : List ℕ) (at : ℕ) → length bytes < at + 64 → is_packet_at bytes at ≡ false
+no_packet_late bytes at late =
+    ⊎_elim (λ yes.
+    let header = (and_parts (has_header (drop at bytes)) _ yes).0 in
+    let long = leb-true 64 (length (drop at bytes)) (and_parts _ _ header).0 in
+    absurd (omega (arith, long, length-drop at bytes)))
+    (λ no. no) (cases_Bool (is_packet_at bytes at))

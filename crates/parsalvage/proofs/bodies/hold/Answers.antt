@@ -1,0 +1,29 @@
+use Rattle.std.proofs.Common.{◌≡◌, ◌-◌, ◌∙◌, ℕ, List, length, take, drop, ap, arith, rules}
+use Rattle.parshelf.specs.Shelf.{file_of}
+use Rattle.parsalvage.proofs.BodyLaws.{run_more, run_part}
+use Rattle.parsalvage.proofs.bodies.hold.Goals as goal
+
+pub returns-clause-run : goal.returns-clause-run
+returns-clause-run g c = λ steady.
+    let file : List ℕ = file_of (g.H.Shelf.state c.args.shelf.now) c.args.file in
+    let before = c.reach.ensures.run file (c.requires.run steady) in
+    let store = c.reach.ensures.store _ (omega arith) c.requires.store in
+    let after = c.in_ok-extend.ensures in
+    rw (after.start, after.end)
+    (run_more file c.reach.new.bodies.bytes.items c.extend.new.bodies.bytes.items c.reach.new.bodies.start c.reach.new.bodies.end _
+    before store.in_order store.fits (omega arith) after.keeps (after.bytes steady) after.len)
+
+pub returns-clause-part : goal.returns-clause-part
+returns-clause-part g c = λ steady.
+    let file : List ℕ = file_of (g.H.Shelf.state c.args.shelf.now) c.args.file in
+    let before = c.reach.ensures.run file (c.requires.run steady) in
+    let store = c.reach.ensures.store _ (omega arith) c.requires.store in
+    let after = c.in_ok-extend.ensures in
+    let whole = run_more file c.reach.new.bodies.bytes.items c.extend.new.bodies.bytes.items c.reach.new.bodies.start c.reach.new.bodies.end c.max-last.result
+    before store.in_order store.fits (omega arith) after.keeps (after.bytes steady) after.len in
+    let count : c.len.result ≡ length c.extend.new.bodies.bytes.items = search rules in
+    let end : c.extend.new.bodies.end ≡ c.max-last.result = after.end in
+    ap (λ (n : ℕ). take c.args.size (drop (n - (c.extend.new.bodies.end - c.args.from)) c.extend.new.bodies.bytes.items)) count
+    ∙ (ap (λ (n : ℕ). take c.args.size (drop (length c.extend.new.bodies.bytes.items - (n - c.args.from)) c.extend.new.bodies.bytes.items)) end
+    ∙ run_part file c.extend.new.bodies.bytes.items c.reach.new.bodies.start c.max-last.result c.args.from c.args.size whole
+    (omega (arith, after.len, store.fits)) c.reach.ensures.low (omega arith))

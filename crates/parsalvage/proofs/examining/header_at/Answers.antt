@@ -1,0 +1,37 @@
+use Rattle.std.proofs.Common.{ℕ, List, ◌≤◌, ◌∙◌, arith, length, length-drop, drop}
+use Rattle.parshelf.specs.Shelf.{file_of}
+use Rattle.parshelf.proofs.ShelfLaws.{length-file_of}
+use Rattle.parsalvage.proofs.FrontLaws.{framed_yes, framed_no_header, framed_too_long, fields_same}
+use Rattle.parsalvage.proofs.examining.header_at.Goals as goal
+
+pub returns-in_default-clause-found : goal.returns-in_default-clause-found
+returns-in_default-clause-found g c = λ steady.
+    let bytes : List ℕ = file_of (g.H.Shelf.state c.args.shelf.now) c.args.file in
+    let size = length-file_of _ c.args.file (g.met.H.Shelf.in_order c.args.shelf.now) steady in
+    let long : 64 ≤ length (drop c.args.at bytes) = omega (arith, length-drop c.args.at bytes, size) in
+    framed_no_header (drop c.args.at bytes) _ (c.in_ok-read.ensures.bytes steady) long c.in_default.ensures.found
+
+pub returns-then-head-room-clause-found : goal.returns-then-head-room-clause-found
+returns-then-head-room-clause-found g c = λ steady.
+    let bytes : List ℕ = file_of (g.H.Shelf.state c.args.shelf.now) c.args.file in
+    let size = length-file_of _ c.args.file (g.met.H.Shelf.in_order c.args.shelf.now) steady in
+    let rest = length-drop c.args.at bytes in
+    let long : 64 ≤ length (drop c.args.at bytes) = omega (arith, rest, size) in
+    framed_yes (drop c.args.at bytes) _ (c.in_ok-read.ensures.bytes steady) long c.in-Ok.head
+    c.in-Ok.ensures.found c.in-Ok.ensures.fields (omega (arith, rest, size, c.if-head-room.true, c.length.ensures.value))
+
+pub returns-then-head-room-clause-fields : goal.returns-then-head-room-clause-fields
+returns-then-head-room-clause-fields g c = λ steady.
+    let bytes : List ℕ = file_of (g.H.Shelf.state c.args.shelf.now) c.args.file in
+    let size = length-file_of _ c.args.file (g.met.H.Shelf.in_order c.args.shelf.now) steady in
+    let long : 64 ≤ length (drop c.args.at bytes) = omega (arith, length-drop c.args.at bytes, size) in
+    c.in-Ok.ensures.fields ∙ fields_same (drop c.args.at bytes) _ (c.in_ok-read.ensures.bytes steady) long
+
+pub returns-else-head-room-clause-found : goal.returns-else-head-room-clause-found
+returns-else-head-room-clause-found g c = λ steady.
+    let bytes : List ℕ = file_of (g.H.Shelf.state c.args.shelf.now) c.args.file in
+    let size = length-file_of _ c.args.file (g.met.H.Shelf.in_order c.args.shelf.now) steady in
+    let rest = length-drop c.args.at bytes in
+    let long : 64 ≤ length (drop c.args.at bytes) = omega (arith, rest, size) in
+    framed_too_long (drop c.args.at bytes) _ (c.in_ok-read.ensures.bytes steady) long c.in-Ok.head
+    c.in-Ok.ensures.fields (omega (arith, rest, size, c.if-head-room.false, c.length.ensures.value))

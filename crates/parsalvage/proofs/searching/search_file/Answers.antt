@@ -1,0 +1,135 @@
+use Rattle.std.proofs.Common.{◌≡◌, ◌-◌, ◌≤◌, ◌∙◌, ℕ, List, length, take, drop, ap, arith, length-drop, refl}
+use Rattle.std.proofs.lemmas.List.{length-take-le, length-replicate}
+use Rattle.std.proofs.lemmas.Result.{err_from_is_err_and}
+use Rattle.parshelf.specs.Shelf.{ShelfState}
+use Rattle.parshelf.proofs.ShelfLaws.{length-file_of}
+use Rattle.parsalvage.proofs.HandLaws.{Hands-lengths}
+use Rattle.parsalvage.proofs.FileLaws.{FileSearched-start, FileSearched-next, FileSearched-fault, FileSearched-unread, piece_is, packets_are, hands_whole, packets_whole}
+use borrow.Rule.Slice.PartMut.{put_mid, same_len_mid}
+use Rattle.parsalvage.proofs.searching.search_file.Goals as goal
+
+pub loop-base-init : goal.loop-base-init
+loop-base-init g c = record {
+  within = omega arith;
+  few = omega arith;
+  whole = length-replicate {A = ℕ} 65536 0;
+  searched = FileSearched-start _ _ _ _ _ c.new.ensures.items c.new-2.ensures.items refl refl;
+}
+
+-- a part of the window that lies within it
+part_length : (window : List ℕ) (held size : ℕ) → length window ≡ 65536 → held ≤ size → size ≤ 65536
+    → length (take (size - held) (drop held window)) ≡ size - held
+part_length window held size whole low high =
+    length-take-le (size - held) (drop held window) (omega (arith, whole, length-drop held window))
+
+pub search_piece-requires-clause-piece : goal.search_piece-requires-clause-piece
+search_piece-requires-clause-piece g c =
+    let before = c.loop-base.invariant in
+    let few = before.few in
+    let high : c.min-size.result ≤ 65536 = omega arith in
+    let wide : 64 ≤ c.min-size.result = omega arith in
+    let full = part_length c.loop-base.window c.loop-base.held c.min-size.result before.whole (omega (arith, few, wide)) high in
+    let filled : length c.fill.new.buf ≡ c.min-size.result - c.loop-base.held = c.fill.auto.buf ∙ full in
+    let long : length (put_mid c.loop-base.held (c.min-size.result - c.loop-base.held) c.loop-base.window c.fill.new.buf) ≡ 65536
+    = same_len_mid c.loop-base.held (c.min-size.result - c.loop-base.held) c.loop-base.window c.fill.new.buf c.fill.auto.buf ∙ before.whole in
+    piece_is (g.H.Shelf.state c.args.shelf.now) (g.H.Shelf.state c.loop-base.shelf) c.args.file _
+    c.loop-base.base c.loop-base.held c.min-size.result (c.min-size.result - c.loop-base.held) c.loop-base.window c.fill.new.buf c.loop-base.found
+    before.searched
+    (λ steady.
+    let length_is = length-file_of _ c.args.file (g.met.H.Shelf.in_order c.args.shelf.now) steady in
+    omega (arith, length_is, c.length-end.ensures.value))
+    (omega (arith, wide)) (omega (arith, few, wide)) (omega (arith, few, before.whole)) filled (omega (arith, long, high))
+    (g.H.Shelf.state c.fill.new.shelf) (rw full at c.in_ok-fill.ensures.ok) (rw full at c.in_ok-fill.ensures.bytes)
+
+pub search_piece-requires-clause-found : goal.search_piece-requires-clause-found
+search_piece-requires-clause-found g c =
+    let before = c.loop-base.invariant in
+    let few = before.few in
+    let high : c.min-size.result ≤ 65536 = omega arith in
+    let wide : 64 ≤ c.min-size.result = omega arith in
+    let full = part_length c.loop-base.window c.loop-base.held c.min-size.result before.whole (omega (arith, few, wide)) high in
+    let filled : length c.fill.new.buf ≡ c.min-size.result - c.loop-base.held = c.fill.auto.buf ∙ full in
+    let long : length (put_mid c.loop-base.held (c.min-size.result - c.loop-base.held) c.loop-base.window c.fill.new.buf) ≡ 65536
+    = same_len_mid c.loop-base.held (c.min-size.result - c.loop-base.held) c.loop-base.window c.fill.new.buf c.fill.auto.buf ∙ before.whole in
+    packets_are (g.H.Shelf.state c.args.shelf.now) (g.H.Shelf.state c.loop-base.shelf) c.args.file _
+    c.loop-base.base c.loop-base.held c.min-size.result (c.min-size.result - c.loop-base.held) c.loop-base.window c.fill.new.buf c.loop-base.found
+    before.searched
+    (λ steady.
+    let length_is = length-file_of _ c.args.file (g.met.H.Shelf.in_order c.args.shelf.now) steady in
+    omega (arith, length_is, c.length-end.ensures.value))
+    (omega (arith, wide)) (omega (arith, few, wide)) (omega (arith, few, before.whole)) filled (omega (arith, long, high))
+    (g.H.Shelf.state c.fill.new.shelf) (rw full at c.in_ok-fill.ensures.ok) (rw full at c.in_ok-fill.ensures.bytes)
+
+pub loop-base-preserved : goal.loop-base-preserved
+loop-base-preserved g c =
+    let before = c.loop-base.invariant in
+    let few = before.few in
+    let high : c.min-size.result ≤ 65536 = omega arith in
+    let wide : 64 ≤ c.min-size.result = omega arith in
+    let full = part_length c.loop-base.window c.loop-base.held c.min-size.result before.whole (omega (arith, few, wide)) high in
+    let filled : length c.fill.new.buf ≡ c.min-size.result - c.loop-base.held = c.fill.auto.buf ∙ full in
+    let long : length (put_mid c.loop-base.held (c.min-size.result - c.loop-base.held) c.loop-base.window c.fill.new.buf) ≡ 65536
+    = same_len_mid c.loop-base.held (c.min-size.result - c.loop-base.held) c.loop-base.window c.fill.new.buf c.fill.auto.buf ∙ before.whole in
+    let same = ap (λ (v : ShelfState). v.lengths) c.in_ok-fill.ensures.ok ∙ Hands-lengths _ _ _ _ before.searched.hands in
+    record {
+      within = omega arith;
+      few = omega arith;
+      whole = c.copy_within.ensures.len ∙ long;
+      searched = FileSearched-next (g.H.Shelf.state c.args.shelf.now) (g.H.Shelf.state c.loop-base.shelf) c.args.file _
+          c.loop-base.base c.loop-base.held c.min-size.result (c.min-size.result - c.loop-base.held) c.loop-base.window c.fill.new.buf c.loop-base.found
+          before.searched
+          (λ steady.
+          let length_is = length-file_of _ c.args.file (g.met.H.Shelf.in_order c.args.shelf.now) steady in
+          omega (arith, length_is, c.length-end.ensures.value))
+          (omega (arith, wide)) (omega (arith, few, wide)) (omega (arith, few, before.whole)) filled (omega (arith, long, high))
+          (g.H.Shelf.state c.fill.new.shelf) (rw full at c.in_ok-fill.ensures.ok) (rw full at c.in_ok-fill.ensures.bytes)
+          (g.H.Shelf.state c.search_piece.new.shelf) c.search_piece.new.found c.copy_within.new.self c.copy_within.ensures.after
+          (rw same at c.in_ok-search_piece.ensures.lies) c.in_ok-search_piece.ensures.found c.in_ok-search_piece.ensures.ok;
+    }
+
+pub returns-clause-found : goal.returns-clause-found
+returns-clause-found g c =
+    packets_whole _ _ _ _ _ _ _ _ c.loop-base.invariant.searched (omega arith) (omega arith)
+    (λ steady. length-file_of _ c.args.file (g.met.H.Shelf.in_order c.args.shelf.now) steady)
+
+pub returns-clause-ok : goal.returns-clause-ok
+returns-clause-ok g c =
+    hands_whole _ _ _ _ _ _ _ _ c.loop-base.invariant.searched (omega arith) (omega arith)
+    (λ steady. length-file_of _ c.args.file (g.met.H.Shelf.in_order c.args.shelf.now) steady)
+
+pub returns-in_err-fill-clause-fault : goal.returns-in_err-fill-clause-fault
+returns-in_err-fill-clause-fault g c =
+    let same = err_from_is_err_and c.from_residual.result c.from_residual.ensures.1 in
+    let before = c.loop-base.invariant in
+    let few = before.few in
+    let high : c.min-size.result ≤ 65536 = omega arith in
+    let wide : 64 ≤ c.min-size.result = omega arith in
+    let full = part_length c.loop-base.window c.loop-base.held c.min-size.result before.whole (omega (arith, few, wide)) high in
+    rw (same.1, same.2)
+    (FileSearched-unread _ _ _ _ _ _ _ (c.min-size.result - c.loop-base.held) _ _ _ before.searched
+    (λ steady.
+    let length_is = length-file_of _ c.args.file (g.met.H.Shelf.in_order c.args.shelf.now) steady in
+    omega (arith, length_is, few, wide, c.length-end.ensures.value))
+    (rw full at c.in_err-fill.ensures.fault))
+
+pub returns-in_err-search_piece-clause-fault : goal.returns-in_err-search_piece-clause-fault
+returns-in_err-search_piece-clause-fault g c =
+    let same = err_from_is_err_and c.from_residual-in_err-search_piece.result c.from_residual-in_err-search_piece.ensures.1 in
+    let before = c.loop-base.invariant in
+    let few = before.few in
+    let high : c.min-size.result ≤ 65536 = omega arith in
+    let wide : 64 ≤ c.min-size.result = omega arith in
+    let full = part_length c.loop-base.window c.loop-base.held c.min-size.result before.whole (omega (arith, few, wide)) high in
+    let filled : length c.fill.new.buf ≡ c.min-size.result - c.loop-base.held = c.fill.auto.buf ∙ full in
+    let long : length (put_mid c.loop-base.held (c.min-size.result - c.loop-base.held) c.loop-base.window c.fill.new.buf) ≡ 65536
+    = same_len_mid c.loop-base.held (c.min-size.result - c.loop-base.held) c.loop-base.window c.fill.new.buf c.fill.auto.buf ∙ before.whole in
+    rw (same.1, same.2)
+    (FileSearched-fault (g.H.Shelf.state c.args.shelf.now) (g.H.Shelf.state c.loop-base.shelf) c.args.file _
+    c.loop-base.base c.loop-base.held c.min-size.result (c.min-size.result - c.loop-base.held) c.loop-base.window c.fill.new.buf c.loop-base.found
+    before.searched
+    (λ steady.
+    let length_is = length-file_of _ c.args.file (g.met.H.Shelf.in_order c.args.shelf.now) steady in
+    omega (arith, length_is, c.length-end.ensures.value))
+    (omega (arith, wide)) (omega (arith, few, wide)) (omega (arith, few, before.whole)) filled (omega (arith, long, high))
+    (g.H.Shelf.state c.fill.new.shelf) (rw full at c.in_ok-fill.ensures.ok) (rw full at c.in_ok-fill.ensures.bytes)
+    (g.H.Shelf.state c.search_piece.new.shelf) _ c.in_err-search_piece.ensures.fault)

@@ -1,0 +1,16 @@
+use Rattle.std.proofs.Common.{◌+◌, ◌-◌, ◌≤◌, ◌≡◌, length, slice_index}
+use Rattle.parsalvage.proofs.FileLaws.{FileSearched}
+use Rattle.parsalvage.proofs.searching.search_file.Given as goal
+
+-- the places below `base` were searched; at most seven bytes of the next piece are read already
+abbrev pub invariant-loop-base : goal.invariant-loop-base
+invariant-loop-base g l = record {
+  within : l.base + l.held ≤ l.end;
+  few : l.held ≤ 7;
+  whole : length l.window ≡ 65536;
+  searched : FileSearched (g.H.Shelf.state l.fn.shelf) (g.H.Shelf.state l.shelf) l.file (slice_index (g.H.Shelf.state l.fn.shelf).lengths l.file)
+      l.base l.held l.window l.found;
+}
+
+abbrev pub decreases-loop-base : goal.decreases-loop-base
+decreases-loop-base g l = l.end - l.base

@@ -1,0 +1,56 @@
+use Rattle.std.proofs.Common.{◌≡◌, refl, arith}
+use Rattle.std.proofs.lemmas.Result.{err_from_is_err_and}
+use Rattle.memchr.specs.Find.{matches}
+use Rattle.parfield.specs.Packet.{magic_bytes}
+use Rattle.parsalvage.proofs.HandLaws.{Hands-lengths}
+use Rattle.parsalvage.proofs.SearchLaws.{SearchedTo-start, SearchedTo-next, SearchedTo-fault, place_fits, lies_before, packets_before_now, packets_after, hands_after}
+use Rattle.parsalvage.proofs.searching.search_piece.Goals as goal
+
+pub loop-place-init : goal.loop-place-init
+loop-place-init g c =
+    let is : c.into_iter-place-iterator.result ≡ matches c.args.piece.now.bytes.now magic_bytes 0
+    = rw (c.into_iter-place-iterator.ensures.into_iter_gives, c.find_iter-place-items.ensures.value, c.new-finder.ensures) refl in
+    rw is (SearchedTo-start _ _ _ _ _ _ c.requires.lies c.requires.found)
+
+pub overflow_add-piece : goal.overflow_add-piece
+overflow_add-piece g c =
+    let so_far = rw c.in-Some.ensures.steps at c.loop-place.invariant in
+    let fits = place_fits _ _ _ _ _ c.in-Some.place _ _ _ c.requires.piece so_far in
+    let short = (g.met.H.Shelf.in_order c.args.shelf.now).short c.args.file 0 c.requires.file in
+    omega (arith, fits, short)
+
+pub note_at-requires-clause-within : goal.note_at-requires-clause-within
+note_at-requires-clause-within g c =
+    let so_far = rw c.in-Some.ensures.steps at c.loop-place.invariant in
+    let fits = place_fits _ _ _ _ _ c.in-Some.place _ _ _ c.requires.piece so_far in
+    rw (Hands-lengths _ _ _ _ so_far.hands) (omega (arith, fits, c.requires.within))
+
+pub note_at-requires-clause-lies : goal.note_at-requires-clause-lies
+note_at-requires-clause-lies g c =
+    let so_far = rw c.in-Some.ensures.steps at c.loop-place.invariant in
+    rw (Hands-lengths _ _ _ _ so_far.hands) (lies_before _ _ _ _ _ c.in-Some.place _ _ _ c.requires.piece so_far)
+
+pub note_at-requires-clause-found : goal.note_at-requires-clause-found
+note_at-requires-clause-found g c =
+    let so_far = rw c.in-Some.ensures.steps at c.loop-place.invariant in
+    packets_before_now _ _ _ _ _ c.in-Some.place _ _ _ c.requires.piece so_far
+
+pub loop-place-preserved : goal.loop-place-preserved
+loop-place-preserved g c =
+    let so_far = rw c.in-Some.ensures.steps at c.loop-place.invariant in
+    SearchedTo-next _ _ _ _ _ c.in-Some.place _ _ _ c.requires.piece so_far _ _
+    (rw (Hands-lengths _ _ _ _ so_far.hands) at c.in_ok-note_at.ensures.lies) c.in_ok-note_at.ensures.found c.in_ok-note_at.ensures.ok
+
+pub returns-in_err-note_at-clause-fault : goal.returns-in_err-note_at-clause-fault
+returns-in_err-note_at-clause-fault g c =
+    let same = err_from_is_err_and c.from_residual.result c.from_residual.ensures.1 in
+    let so_far = rw c.in-Some.ensures.steps at c.loop-place.invariant in
+    rw (same.1, same.2) (SearchedTo-fault _ _ _ _ _ c.in-Some.place _ _ _ c.requires.piece so_far _ _ c.in_err-note_at.ensures.fault)
+
+pub returns-clause-found : goal.returns-clause-found
+returns-clause-found g c =
+    packets_after _ _ _ _ _ _ _ c.requires.piece (rw c.in-None.ensures.steps.0 at c.loop-place.invariant)
+
+pub returns-clause-ok : goal.returns-clause-ok
+returns-clause-ok g c =
+    hands_after _ _ _ _ _ _ _ c.requires.piece (rw c.in-None.ensures.steps.0 at c.loop-place.invariant)

@@ -1,0 +1,112 @@
+ghost use Rattle.std.specs.Prelude.{◌≡◌, ◌+◌, ◌<◌, ◌≤◌, length, drop, slice_index, is_some, IsTrue, IfOk, IfErr, IfSome, OnOk};
+ghost use Rattle.md5.specs.Md5.{md5};
+ghost use Rattle.parfield.specs.Packet.{begins_packet, header_of};
+ghost use Rattle.parshelf.specs.Shelf.{file_of, bytes_at};
+ghost use Rattle.parshelf.specs.Reads.{FaultsWithin};
+ghost use Rattle.parsalvage.specs.MagicPlaces.{begins_framed, framed_size};
+ghost use Rattle.parsalvage.specs.Hands.{Hands, FaultsAfter};
+ghost use Rattle.parsalvage.specs.Pieces.{IsPiece};
+
+use crate::piece::{Piece, read};
+use md5::{Digest, Md5};
+use parfield::{Hash16, Header, header};
+use parshelf::{ReadFault, Shelf, digest_of_part};
+
+/// The header at this offset of a file, if a packet begins there. What doesn't stand in the piece
+/// is hashed through `buffer`.
+pub fn examine<H: Shelf>(
+    shelf: &mut H,
+    file: u32,
+    piece: &Piece<'_>,
+    at: u64,
+    buffer: &mut [u8],
+) -> Result<Option<Header>, ReadFault>
+    requires file { file < length (H.state shelf.old).lengths }
+    requires within { at + 64 ≤ slice_index (H.state shelf.old).lengths file }
+    requires buffer { 0 < length buffer.old }
+    requires piece { IsTrue (H.state shelf.old).is_steady
+        → IsPiece (file_of (H.state shelf.old) file) piece.now.base piece.now.bytes.now }
+
+    ensures fits { IfOk result (λ head. IfSome head
+        (λ head. at + head.length ≤ slice_index (H.state shelf.old).lengths file)) }
+    ensures long { IfOk result (λ head. IfSome head (λ head. 64 ≤ head.length)) }
+    ensures found { IsTrue (H.state shelf.old).is_steady → IfOk result
+        (λ head. is_some head ≡ begins_packet (drop at (file_of (H.state shelf.old) file))) }
+    ensures fields { IsTrue (H.state shelf.old).is_steady → IfOk result (λ head. IfSome head
+        (λ head. head ≡ header_of (drop at (file_of (H.state shelf.old) file)))) }
+
+    ensures ok { OnOk result (Hands (H.state shelf.old) (H.state shelf.new) file
+        (64 + framed_size (drop at (file_of (H.state shelf.old) file)))) }
+    ensures fault { IfErr result (FaultsAfter (H.state shelf.old) (H.state shelf.new) file
+        (64 + framed_size (drop at (file_of (H.state shelf.old) file)))) }
+{
+    match header_at(shelf, file, piece, at)? {
+        Some(head) => {
+            let hash = hash_at(shelf, file, piece, at + 32, head.length - 32, buffer)?;
+            Ok(if hash == head.hash { Some(head) } else { None })
+        }
+        None => Ok(None),
+    }
+}
+
+// The header at this offset of a file, if one is there and the file is long enough for its packet.
+fn header_at<H: Shelf>(
+    shelf: &mut H,
+    file: u32,
+    piece: &Piece<'_>,
+    at: u64,
+) -> Result<Option<Header>, ReadFault>
+    requires file { file < length (H.state shelf.old).lengths }
+    requires within { at + 64 ≤ slice_index (H.state shelf.old).lengths file }
+    requires piece { IsTrue (H.state shelf.old).is_steady
+        → IsPiece (file_of (H.state shelf.old) file) piece.now.base piece.now.bytes.now }
+
+    ensures fits { IfOk result (λ head. IfSome head
+        (λ head. at + head.length ≤ slice_index (H.state shelf.old).lengths file)) }
+    ensures long { IfOk result (λ head. IfSome head (λ head. 64 ≤ head.length)) }
+    ensures found { IsTrue (H.state shelf.old).is_steady → IfOk result
+        (λ head. is_some head ≡ begins_framed (drop at (file_of (H.state shelf.old) file))) }
+    ensures fields { IsTrue (H.state shelf.old).is_steady → IfOk result (λ head. IfSome head
+        (λ head. head ≡ header_of (drop at (file_of (H.state shelf.old) file)))) }
+
+    ensures ok { OnOk result (Hands (H.state shelf.old) (H.state shelf.new) file 64) }
+    ensures fault { IfErr result (FaultsWithin (H.state shelf.old) (H.state shelf.new) file 64) }
+{
+    let room = shelf.length(file) - at;
+    let mut bytes = [0; 64];
+    read(shelf, file, piece, at, &mut bytes)?;
+    let Ok(head) = header(&bytes) else {
+        return Ok(None);
+    };
+    Ok(if head.length <= room {
+        Some(head)
+    } else {
+        None
+    })
+}
+
+// The MD5 of a part of a file. What stands in the piece isn't read again.
+fn hash_at<H: Shelf>(
+    shelf: &mut H,
+    file: u32,
+    piece: &Piece<'_>,
+    from: u64,
+    size: u64,
+    buffer: &mut [u8],
+) -> Result<Hash16, ReadFault>
+    requires file { file < length (H.state shelf.old).lengths }
+    requires within { from + size ≤ slice_index (H.state shelf.old).lengths file }
+    requires buffer { 0 < length buffer.old }
+    requires piece { IsTrue (H.state shelf.old).is_steady
+        → IsPiece (file_of (H.state shelf.old) file) piece.now.base piece.now.bytes.now }
+
+    ensures digest { IsTrue (H.state shelf.old).is_steady →
+        IfOk result (λ hash. hash.0 ≡ md5 (bytes_at (H.state shelf.old) file from size)) }
+    ensures ok { OnOk result (Hands (H.state shelf.old) (H.state shelf.new) file size) }
+    ensures fault { IfErr result (FaultsWithin (H.state shelf.old) (H.state shelf.new) file size) }
+{
+    match piece.part(from, size) {
+        Some(part) => Ok(Hash16(Md5::digest(part))),
+        None => digest_of_part(shelf, file, from, size, buffer),
+    }
+}

@@ -1,0 +1,60 @@
+ghost use Rattle.std.specs.Prelude.{◌≡◌, ℕ, List, ◌+◌, ◌≤◌, ◌<◌, length, take, drop, slice_index, IsTrue, IfSome, IfErr, OnOk};
+ghost use Rattle.parshelf.specs.Shelf.{file_of, bytes_at};
+ghost use Rattle.parshelf.specs.Reads.{FaultsWithin};
+ghost use Rattle.parsalvage.specs.Hands.{Hands};
+ghost use Rattle.parsalvage.specs.Pieces.{IsPiece};
+
+use parshelf::{ReadFault, Shelf, fill};
+
+/// A piece of a file that was read already.
+#[derive(Clone, Copy)]
+pub struct Piece<'a> {
+    /// Its offset in the file.
+    pub base: u64,
+    /// Its bytes.
+    pub bytes: &'a [u8],
+}
+
+impl<'a> Piece<'a> {
+    /// A part of the file, where all of it stands in the piece.
+    pub fn part(&self, from: u64, size: u64) -> Option<&'a [u8]>
+        ensures size { IfSome result (λ part. length part.now ≡ size) }
+        ensures bytes { (file : List ℕ) → IsPiece file self.now.base self.now.bytes.now
+            → IfSome result (λ part. part.now ≡ take size (drop from file)) }
+    {
+        let room = self.bytes.len() as u64;
+        if from < self.base || from - self.base > room || size > room - (from - self.base) {
+            return None;
+        }
+        let place = (from - self.base) as usize;
+        Some(&self.bytes[place..place + size as usize])
+    }
+}
+
+/// Fills `buf` with a file's bytes from an offset on. What stands in the piece isn't read again.
+pub fn read<H: Shelf>(
+    shelf: &mut H,
+    file: u32,
+    piece: &Piece<'_>,
+    offset: u64,
+    buf: &mut [u8],
+) -> Result<(), ReadFault>
+    requires file { file < length (H.state shelf.old).lengths }
+    requires within { offset + length buf.old ≤ slice_index (H.state shelf.old).lengths file }
+    requires piece { IsTrue (H.state shelf.old).is_steady
+        → IsPiece (file_of (H.state shelf.old) file) piece.now.base piece.now.bytes.now }
+
+    ensures bytes { IsTrue (H.state shelf.old).is_steady →
+        OnOk result (buf.new ≡ bytes_at (H.state shelf.old) file offset (length buf.old)) }
+    ensures ok { OnOk result (Hands (H.state shelf.old) (H.state shelf.new) file (length buf.old)) }
+    ensures fault { IfErr result
+        (FaultsWithin (H.state shelf.old) (H.state shelf.new) file (length buf.old)) }
+{
+    match piece.part(offset, buf.len() as u64) {
+        Some(part) => {
+            buf.copy_from_slice(part);
+            Ok(())
+        }
+        None => fill(shelf, file, offset, buf),
+    }
+}

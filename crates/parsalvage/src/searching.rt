@@ -1,0 +1,112 @@
+ghost use Rattle.std.specs.Prelude.{◌≡◌, ◌≢◌, ◌+◌, ◌-◌, ◌<◌, ◌≤◌, [], length, slice_index, IsTrue, IfOk, IfErr, OnOk};
+ghost use Rattle.parshelf.specs.Shelf.{file_of};
+ghost use Rattle.parsalvage.specs.Hands.{Hands, FaultsEarly};
+ghost use Rattle.parsalvage.specs.Notes.{LiesIn, FoundBelow};
+ghost use Rattle.parsalvage.specs.Packets.{packets_of};
+ghost use Rattle.parsalvage.specs.Pieces.{IsPiece};
+ghost use Rattle.parsalvage.specs.MagicPlaces.{limit_between, salvage_limit};
+
+use crate::bodies::Bodies;
+use crate::bytes::MAGIC;
+use crate::files::SalvageFault;
+use crate::noting::{Found, note_at};
+use crate::piece::Piece;
+use memchr::memmem::Finder;
+use parshelf::{Shelf, fill};
+use std::alloc::Global;
+
+/// How many bytes of a file are searched at a time.
+pub const PIECE: usize = 65_536;
+
+// Notes the packets that begin in a piece of a file, but for its last seven places.
+fn search_piece<H: Shelf>(
+    shelf: &mut H,
+    file: u32,
+    piece: &Piece<'_>,
+    buffer: &mut [u8],
+    found: &mut Found,
+) -> Result<(), SalvageFault>
+    requires file { file < length (H.state shelf.old).lengths }
+    requires within { piece.now.base + length piece.now.bytes.now
+        ≤ slice_index (H.state shelf.old).lengths file }
+    requires long { 7 ≤ length piece.now.bytes.now }
+    requires buffer { 0 < length buffer.old }
+    requires piece { IsTrue (H.state shelf.old).is_steady
+        → IsPiece (file_of (H.state shelf.old) file) piece.now.base piece.now.bytes.now }
+    requires lies { LiesIn (slice_index (H.state shelf.old).lengths file) piece.now.base found.old }
+    requires found { IsTrue (H.state shelf.old).is_steady
+        → FoundBelow file (file_of (H.state shelf.old) file) piece.now.base found.old }
+
+    ensures lies { OnOk result (LiesIn (slice_index (H.state shelf.old).lengths file)
+        (piece.now.base + (length piece.now.bytes.now - 7)) found.new) }
+    ensures found { IsTrue (H.state shelf.old).is_steady → OnOk result
+        (FoundBelow file (file_of (H.state shelf.old) file)
+        (piece.now.base + (length piece.now.bytes.now - 7)) found.new) }
+
+    ensures ok { OnOk result (Hands (H.state shelf.old) (H.state shelf.new) file
+        (limit_between (file_of (H.state shelf.old) file) piece.now.base
+        (piece.now.base + (length piece.now.bytes.now - 7)))) }
+    ensures fault { IfErr result (FaultsEarly (H.state shelf.old) (H.state shelf.new) file
+        (limit_between (file_of (H.state shelf.old) file) piece.now.base
+        (piece.now.base + (length piece.now.bytes.now - 7)))
+        (packets_of (file_of (H.state shelf.old) file) ≢ [])) }
+{
+    let finder = Finder::new(&MAGIC);
+    // Two occurrences of the magic never overlap.
+    for place in finder.find_iter(piece.bytes) {
+        note_at(shelf, file, piece, piece.base + place as u64, buffer, found)?;
+    }
+    Ok(())
+}
+
+/// The packets of a file, by offset, and their bodies. What is read of it apart from the search
+/// goes through `buffer`, or to the bodies.
+pub fn search_file<H: Shelf>(
+    alloc: Global,
+    shelf: &mut H,
+    file: u32,
+    buffer: &mut [u8],
+) -> Result<Found, SalvageFault>
+    requires file { file < length (H.state shelf.old).lengths }
+    requires buffer { 0 < length buffer.old }
+
+    ensures lies { IfOk result (λ found. LiesIn (slice_index (H.state shelf.old).lengths file)
+        (slice_index (H.state shelf.old).lengths file) found) }
+    ensures found { IsTrue (H.state shelf.old).is_steady → IfOk result (λ found.
+        FoundBelow file (file_of (H.state shelf.old) file)
+        (slice_index (H.state shelf.old).lengths file) found) }
+
+    ensures ok { OnOk result (Hands (H.state shelf.old) (H.state shelf.new) file
+        (salvage_limit (file_of (H.state shelf.old) file))) }
+    ensures fault { IfErr result (FaultsEarly (H.state shelf.old) (H.state shelf.new) file
+        (salvage_limit (file_of (H.state shelf.old) file))
+        (packets_of (file_of (H.state shelf.old) file) ≢ [])) }
+{
+    let end = shelf.length(file);
+    let mut found = Found {
+        notes: Vec::new(alloc),
+        bodies: Bodies {
+            bytes: Vec::new(alloc),
+            start: 0,
+            end: 0,
+        },
+    };
+    let mut window = [0; PIECE];
+    let mut base = 0;
+    let mut held = 0;
+    // No packet is shorter than its header.
+    while base + 64 <= end {
+        let size = (end - base).min(PIECE as u64) as usize;
+        fill(shelf, file, base + held as u64, &mut window[held..size])?;
+        let piece = Piece {
+            base,
+            bytes: &window[..size],
+        };
+        search_piece(shelf, file, &piece, buffer, &mut found)?;
+        // A magic may begin in the last seven bytes, which begin the next piece.
+        window.copy_within(size - 7..size, 0);
+        base += (size - 7) as u64;
+        held = 7;
+    }
+    Ok(found)
+}

@@ -1,0 +1,203 @@
+use super::*;
+use md5::{Digest, Md5};
+use std::alloc::{AllocError, Global};
+use std::process::Abort;
+
+const MAGIC: [u8; 8] = *b"PAR2\0PKT";
+
+const CREATOR_TYPE: [u8; 16] = *b"PAR 2.0\0Creator\0";
+
+const RECV_SLIC: [u8; 16] = *b"PAR 2.0\0RecvSlic";
+
+const UNKNOWN: [u8; 16] = *b"PAR 2.0\0Unknown\0";
+
+// A packet of set ID zeros with the length and the hash that its fields ask for.
+fn packet(alloc: Global, kind: &[u8; 16], body: &[u8]) -> Result<Vec<u8>, AllocError> {
+    let length = (body.len() as u64).saturating_add(64);
+    let mut hasher = Md5::new();
+    hasher.update(&[0; 16]);
+    hasher.update(kind);
+    hasher.update(body);
+    let mut bytes = Vec::from_slice(alloc, &MAGIC)?;
+    bytes.extend_from_slice(&length.to_le_bytes())?;
+    bytes.extend_from_slice(&hasher.finalize())?;
+    bytes.extend_from_slice(&[0; 16])?;
+    bytes.extend_from_slice(kind)?;
+    bytes.extend_from_slice(body)?;
+    Ok(bytes)
+}
+
+// Whether the same is held of two bodies.
+fn same_body(one: &KeptBody, other: &KeptBody) -> bool {
+    match (one, other) {
+        (KeptBody::Whole(one), KeptBody::Whole(other)) => one.as_slice() == other.as_slice(),
+        (KeptBody::Front { .. }, KeptBody::Front { .. }) => {
+            one.front() == other.front() && one.len() == other.len()
+        }
+        _ => false,
+    }
+}
+
+// A file of these bytes, read at most so many at a time.
+fn shelf_of(alloc: Global, bytes: &[u8], piece: usize) -> Result<MemShelf, AllocError> {
+    let mut files = Vec::new(alloc);
+    files.push(Vec::from_slice(alloc, bytes)?)?;
+    Ok(MemShelf::new(files, piece.max(1), Vec::new(alloc)))
+}
+
+// A file of these bytes has the packets of the bytes, at these offsets.
+fn found_at(rt: &(impl Abort + AllocGlobal), bytes: &[u8], wanted: &[u64]) -> Result<(), Fail> {
+    let packets = salvage(rt.alloc(), bytes)?;
+    let kept = kept_of(rt.alloc(), 0, &packets)?;
+    assert_eq!(rt; kept.len(), wanted.len());
+    for (packet, at) in kept.iter().zip(wanted) {
+        assert_eq!(rt; packet.at, *at);
+    }
+    for piece in [1, 7, 65_536] {
+        let mut shelf = shelf_of(rt.alloc(), bytes, piece)?;
+        assert_eq!(rt; shelf.count(), 1);
+        let found = salvage_file(rt.alloc(), &mut shelf, 0).ok().ok_or("found")?;
+        assert_eq!(rt; found.len(), kept.len(), "pieces of {piece}");
+        for (one, other) in found.iter().zip(&kept) {
+            assert_eq!(rt;
+                (one.file, one.at, one.length),
+                (other.file, other.at, other.length)
+            );
+            assert!(rt; one.set == other.set && one.kind == other.kind);
+            assert!(rt;
+                same_body(&one.body, &other.body),
+                "body at {} in pieces of {piece}",
+                one.at
+            );
+        }
+    }
+    Ok(())
+}
+
+#[test]
+fn packets_across_pieces(rt: HostRuntime) -> Result<(), Fail> {
+    // The magic, the header or the body goes over the end of the first piece, or all is behind it.
+    for before in [
+        65_465, 65_472, 65_500, 65_528, 65_529, 65_530, 65_533, 65_536,
+    ] {
+        let mut bytes = vec![in rt.alloc(); b'x'; before]?;
+        bytes.extend_from_slice(&CREATOR)?;
+        found_at(&rt, &bytes, &[before as u64])?;
+    }
+    let mut bytes = vec![in rt.alloc(); 0; 70_000]?;
+    bytes.extend_from_slice(&AROUND)?;
+    bytes.extend_from_slice(&CREATOR)?;
+    found_at(&rt, &bytes, &[70_003, 70_071])
+}
+
+#[test]
+fn bodies_longer_than_a_piece(rt: HostRuntime) -> Result<(), Fail> {
+    let mut body = vec![in rt.alloc(); 5; 100_000]?;
+    body.extend_from_slice(&CREATOR)?;
+    body.extend_from_slice(&[6; 100_000])?;
+    for kind in [CREATOR_TYPE, RECV_SLIC, UNKNOWN] {
+        let mut bytes = packet(rt.alloc(), &kind, &body)?;
+        bytes.extend_from_slice(&CREATOR)?;
+        found_at(&rt, &bytes, &[0, 100_064, 200_128])?;
+    }
+    Ok(())
+}
+
+#[test]
+fn packets_within_packets(rt: HostRuntime) -> Result<(), Fail> {
+    let mut bytes = Vec::new(rt.alloc());
+    let mut wanted = Vec::new(rt.alloc());
+    for level in 0..40u64 {
+        bytes = packet(rt.alloc(), &CREATOR_TYPE, &bytes)?;
+        wanted.push(level * 64)?;
+    }
+    found_at(&rt, &bytes, &wanted)
+}
+
+#[test]
+fn overlapping_packets(rt: HostRuntime) -> Result<(), Fail> {
+    let second = packet(rt.alloc(), &CREATOR_TYPE, b"abcd")?;
+    let mut bytes = packet(rt.alloc(), &CREATOR_TYPE, second.get(..64).ok_or("front")?)?;
+    bytes.extend_from_slice(second.get(64..).ok_or("rest")?)?;
+    found_at(&rt, &bytes, &[0, 64])?;
+    bytes.extend_from_slice(&packet(rt.alloc(), &UNKNOWN, b"abc!")?)?;
+    bytes.extend_from_slice(&packet(rt.alloc(), &CREATOR_TYPE, b"efgh")?)?;
+    found_at(&rt, &bytes, &[0, 64, 132, 200])
+}
+
+// A file of these bytes has no packet. No memory is taken, so the answer is the same where an
+// allocation of the call would be refused.
+fn nothing_in(rt: &(impl Abort + AllocGlobal), bytes: &[u8]) -> Result<(), Fail> {
+    let mut shelf = shelf_of(rt.alloc(), bytes, 65_536)?;
+    assert_eq!(rt; shelf.count(), 1);
+    match salvage_file(rt.alloc(), &mut shelf, 0) {
+        Ok(found) => assert!(rt; found.is_empty()),
+        Err(_) => panic!(rt; "a file without packets is salvaged"),
+    }
+    Ok(())
+}
+
+#[test]
+fn no_packet(rt: HostRuntime) -> Result<(), Fail> {
+    let mut odd = [0; 66];
+    odd[..64].copy_from_slice(&CREATOR);
+    odd[8] = 66;
+    nothing_in(&rt, &odd)?;
+    let mut changed = CREATOR;
+    changed[63] = 1;
+    nothing_in(&rt, &changed)?;
+    nothing_in(&rt, &[])
+}
+
+// The next of a row of numbers that look like chance.
+fn next_number(seed: u64) -> u64 {
+    let mixed = seed ^ (seed >> 29);
+    mixed.wrapping_mul(0xBF58_476D_1CE4_E5B9) ^ (mixed >> 32)
+}
+
+// Packets, parts of packets and other bytes in a row, up to about this length.
+fn mixed_bytes(alloc: Global, seed: u64, length: usize) -> Result<Vec<u8>, AllocError> {
+    let mut bytes = Vec::new(alloc);
+    let mut number = seed;
+    for _ in 0..10_000 {
+        if bytes.len() >= length {
+            return Ok(bytes);
+        }
+        number = next_number(number).wrapping_add(seed);
+        let size = ((number >> 8) % 50) as usize * 4;
+        let body = vec![in alloc; ((number >> 16) % 256) as u8; size]?;
+        let kind = match number % 3 {
+            0 => CREATOR_TYPE,
+            1 => RECV_SLIC,
+            _ => UNKNOWN,
+        };
+        let mut part = packet(alloc, &kind, &body)?;
+        match (number >> 32) % 8 {
+            0 => part.truncate(20),
+            1 => part.push(1)?,
+            2 => part.resize(8, 0)?,
+            3 => part = packet(alloc, &CREATOR_TYPE, &part)?,
+            4 => part = body,
+            5 => part.truncate(72),
+            _ => (),
+        }
+        bytes.append(&mut part)?;
+    }
+    Ok(bytes)
+}
+
+#[test]
+fn mixed_files(rt: HostRuntime) -> Result<(), Fail> {
+    for seed in 1..=12u64 {
+        let length = if seed % 4 == 0 { 140_000 } else { 3_000 };
+        let bytes = mixed_bytes(rt.alloc(), seed * 7_919, length)?;
+        let packets = salvage(rt.alloc(), &bytes)?;
+        let mut wanted = Vec::new(rt.alloc());
+        for packet in &packets {
+            wanted.push(packet.at as u64)?;
+        }
+        assert!(rt; wanted.len() > 5, "packets of {seed}");
+        found_at(&rt, &bytes, &wanted)?;
+    }
+    Ok(())
+}

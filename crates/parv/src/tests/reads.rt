@@ -1,0 +1,211 @@
+use crate::tests::fixtures::{Files, ROOMY, packet_files, ran_with};
+use crate::tests::rows::{Ends, Row, ends_so};
+use crate::tests::whole_rows::{FIRST, SECOND, WHOLE};
+use parreport::RunFault;
+use parshelf::ReadFault;
+use std::process::Abort;
+use std::test::Fail;
+
+// Rows where the read of this number of the scanned files fails.
+static FAULTY: [(u64, Row); 6] = [
+    // Without a set no scanned file is read.
+    (
+        1,
+        Row {
+            words: &["find", "v.par2", "x.bin"],
+            packets: &["empty"],
+            scanned: &[b"XXabcdefgh"],
+            ends: Ends::Refused("parv: no usable set: no main\n", 4),
+        },
+    ),
+    (
+        1,
+        Row {
+            words: &["verify", "e.par2", "a.bin"],
+            packets: &["empty"],
+            scanned: &[b"abcdef"],
+            ends: Ends::Refused("parv: no usable set: no main\n", 4),
+        },
+    ),
+    // Nor with a cursor of another set.
+    (
+        1,
+        Row {
+            words: &[
+                "find",
+                "--cursor",
+                "00000000000000000000000000000000:0:2:1",
+                "v.par2",
+                "x.bin",
+            ],
+            packets: &["g"],
+            scanned: &[b"XXabcdefgh"],
+            ends: Ends::Refused("parv: cursor of another set\n", 3),
+        },
+    ),
+    // The third read gives the window of the first sighting; the fourth would fail.
+    (
+        4,
+        Row {
+            words: &["find", "--limit", "1", "v.par2", "x.bin"],
+            packets: &["g"],
+            scanned: &[b"XXabcdefgh"],
+            ends: Ends::Wrote(
+                "x.bin 2 e345eacbe656c0e6fd20ed63cb7b062c 0\n\
+                 cursor 617cdc72ba53d94fe713fea2ae18f776:0:2:1\n",
+                0,
+            ),
+        },
+    ),
+    // A fault names the file, and not the name that it goes by.
+    (
+        1,
+        Row {
+            words: &["find", "-B", "d", "v.par2", "d/x.bin"],
+            packets: &["g"],
+            scanned: &[b"XXabcdefgh"],
+            ends: Ends::Refused("parv: read fault in d/x.bin\n", 6),
+        },
+    ),
+    // The first file is read once for its digest, and then the second.
+    (
+        2,
+        Row {
+            words: &["verify", "v.par2", "a.bin", "b.bin"],
+            packets: &["a_with_a_slice"],
+            scanned: &[b"abcd", b"abcdef"],
+            ends: Ends::Refused("parv: read fault in b.bin\n", 6),
+        },
+    ),
+];
+
+#[test]
+fn one_failing_read_of_the_scanned_files(rt: HostRuntime) -> Result<(), Fail> {
+    for (failing, row) in &FAULTY {
+        ends_so(&rt, row, *failing)?;
+    }
+    Ok(())
+}
+
+// The number of the file that the read of a number is of, where each file has so many reads.
+fn file_read(reads: &[u64], number: u64) -> Option<u32> {
+    let mut left = number;
+    let mut index = 0u32;
+    for count in reads {
+        if left <= *count {
+            return Some(index);
+        }
+        left = left.saturating_sub(*count);
+        index = index.saturating_add(1);
+    }
+    None
+}
+
+// The packet file, or else the scanned file, of a number, as the words name it.
+fn path_of(words: &'static [&'static str], packet: bool, file: u32) -> Option<&'static str> {
+    let mut left = file;
+    for word in words.iter().skip(1) {
+        if word.ends_with(".par2") == packet {
+            if left == 0 {
+                return Some(*word);
+            }
+            left = left.saturating_sub(1);
+        }
+    }
+    None
+}
+
+// Each read failing in turn, of the packet files, where it is told how many each has, or else of the
+// one scanned file: the fault, and a beginning of the text in whole lines, until so many reads are
+// not made.
+fn reads_fail_in_turn(
+    rt: &(impl Abort + AllocGlobal),
+    row: &Row,
+    part: &str,
+    reads: Option<&[u64]>,
+    piece: usize,
+) -> Result<(), Fail> {
+    let packets = packet_files(rt, row.packets)?;
+    let packet = reads.is_some();
+    let reads = reads.unwrap_or(&[u64::MAX]);
+    let Ends::Wrote(whole, status) = row.ends else {
+        return Err("a row with no text".into());
+    };
+    let mut most = 0;
+    let mut saw_part = part.is_empty();
+    for number in 1..1000u64 {
+        let files = Files {
+            packets: packets.as_slice(),
+            scanned: row.scanned,
+            piece,
+            failing_packet: if packet { number } else { 0 },
+            failing_scanned: if packet { 0 } else { number },
+        };
+        let ran = ran_with(rt, row.words, files, ROOMY)?;
+        if ran.fault.is_none() {
+            assert_eq!(rt; std::str::from_utf8(&ran.text), Ok(whole));
+            assert_eq!(rt; ran.status, status);
+            assert!(rt; saw_part || packet);
+            assert!(rt; !packet || file_read(reads, number).is_none());
+            return Ok(());
+        }
+        let file = file_read(reads, number).ok_or("more reads than bytes")?;
+        let fault = RunFault::Read {
+            packet,
+            file,
+            fault: ReadFault::Failed,
+        };
+        assert_eq!(rt; ran.fault, Some(fault), "read {number}");
+        let path = path_of(row.words, packet, file).ok_or("path")?;
+        let line = format!(in rt.alloc(); "parv: read fault in {path}\n")?;
+        assert_eq!(rt; std::str::from_utf8(&ran.line), Ok(line.as_str()));
+        assert_eq!(rt; ran.status, 6);
+        assert!(rt; is_front(&ran.text, whole) && ran.text.len() >= most);
+        assert!(rt; ran.text.is_empty() || (!packet && number > 1 && !part.is_empty()));
+        most = ran.text.len();
+        saw_part = saw_part || ran.text.as_slice() == part.as_bytes();
+    }
+    Err("reads without end".into())
+}
+
+// Whether the text is that of the first lines of the whole one, or of none.
+fn is_front(text: &[u8], whole: &str) -> bool {
+    whole.as_bytes().starts_with(text) && (text.is_empty() || text.ends_with(b"\n"))
+}
+
+#[test]
+fn each_read_failing_in_turn(rt: HostRuntime) -> Result<(), Fail> {
+    for (row, part, by_1, by_64) in &WHOLE {
+        reads_fail_in_turn(&rt, row, part, None, 1)?;
+        // One read gives a whole scanned file then, so its failing leaves no text.
+        reads_fail_in_turn(&rt, row, "", None, 64)?;
+        reads_fail_in_turn(&rt, row, part, Some(*by_1), 1)?;
+        reads_fail_in_turn(&rt, row, part, Some(*by_64), 64)?;
+    }
+    Ok(())
+}
+
+// A file with both slices of the set of g.bin, and one with a single place.
+static TWO_FILES: [&[u8]; 2] = [b"XXabcdefgh", b"y"];
+
+#[test]
+fn lines_of_the_files_before_one_that_fails(rt: HostRuntime) -> Result<(), Fail> {
+    let packets = packet_files(&rt, &["g"])?;
+    // The one read of the second file comes after all reads of the first.
+    for number in 1..20u64 {
+        let files = Files {
+            packets: packets.as_slice(),
+            scanned: &TWO_FILES,
+            piece: 64,
+            failing_packet: 0,
+            failing_scanned: number,
+        };
+        let ran = ran_with(&rt, &["find", "v.par2", "x.bin", "y.bin"], files, ROOMY)?;
+        if ran.line.as_slice() == b"parv: read fault in y.bin\n".as_slice() {
+            let text = format!(in rt.alloc(); "{FIRST}{SECOND}")?;
+            assert_eq!(rt; std::str::from_utf8(&ran.text), Ok(text.as_str()));
+            return Ok(());
+        }
+    }
+    Err("no read of the second file failed".into())
+}

@@ -1,0 +1,21 @@
+use Rattle.std.proofs.Common.{arith}
+use Rattle.parwindow.proofs.EntryLaws.{index_all, index_skip, index_push}
+use Rattle.parwindow.proofs.entries.listed.Goals as goal
+use Rattle.parwindow.proofs.entries.listed.Goals.{in-Some+in_ok-push, in_default}
+
+pub loop-number-preserved : goal.loop-number-preserved
+loop-number-preserved c =
+    let slices = c.args.slices.now in
+    elim c.match-slice.branch [
+      | in-Some+in_ok-push w ↦
+          rw (w.list-is, w.in_ok-push.ensures.items)
+          (index_push slices c.loop-number.list.items c.loop-number.number _ w.in-Some.hash w.in-Some.crc
+          c.loop-number-test.true w.in-Some.is c.loop-number.invariant)
+      | in_default w ↦ rw w.list-is
+          (index_skip slices c.loop-number.list.items c.loop-number.number _ c.loop-number-test.true
+          w.in_default.is c.loop-number.invariant)
+    ]
+
+pub returns : goal.returns
+returns c = index_all c.args.slices.now c.loop-number.list.items c.loop-number.number (omega arith)
+    c.loop-number.invariant

@@ -1,0 +1,14 @@
+use Rattle.std.proofs.Common.{◌+◌, ◌-◌, ◌≡◌, ◌≤◌, length, min}
+use Rattle.parwindow.specs.Slide.{rolled, HasRegister}
+use Rattle.parwindow.proofs.StopLaws.{GoesOn}
+use Rattle.parwindow.proofs.tables.SlideTables.slide.Given as goal
+
+abbrev pub invariant-loop-i : goal.invariant-loop-i
+invariant-loop-i l = record {
+  is_len : l.len ≡ min (length l.gone) (length l.come);
+  within : l.i ≤ l.len;
+  on : GoesOn (HasRegister l.index) (rolled l.self.others l.start l.gone l.come) l.i l.register;
+}
+
+abbrev pub decreases-loop-i : goal.decreases-loop-i
+decreases-loop-i l = l.len + 1 - l.i

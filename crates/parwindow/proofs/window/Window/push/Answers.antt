@@ -1,0 +1,29 @@
+use Rattle.std.proofs.Common.{ap, ◌∙◌, ◌<◌, ◌++◌, ◌∷◌, [], arith}
+use Rattle.parwindow.proofs.MoveLaws.{ring_content, ring_fallen, register_moves, length-keep_last}
+use Rattle.parwindow.proofs.window.Window.push.Goals as goal
+
+pub invariant_of-self : goal.invariant_of-self
+invariant_of-self c =
+    let w = c.self.inside in
+    let held = c.self.invariant in
+    rw (c.push_back-fallen.ensures.items, c.moved-self-inside.ensures, c.push_back-fallen.ensures.value, held.rolled) (record {
+      within = length-keep_last w.ring.capacity (w.ring.items ++ c.args.byte ∷ []);
+      room = held.room;
+      rolled = register_moves w.ring.items w.ring.capacity w.tables.others c.args.byte held.within held.room;
+    })
+
+pub returns-clause-content : goal.returns-clause-content
+returns-clause-content c =
+    let w = c.self.inside in
+    let some : 0 < w.ring.capacity = omega (arith, c.self.invariant.room) in
+    rw (c.push_back-fallen.ensures.items, ← c.self.view_is)
+    (ap (λ xs. record { content = xs; capacity = w.ring.capacity; digests = w.digests.count })
+    (ring_content w.ring.items w.ring.capacity c.args.byte c.self.invariant.within some))
+
+pub returns-clause-answer : goal.returns-clause-answer
+returns-clause-answer c =
+    let w = c.self.inside in
+    let some : 0 < w.ring.capacity = omega (arith, c.self.invariant.room) in
+    rw (← c.self.view_is)
+    (c.push_back-fallen.ensures.value
+    ∙ ring_fallen w.ring.items w.ring.capacity c.args.byte c.self.invariant.within some)

@@ -1,0 +1,64 @@
+-- The slices that have sums, in an order by which halves find them.
+use Rattle.std.specs.Prelude.{◌≡◌, ℕ, ◌<◌, ◌≤◌, Bool, false, Option, None, Some, List, length, get_or, slice_get, IsTrue, Contains, All, nat_lt, min, if◌then◌else◌}
+use Rattle.std.specs.declared.cmp.Ordering.{Ordering}
+use Rattle.std.specs.declared.cmp.Ordering.TheVariants.{Less}
+use Rattle.std.specs.Ordering.{nat_cmp, then_cmp, on}
+use Rattle.std.specs.Option.{option_map_or}
+use Rattle.std.specs.Cmp.Lexicographic.{slice_cmp}
+use Rattle.parset.specs.declared.recovery_set.SetSlice.{SetSlice}
+use Rattle.parwindow.specs.Index.{has_sums}
+use Rattle.parwindow.specs.declared.entry.Entry.{Entry}
+
+-- by CRC-32, then by the MD5 from its first byte on, then by number
+abbrev pub entry_cmp : Entry → Entry → Ordering
+entry_cmp =
+    then_cmp (on (λ (e : Entry). e.crc) nat_cmp)
+    (then_cmp (on (λ (e : Entry). e.digest) (slice_cmp nat_cmp))
+    (on (λ (e : Entry). e.slice) nat_cmp))
+
+-- slice n is there, and passes a test
+abbrev pub passes_at : List SetSlice → (SetSlice → Bool) → ℕ → Bool
+passes_at slices test n = option_map_or test (slice_get slices n) false
+
+-- slice n is there, and these are its CRC-32 and its MD5
+abbrev pub HasSums : List SetSlice → ℕ → ℕ → List ℕ → Type 0
+HasSums slices n crc digest = IsTrue (passes_at slices (has_sums (record { 0 = digest }, crc)) n)
+
+-- an entry tells the sums of a slice
+abbrev pub IsEntryOf : List SetSlice → Entry → Type 0
+IsEntryOf slices e = HasSums slices e.slice e.crc e.digest
+
+-- each slice with sums has its entry, and each entry is of such a slice
+pub record IsIndexOf (slices : List SetSlice) (entries : List Entry) : Type 0 where
+  pub sound : All (IsEntryOf slices) entries
+  pub complete : (n crc : ℕ) (digest : List ℕ) → HasSums slices n crc digest
+      → Contains entries (record { crc = crc; digest = digest; slice = n })
+
+-- the same, for the slices below a number
+pub record IsIndexBelow (slices : List SetSlice) (number : ℕ) (entries : List Entry) : Type 0 where
+  pub sound : All (IsEntryOf slices) entries
+  pub complete : (n crc : ℕ) (digest : List ℕ) → n < number → HasSums slices n crc digest
+      → Contains entries (record { crc = crc; digest = digest; slice = n })
+
+-- the entries at and after `at` are those that are not below t
+pub record IsFloor (entries : List Entry) (t : Entry) (at : ℕ) : Type 0 where
+  pub not_below : (e : Entry) → at < length entries → entry_cmp (get_or entries at e) t ≡ Less → ⊥
+  pub first : (x e : Entry) → Contains entries x → (entry_cmp x t ≡ Less → ⊥)
+      → (at < length entries) × (entry_cmp x (get_or entries at e) ≡ Less → ⊥)
+
+-- these are the entries that have a CRC-32
+pub record AreWithCrc (entries : List Entry) (crc : ℕ) (found : List Entry) : Type 0 where
+  pub sound : All (λ e. Contains entries e × (e.crc ≡ crc)) found
+  pub complete : (e : Entry) → Contains entries e → e.crc ≡ crc → Contains found e
+
+-- the least number of entries that is at or above `from`; None says that there is none
+abbrev pub IsLeastOf : List Entry → ℕ → Option ℕ → Type 0
+IsLeastOf entries from None = All (λ e. e.slice < from) entries
+IsLeastOf entries from (Some n) =
+    (from ≤ n) × ((e : Entry) × (Contains entries e × (e.slice ≡ n)))
+    × All (λ e. from ≤ e.slice → n ≤ e.slice) entries
+
+-- the lesser one of a number and of another, if that is at or above `from`
+abbrev pub lesser : ℕ → Option ℕ → ℕ → Option ℕ
+lesser from None n = if nat_lt n from then None else Some n
+lesser from (Some least) n = if nat_lt n from then Some least else Some (min least n)

@@ -1,0 +1,143 @@
+ghost use Rattle.std.specs.Prelude.{◌≡◌, ◌≤◌, List, length, IfOk, IsSorted};
+ghost use Rattle.std.specs.List.{list_any};
+ghost use Rattle.parset.specs.declared.recovery_set.SetSlice.{SetSlice};
+ghost use Rattle.parwindow.specs.Index.{has_crc_of, has_sums};
+ghost use Rattle.parwindow.specs.Least.{IsLeastFrom};
+ghost use Rattle.parwindow.specs.Entries.{entry_cmp, AreWithCrc, IsFloor, IsIndexOf, IsLeastOf, lesser, passes_at};
+
+use crate::entry::Entry;
+use parfield::Hash16;
+use parset::SetSlice;
+use std::alloc::{AllocError, Global};
+
+/// The slices with sums, in the order of their entries.
+#[derive(Drop)]
+pub struct Entries {
+    pub list: Vec<Entry>,
+    ghost rises: { IsSorted entry_cmp list.items },
+}
+
+impl Entries {
+    /// The entries of these slices.
+    pub fn of(alloc: Global, slices: &[SetSlice]) -> Result<Entries, AllocError>
+        requires { length slices.now ≤ 32768 }
+        ensures { IfOk result (λ entries. IsIndexOf slices.now entries.list.items) }
+    {
+        let mut list = listed(alloc, slices)?;
+        list.sort_unstable();
+        Ok(Entries { list })
+    }
+
+    /// Whether some slice has this CRC-32.
+    pub fn has_crc(&self, crc: u32) -> bool
+        ensures { (slices : List SetSlice) → IsIndexOf slices self.now.list.items
+            → result ≡ list_any (has_crc_of crc) slices }
+    {
+        has_crc_in(&self.list, crc)
+    }
+
+    /// The first slice from a number on that has this CRC-32.
+    pub fn next_crc(&self, crc: u32, from: u32) -> Option<u32>
+        ensures { (slices : List SetSlice) → IsIndexOf slices self.now.list.items
+            → IsLeastFrom (passes_at slices (has_crc_of crc)) from result }
+    {
+        least_from(with_crc(&self.list, crc), from)
+    }
+
+    /// The first slice from a number on that has both sums.
+    pub fn next_match(&self, crc: u32, digest: Hash16, from: u32) -> Option<u32>
+        ensures { (slices : List SetSlice) → IsIndexOf slices self.now.list.items
+            → IsLeastFrom (passes_at slices (has_sums (digest, crc))) from result }
+    {
+        next_match_in(&self.list, crc, digest, from)
+    }
+}
+
+// The entries of these slices, in the order of the slices.
+fn listed(alloc: Global, slices: &[SetSlice]) -> Result<Vec<Entry>, AllocError>
+    requires { length slices.now ≤ 32768 }
+    ensures { IfOk result (λ list. IsIndexOf slices.now list.items) }
+{
+    let mut list = Vec::with_capacity(alloc, slices.len())?;
+    for (number, slice) in slices.iter().enumerate() {
+        if let Some((hash, crc)) = slice.sums {
+            let digest = hash.0;
+            list.push(Entry {
+                crc,
+                digest,
+                slice: number as u32,
+            })?;
+        }
+    }
+    Ok(list)
+}
+
+// The place of the first entry that is not below the wanted one.
+fn floor_of(entries: &[Entry], wanted: &Entry) -> usize
+    requires { IsSorted entry_cmp entries.now }
+    ensures { IsFloor entries.now wanted.now result }
+{
+    match entries.binary_search(wanted) {
+        Ok(at) => at,
+        Err(at) => at,
+    }
+}
+
+// Whether some slice of these entries has this CRC-32.
+fn has_crc_in(entries: &[Entry], crc: u32) -> bool
+    requires { IsSorted entry_cmp entries.now }
+    ensures { (slices : List SetSlice) → IsIndexOf slices entries.now
+        → result ≡ list_any (has_crc_of crc) slices }
+{
+    entries
+        .binary_search_by_key(&crc, |entry| entry.crc)
+        .is_ok()
+}
+
+// The first slice of these entries from a number on that has both sums.
+fn next_match_in(entries: &[Entry], crc: u32, digest: Hash16, from: u32) -> Option<u32>
+    requires { IsSorted entry_cmp entries.now }
+    ensures { (slices : List SetSlice) → IsIndexOf slices entries.now
+        → IsLeastFrom (passes_at slices (has_sums (digest, crc))) from result }
+{
+    let wanted = Entry {
+        crc,
+        digest: digest.0,
+        slice: from,
+    };
+    match entries.get(floor_of(entries, &wanted)) {
+        Some(entry) if entry.crc == crc && entry.digest == digest.0 => Some(entry.slice),
+        _ => None,
+    }
+}
+
+// The entries that have this CRC-32, which stand side by side.
+fn with_crc(entries: &[Entry], crc: u32) -> &[Entry]
+    requires { IsSorted entry_cmp entries.now }
+    ensures { AreWithCrc entries.now crc result.now }
+{
+    let rest = &entries[entries.partition_point(|entry| entry.crc < crc)..];
+    &rest[..rest.partition_point(|entry| entry.crc == crc)]
+}
+
+// The least number of these entries from a number on.
+fn least_from(entries: &[Entry], from: u32) -> Option<u32>
+    ensures { IsLeastOf entries.now from result }
+{
+    let mut least = None;
+    for entry in entries {
+        least = lesser(from, least, entry.slice);
+    }
+    least
+}
+
+// The lesser one of a number and of another, if that is at or above `from`.
+fn lesser(from: u32, least: Option<u32>, number: u32) -> Option<u32>
+    ensures { result ≡ lesser from least number }
+{
+    match least {
+        _ if number < from => least,
+        Some(other) => Some(other.min(number)),
+        None => Some(number),
+    }
+}

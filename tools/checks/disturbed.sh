@@ -1,0 +1,55 @@
+#!/usr/bin/env bash
+# Runs that are disturbed at each place in turn, and that each end leaves nothing behind: refused
+# allocations at every kind of end, reads that fail, and files that end while they are read.
+. "$(dirname "$0")/wants.sh"
+cd "$work" || exit 1
+cp "$top/crates/parv/data/v.par2" v.par2
+cp v.par2 w.par2
+head -c 92 v.par2 > main.par2
+printf 'XXabcdefgh' > x.bin
+printf 'abcdefgh' > y.bin
+
+disturb() {
+    "$tools/disturb.sh" "$@" || failed=1
+}
+
+disturb REFUSE packets v.par2
+disturb REFUSE set v.par2 w.par2
+disturb REFUSE find v.par2 x.bin
+disturb REFUSE find --limit 1 --cursor 617cdc72ba53d94fe713fea2ae18f776:0:2:1 -B d v.par2 x.bin
+disturb REFUSE verify v.par2 x.bin
+disturb REFUSE verify -q v.par2 y.bin
+# Ends at a fault of another kind.
+disturb REFUSE packets none.par2
+disturb REFUSE find v.par2 w.par2 x.bin none.bin
+disturb REFUSE set main.par2
+disturb REFUSE packets x.bin
+disturb REFUSE find --limit 0 v.par2 x.bin
+disturb REFUSE find --cursor 00000000000000000000000000000000:0:0:0 v.par2 x.bin
+disturb REFUSE --help
+# Reads that fail: each file that was being read is named, the packet files before those that are scanned.
+reads() {
+    local named=$1 what line
+    shift
+    for what in FAIL_READ CUT_READ; do
+        line=$("$tools/disturb.sh" $what "$@")
+        case $line in
+        "ok: "*": parv $*$named") echo "$line" ;;
+        *) fails "$what: it should name$named: $line" ;;
+        esac
+    done
+}
+
+about() {
+    printf ', parv: read fault in %s' "$@"
+}
+
+reads "$(about v.par2 w.par2)" packets v.par2 w.par2
+reads "$(about v.par2 w.par2)" set v.par2 w.par2
+reads "$(about v.par2 w.par2 x.bin y.bin)" find v.par2 x.bin w.par2 y.bin
+reads "$(about v.par2 w.par2 x.bin y.bin)" verify x.bin v.par2 w.par2 y.bin
+for words in "packets v.par2 w.par2" "set v.par2 w.par2" "find v.par2 x.bin y.bin" "verify v.par2 x.bin y.bin"; do
+    # shellcheck disable=SC2086
+    disturb FAIL_WRITE $words
+done
+exit $failed

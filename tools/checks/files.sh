@@ -1,0 +1,43 @@
+#!/usr/bin/env bash
+# Files that can't be opened: which is named, and in which order they are opened.
+. "$(dirname "$0")/wants.sh"
+cd "$work" || exit 1
+cp "$top/crates/parv/data/v.par2" v.par2
+printf 'XXabcdefgh' > x.bin
+: > empty.par2
+mkdir folder.par2
+mkfifo fifo.par2
+ln -s /dev/zero zero.par2
+ln -s none.par2 broken.par2
+
+cannot() {
+    local name=$1 file=$2
+    shift 2
+    wants "$name" 6 "" "parv: cannot open $file" "$parv" "$@"
+}
+
+cannot "the second packet file is missing" none.par2 packets v.par2 none.par2
+cannot "the first packet file is missing" none.par2 packets none.par2 v.par2
+cannot "the third of four, and the fourth too" none.par2 packets v.par2 v.par2 none.par2 other.par2
+cannot "the second of two files to scan is missing" none.bin find v.par2 x.bin none.bin
+cannot "the first of two files to scan is missing" none.bin verify none.bin v.par2 x.bin
+for command in find verify; do
+    cannot "a packet file is missing, and a file to scan: $command" none.par2 $command none.bin v.par2 none.par2
+done
+cannot "no set and no file to scan" none.bin find empty.par2 none.bin
+cannot "the name as it was given, whatever the base" ./d/none.bin find -B d v.par2 ./d/none.bin
+cannot "a name with a byte that is not shown" 'a\x09b\\.par2' packets $'a\tb\\.par2'
+cannot "a folder to scan" . find v.par2 .
+cannot "a folder" folder.par2 packets folder.par2
+cannot "a FIFO" fifo.par2 packets fifo.par2
+cannot "a device" zero.par2 packets zero.par2
+cannot "a broken link" broken.par2 packets broken.par2
+for command in packets set; do
+    "$parv" $command v.par2 > "$said/alone"
+    gives "a file that no command scans: $command" 0 "$said/alone" "" "$parv" $command v.par2 none.bin
+done
+
+for i in 1 2 3 4 5 6 7; do cp v.par2 "v$i.par2"; done
+wants "more files than may be open at once" 6 "" "parv: cannot open v6.par2" \
+    sh -c 'ulimit -n 8; exec "$0" packets v1.par2 v2.par2 v3.par2 v4.par2 v5.par2 v6.par2 v7.par2' "$parv"
+exit $failed

@@ -1,0 +1,199 @@
+/* Preloaded into a program: refuses the allocation whose number stands in REFUSE, fails the read whose
+   number stands in FAIL_READ, lets the file end at the one in CUT_READ, and fails the write to standard
+   output whose number stands in FAIL_WRITE, each counted from 1.
+   As the program ends, the file that REPORT names gets one line of three numbers: 1 where any of that was
+   done, or 0; the allocations that were not given back; and the files that were not closed. */
+#define _GNU_SOURCE
+#include <dlfcn.h>
+#include <errno.h>
+#include <fcntl.h>
+#include <stdarg.h>
+#include <stdio.h>
+#include <stdlib.h>
+#include <unistd.h>
+
+static long refused, failing, cut, full;        /* the numbers asked for; 0: none */
+static long allocations, reads, writes, done;   /* how many there were, and whether one was met */
+static long live, opened;                       /* what is taken and not yet given back */
+static char early[4096];                        /* dlsym itself asks for a little */
+
+static void *next_of(const char *name)
+{
+    return dlsym(RTLD_NEXT, name);
+}
+
+static int is_refused(void)
+{
+    int is_met = ++allocations == refused;
+    if (is_met) {
+        done = 1;
+        errno = ENOMEM;
+    }
+    return is_met;
+}
+
+static void *counted(void *place)
+{
+    live += place != NULL;
+    return place;
+}
+
+void *malloc(size_t size)
+{
+    static void *(*next)(size_t);
+    if (!next)
+        next = next_of("malloc");
+    return is_refused() ? NULL : counted(next(size));
+}
+
+void *calloc(size_t count, size_t size)
+{
+    static void *(*next)(size_t, size_t);
+    static size_t used;
+    static int looking;
+    if (!next) {
+        if (looking) {
+            void *place = early + used;
+            used += (count * size + 15) / 16 * 16;
+            return used <= sizeof early ? place : NULL;
+        }
+        looking = 1;
+        next = next_of("calloc");
+    }
+    return is_refused() ? NULL : counted(next(count, size));
+}
+
+void *realloc(void *old, size_t size)
+{
+    static void *(*next)(void *, size_t);
+    void *place;
+    if (!next)
+        next = next_of("realloc");
+    if (is_refused())
+        return NULL;
+    place = next(old, size);
+    live += !old && place;
+    live -= old && !size && !place; /* given back */
+    return place;
+}
+
+int posix_memalign(void **place, size_t alignment, size_t size)
+{
+    static int (*next)(void **, size_t, size_t);
+    int status;
+    if (!next)
+        next = next_of("posix_memalign");
+    if (is_refused())
+        return ENOMEM;
+    status = next(place, alignment, size);
+    live += status == 0;
+    return status;
+}
+
+void *aligned_alloc(size_t alignment, size_t size)
+{
+    static void *(*next)(size_t, size_t);
+    if (!next)
+        next = next_of("aligned_alloc");
+    return is_refused() ? NULL : counted(next(alignment, size));
+}
+
+void free(void *place)
+{
+    static void (*next)(void *);
+    if (!place || ((char *)place >= early && (char *)place < early + sizeof early))
+        return;
+    if (!next)
+        next = next_of("free");
+    live--;
+    next(place);
+}
+
+int open(const char *path, int flags, ...)
+{
+    static int (*next)(const char *, int, ...);
+    va_list rest;
+    int mode, file;
+    if (!next)
+        next = next_of("open");
+    va_start(rest, flags);
+    mode = flags & (O_CREAT | O_TMPFILE) ? va_arg(rest, int) : 0;
+    va_end(rest);
+    file = next(path, flags, mode);
+    opened += file >= 0;
+    return file;
+}
+
+int close(int file)
+{
+    static int (*next)(int);
+    int status;
+    if (!next)
+        next = next_of("close");
+    status = next(file);
+    opened -= status == 0;
+    return status;
+}
+
+ssize_t pread(int file, void *place, size_t size, off_t offset)
+{
+    static ssize_t (*next)(int, void *, size_t, off_t);
+    if (!next)
+        next = next_of("pread");
+    reads++;
+    if (reads == failing) {
+        done = 1;
+        errno = EIO;
+        return -1;
+    }
+    if (reads == cut) {
+        done = 1;
+        return 0;
+    }
+    return next(file, place, size, offset);
+}
+
+ssize_t write(int file, const void *place, size_t size)
+{
+    static ssize_t (*next)(int, const void *, size_t);
+    if (!next)
+        next = next_of("write");
+    if (file == 1 && ++writes == full) {
+        done = 1;
+        errno = EIO;
+        return -1;
+    }
+    return next(file, place, size);
+}
+
+ssize_t __write(int file, const void *place, size_t size)
+{
+    return write(file, place, size);
+}
+
+static long number_in(const char *name)
+{
+    const char *text = getenv(name);
+    return text ? atol(text) : 0;
+}
+
+__attribute__((constructor)) static void start(void)
+{
+    refused = number_in("REFUSE");
+    failing = number_in("FAIL_READ");
+    cut = number_in("CUT_READ");
+    full = number_in("FAIL_WRITE");
+    allocations = reads = writes = done = live = opened = 0;
+}
+
+__attribute__((destructor)) static void end(void)
+{
+    long left = live, unclosed = opened;
+    const char *name = getenv("REPORT");
+    FILE *file;
+    refused = 0;
+    if (name && (file = fopen(name, "w"))) {
+        fprintf(file, "%ld %ld %ld\n", done, left, unclosed);
+        fclose(file);
+    }
+}

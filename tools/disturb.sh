@@ -1,0 +1,72 @@
+#!/usr/bin/env bash
+# Disturbs a run of the built program once at each place in turn: REFUSE refuses an allocation, FAIL_READ
+# fails a read, CUT_READ ends the file at one, FAIL_WRITE fails a write. The run must end with 8, or with 6
+# and its line, and what it wrote must be a beginning of the undisturbed text; after a refusal it may also
+# be the undisturbed run, where room was only asked for ahead and then had one by one. Past the last place
+# it is the undisturbed run. Each run gives back every allocation and closes every file. The last line has
+# the lines of read faults, each once, in the order in which they came.
+# Usage: disturb.sh REFUSE|FAIL_READ|CUT_READ|FAIL_WRITE ARGUMENTS, in the folder of the files.
+set -uo pipefail
+tools=$(cd "$(dirname "$0")" && pwd)
+parv=${PARV:-$tools/../crates/parv/out/parv}
+what=$1
+shift
+work=$(mktemp -d)
+trap 'rm -rf "$work"' EXIT
+
+fail() {
+    echo "FAILED: $what $n: $*: parv $words"
+    exit 1
+}
+
+# The run that is disturbed at place n (0: nowhere), and what it left: `status`, `text`, `err` and `met`.
+run() {
+    rm -f "$work/report"
+    timeout 20 env "$what=$n" REPORT="$work/report" LD_PRELOAD="$work/disturb.so" "$parv" "$@" \
+        > "$work/text" 2> "$work/err" < /dev/null
+    status=$?
+    [ -e "$work/report" ] || fail "status $status, and no report"
+    read -r met live opened < "$work/report"
+    [ "$live $opened" = "0 0" ] || fail "$live allocations not given back, $opened files not closed, status $status"
+}
+
+# Whether the end is the one that the disturbance asks for.
+ends_so() {
+    local line
+    line=$(cat "$work/err")
+    case $what in
+    REFUSE) [ $status -eq 8 ] && [ "$line" = "parv: out of memory" ] ;;
+    FAIL_WRITE) [ $status -eq 6 ] && [ "$line" = "parv: write fault" ] ;;
+    *) [ $status -eq 6 ] && [[ $line == "parv: read fault in "?* ]] ;;
+    esac && cmp -s <(head -c "$(stat -c %s "$work/text")" "$work/whole") "$work/text"
+}
+
+is_undisturbed() {
+    [ $status -eq $whole ] && cmp -s "$work/text" "$work/whole" && cmp -s "$work/err" "$work/whole.err"
+}
+
+words=$*
+n=0
+gcc -shared -fPIC -O1 -o "$work/disturb.so" "$tools/disturb.c" -ldl || fail "no compiler"
+run "$@"
+whole=$status
+mv "$work/text" "$work/whole"
+mv "$work/err" "$work/whole.err"
+ended=0
+named=
+for ((n = 1; n <= 100000; n++)); do
+    run "$@"
+    if [ "$met" = 0 ]; then
+        is_undisturbed || fail "past the last place, and the run is another"
+        [ $ended -gt 0 ] || fail "it ended no run"
+        echo "ok: $what at each of $((n - 1)) places, $ended ended the run, nothing left behind: parv $words$named"
+        exit 0
+    fi
+    [ "$what" = REFUSE ] && is_undisturbed && continue
+    ends_so || fail "status $status, $(cat "$work/err")"
+    ended=$((ended + 1))
+    case $(cat "$work/err") in
+    *"read fault in "*) [[ "$named," == *"$(cat "$work/err"),"* ]] || named+=", $(cat "$work/err")" ;;
+    esac
+done
+fail "no end"

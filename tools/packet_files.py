@@ -1,0 +1,208 @@
+#!/usr/bin/env python3
+"""Writes the packet files that the tests of parreport run on, as a Rattle source file.
+
+usage: packet_files.py FOLDER
+
+FOLDER gets packet_files.rt and packet_sets.rt, to lie in crates/parv/src/tests, and each
+packet file as NAME.par2. All hashes come from hashlib and zlib alone.
+"""
+
+import os
+import struct
+import sys
+
+from vectors import (CONTENT, NAME, SLICE_SIZE, TYPES, desc_body, file_id, ifsc_body, main_body, md5, packet,
+                     recvslic_body, slices, filled)
+import zlib
+
+ZEROS = bytes(16)
+GREATEST = (1 << 63) - 1
+LARGE = 1048580
+
+
+def named(body_of_main):
+    """The ID of a set with this Main body."""
+    return md5(body_of_main)
+
+
+def description(owner, name, content=b"", length=None):
+    """The body of a FileDesc packet of any ID, whose length field may not be that of the content."""
+    length = len(content) if length is None else length
+    return owner + md5(content) * 2 + struct.pack("<Q", length) + filled(name, 4)
+
+
+def sums(owner, content):
+    """The body of an IFSC packet of any ID."""
+    pieces = [filled(piece, SLICE_SIZE) for piece in slices(content, SLICE_SIZE)]
+    return owner + b"".join(md5(piece) + struct.pack("<I", zlib.crc32(piece)) for piece in pieces)
+
+
+def set_of(main, *rest):
+    """The packets of a set with this Main body; the rest are pairs of kind and body."""
+    return b"".join(packet(named(main), kind, body) for kind, body in [("main", main), *rest])
+
+
+def whole_set(members, exponents=()):
+    """A set of files (byte of the ID, name, content, whether it has sums), with recovery slices."""
+    rest = []
+    for byte, name, content, known in members:
+        owner = bytes([byte]) * 16
+        rest.append(("filedesc", description(owner, name, content)))
+        if known:
+            rest.append(("ifsc", sums(owner, content)))
+    rest += [("recvslic", recvslic_body(exponent, b"data")) for exponent in exponents]
+    return set_of(main_body(SLICE_SIZE, [bytes([member[0]]) * 16 for member in members]), *rest)
+
+
+def with_length(data, length):
+    """The packet with another length field, and the hash that it had."""
+    return data[:8] + struct.pack("<Q", length) + data[16:]
+
+
+# The set of the one file g.bin, which holds abcdefgh; its recovery slice has 8 bytes and not 4.
+G = file_id(NAME, CONTENT)
+G_MAIN = main_body(SLICE_SIZE, [G])
+G_SET = md5(G_MAIN)
+MAIN_OF_G = packet(G_SET, "main", G_MAIN)
+DESC_OF_G = packet(G_SET, "filedesc", desc_body(NAME, CONTENT))
+SUMS_OF_G = packet(G_SET, "ifsc", ifsc_body(NAME, CONTENT, SLICE_SIZE))
+ODD_SLICE = packet(G_SET, "recvslic", recvslic_body(0, bytes(range(8))))
+WHOLE_G = MAIN_OF_G + DESC_OF_G + SUMS_OF_G + ODD_SLICE
+
+CREATOR = packet(ZEROS, "creator", b"")
+
+
+def listings():
+    """Files for `packets`."""
+    second = packet(ZEROS, "creator", b"abcd")
+    TYPES["comment"] = b"PAR 2.0\0CommASCI"
+    return {
+        "empty": b"",
+        "creator": CREATOR,
+        "odd_length": with_length(CREATOR, 66) + bytes(2),
+        "changed_type": CREATOR[:63] + b"\x01",
+        "packet_in_packet": b"xyz" + packet(ZEROS, "recvslic", recvslic_body(0, CREATOR)),
+        "overlapping": packet(ZEROS, "creator", second[:64]) + second[64:],
+        "behind_magic": b"PAR2\0PKT" + CREATOR,
+        "behind_greatest_length": with_length(CREATOR, 0xFFFFFFFFFFFFFFFC) + CREATOR,
+        "behind_wrong_hash": with_length(CREATOR, 128) + CREATOR,
+        "comment": packet(G_SET, "comment", b"text"),
+        "creator_then_g": CREATOR + WHOLE_G,
+    }
+
+
+def sets_of_g():
+    """The set of g.bin, its beginnings, and what it lacks or has beside it."""
+    other = packet(G_SET, "filedesc", description(G, NAME, b"other", 8))
+    main_of_zeros = packet(ZEROS, "main", main_body(SLICE_SIZE, []))
+    return {
+        "g": WHOLE_G,
+        "g_to_219": WHOLE_G[:219],
+        "g_to_92": WHOLE_G[:92],
+        "g_to_91": WHOLE_G[:91],
+        "g_without_description": MAIN_OF_G + SUMS_OF_G,
+        "g_without_sums": MAIN_OF_G + DESC_OF_G + ODD_SLICE,
+        "g_described_twice": MAIN_OF_G + other + DESC_OF_G,
+        "main_of_zeros_then_g": main_of_zeros + WHOLE_G,
+        "unusable_mains": b"".join(packet(G_SET, "main", body) for body in [
+            G_MAIN + bytes(4),
+            main_body(6, [G]),
+            main_body(SLICE_SIZE, [G, G]),
+            main_body(SLICE_SIZE, [G], [ZEROS]),
+            main_body(268435460, [G]),
+        ]),
+        "unusable_others": b"".join(packet(G_SET, kind, body) for kind, body in [
+            ("filedesc", description(G, NAME, CONTENT)[:52]),
+            ("filedesc", description(G, b"g\0bin", CONTENT)),
+            ("filedesc", description(G, NAME, CONTENT, 1 << 63)),
+            ("ifsc", sums(G, CONTENT) + bytes(4)),
+            ("recvslic", recvslic_body(65535, b"data")),
+        ]),
+        # The front of a packet whose body is LARGE zeros.
+        "large_creator_front": packet(G_SET, "creator", bytes(LARGE))[:64],
+        "creator_of_g": packet(G_SET, "creator", b"abcd"),
+    }
+
+
+def other_sets():
+    """Sets of other files."""
+    ones, twos = b"\x01" * 16, b"\x02" * 16
+    main_of_ones = main_body(SLICE_SIZE, [ones])
+    lengths = {f"of_length_{name}": set_of(main_of_ones, ("filedesc", description(ones, b"n", b"", length)))
+               for name, length in [("131072", 131072), ("131073", 131073), ("greatest", GREATEST)]}
+    # IDs compare by their last byte first, and the Main packet has the greater one first.
+    smaller, greater = b"\xff" + bytes(14) + b"\x01", b"\x01" + bytes(14) + b"\x02"
+    pairs = {name: set_of(main_body(SLICE_SIZE, [greater, smaller]),
+                          ("filedesc", description(greater, second, b"", lengths[1])),
+                          ("filedesc", description(smaller, first, b"", lengths[0])))
+             for name, lengths, first, second in [
+                 ("greater_id_first", (1, 9), b"a", b"b"),
+                 ("one_name", (1, 2), b"n", b"n"),
+                 ("greatest_lengths", (GREATEST, GREATEST), b"a", b"b")]}
+    many = set_of(
+        main_body(SLICE_SIZE, [G], [b"\x07" * 16, b"\x08" * 16]),
+        *[("recvslic", recvslic_body(exponent, b"data")) for exponent in [5, 5, 6, 65535]],
+        *[("creator", text) for text in [bytes(4), b"a\nb\\", b"later"]],
+        ("filedesc", description(G, b"../g\n.bin", b"")))
+    return {
+        "no_files": set_of(main_body(SLICE_SIZE, [])),
+        **lengths, **pairs,
+        "many_packets": many,
+        "one_and_two": set_of(main_body(SLICE_SIZE, [twos, ones]),
+                              ("filedesc", description(ones, b"one", b"abcd")),
+                              ("filedesc", description(twos, b"two", b"efghij")),
+                              ("ifsc", sums(twos, b"efghij"))),
+        "a_and_b": whole_set([(1, b"a.bin", b"abcd", True), (2, b"b.bin", b"abcdefgh", True)]),
+        "a_without_sums": whole_set([(1, b"a.bin", b"abcdef", False)]),
+        "a": whole_set([(1, b"a.bin", b"abcdef", True)]),
+        "a_with_a_slice": whole_set([(1, b"a.bin", b"abcdef", True)], [0]),
+        "a_with_a_slice_twice": whole_set([(1, b"a.bin", b"abcdef", True)], [0, 0]),
+        "z": whole_set([(1, b"z.bin", b"", False)]),
+    }
+
+
+def literal(data):
+    """The lines of a byte string in 92 columns; each packet begins a line."""
+    rows, row = [], ""
+    for at, byte in enumerate(data):
+        after = data[at + 1:at + 2]
+        if byte == 0 and not after.isdigit():
+            text = "\\0"
+        elif 0x20 < byte < 0x7F and byte not in b'"\\':
+            text = chr(byte)
+        else:
+            text = f"\\x{byte:02x}"
+        if row and (len(row) + len(text) > 88 or data[at:at + 8] == b"PAR2\0PKT"):
+            rows.append(row)
+            row = ""
+        row += text
+    return rows + [row]
+
+
+def write_table(folder, module, table, what, files):
+    """The packet files as a table in a source file, and each in a file of its own."""
+    lines = [f"// {what}, as tools/packet_files.py writes them.", "",
+             "/// The name that rows give a packet file, and its bytes.",
+             f"pub static {table}: [(&str, &[u8]); {len(files)}] = ["]
+    for name, data in files.items():
+        text = 'b"' + "\\\n          ".join(literal(data)) + '"'
+        lines += [f'    ("{name}", {text}),'] if len(text) < 60 else \
+                 ["    (", f'        "{name}",', f"        {text},", "    ),"]
+        with open(os.path.join(folder, name + ".par2"), "wb") as out:
+            out.write(data)
+    with open(os.path.join(folder, module), "w") as out:
+        out.write("\n".join([*lines, "];", ""]))
+
+
+def main():
+    if len(sys.argv) != 2:
+        sys.exit("usage: packet_files.py FOLDER")
+    folder = sys.argv[1]
+    os.makedirs(folder, exist_ok=True)
+    write_table(folder, "packet_files.rt", "PACKET_FILES", "Packets, and the set of g.bin",
+                {**listings(), **sets_of_g()})
+    write_table(folder, "packet_sets.rt", "PACKET_SETS", "Sets of other files", other_sets())
+
+
+if __name__ == "__main__":
+    main()
