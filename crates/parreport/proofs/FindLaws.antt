@@ -30,7 +30,7 @@ use Rattle.parreport.specs.Report.{listed}
 use Rattle.parreport.specs.Lines.{end_line, cursor_line}
 use Rattle.parreport.specs.declared.faults.FindFault.{FindFault}
 use Rattle.parreport.specs.declared.faults.FindFault.TheVariants.{Read, Write, Memory}
-use Rattle.parreport.specs.SinkState.{SinkState, appended, refused, WritesFront, RefusesFront}
+use Rattle.parshelf.specs.SinkState.{SinkState, appended, refused, WritesFront, RefusesFront}
 
 -- so many lines were written of a limit, and so many are left
 abbrev pub CountsDown : Option ℕ → Option ℕ → ℕ → Type 0

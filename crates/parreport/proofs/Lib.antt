@@ -1,7 +1,6 @@
 pub mod ContentLaws
 pub mod CountLaws
 pub mod FindLaws
-pub mod FrontLaws
 pub mod GrammarLaws
 pub mod LimitLaws
 pub mod RunLaws

@@ -8,7 +8,7 @@ use Rattle.parreport.specs.FindText.{names_of, KeepsLines}
 use Rattle.parreport.specs.Outcomes.{Answers, KeepsText}
 use Rattle.parreport.specs.Report.{Report, start_in}
 use Rattle.parreport.specs.Faults.{search_fault_of, scanned_fault_of}
-use Rattle.parreport.specs.SinkState.{SinkState, WritesFront}
+use Rattle.parshelf.specs.SinkState.{SinkState, WritesFront}
 use Rattle.parreport.specs.declared.plans.command.Command.TheVariants as command
 use Rattle.parreport.specs.declared.plans.command.Plan.{Plan}
 use Rattle.parreport.specs.declared.faults.FilesFault.{FilesFault}

@@ -11,7 +11,7 @@ use Rattle.parfind.specs.Moves.{IsBelow}
 use Rattle.parfind.specs.declared.cursor.Cursor.{Cursor}
 use Rattle.parfind.specs.declared.sighting.Sighting.{Sighting}
 use Rattle.parreport.specs.Lines.{sighting_line, end_line, cursor_line}
-use Rattle.parreport.specs.SinkState.{SinkState, appended, RefusesFront}
+use Rattle.parshelf.specs.SinkState.{SinkState, appended, RefusesFront}
 use Rattle.parreport.specs.declared.faults.FindFault.{FindFault}
 use Rattle.parreport.specs.declared.faults.FindFault.TheVariants.{Read, Write, Memory}
 use Rattle.parreport.specs.declared.plans.command.Scanned.{Scanned}

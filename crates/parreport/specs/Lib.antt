@@ -8,7 +8,6 @@ pub mod Grammar
 pub mod Limit
 pub mod Lines
 pub mod Matches
-pub mod MemorySink
 pub mod Options
 pub mod Outcomes
 pub mod PacketsText
@@ -16,7 +15,5 @@ pub mod Plans
 pub mod OpenedFiles
 pub mod Report
 pub mod SetText
-pub mod SinkState
 pub mod States
 pub mod VerifyText
-pub mod WriterSink

@@ -6,7 +6,7 @@ use Rattle.parreport.specs.Commands.{AreSteadyFor, reads_scanned}
 use Rattle.parreport.specs.Ends.{run_end_of, exit_status_of, message_of, error_line_of}
 use Rattle.parreport.specs.Outcomes.{Answers, KeepsText, EndsPackets, EndsScanned, EndsSink, follows_text}
 use Rattle.parreport.specs.Report.{report_of}
-use Rattle.parreport.specs.SinkState.{SinkState}
+use Rattle.parshelf.specs.SinkState.{SinkState}
 use Rattle.parreport.specs.declared.ends.End.{End}
 use Rattle.parreport.specs.declared.ends.Status.{Status}
 use Rattle.parreport.specs.declared.faults.RunFault.{RunFault}

@@ -10,7 +10,7 @@ use Rattle.parfind.specs.declared.cursor.Cursor.{Cursor}
 use Rattle.parreport.specs.FindText.{names_of, WritesLinesBefore}
 use Rattle.parreport.specs.Commands.{is_find}
 use Rattle.parreport.specs.Report.{Report, report_with_set, start_in}
-use Rattle.parreport.specs.SinkState.{SinkState, appended, WritesFront, RefusesFront}
+use Rattle.parshelf.specs.SinkState.{SinkState, appended, WritesFront, RefusesFront}
 use Rattle.parreport.specs.declared.plans.command.Command.{Command}
 use Rattle.parreport.specs.declared.plans.command.Command.TheVariants as command
 use Rattle.parreport.specs.declared.plans.command.Plan.{Plan}

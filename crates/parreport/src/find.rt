@@ -9,12 +9,11 @@ use crate::faults::RunFault;
 use crate::find::search::search;
 use crate::plans::command::Plan;
 use crate::set::asked_set;
-use crate::sinks::Sink;
 use parfield::Hash16;
 use parfind::Cursor;
 use parsalvage::Kept;
 use parset::RecoverySet;
-use parshelf::Shelf;
+use parshelf::{Shelf, Sink};
 use std::alloc::Global;
 
 mod lines;

@@ -11,8 +11,8 @@ mod packets;
 mod plans;
 mod report;
 mod set;
-mod sinks;
 mod verify;
+mod whole_text;
 
 pub use crate::ends::{End, Status, argument_of, packets_end, run_end, scanned_end};
 pub use crate::faults::{Cause, RunFault};
@@ -22,6 +22,4 @@ pub use crate::plans::command::{Command, Plan, PlanFault, Scanned, reads_scanned
 pub use crate::plans::files::scanned_paths;
 pub use crate::plans::plan;
 pub use crate::report::run;
-pub use crate::sinks::Sink;
-pub use crate::sinks::memory::MemSink;
-pub use crate::sinks::writer::WriteSink;
+pub use parshelf::{MemSink, Sink, WriteSink};

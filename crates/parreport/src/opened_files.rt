@@ -7,9 +7,8 @@ use crate::ends::{End, packets_end, run_end, scanned_end};
 use crate::messages::ending;
 use crate::plans::command::Plan;
 use crate::report::run;
-use crate::sinks::Sink;
 use parfield::Text;
-use parshelf::{OpenFault, Shelf};
+use parshelf::{OpenFault, Shelf, Sink};
 use std::alloc::{AllocError, Global};
 
 /// Writes what the plan asks for of the files, if all could be opened, and gives the exit status

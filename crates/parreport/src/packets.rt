@@ -7,8 +7,9 @@ use crate::ends::Status;
 use crate::faults::RunFault;
 use crate::packets::lines::packets_text;
 use crate::plans::command::Plan;
-use crate::sinks::{Sink, write_whole};
+use crate::whole_text::write_whole;
 use parsalvage::Kept;
+use parshelf::Sink;
 use std::alloc::Global;
 
 mod lines;

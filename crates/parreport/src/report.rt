@@ -11,10 +11,9 @@ use crate::packets::salvage::salvage_files;
 use crate::packets::write_packets;
 use crate::plans::command::{Command, Plan};
 use crate::set::write_set;
-use crate::sinks::Sink;
 use crate::verify::verify;
 use parsalvage::Kept;
-use parshelf::Shelf;
+use parshelf::{Shelf, Sink};
 use std::alloc::Global;
 
 /// Writes what the plan asks for of its packet files and its scanned files. On a fault a beginning

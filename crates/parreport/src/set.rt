@@ -8,9 +8,10 @@ use crate::ends::Status;
 use crate::faults::RunFault;
 use crate::plans::command::Plan;
 use crate::set::lines::set_text;
-use crate::sinks::{Sink, write_whole};
+use crate::whole_text::write_whole;
 use parsalvage::Kept;
 use parset::{RecoverySet, build};
+use parshelf::Sink;
 use std::alloc::Global;
 
 pub mod lines;

@@ -12,15 +12,15 @@ use crate::ends::Status;
 use crate::faults::{FilesFault, RunFault};
 use crate::plans::command::{Plan, Scanned};
 use crate::set::asked_set;
-use crate::sinks::{Sink, write_whole};
 use crate::verify::contents::contents;
 use crate::verify::found::{found_slices, need_of};
 use crate::verify::lines::text_by;
 use crate::verify::states::{State, states, status_of, whole_ids};
+use crate::whole_text::write_whole;
 use parfield::Sequence;
 use parsalvage::Kept;
 use parset::RecoverySet;
-use parshelf::Shelf;
+use parshelf::{Shelf, Sink};
 use std::alloc::Global;
 
 mod contents;

@@ -10,10 +10,9 @@ ghost use Rattle.parreport.specs.Report.{listed};
 use crate::faults::FindFault;
 use crate::find::lines::{put_cursor, put_end, put_sighting};
 use crate::plans::command::Scanned;
-use crate::sinks::Sink;
 use parfind::{Cursor, Finder, Step};
 use parset::RecoverySet;
-use parshelf::Shelf;
+use parshelf::{Shelf, Sink};
 use parwindow::Index;
 use std::alloc::Global;
 

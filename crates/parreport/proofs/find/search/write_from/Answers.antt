@@ -6,7 +6,7 @@ use Rattle.parshelf.proofs.ReadLaws.{ReadsOnly_more}
 use Rattle.parfind.specs.declared.cursor.Cursor.{Cursor}
 use Rattle.parfind.specs.declared.finder.Step.TheVariants.{Hit, Done}
 use Rattle.parreport.specs.FindText.{names_of}
-use Rattle.parreport.specs.SinkState.{SinkState}
+use Rattle.parshelf.specs.SinkState.{SinkState}
 use Rattle.parreport.proofs.FindLaws.{hands_front, hands_one, hands_refused, ends_text, ends_refused, stops_text, stops_refused, keeps_after_fault, fault_text, last_text, gives_from}
 use Rattle.parreport.proofs.find.search.write_from.Goals as goal
 

@@ -1,7 +1,7 @@
 use Rattle.std.proofs.Common.{arith, length-drop}
 use Rattle.std.proofs.lemmas.List.{take_rest}
-use Rattle.parreport.proofs.FrontLaws.{appended_more, RefusesFront_after}
-use Rattle.parreport.proofs.sinks.write_text.Goals as goal
+use Rattle.parshelf.proofs.FrontLaws.{appended_more, RefusesFront_after}
+use Rattle.parshelf.proofs.sinks.write_text.Goals as goal
 
 pub loop-done-preserved : goal.loop-done-preserved
 loop-done-preserved g c = record {

@@ -1,8 +1,8 @@
 ghost use Rattle.std.specs.Prelude.{◌≡◌, ℕ, ◌<◌, ◌≤◌, length, take, IfOk, OnErr};
 
+use crate::shelf::Failed;
 use crate::sinks::Sink;
 use parfield::{Tally, Transcript};
-use parshelf::Failed;
 use std::io::Write;
 
 /// A sink over a writer: a `put` is one `write`, and an error is `Failed`.
@@ -14,8 +14,8 @@ pub struct WriteSink<W> {
 }
 
 impl<W> WriteSink<W> {
-    ghost use Rattle.parreport.specs.SinkState.{empty_sink};
-    ghost use Rattle.parreport.specs.WriterSink.{writer_sink_state, writer_of};
+    ghost use Rattle.parshelf.specs.SinkState.{empty_sink};
+    ghost use Rattle.parshelf.specs.WriterSink.{writer_sink_state, writer_of};
 
     /// A sink over a writer, to which nothing was written.
     pub fn new(writer: W) -> WriteSink<W>
@@ -32,8 +32,8 @@ impl<W> WriteSink<W> {
 
 impl<W: Write> Sink for WriteSink<W> {
     ghost use Rattle.std.specs.Io.KnownBytes.{WriteAppends};
-    ghost use Rattle.parreport.specs.SinkState.{appended, refused};
-    ghost use Rattle.parreport.specs.WriterSink.{writer_sink_state, writer_of};
+    ghost use Rattle.parshelf.specs.SinkState.{appended, refused};
+    ghost use Rattle.parshelf.specs.WriterSink.{writer_sink_state, writer_of};
 
     ghost state = { writer_sink_state };
 

@@ -1,6 +1,6 @@
 use Rattle.std.proofs.Common.{length, take, ◌-◌, ◌≡◌, ◌≤◌}
-use Rattle.parreport.specs.SinkState.{appended}
-use Rattle.parreport.proofs.sinks.write_text.Given as goal
+use Rattle.parshelf.specs.SinkState.{appended}
+use Rattle.parshelf.proofs.sinks.write_text.Given as goal
 
 abbrev pub invariant-loop-done : goal.invariant-loop-done
 invariant-loop-done g l = record {

@@ -1,11 +1,7 @@
-ghost use Rattle.std.specs.Prelude.{◌≡◌, ℕ, ◌<◌, ◌≤◌, length, take, Ok, IfOk, OnOk, OnErr, IfErr};
-ghost use Rattle.parreport.specs.SinkState.{SinkState, appended, refused, RefusesFront};
-ghost use Rattle.parreport.specs.Outcomes.{Answers, EndsSink};
-ghost use Rattle.parreport.specs.declared.faults.RunFault.TheVariants as run_fault;
+ghost use Rattle.std.specs.Prelude.{◌≡◌, ℕ, ◌<◌, ◌≤◌, length, take, IfOk, OnOk, OnErr};
+ghost use Rattle.parshelf.specs.SinkState.{SinkState, appended, refused, RefusesFront};
 
-use crate::ends::Status;
-use crate::faults::RunFault;
-use parshelf::Failed;
+use crate::shelf::Failed;
 
 pub mod memory;
 pub mod writer;
@@ -42,15 +38,4 @@ pub fn write_text<W: Sink>(out: &mut W, text: &[u8]) -> Result<(), Failed>
         }
     }
     Ok(())
-}
-
-/// Writes a whole text, and gives the status that goes with it.
-pub fn write_whole<W: Sink>(out: &mut W, text: &[u8], status: Status) -> Result<Status, RunFault>
-    ensures text { Answers (record { text = text.now; answer = Ok status }) result
-        (W.state out.old) (W.state out.new) }
-    ensures fault { IfErr result (λ fault. fault ≡ run_fault.Write) }
-    ensures sink { EndsSink result (W.state out.old) (W.state out.new) }
-{
-    write_text(out, text)?;
-    Ok(status)
 }

@@ -1,6 +1,6 @@
 -- A sink over a writer, as contracts see it.
-use Rattle.parreport.specs.SinkState.{SinkState}
-use Rattle.parreport.specs.declared.sinks.writer.WriteSink.{WriteSink}
+use Rattle.parshelf.specs.SinkState.{SinkState}
+use Rattle.parshelf.specs.declared.sinks.writer.WriteSink.{WriteSink}
 
 -- what it keeps for contracts
 abbrev pub writer_sink_state : {W : Type 0} → WriteSink W → SinkState

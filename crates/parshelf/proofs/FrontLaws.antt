@@ -2,7 +2,7 @@
 use Rattle.std.proofs.Common.{◌≡◌, ℕ, ◌+◌, List, ◌++◌, take, drop, ap, sym, ◌∙◌, append_assoc}
 use Rattle.std.proofs.lemmas.List.{take-append-drop}
 use Rattle.std.proofs.Math.Seq.{take-add}
-use Rattle.parreport.specs.SinkState.{SinkState, appended, refused, RefusesFront}
+use Rattle.parshelf.specs.SinkState.{SinkState, appended, refused, RefusesFront}
 
 -- some first bytes were written before, and then some of the rest
 pub appended_more : (s t u : SinkState) (text : List ℕ) (m n : ℕ) → t ≡ appended s (take m text) → u ≡ appended t (take n (drop m text))

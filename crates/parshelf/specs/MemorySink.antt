@@ -1,7 +1,7 @@
 -- A sink in memory, as contracts see it.
 use Rattle.std.specs.Prelude.{ℕ, ◌-◌, Bool, take, vec_len}
-use Rattle.parreport.specs.SinkState.{SinkState}
-use Rattle.parreport.specs.declared.sinks.memory.MemSink.{MemSink}
+use Rattle.parshelf.specs.SinkState.{SinkState}
+use Rattle.parshelf.specs.declared.sinks.memory.MemSink.{MemSink}
 
 -- what it keeps for contracts
 abbrev pub memory_sink_state : MemSink → SinkState

@@ -1,8 +1,8 @@
 ghost use Rattle.std.specs.Prelude.{◌≡◌, ◌+◌, ◌<◌, ◌≤◌, ◌↔◌, min, length, take, IfOk, OnErr, IsErr, false, vec_len};
 
+use crate::shelf::Failed;
 use crate::sinks::Sink;
 use parfield::Tally;
-use parshelf::Failed;
 use std::alloc::{AllocError, Global};
 
 /// A sink in memory, with room for so many bytes.
@@ -18,8 +18,8 @@ pub struct MemSink {
 }
 
 impl MemSink {
-    ghost use Rattle.parreport.specs.SinkState.{empty_sink};
-    ghost use Rattle.parreport.specs.MemorySink.{memory_sink_state, room_of, piece_of, takes_zero};
+    ghost use Rattle.parshelf.specs.SinkState.{empty_sink};
+    ghost use Rattle.parshelf.specs.MemorySink.{memory_sink_state, room_of, piece_of, takes_zero};
 
     /// A sink that takes `room` bytes, at most `piece` a call. With no room left it takes 0 bytes
     /// of a part that is not empty where `zero`, else it fails.
@@ -48,8 +48,8 @@ impl MemSink {
 }
 
 impl Sink for MemSink {
-    ghost use Rattle.parreport.specs.SinkState.{appended, refused};
-    ghost use Rattle.parreport.specs.MemorySink.{memory_sink_state, room_of, piece_of, takes_zero};
+    ghost use Rattle.parshelf.specs.SinkState.{appended, refused};
+    ghost use Rattle.parshelf.specs.MemorySink.{memory_sink_state, room_of, piece_of, takes_zero};
 
     ghost state = { memory_sink_state };
 
