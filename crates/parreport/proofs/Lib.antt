@@ -1,8 +1,6 @@
 pub mod ContentLaws
 pub mod CountLaws
 pub mod FindLaws
-pub mod GrammarLaws
-pub mod LimitLaws
 pub mod RunLaws
 pub mod SalvageLaws
 pub mod StateLaws

@@ -9,8 +9,8 @@ use Rattle.parreport.specs.Outcomes.{Answers, KeepsText}
 use Rattle.parreport.specs.Report.{Report, start_in}
 use Rattle.parreport.specs.Faults.{search_fault_of, scanned_fault_of}
 use Rattle.parshelf.specs.SinkState.{SinkState, WritesFront}
-use Rattle.parreport.specs.declared.plans.command.Command.TheVariants as command
-use Rattle.parreport.specs.declared.plans.command.Plan.{Plan}
+use Rattle.parplan.specs.declared.command.Command.TheVariants as command
+use Rattle.parplan.specs.declared.command.Plan.{Plan}
 use Rattle.parreport.specs.declared.faults.FilesFault.{FilesFault}
 use Rattle.parreport.specs.declared.faults.FilesFault.TheVariants as files_fault
 use Rattle.parreport.specs.declared.faults.FindFault.{FindFault}

@@ -16,7 +16,7 @@ use Rattle.parfind.specs.Sightings.{Scan}
 use Rattle.parfind.specs.Steps.{scan_of}
 use Rattle.parfind.specs.Surveys.{is_sighted, mark_of, MarksSighted}
 use Rattle.parreport.specs.States.{named_files, length_and_md5, has_content_of, is_content_of, is_name_of, state_by, state_of, is_in_whole_file, findings_of}
-use Rattle.parreport.specs.declared.plans.command.Scanned.{Scanned}
+use Rattle.parplan.specs.declared.command.Scanned.{Scanned}
 use Rattle.parreport.specs.declared.verify.contents.LengthAndMd5.{LengthAndMd5}
 use Rattle.parreport.specs.declared.verify.Findings.{Findings}
 use Rattle.parreport.specs.declared.verify.states.State.{State}

@@ -4,9 +4,9 @@ use Rattle.parfield.specs.Hex.{encode_lower}
 use Rattle.parfield.specs.Shown.{shown}
 use Rattle.parshelf.specs.declared.disk.OpenFault.{OpenFault}
 use Rattle.parshelf.specs.declared.disk.OpenFault.TheVariants.{CannotOpen, Memory}
-use Rattle.parreport.specs.FileWords.{scanned_paths_of}
-use Rattle.parreport.specs.declared.plans.command.Plan.{Plan}
-use Rattle.parreport.specs.declared.plans.command.PlanFault.TheVariants as plan_fault
+use Rattle.parplan.specs.FileWords.{scanned_paths_of}
+use Rattle.parplan.specs.declared.command.Plan.{Plan}
+use Rattle.parplan.specs.declared.command.PlanFault.TheVariants as plan_fault
 use Rattle.parreport.specs.declared.faults.RunFault.{RunFault}
 use Rattle.parreport.specs.declared.faults.RunFault.TheVariants as run
 use Rattle.parreport.specs.declared.ends.Status.{Status}

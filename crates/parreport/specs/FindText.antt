@@ -14,7 +14,7 @@ use Rattle.parreport.specs.Lines.{sighting_line, end_line, cursor_line}
 use Rattle.parshelf.specs.SinkState.{SinkState, appended, RefusesFront}
 use Rattle.parreport.specs.declared.faults.FindFault.{FindFault}
 use Rattle.parreport.specs.declared.faults.FindFault.TheVariants.{Read, Write, Memory}
-use Rattle.parreport.specs.declared.plans.command.Scanned.{Scanned}
+use Rattle.parplan.specs.declared.command.Scanned.{Scanned}
 
 -- the slices of a set, looked for in these contents
 abbrev pub scan_in : SetView → List (List ℕ) → Scan

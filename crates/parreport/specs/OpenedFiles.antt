@@ -2,7 +2,8 @@
 use Rattle.std.specs.Prelude.{◌≡◌, ℕ, List, [], Option, Result, IfErr, false, unwrap_or}
 use Rattle.parsalvage.specs.Kept.{kept_in_files}
 use Rattle.parshelf.specs.Shelf.{ShelfState}
-use Rattle.parreport.specs.Commands.{AreSteadyFor, reads_scanned}
+use Rattle.parplan.specs.Commands.{reads_scanned}
+use Rattle.parreport.specs.Unchanged.{AreSteadyFor}
 use Rattle.parreport.specs.Ends.{run_end_of, exit_status_of, message_of, error_line_of}
 use Rattle.parreport.specs.Outcomes.{Answers, KeepsText, EndsPackets, EndsScanned, EndsSink, follows_text}
 use Rattle.parreport.specs.Report.{report_of}
@@ -10,7 +11,7 @@ use Rattle.parshelf.specs.SinkState.{SinkState}
 use Rattle.parreport.specs.declared.ends.End.{End}
 use Rattle.parreport.specs.declared.ends.Status.{Status}
 use Rattle.parreport.specs.declared.faults.RunFault.{RunFault}
-use Rattle.parreport.specs.declared.plans.command.Plan.{Plan}
+use Rattle.parplan.specs.declared.command.Plan.{Plan}
 
 -- the exit status and the line on standard error are those of this end, about this argument
 abbrev pub TellsEnd : End × Option (List ℕ) → ℕ → List ℕ → Type 0

@@ -8,12 +8,12 @@ use Rattle.parset.specs.RecoverySet.{SetView, set_of}
 use Rattle.parset.specs.declared.recovery_set.SetFault.{SetFault}
 use Rattle.parfind.specs.declared.cursor.Cursor.{Cursor}
 use Rattle.parreport.specs.FindText.{names_of, WritesLinesBefore}
-use Rattle.parreport.specs.Commands.{is_find}
+use Rattle.parplan.specs.Commands.{is_find}
 use Rattle.parreport.specs.Report.{Report, report_with_set, start_in}
 use Rattle.parshelf.specs.SinkState.{SinkState, appended, WritesFront, RefusesFront}
-use Rattle.parreport.specs.declared.plans.command.Command.{Command}
-use Rattle.parreport.specs.declared.plans.command.Command.TheVariants as command
-use Rattle.parreport.specs.declared.plans.command.Plan.{Plan}
+use Rattle.parplan.specs.declared.command.Command.{Command}
+use Rattle.parplan.specs.declared.command.Command.TheVariants as command
+use Rattle.parplan.specs.declared.command.Plan.{Plan}
 use Rattle.parreport.specs.declared.faults.RunFault.{RunFault}
 use Rattle.parreport.specs.declared.faults.RunFault.TheVariants as fault
 use Rattle.parreport.specs.declared.ends.Status.{Status}

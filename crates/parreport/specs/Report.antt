@@ -15,9 +15,9 @@ use Rattle.parreport.specs.PacketsText.{packets_text}
 use Rattle.parreport.specs.SetText.{set_text}
 use Rattle.parreport.specs.States.{named_files}
 use Rattle.parreport.specs.VerifyText.{verify_text, verify_status_of}
-use Rattle.parreport.specs.declared.plans.command.Command.{Command}
-use Rattle.parreport.specs.declared.plans.command.Command.TheVariants as command
-use Rattle.parreport.specs.declared.plans.command.Plan.{Plan}
+use Rattle.parplan.specs.declared.command.Command.{Command}
+use Rattle.parplan.specs.declared.command.Command.TheVariants as command
+use Rattle.parplan.specs.declared.command.Plan.{Plan}
 use Rattle.parreport.specs.declared.faults.RunFault.{RunFault}
 use Rattle.parreport.specs.declared.faults.RunFault.TheVariants as fault
 use Rattle.parreport.specs.declared.ends.Status.{Status}

@@ -10,7 +10,7 @@ use Rattle.parset.specs.declared.recovery_set.SetSlice.{SetSlice}
 use Rattle.parreport.specs.FindText.{scan_in}
 use Rattle.parfind.specs.Sightings.{Scan}
 use Rattle.parfind.specs.Surveys.{is_sighted}
-use Rattle.parreport.specs.declared.plans.command.Scanned.{Scanned}
+use Rattle.parplan.specs.declared.command.Scanned.{Scanned}
 use Rattle.parreport.specs.declared.verify.Findings.{Findings}
 use Rattle.parreport.specs.declared.verify.contents.LengthAndMd5.{LengthAndMd5}
 use Rattle.parreport.specs.declared.verify.states.State.{State}

@@ -1,10 +1,10 @@
 ghost use Rattle.std.specs.Prelude.{◌≡◌, option_map, slice_get};
 ghost use Rattle.parreport.specs.Ends.{argument_in, run_end_of, open_end_of};
-ghost use Rattle.parreport.specs.FileWords.{scanned_paths_of};
+ghost use Rattle.parplan.specs.FileWords.{scanned_paths_of};
 
 use crate::faults::RunFault;
-use crate::plans::command::{Plan, PlanFault, reads_scanned};
 use parfield::Text;
+use parplan::{Plan, PlanFault, reads_scanned};
 use parshelf::OpenFault;
 
 /// What a run found.

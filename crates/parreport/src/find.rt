@@ -2,15 +2,15 @@ ghost use Rattle.std.specs.Prelude.{◌≡◌, ◌≢◌, IsTrue, false, IfErr, 
 ghost use Rattle.parset.specs.RecoverySet.{set_of};
 ghost use Rattle.parreport.specs.Outcomes.{is_packet_read, follows_text, Answers, KeepsText, EndsScanned, EndsSink};
 ghost use Rattle.parreport.specs.Report.{report_with_set, find_report, start_in};
-ghost use Rattle.parreport.specs.declared.plans.command.Command.TheVariants as command;
+ghost use Rattle.parplan.specs.declared.command.Command.TheVariants as command;
 
 use crate::ends::Status;
 use crate::faults::RunFault;
 use crate::find::search::search;
-use crate::plans::command::Plan;
 use crate::set::asked_set;
 use parfield::Hash16;
 use parfind::Cursor;
+use parplan::Plan;
 use parsalvage::Kept;
 use parset::RecoverySet;
 use parshelf::{Shelf, Sink};

@@ -1,4 +1,4 @@
-//! Plans of the words of a command line, and the report that a plan asks for.
+//! The report that a plan asks for, and how a run ends. Plans and sinks are passed on.
 #![tactic(auto)]
 
 mod ends;
@@ -8,7 +8,6 @@ mod messages;
 mod names;
 mod opened_files;
 mod packets;
-mod plans;
 mod report;
 mod set;
 mod verify;
@@ -18,8 +17,6 @@ pub use crate::ends::{End, Status, argument_of, packets_end, run_end, scanned_en
 pub use crate::faults::{Cause, RunFault};
 pub use crate::messages::ending;
 pub use crate::opened_files::run_opened;
-pub use crate::plans::command::{Command, Plan, PlanFault, Scanned, reads_scanned};
-pub use crate::plans::files::scanned_paths;
-pub use crate::plans::plan;
 pub use crate::report::run;
+pub use parplan::{Command, Plan, PlanFault, Scanned, plan, reads_scanned, scanned_paths};
 pub use parshelf::{MemSink, Sink, WriteSink};

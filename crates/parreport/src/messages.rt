@@ -4,8 +4,8 @@ ghost use Rattle.parreport.specs.Ends.{exit_status_of, message_of, error_line_of
 
 use crate::ends::{End, Status};
 use crate::faults::{Cause, RunFault};
-use crate::plans::command::PlanFault;
 use parfield::Shown;
+use parplan::PlanFault;
 use std::alloc::{AllocError, Global};
 
 /// The exit status, and the line for standard error, which is empty where nothing went wrong.

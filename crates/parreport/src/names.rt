@@ -1,8 +1,8 @@
 ghost use Rattle.std.specs.Prelude.{◌≡◌, slice_index_or, []};
 ghost use Rattle.parreport.specs.FindText.{names_of};
 
-use crate::plans::command::Scanned;
 use parfield::Text;
+use parplan::Scanned;
 
 /// The name of a packet file, or nothing where there is no such file.
 pub fn packet_name(names: &[Text], file: u32) -> &[u8]

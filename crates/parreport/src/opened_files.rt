@@ -1,13 +1,13 @@
 ghost use Rattle.std.specs.Prelude.{◌≡◌, length, option_map, IsTrue, IsOkAnd, IfOk, IfErr};
-ghost use Rattle.parreport.specs.Commands.{reads_scanned, HasLimit};
+ghost use Rattle.parplan.specs.Commands.{reads_scanned, HasLimit};
 ghost use Rattle.parreport.specs.Ends.{opened_of};
 ghost use Rattle.parreport.specs.OpenedFiles.{TellsEnd, TellsRun};
 
 use crate::ends::{End, packets_end, run_end, scanned_end};
 use crate::messages::ending;
-use crate::plans::command::Plan;
 use crate::report::run;
 use parfield::Text;
+use parplan::Plan;
 use parshelf::{OpenFault, Shelf, Sink};
 use std::alloc::{AllocError, Global};
 

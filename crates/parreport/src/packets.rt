@@ -1,13 +1,13 @@
 ghost use Rattle.std.specs.Prelude.{◌≡◌, false, IfErr};
 ghost use Rattle.parreport.specs.Outcomes.{is_read, follows_text, Answers, EndsSink};
 ghost use Rattle.parreport.specs.Report.{packets_report};
-ghost use Rattle.parreport.specs.declared.plans.command.Command.TheVariants as command;
+ghost use Rattle.parplan.specs.declared.command.Command.TheVariants as command;
 
 use crate::ends::Status;
 use crate::faults::RunFault;
 use crate::packets::lines::packets_text;
-use crate::plans::command::Plan;
 use crate::whole_text::write_whole;
+use parplan::Plan;
 use parsalvage::Kept;
 use parshelf::Sink;
 use std::alloc::Global;

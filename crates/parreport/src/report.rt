@@ -1,6 +1,7 @@
 ghost use Rattle.std.specs.Prelude.{◌≡◌, length, IsTrue, false, IfErr};
 ghost use Rattle.parsalvage.specs.Kept.{kept_in_files};
-ghost use Rattle.parreport.specs.Commands.{reads_scanned, IsSteadyFor, AreSteadyFor, HasLimit};
+ghost use Rattle.parplan.specs.Commands.{reads_scanned, HasLimit};
+ghost use Rattle.parreport.specs.Unchanged.{IsSteadyFor, AreSteadyFor};
 ghost use Rattle.parreport.specs.Outcomes.{is_packet_read, follows_text, Answers, KeepsText, EndsPackets, EndsScanned, EndsSink};
 ghost use Rattle.parreport.specs.Report.{report_of, report_by};
 
@@ -9,9 +10,9 @@ use crate::faults::{RunFault, packet_fault};
 use crate::find::find;
 use crate::packets::salvage::salvage_files;
 use crate::packets::write_packets;
-use crate::plans::command::{Command, Plan};
 use crate::set::write_set;
 use crate::verify::verify;
+use parplan::{Command, Plan};
 use parsalvage::Kept;
 use parshelf::{Shelf, Sink};
 use std::alloc::Global;

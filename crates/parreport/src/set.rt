@@ -2,13 +2,13 @@ ghost use Rattle.std.specs.Prelude.{◌≡◌, false, IfErr};
 ghost use Rattle.parset.specs.RecoverySet.{set_of};
 ghost use Rattle.parreport.specs.Outcomes.{is_read, follows_text, Answers, EndsSink, MakesSet};
 ghost use Rattle.parreport.specs.Report.{report_with_set, set_report};
-ghost use Rattle.parreport.specs.declared.plans.command.Command.TheVariants as command;
+ghost use Rattle.parplan.specs.declared.command.Command.TheVariants as command;
 
 use crate::ends::Status;
 use crate::faults::RunFault;
-use crate::plans::command::Plan;
 use crate::set::lines::set_text;
 use crate::whole_text::write_whole;
+use parplan::Plan;
 use parsalvage::Kept;
 use parset::{RecoverySet, build};
 use parshelf::Sink;

@@ -6,11 +6,10 @@ ghost use Rattle.parreport.specs.Outcomes.{is_packet_read, follows_text, Answers
 ghost use Rattle.parreport.specs.Report.{report_with_set, verify_report};
 ghost use Rattle.parreport.specs.States.{findings_of, named_files};
 ghost use Rattle.parreport.specs.VerifyText.{verify_text, verify_status_of};
-ghost use Rattle.parreport.specs.declared.plans.command.Command.TheVariants as command;
+ghost use Rattle.parplan.specs.declared.command.Command.TheVariants as command;
 
 use crate::ends::Status;
 use crate::faults::{FilesFault, RunFault};
-use crate::plans::command::{Plan, Scanned};
 use crate::set::asked_set;
 use crate::verify::contents::contents;
 use crate::verify::found::{found_slices, need_of};
@@ -18,6 +17,7 @@ use crate::verify::lines::text_by;
 use crate::verify::states::{State, states, status_of, whole_ids};
 use crate::whole_text::write_whole;
 use parfield::Sequence;
+use parplan::{Plan, Scanned};
 use parsalvage::Kept;
 use parset::RecoverySet;
 use parshelf::{Shelf, Sink};

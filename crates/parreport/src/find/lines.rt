@@ -4,9 +4,9 @@ ghost use Rattle.parreport.specs.Lines.{sighting_line, end_line, cursor_line};
 
 use crate::faults::FindFault;
 use crate::names::scanned_name;
-use crate::plans::command::Scanned;
 use parfield::{Hash16, Shown};
 use parfind::{Cursor, Sighting};
+use parplan::Scanned;
 use parset::{RecoverySet, SetSlice};
 use parshelf::{Sink, write_text};
 use std::alloc::{AllocError, Global};

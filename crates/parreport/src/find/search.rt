@@ -9,8 +9,8 @@ ghost use Rattle.parreport.specs.Report.{listed};
 
 use crate::faults::FindFault;
 use crate::find::lines::{put_cursor, put_end, put_sighting};
-use crate::plans::command::Scanned;
 use parfind::{Cursor, Finder, Step};
+use parplan::Scanned;
 use parset::RecoverySet;
 use parshelf::{Shelf, Sink};
 use parwindow::Index;

@@ -6,12 +6,12 @@ ghost use Rattle.parreport.specs.VerifyText.{state_line, counted_line, complete_
 
 use crate::ends::Status;
 use crate::names::scanned_name;
-use crate::plans::command::Scanned;
 use crate::set::lines::push_set;
 use crate::verify::Findings;
 use crate::verify::counts::{count_at, found_counts};
 use crate::verify::states::State;
 use parfield::{Hash16, Shown};
+use parplan::Scanned;
 use parset::{RecoverySet, SetFile};
 use std::alloc::{AllocError, Global};
 use std::collections::BTreeMap;

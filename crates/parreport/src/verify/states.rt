@@ -7,9 +7,9 @@ ghost use Rattle.parreport.specs.VerifyText.{is_complete, status_of};
 ghost use Rattle.parreport.specs.States.{has_content_of, is_name_of, is_whole, state_by};
 
 use crate::ends::Status;
-use crate::plans::command::Scanned;
 use crate::verify::contents::LengthAndMd5;
 use parfield::Hash16;
+use parplan::Scanned;
 use parset::SetFile;
 use std::alloc::{AllocError, Global};
 use std::collections::BTreeSet;

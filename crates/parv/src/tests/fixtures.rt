@@ -1,7 +1,7 @@
 // Runs of command lines over files in memory.
 ghost use Rattle.std.specs.Prelude.{◌≡◌, ◌<◌, ◌^◌, length, IfOk};
 ghost use Rattle.parshelf.specs.Memory.{shelf_state_of};
-ghost use Rattle.parreport.specs.Commands.{HasLimit};
+ghost use Rattle.parplan.specs.Commands.{HasLimit};
 
 use crate::tests::packet_files::PACKET_FILES;
 use crate::tests::packet_sets::PACKET_SETS;

@@ -1,0 +1,2 @@
+pub mod GrammarLaws
+pub mod LimitLaws

@@ -1,0 +1,25 @@
+-- What is known of a command.
+use Rattle.std.specs.Prelude.{◌≢◌, Bool, true, false, Some, ⊤}
+use Rattle.parplan.specs.declared.command.Command.{Command}
+use Rattle.parplan.specs.declared.command.Command.TheVariants as command
+
+-- the scanned files are asked for
+abbrev pub reads_scanned : Command → Bool
+reads_scanned command.Packets = false
+reads_scanned command.Set = false
+reads_scanned (command.Find limit cursor) = true
+reads_scanned (command.Verify quiet) = true
+
+-- a limit is not 0
+abbrev pub HasLimit : Command → Type 0
+HasLimit command.Packets = ⊤
+HasLimit command.Set = ⊤
+HasLimit (command.Find limit cursor) = limit ≢ Some 0
+HasLimit (command.Verify quiet) = ⊤
+
+-- the command is `find`, which writes while it searches
+abbrev pub is_find : Command → Bool
+is_find command.Packets = false
+is_find command.Set = false
+is_find (command.Find limit cursor) = true
+is_find (command.Verify quiet) = false
