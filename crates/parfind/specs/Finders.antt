@@ -5,6 +5,7 @@ use Rattle.parwindow.specs.Index.{SliceSet}
 use Rattle.parwindow.specs.Window.{WindowState}
 use Rattle.parfind.specs.declared.cursor.Cursor.{Cursor}
 use Rattle.parfind.specs.declared.track.Track.{Track}
+use Rattle.parfind.specs.Looking.{HasFit}
 use Rattle.parfind.specs.Marks.{marked_between}
 use Rattle.parfind.specs.Order.{is_from}
 use Rattle.parfind.specs.Places.{Place, start_of}
@@ -26,12 +27,15 @@ pub record FinderState : Type 0 where
   pub track : Track
 
 -- the finder searches for these slices in these files: its window has their size and goes along a
--- file, at the cursor if that is in this file; on a steady shelf it was hashed at marked places only
+-- file, not past the cursor, and at it where a slice fits into what is left of that file; on a steady
+-- shelf it was hashed at marked places only
 pub record BelongsTo (finder : FinderState) (set : SliceSet) (shelf : ShelfState) : Type 0 where
   pub sized : finder.window.capacity ≡ set.slice_size
   pub tied : IsTied shelf finder.window finder.track
   pub behind : finder.track.file ≤ finder.cursor.file
-  pub here : finder.track.file ≡ finder.cursor.file → finder.track.held ≡ finder.cursor.offset
+  pub not_past : finder.track.file ≡ finder.cursor.file → finder.track.held ≤ finder.cursor.offset
+  pub here : finder.track.file ≡ finder.cursor.file → HasFit set shelf.lengths finder.cursor
+      → finder.track.held ≡ finder.cursor.offset
   pub fetched_is : finder.fetched ≡ fetched_of finder.track
   pub digests_are : finder.digests ≡ finder.window.digests
   pub onward : IsTrue (is_from (start_of finder.opening) (hashed_of finder.track))
