@@ -1,5 +1,5 @@
 -- A finder whose window goes on belongs to its slices and files as before.
-use Rattle.std.proofs.Common.{◌≡◌, ℕ, ◌<◌, ◌≤◌, length, slice_index, refl, sym, ap, ◌∙◌, subst, arith, IsTrue, Result, Ok, Err, OnOk, IfErr}
+use Rattle.std.proofs.Common.{◌≡◌, ℕ, ◌+◌, ◌<◌, ◌≤◌, length, slice_index, refl, sym, ap, ◌∙◌, subst, arith, IsTrue, Result, Ok, Err, OnOk, IfErr}
 use Rattle.parshelf.specs.Shelf.{ShelfState, IsShelf}
 use Rattle.parshelf.specs.Reads.{ReadsOnly, FaultsIn}
 use Rattle.parshelf.specs.declared.reading.ReadFault.{ReadFault}
@@ -9,9 +9,10 @@ use Rattle.parwindow.specs.Index.{SliceSet, has_crc_in}
 use Rattle.parwindow.specs.Window.{WindowState}
 use Rattle.parfind.specs.declared.cursor.Cursor.{Cursor}
 use Rattle.parfind.specs.declared.track.Track.{Track}
-use Rattle.parfind.specs.Finders.{FinderState, BelongsTo}
+use Rattle.parfind.specs.Finders.{FinderState, BelongsTo, search_of}
 use Rattle.parfind.specs.Marks.{marked_between, marks}
-use Rattle.parfind.specs.Places.{cursor_past, place_at, start_of}
+use Rattle.parfind.specs.Reach.{CallReads, IsNear, ReadsUpTo}
+use Rattle.parfind.specs.Places.{Place, cursor_past, place_at, start_of}
 use Rattle.parfind.specs.Sightings.{Scan}
 use Rattle.parfind.specs.Steps.{scan_of, lengths_of}
 use Rattle.parfind.specs.Tracks.{IsTied, Looks, StandsAt, Remembers, SameTrack, remembered, hashed_of, fetched_of}
@@ -58,6 +59,33 @@ pub call_files : {A : Type 0} (set : SliceSet) (s t : ShelfState) (file : ℕ) (
     → OnOk answer (ReadsOnly s t) → IfErr answer (FaultsIn s t file) → SameFiles set s t
 call_files set s t file (Ok x) reads faults = read_files set s t reads
 call_files set s t file (Err fault) reads faults = fault_files set s t file fault faults
+
+call_lengths : {A : Type 0} (s t : ShelfState) (file : ℕ) (answer : Result A ReadFault)
+    → OnOk answer (ReadsOnly s t) → IfErr answer (FaultsIn s t file) → t.lengths ≡ s.lengths
+call_lengths s t file (Ok x) reads faults = ap (λ (u : ShelfState). u.lengths) reads
+call_lengths s t file (Err Failed) reads faults = ap (λ (u : ShelfState). u.lengths) faults.1
+call_lengths s t file (Err Ended) reads faults = ap (λ (u : ShelfState). u.lengths) faults.1
+
+-- files are read little further than the cursor
+near_cursor : (f : FinderState) (set : SliceSet) (s : ShelfState) → BelongsTo f set s → IsNear set.slice_size f.fetched f.cursor
+near_cursor f set s belongs =
+    let file : f.fetched.file ≡ f.track.file = ap (λ (p : Place). p.file) belongs.fetched_is in
+    let offset : f.fetched.offset ≡ f.track.base + f.track.end = ap (λ (p : Place). p.offset) belongs.fetched_is in
+    let t = belongs.tied in
+    record {
+      file_is = omega (arith, file, belongs.behind);
+      offset_is = λ same. omega (arith, offset, belongs.not_past (sym file ∙ same), t.behind, t.within, t.end_fits, belongs.sized);
+    }
+
+-- what a call reads, whatever it answers
+pub call_reads : {A : Type 0} (set : SliceSet) (s t : ShelfState) (f g : FinderState) (file : ℕ) (answer : Result A ReadFault)
+    → OnOk answer (ReadsOnly s t) → IfErr answer (FaultsIn s t file) → ReadsUpTo s t f.fetched g.fetched → BelongsTo g set t
+    → CallReads set.slice_size (search_of s f) (search_of t g)
+call_reads set s t f g file answer ok fault reads belongs = record {
+  lengths_are = call_lengths s t file answer ok fault;
+  reads = reads;
+  near = near_cursor g set t belongs;
+}
 
 -- another place is come to, with a window v and a track a, which are filled
 module _ (f : FinderState) (set : SliceSet) (s t : ShelfState) (belongs : BelongsTo f set s) (files : SameFiles set s t)

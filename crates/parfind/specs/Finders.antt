@@ -9,6 +9,7 @@ use Rattle.parfind.specs.Looking.{HasFit}
 use Rattle.parfind.specs.Marks.{marked_between}
 use Rattle.parfind.specs.Order.{is_from}
 use Rattle.parfind.specs.Places.{Place, start_of}
+use Rattle.parfind.specs.Reach.{SearchState}
 use Rattle.parfind.specs.Steps.{scan_of}
 use Rattle.parfind.specs.Tracks.{IsTied, fetched_of, hashed_of}
 
@@ -25,6 +26,10 @@ pub record FinderState : Type 0 where
   -- its window, and where that goes along a file
   pub window : WindowState
   pub track : Track
+
+-- how far a finder is, and how far its shelf was read
+abbrev pub search_of : ShelfState → FinderState → SearchState
+search_of shelf finder = record { shelf = shelf; fetched = finder.fetched; cursor = finder.cursor }
 
 -- the finder searches for these slices in these files: its window has their size and goes along a
 -- file, not past the cursor, and at it where a slice fits into what is left of that file; on a steady

@@ -1,12 +1,12 @@
 ghost use Rattle.std.specs.Prelude.{◌≡◌, ◌≢◌, ◌-◌, ◌<◌, ◌≤◌, None, Some, Ok, length, option_map, IsTrue, OnOk, IfOk, IfErr};
 ghost use Rattle.parshelf.specs.Reads.{ReadsOnly, FaultsIn};
-ghost use Rattle.parfind.specs.Finders.{BelongsTo};
+ghost use Rattle.parfind.specs.Finders.{BelongsTo, search_of};
 ghost use Rattle.parfind.specs.declared.finder.Step.TheVariants.{Spent};
 ghost use Rattle.parfind.specs.Looking.{HasFit, IsAtPlace, IsNextPlace};
 ghost use Rattle.parfind.specs.Marks.{marks};
 ghost use Rattle.parfind.specs.Moves.{StepMoves, PassesAll, IsWithin, Advances, steps_left};
 ghost use Rattle.parfind.specs.Places.{place_at};
-ghost use Rattle.parfind.specs.Reach.{ReadsUpTo, IsNear};
+ghost use Rattle.parfind.specs.Reach.{CallReads, ReadsUpTo};
 ghost use Rattle.parfind.specs.Steps.{StepGives, scan_of};
 ghost use Rattle.parfind.specs.Tracks.{StandsAt};
 ghost use Rattle.parfind.specs.Visits.{StepSees, step_of, count_of};
@@ -108,9 +108,8 @@ impl Finder {
             (FaultsIn (H.state shelf.old) (H.state shelf.new) self.new.cursor.file) }
 
         // How much is read, on any shelf.
-        ensures reads { ReadsUpTo (H.state shelf.old) (H.state shelf.new)
-            self.old.fetched self.new.fetched }
-        ensures near { IsNear index.now.slice_size self.new.fetched self.new.cursor }
+        ensures reads { CallReads index.now.slice_size
+            (search_of (H.state shelf.old) self.old) (search_of (H.state shelf.new) self.new) }
         ensures digests { IsTrue (H.state shelf.new).is_steady → self.new.digests
             ≤ marks (scan_of index.now (H.state shelf.new)) self.new.opening self.new.cursor }
         ensures opening { self.new.opening ≡ self.old.opening }
@@ -147,9 +146,8 @@ impl Finder {
             (FaultsIn (H.state shelf.old) (H.state shelf.new) self.new.cursor.file) }
 
         // How much is read, on any shelf.
-        ensures reads { ReadsUpTo (H.state shelf.old) (H.state shelf.new)
-            self.old.fetched self.new.fetched }
-        ensures near { IsNear index.now.slice_size self.new.fetched self.new.cursor }
+        ensures reads { CallReads index.now.slice_size
+            (search_of (H.state shelf.old) self.old) (search_of (H.state shelf.new) self.new) }
         ensures digests { IsTrue (H.state shelf.new).is_steady → self.new.digests
             ≤ marks (scan_of index.now (H.state shelf.new)) self.new.opening self.new.cursor }
         ensures opening { self.new.opening ≡ self.old.opening }
