@@ -17,6 +17,7 @@ pub mod LookLaws
 pub mod EnterLaws
 pub mod MarkLaws
 pub mod BelongsLaws
+pub mod FitLaws
 pub mod SurveyLaws
 pub mod HandingLaws
 pub mod NumberLaws

@@ -1,6 +1,6 @@
 -- The slices of a recovery set with their checksums, as an index has them
 -- (PAR2 2.0, Input File Slice Checksum packet).
-use Rattle.std.specs.Prelude.{◌≡◌, ℕ, ◌<◌, ◌≤◌, ◌%◌, ◌==◌, ◌&&◌, Bool, false, List, length, slice_get, All}
+use Rattle.std.specs.Prelude.{◌≡◌, ℕ, ◌<◌, ◌≤◌, ◌%◌, ◌==◌, ◌&&◌, nat_le, Bool, false, List, length, slice_get, All}
 use Rattle.std.specs.List.{list_any}
 use Rattle.std.specs.Option.{option_map_or}
 use Rattle.std.specs.Str.{bytes_eq}
@@ -48,3 +48,11 @@ has_crc_of crc slice = option_map_or (λ known. known.1 == crc) slice.sums false
 -- some slice has this CRC-32
 abbrev pub has_crc_in : SliceSet → ℕ → Bool
 has_crc_in set crc = list_any (has_crc_of crc) set.slices
+
+-- the sums of a slice are known, and at most so many of its bytes are its file's
+abbrev pub has_fit_of : ℕ → SetSlice → Bool
+has_fit_of left slice = option_map_or (λ known. nat_le slice.length left) slice.sums false
+
+-- some slice is such a one
+abbrev pub has_fit_in : SliceSet → ℕ → Bool
+has_fit_in set left = list_any (has_fit_of left) set.slices

@@ -1,6 +1,7 @@
 ghost use Rattle.std.specs.Prelude.{◌≡◌, ◌<◌, ◌≤◌, ◌%◌, ◌↔◌, length, slice_get, IfOk, IfSome, IsTrue};
 ghost use Rattle.std.specs.Option.{IsSomeAnd};
-ghost use Rattle.parwindow.specs.Index.{slice_set_of, slice_passes, has_sums, has_crc_of, has_crc_in};
+ghost use Rattle.parwindow.specs.Index.{slice_set_of, slice_passes, has_sums, has_crc_of, has_crc_in, has_fit_in};
+ghost use Rattle.parwindow.specs.Filtered.{IsShortest};
 ghost use Rattle.parwindow.specs.Least.{IsLeastFrom};
 ghost use Rattle.parwindow.specs.Slide.{HasRegister};
 
@@ -18,6 +19,7 @@ pub struct Index {
     slices: Sequence<SetSlice>,
     filter: Filter,
     entries: Entries,
+    shortest: Option<u64>,
 }
 
 impl Model for Index {
@@ -43,6 +45,7 @@ impl Index {
             slices: Sequence::from_vec(slices),
             filter: Filter::of(alloc, set.slices())?,
             entries: Entries::of(alloc, set.slices())?,
+            shortest: shortest_of(set.slices()),
         })
     }
 
@@ -72,6 +75,13 @@ impl Index {
         ensures within { result ≤ self.now.slice_size }
     {
         self.slices.as_slice()[slice as usize].length
+    }
+
+    /// Whether some slice with sums has at most so many bytes of its file.
+    pub fn fits(&self, left: u64) -> bool
+        ensures { result ≡ has_fit_in self.now left }
+    {
+        self.shortest.is_some_and(|least| least <= left)
     }
 
     /// Whether some slice has this CRC-32.
@@ -106,4 +116,17 @@ impl Index {
     {
         self.entries.next_match(crc, digest, from)
     }
+}
+
+// The least own length of the slices with sums.
+fn shortest_of(slices: &[SetSlice]) -> Option<u64>
+    ensures { IsShortest slices.now result }
+{
+    let mut shortest = None;
+    for slice in slices {
+        if slice.sums.is_some() {
+            shortest = Some(shortest.unwrap_or(slice.length).min(slice.length));
+        }
+    }
+    shortest
 }

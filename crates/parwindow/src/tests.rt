@@ -177,3 +177,25 @@ fn slices_without_sums_are_not_found(rt: HostRuntime) -> Result<(), Fail> {
     assert_eq!(rt; index.next_match(0xed82_cd11, Hash16(ABCD), 0), None);
     Ok(())
 }
+
+#[test]
+fn a_slice_fits_into_what_its_own_bytes_need(rt: HostRuntime) -> Result<(), Fail> {
+    let mut sums = Vec::new(rt.alloc());
+    for (digest, crc) in [(ABCD, 0xed82_cd11u32), (AB, AB_CRC)] {
+        sums.extend_from_slice(&digest)?;
+        sums.extend_from_slice(&crc.to_le_bytes())?;
+    }
+    let known = Index::new(rt.alloc(), &set_of(rt.alloc(), 6, &sums)?)?;
+    let unknown = Index::new(rt.alloc(), &set_of(rt.alloc(), 6, &ABCD)?)?;
+    for (left, fits) in [
+        (0, false),
+        (1, false),
+        (2, true),
+        (3, true),
+        (u64::MAX, true),
+    ] {
+        assert_eq!(rt; known.fits(left), fits);
+        assert!(rt; !unknown.fits(left));
+    }
+    Ok(())
+}
