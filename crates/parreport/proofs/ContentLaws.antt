@@ -1,49 +1,69 @@
--- How much is handed over while one file after another is read whole.
-use Rattle.std.proofs.Common.{◌≡◌, ◌≢◌, ◌<◌, ◌≤◌, ◌+◌, ℕ, length, slice_index, ap, arith, ◌∙◌, inl, inr}
+-- How much is handed over while those files are read whole, one after another, that are asked for.
+use Rattle.std.proofs.Common.{◌≡◌, ◌≢◌, ◌<◌, ◌≤◌, ◌+◌, ℕ, List, true, cond, length, slice_index, ap, arith, ◌∙◌, inl, inr}
 use Rattle.std.proofs.lemmas.Bool.{cases_lt}
 use Rattle.parfield.specs.Added.{added_at, slice_index-added_at_same, slice_index-added_at_other}
+use Rattle.parset.specs.declared.recovery_set.SetFile.{SetFile}
 use Rattle.parshelf.specs.Shelf.{ShelfState, IsShelf}
 use Rattle.parshelf.specs.Reads.{FaultsWithin, ReadsOnly}
 use Rattle.parshelf.specs.declared.reading.ReadFault.{ReadFault}
 use Rattle.parshelf.specs.declared.reading.ReadFault.TheVariants.{Failed, Ended}
-use Rattle.parreport.specs.Contents.{HandsOnce, HandsEachOnce}
+use Rattle.parreport.specs.Contents.{HandsOnce, HandsEachOnce, bytes_asked}
+use Rattle.parreport.specs.States.{has_length}
 
--- n bytes of a file, at most its length
-pub HandsOnce-added : (old new : ShelfState) (file n : ℕ) → IsShelf old → file < length old.lengths → n ≤ slice_index old.lengths file
-    → new.handed ≡ added_at old.handed file n → HandsOnce old new file
-HandsOnce-added old new file n shelf there few after =
+-- of a file whose length some file of the set has, all bytes are asked for
+pub asked_whole : (files : List SetFile) (n : ℕ) → has_length files n ≡ true → bytes_asked files n ≡ n
+asked_whole files n there = ap (λ b. cond b n 0) there
+
+-- n bytes of a file, at most those that are asked for
+pub HandsOnce-added : (files : List SetFile) (old new : ShelfState) (file n : ℕ) → IsShelf old → file < length old.lengths
+    → n ≤ bytes_asked files (slice_index old.lengths file) → new.handed ≡ added_at old.handed file n → HandsOnce files old new file
+HandsOnce-added files old new file n shelf there few after =
     let within : file < length old.handed = omega (arith, shelf.handed_each) in
     let own : slice_index new.handed file ≡ slice_index old.handed file + n
     = ap (λ xs. slice_index xs file) after ∙ slice_index-added_at_same old.handed file n within in
     record {
-      own = omega (arith, own);
+      own = omega (arith, own, few);
       others = λ k other. ap (λ xs. slice_index xs k) after ∙ slice_index-added_at_other old.handed file n k other;
     }
 
 -- the same where the file could not be read as a whole
-pub HandsOnce-fault : (old new : ShelfState) (file : ℕ) (why : ReadFault) → IsShelf old → file < length old.lengths
-    → FaultsWithin old new file (slice_index old.lengths file) why → HandsOnce old new file
-HandsOnce-fault old new file Failed shelf there h =
-    HandsOnce-added old new file h.count shelf there h.within (ap (λ (s : ShelfState). s.handed) h.after)
-HandsOnce-fault old new file Ended shelf there h =
-    HandsOnce-added old new file h.0.count shelf there h.0.within (ap (λ (s : ShelfState). s.handed) h.0.after)
+pub HandsOnce-fault : (files : List SetFile) (old new : ShelfState) (file : ℕ) (why : ReadFault) → IsShelf old → file < length old.lengths
+    → has_length files (slice_index old.lengths file) ≡ true → FaultsWithin old new file (slice_index old.lengths file) why
+    → HandsOnce files old new file
+HandsOnce-fault files old new file Failed shelf there asked h =
+    let whole = asked_whole files (slice_index old.lengths file) asked in
+    HandsOnce-added files old new file h.count shelf there (omega (arith, h.within, whole)) (ap (λ (s : ShelfState). s.handed) h.after)
+HandsOnce-fault files old new file Ended shelf there asked h =
+    let whole = asked_whole files (slice_index old.lengths file) asked in
+    HandsOnce-added files old new file h.0.count shelf there (omega (arith, h.0.within, whole)) (ap (λ (s : ShelfState). s.handed) h.0.after)
 
--- at most its length of each file before this one, and nothing of the others
-pub record HandsBefore (old new : ShelfState) (file : ℕ) : Type 0 where
-  pub read : (k : ℕ) → k < file → slice_index new.handed k ≤ slice_index old.handed k + slice_index old.lengths k
+-- nothing of a file
+pub HandsOnce-none : (files : List SetFile) (old new : ShelfState) (file : ℕ) → new ≡ old → HandsOnce files old new file
+HandsOnce-none files old new file same =
+    let handed : (k : ℕ) → slice_index new.handed k ≡ slice_index old.handed k
+    = λ k. ap (λ (s : ShelfState). slice_index s.handed k) same in
+    record {
+      own = omega (arith, handed file);
+      others = λ k other. handed k;
+    }
+
+-- at most what is asked for of each file before this one, and nothing of the others
+pub record HandsBefore (files : List SetFile) (old new : ShelfState) (file : ℕ) : Type 0 where
+  pub read : (k : ℕ) → k < file → slice_index new.handed k ≤ slice_index old.handed k + bytes_asked files (slice_index old.lengths k)
   pub unread : (k : ℕ) → file ≤ k → slice_index new.handed k ≡ slice_index old.handed k
 
-pub HandsEachOnce-before : (old new : ShelfState) (file : ℕ) → HandsBefore old new file → HandsEachOnce old new
-HandsEachOnce-before old new file before = λ k. elim (cases_lt k file) [
+pub HandsEachOnce-before : (files : List SetFile) (old new : ShelfState) (file : ℕ) → HandsBefore files old new file → HandsEachOnce files old new
+HandsEachOnce-before files old new file before = λ k. elim (cases_lt k file) [
   | inl less ↦ before.read k less
   | inr more ↦ omega (arith, before.unread k more)
 ]
 
-pub HandsBefore-suc : (old now new : ShelfState) (file : ℕ) → ReadsOnly old now → HandsBefore old now file → HandsOnce now new file
-    → HandsBefore old new (file + 1)
-HandsBefore-suc old now new file reads before one =
+pub HandsBefore-suc : (files : List SetFile) (old now new : ShelfState) (file : ℕ) → ReadsOnly old now → HandsBefore files old now file
+    → HandsOnce files now new file → HandsBefore files old new (file + 1)
+HandsBefore-suc files old now new file reads before one =
     let same : now.lengths ≡ old.lengths = ap (λ (s : ShelfState). s.lengths) reads in
-    let size : slice_index now.lengths file ≡ slice_index old.lengths file = ap (λ xs. slice_index xs file) same in record {
+    let size : bytes_asked files (slice_index now.lengths file) ≡ bytes_asked files (slice_index old.lengths file)
+    = ap (λ xs. bytes_asked files (slice_index xs file)) same in record {
       read = λ k less. elim (cases_lt k file) [
         | inl early ↦
             let other : k ≢ file = λ e. absurd (omega (arith, e)) in
@@ -59,7 +79,7 @@ HandsBefore-suc old now new file reads before one =
           one.others k other ∙ before.unread k far;
     }
 
-pub HandsEachOnce-more : (old now new : ShelfState) (file : ℕ) → ReadsOnly old now → HandsBefore old now file → HandsOnce now new file
-    → HandsEachOnce old new
-HandsEachOnce-more old now new file reads before one =
-    HandsEachOnce-before old new (file + 1) (HandsBefore-suc old now new file reads before one)
+pub HandsEachOnce-more : (files : List SetFile) (old now new : ShelfState) (file : ℕ) → ReadsOnly old now → HandsBefore files old now file
+    → HandsOnce files now new file → HandsEachOnce files old new
+HandsEachOnce-more files old now new file reads before one =
+    HandsEachOnce-before files old new (file + 1) (HandsBefore-suc files old now new file reads before one)

@@ -1,6 +1,7 @@
 pub mod ContentLaws
 pub mod CountLaws
 pub mod FindLaws
+pub mod LengthLaws
 pub mod RunLaws
 pub mod SalvageLaws
 pub mod StateLaws

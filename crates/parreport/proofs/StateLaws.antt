@@ -1,5 +1,5 @@
 -- What the scanned files show, by their names, lengths and MD5s, and by the marks of a survey.
-use Rattle.std.proofs.Common.{◌≡◌, ℕ, ◌+◌, ◌<◌, ◌∙◌, ◌&&◌, ◌||◌, not, Bool, false, List, [], ◌∷◌, ◌++◌, None, length, map, drop, take, get_or, position, ap, sym, refl, cond, zero-add, append-nil, arith, nat_lt, Some, IsTrue}
+use Rattle.std.proofs.Common.{◌≡◌, ℕ, ◌+◌, ◌<◌, ◌∙◌, ◌&&◌, ◌||◌, not, Bool, false, List, [], ◌∷◌, ◌++◌, Option, None, length, map, drop, take, get_or, position, ap, sym, refl, cond, zero-add, append-nil, arith, nat_lt, Some, IsTrue}
 use Rattle.std.specs.BTreeSet.{BTreeSet, contains}
 use Rattle.std.specs.List.{list_any, zip, enumerate_from, prefix_len}
 use Rattle.std.proofs.lemmas.List.{ext_get_or, get_or-map, drop_all, length-map, take_all}
@@ -15,11 +15,13 @@ use Rattle.parwindow.specs.Index.{slice_set_of}
 use Rattle.parfind.specs.Sightings.{Scan}
 use Rattle.parfind.specs.Steps.{scan_of}
 use Rattle.parfind.specs.Surveys.{is_sighted, mark_of, MarksSighted}
-use Rattle.parreport.specs.States.{named_files, length_and_md5, has_content_of, is_content_of, is_name_of, state_by, state_of, is_in_whole_file, findings_of}
+use Rattle.parreport.specs.States.{named_files, length_and_md5, asked_of, has_content_of, shows_content_of, is_content_of, is_name_of, state_by, state_of, is_in_whole_file, findings_of}
 use Rattle.parplan.specs.declared.command.Scanned.{Scanned}
 use Rattle.parreport.specs.declared.verify.contents.LengthAndMd5.{LengthAndMd5}
 use Rattle.parreport.specs.declared.verify.Findings.{Findings}
 use Rattle.parreport.specs.declared.verify.states.State.{State}
+use Rattle.parreport.specs.declared.verify.states.State.TheVariants.{Missing}
+use Rattle.parreport.proofs.LengthLaws.{shown_asked}
 
 -- ---- names and contents
 -- a steady shelf has a content for each name
@@ -41,13 +43,19 @@ map-name (file ∷ files) [] e = absurd (omega arith)
 map-name (file ∷ files) (content ∷ contents) e = ap (λ xs. file.name ∷ xs) (map-name files contents (omega arith))
 
 -- ---- the state of a file
-complete_same : (file : SetFile) (files : List Scanned) (contents : List (List ℕ))
-    → list_any (λ pair. has_content_of file pair.1 && is_name_of file pair.0.name) (zip files (map length_and_md5 contents))
+-- what is asked of bytes shows the file's content exactly where they have it
+abbrev Shows : List SetFile → SetFile → Type 0
+Shows own file = (bytes : List ℕ) → shows_content_of file (asked_of own bytes) ≡ has_content_of file (length_and_md5 bytes)
+
+complete_same : (own : List SetFile) (file : SetFile) (files : List Scanned) (contents : List (List ℕ)) → Shows own file
+    → list_any (λ pair. shows_content_of file pair.1 && is_name_of file pair.0.name) (zip files (map (asked_of own) contents))
     ≡ list_any (λ one. is_content_of file one && is_name_of file one.name) (named_files files contents)
-complete_same file [] contents = refl
-complete_same file (one ∷ files) [] = refl
-complete_same file (one ∷ files) (content ∷ contents) =
-    ap (λ b. (has_content_of file (length_and_md5 content) && is_name_of file one.name) || b) (complete_same file files contents)
+complete_same own file [] contents shows = refl
+complete_same own file (one ∷ files) [] shows = refl
+complete_same own file (one ∷ files) (content ∷ contents) shows =
+    ap (λ b. (b && is_name_of file one.name) || list_any (λ pair. shows_content_of file pair.1 && is_name_of file pair.0.name)
+    (zip files (map (asked_of own) contents))) (shows content)
+    ∙ ap (λ b. (has_content_of file (length_and_md5 content) && is_name_of file one.name) || b) (complete_same own file files contents shows)
 
 named_same : (file : SetFile) (files : List Scanned) (contents : List (List ℕ)) → length contents ≡ length files
     → list_any (λ one. is_name_of file one.name) files ≡ list_any (λ one. is_name_of file one.name) (named_files files contents)
@@ -55,44 +63,56 @@ named_same file [] contents e = refl
 named_same file (one ∷ files) [] e = absurd (omega arith)
 named_same file (one ∷ files) (content ∷ contents) e = ap (λ b. is_name_of file one.name || b) (named_same file files contents (omega arith))
 
-places_same : (file : SetFile) (files : List Scanned) (contents : List (List ℕ)) → length contents ≡ length files
-    → prefix_len (λ c. not (has_content_of file c)) (map length_and_md5 contents)
+places_same : (own : List SetFile) (file : SetFile) (files : List Scanned) (contents : List (List ℕ)) → Shows own file → length contents ≡ length files
+    → prefix_len (λ c. not (shows_content_of file c)) (map (asked_of own) contents)
     ≡ prefix_len (λ one. not (is_content_of file one)) (named_files files contents)
-places_same file [] [] e = refl
-places_same file [] (content ∷ contents) e = absurd (omega arith)
-places_same file (one ∷ files) [] e = refl
-places_same file (one ∷ files) (content ∷ contents) e =
-    ap (λ n. cond (not (has_content_of file (length_and_md5 content))) (1 + n) 0) (places_same file files contents (omega arith))
+places_same own file [] [] shows e = refl
+places_same own file [] (content ∷ contents) shows e = absurd (omega arith)
+places_same own file (one ∷ files) [] shows e = refl
+places_same own file (one ∷ files) (content ∷ contents) shows e =
+    ap (λ b. cond (not b) (1 + prefix_len (λ c. not (shows_content_of file c)) (map (asked_of own) contents)) 0) (shows content)
+    ∙ ap (λ n. cond (not (has_content_of file (length_and_md5 content))) (1 + n) 0) (places_same own file files contents shows (omega arith))
 
-position_same : (file : SetFile) (files : List Scanned) (contents : List (List ℕ)) → length contents ≡ length files
-    → position (has_content_of file) (map length_and_md5 contents) ≡ position (is_content_of file) (named_files files contents)
-position_same file files contents e =
-    let lengths : length (map length_and_md5 contents) ≡ length (named_files files contents)
-    = length-map contents length_and_md5 ∙ (ap length (sym (map-content files contents e)) ∙ length-map (named_files files contents) (λ one. one.content)) in
-    ap (λ n. cond (nat_lt n (length (map length_and_md5 contents))) (Some n) None) (places_same file files contents e)
+position_same : (own : List SetFile) (file : SetFile) (files : List Scanned) (contents : List (List ℕ)) → Shows own file → length contents ≡ length files
+    → position (shows_content_of file) (map (asked_of own) contents) ≡ position (is_content_of file) (named_files files contents)
+position_same own file files contents shows e =
+    let lengths : length (map (asked_of own) contents) ≡ length (named_files files contents)
+    = length-map contents (asked_of own) ∙ (ap length (sym (map-content files contents e)) ∙ length-map (named_files files contents) (λ one. one.content)) in
+    ap (λ n. cond (nat_lt n (length (map (asked_of own) contents))) (Some n) None) (places_same own file files contents shows e)
     ∙ ap (λ n. cond (nat_lt (prefix_len (λ one. not (is_content_of file one)) (named_files files contents)) n)
     (Some (prefix_len (λ one. not (is_content_of file one)) (named_files files contents))) None) lengths
 
-pub state_by-state_of : (files : List Scanned) (contents : List (List ℕ)) → length contents ≡ length files → (file : SetFile)
-    → state_by files (map length_and_md5 contents) file ≡ state_of (named_files files contents) file
+state_by-state_of : (own : List SetFile) (files : List Scanned) (contents : List (List ℕ)) → length contents ≡ length files → (file : SetFile)
+    → Shows own file → state_by files (map (asked_of own) contents) file ≡ state_of (named_files files contents) file
 unfolding state_of
-state_by-state_of files contents e file =
-    let whole = complete_same file files contents in
-    let first = position_same file files contents e in
+state_by-state_of own files contents e file shows =
+    let whole = complete_same own file files contents shows in
+    let first = position_same own file files contents shows e in
     let named = named_same file files contents e in cc
 
 pub map-same : {A B : Type 0} (f g : A → B) → ((x : A) → f x ≡ g x) → (xs : List A) → map f xs ≡ map g xs
 map-same f g same [] = refl
 map-same f g same (x ∷ xs) = ap (λ y. y ∷ map f xs) (same x) ∙ ap (λ ys. g x ∷ ys) (map-same f g same xs)
 
+-- the states of the files of the set
+states_same : (files : List Scanned) (contents : List (List ℕ)) (own : List SetFile) → length contents ≡ length files
+    → map (state_by files (map (asked_of own) contents)) own ≡ map (state_of (named_files files contents)) own
+states_same files contents own sized =
+    let by = state_by files (map (asked_of own) contents) in let of = state_of (named_files files contents) in
+    let d : SetFile = record { id = record { 0 = [] }; length = 0; whole = record { 0 = [] }; name = []; known = false } in
+    let each = length-map own by in let other = length-map own of in
+    ext_get_or Missing (map by own) (map of own) (omega arith) (λ k within.
+    let here : k < length own = omega arith in
+    get_or-map by own k d Missing here
+    ∙ (state_by-state_of own files contents sized (get_or own k d) (shown_asked own k d here) ∙ sym (get_or-map of own k d Missing here)))
+
 -- the states by the contents that were read
-pub states_read : (files : List Scanned) (contents : List (List ℕ)) (read : List LengthAndMd5) (asked own : List SetFile) (states : List State)
-    → length contents ≡ length files → states ≡ map (state_by files read) asked → read ≡ map length_and_md5 contents → asked ≡ own
+pub states_read : (files : List Scanned) (contents : List (List ℕ)) (read : List (Option LengthAndMd5)) (asked own : List SetFile) (states : List State)
+    → length contents ≡ length files → states ≡ map (state_by files read) asked → read ≡ map (asked_of own) contents → asked ≡ own
     → states ≡ map (state_of (named_files files contents)) own
 states_read files contents read asked own states sized by_read whole same =
     by_read ∙ (ap (λ cs. map (state_by files cs) asked) whole
-    ∙ (map-same (state_by files (map length_and_md5 contents)) (state_of (named_files files contents)) (state_by-state_of files contents sized) asked
-    ∙ ap (map (state_of (named_files files contents))) same))
+    ∙ (ap (map (state_by files (map (asked_of own) contents))) same ∙ states_same files contents own sized))
 
 -- ---- the marks of a survey
 pub marks_found : (whole : SetSlice → Bool) (scan : Scan) (slices : List SetSlice) (was now : List Bool) → was ≡ map whole slices

@@ -38,6 +38,19 @@ has_content_of file content = content.length == file.length && bytes_eq content.
 abbrev pub is_content_of : SetFile → NamedFile → Bool
 is_content_of file scanned = has_content_of file (length_and_md5 scanned.content)
 
+-- some of the files has this length
+abbrev pub has_length : List SetFile → ℕ → Bool
+has_length files n = list_any (λ file. file.length == n) files
+
+-- what is asked of bytes: nothing, where none of the files has their length
+abbrev pub asked_of : List SetFile → List ℕ → Option LengthAndMd5
+asked_of files bytes = if has_length files (length bytes) then Some (length_and_md5 bytes) else None
+
+-- what was asked shows the content of a file of the set
+abbrev pub shows_content_of : SetFile → Option LengthAndMd5 → Bool
+shows_content_of file None = false
+shows_content_of file (Some content) = has_content_of file content
+
 -- a name is that of a file of the set
 abbrev pub is_name_of : SetFile → List ℕ → Bool
 is_name_of file name = bytes_eq name file.name
@@ -56,12 +69,12 @@ state_of scanned file =
     else state_else (position (is_content_of file) scanned)
     (list_any (λ one. is_name_of file one.name) scanned)
 
--- the same by the lengths and MD5s of the scanned files
-abbrev pub state_by : List Scanned → List LengthAndMd5 → SetFile → State
-state_by files contents file =
-    if list_any (λ pair. has_content_of file pair.1 && is_name_of file pair.0.name) (zip files contents)
+-- the same by what was asked of the scanned files
+abbrev pub state_by : List Scanned → List (Option LengthAndMd5) → SetFile → State
+state_by files asked file =
+    if list_any (λ pair. shows_content_of file pair.1 && is_name_of file pair.0.name) (zip files asked)
     then Complete
-    else state_else (position (has_content_of file) contents)
+    else state_else (position (shows_content_of file) asked)
     (list_any (λ one. is_name_of file one.name) files)
 
 -- the file is complete or renamed

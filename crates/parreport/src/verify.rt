@@ -128,9 +128,10 @@ fn findings_on<Q: Shelf>(
     ensures ok { OnOk result (ReadsOnly (Q.state shelf.old) (Q.state shelf.new)) }
     ensures fault { IfErr result (FilesLeave (Q.state shelf.old) (Q.state shelf.new)) }
 {
-    let contents = contents(alloc, shelf)?;
-    let states = states(alloc, files, &contents, set.files())?;
-    let whole = whole_ids(alloc, set.files(), states.as_slice())?;
+    let set_files = set.files();
+    let contents = contents(alloc, set_files, shelf)?;
+    let states = states(alloc, files, &contents, set_files)?;
+    let whole = whole_ids(alloc, set_files, states.as_slice())?;
     let found = found_slices(alloc, set, &whole, shelf)?;
     Ok(Findings {
         states: Sequence::from_vec(states),

@@ -4,7 +4,7 @@ ghost use Rattle.std.specs.List.{list_all, list_any, zip};
 ghost use Rattle.std.specs.Str.{bytes_eq};
 ghost use Rattle.parfield.specs.HashOrder.{id_cmp};
 ghost use Rattle.parreport.specs.VerifyText.{is_complete, status_of};
-ghost use Rattle.parreport.specs.States.{has_content_of, is_name_of, is_whole, state_by};
+ghost use Rattle.parreport.specs.States.{shows_content_of, is_name_of, is_whole, state_by};
 
 use crate::ends::Status;
 use crate::verify::contents::LengthAndMd5;
@@ -53,7 +53,7 @@ impl State {
 pub fn states(
     alloc: Global,
     files: &[Scanned],
-    contents: &[LengthAndMd5],
+    contents: &[Option<LengthAndMd5>],
     set_files: &[SetFile],
 ) -> Result<Vec<State>, AllocError>
     ensures { IfOk result (λ states.
@@ -66,7 +66,7 @@ pub fn states(
 }
 
 // The state of a file, by the names and the contents of the scanned files.
-fn state_among(files: &[Scanned], contents: &[LengthAndMd5], file: &SetFile) -> State
+fn state_among(files: &[Scanned], contents: &[Option<LengthAndMd5>], file: &SetFile) -> State
     ensures { result ≡ state_by files.now contents.now file.now }
 {
     if is_complete(files, contents, file) {
@@ -80,9 +80,9 @@ fn state_among(files: &[Scanned], contents: &[LengthAndMd5], file: &SetFile) -> 
 }
 
 // Whether a scanned file has the name and the content.
-fn is_complete(files: &[Scanned], contents: &[LengthAndMd5], file: &SetFile) -> bool
+fn is_complete(files: &[Scanned], contents: &[Option<LengthAndMd5>], file: &SetFile) -> bool
     ensures { result ≡ list_any
-        (λ pair. has_content_of file.now pair.1 && is_name_of file.now pair.0.name)
+        (λ pair. shows_content_of file.now pair.1 && is_name_of file.now pair.0.name)
         (zip files.now contents.now) }
 {
     files
@@ -92,8 +92,8 @@ fn is_complete(files: &[Scanned], contents: &[LengthAndMd5], file: &SetFile) -> 
 }
 
 // The first scanned file that has the content.
-fn first_with_content(contents: &[LengthAndMd5], file: &SetFile) -> Option<usize>
-    ensures { result ≡ position (has_content_of file.now) contents.now }
+fn first_with_content(contents: &[Option<LengthAndMd5>], file: &SetFile) -> Option<usize>
+    ensures { result ≡ position (shows_content_of file.now) contents.now }
 {
     contents
         .iter()
@@ -107,16 +107,19 @@ fn is_named(files: &[Scanned], file: &SetFile) -> bool
     files.iter().any(|scanned| has_name(scanned, file))
 }
 
-fn has_both(scanned: &Scanned, content: &LengthAndMd5, file: &SetFile) -> bool
-    ensures { result ≡ (has_content_of file.now content.now && is_name_of file.now scanned.now.name) }
+fn has_both(scanned: &Scanned, content: &Option<LengthAndMd5>, file: &SetFile) -> bool
+    ensures { result ≡ (shows_content_of file.now content.now && is_name_of file.now scanned.now.name) }
 {
     has_content(content, file) && has_name(scanned, file)
 }
 
-fn has_content(content: &LengthAndMd5, file: &SetFile) -> bool
-    ensures { result ≡ has_content_of file.now content.now }
+fn has_content(content: &Option<LengthAndMd5>, file: &SetFile) -> bool
+    ensures { result ≡ shows_content_of file.now content.now }
 {
-    content.length == file.length && content.whole == file.whole
+    match content {
+        None => false,
+        Some(content) => content.length == file.length && content.whole == file.whole,
+    }
 }
 
 fn has_name(scanned: &Scanned, file: &SetFile) -> bool
