@@ -17,6 +17,8 @@ pub mod LookLaws
 pub mod EnterLaws
 pub mod MarkLaws
 pub mod BelongsLaws
+pub mod MarkingLaws
+pub mod SightedLaws
 pub mod SurveyLaws
 pub mod HandingLaws
 pub mod NumberLaws

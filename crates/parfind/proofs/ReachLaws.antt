@@ -39,7 +39,7 @@ module _ (lengths : List ℕ) (p : Place) (f : ℕ) where
   ]
 
 -- a place in a later file has more before it
-upto-rises : (lengths : List ℕ) (p q : Place) (f : ℕ) → p.file < q.file → upto lengths p f ≤ upto lengths q f
+pub upto-rises : (lengths : List ℕ) (p q : Place) (f : ℕ) → p.file < q.file → upto lengths p f ≤ upto lengths q f
 upto-rises lengths p q f h = elim (cases_lt f q.file) [
   | inl before ↦ omega (arith, upto-before lengths q f before, upto-most lengths p f)
   | inr past ↦ omega (arith, upto-behind lengths p f (omega arith))

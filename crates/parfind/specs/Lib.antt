@@ -10,6 +10,8 @@ pub mod Finders
 pub mod Looking
 pub mod Visits
 pub mod Surveys
+pub mod Marking
+pub mod Surveying
 pub mod Worked
 pub mod CursorText
 pub use Rattle.parshelf.specs.Reads
