@@ -20,6 +20,7 @@ pub mod BelongsLaws
 pub mod MarkingLaws
 pub mod SightedLaws
 pub mod SurveyLaws
+pub mod SweepLaws
 pub mod HandingLaws
 pub mod NumberLaws
 pub mod IdLaws

@@ -56,15 +56,20 @@ le_sum : (a b left all : ℕ) → b + left ≡ all → nat_le a left ≡ nat_le 
 le_sum a b left all sum = grind (arith, nat_tests)
 
 -- where the window's sums and what is left of the file are known, the slices that fit are those that are seen
-pub first_seen : (set : SliceSet) (file : List ℕ) (offset left : ℕ) (sums : Hash16 × ℕ) → offset < length file
-    → offset + left ≡ length file → sums ≡ sums_of (window_at set.slice_size file offset) → (first : ℕ) (found : Option ℕ)
-    → IsLeastFrom (slice_passes set (is_fit sums left)) first found → IsLeastFrom (is_seen_in set file offset) first found
-first_seen set file offset left sums inside all are first found least =
-    let fit : SetSlice → Bool = is_fit sums left in
-    let seen : SetSlice → Bool = is_seen set.slice_size file offset in
-    let same : (slice : SetSlice) → fit slice ≡ seen slice = λ slice.
-    rw (lt-ltb offset (length file) inside, are, le_sum slice.length offset left (length file) all) refl in
-    least_same (slice_passes set fit) (is_seen_in set file offset) (λ n. same_test fit seen same (slice_get set.slices n)) first found least
+module _ (set : SliceSet) (file : List ℕ) (offset left : ℕ) (sums : Hash16 × ℕ) (inside : offset < length file)
+    (all : offset + left ≡ length file) (are : sums ≡ sums_of (window_at set.slice_size file offset)) where
+  pub fit_seen : (n : ℕ) → slice_passes set (is_fit sums left) n ≡ is_seen_in set file offset n
+  fit_seen n =
+      let fit : SetSlice → Bool = is_fit sums left in
+      let seen : SetSlice → Bool = is_seen set.slice_size file offset in
+      let same : (slice : SetSlice) → fit slice ≡ seen slice = λ slice.
+      rw (lt-ltb offset (length file) inside, are, le_sum slice.length offset left (length file) all) refl in
+      same_test fit seen same (slice_get set.slices n)
+
+  pub first_seen : (first : ℕ) (found : Option ℕ) → IsLeastFrom (slice_passes set (is_fit sums left)) first found
+      → IsLeastFrom (is_seen_in set file offset) first found
+  first_seen first found least =
+      least_same (slice_passes set (is_fit sums left)) (is_seen_in set file offset) fit_seen first found least
 
 -- a slice that fits has the CRC-32 of the window
 

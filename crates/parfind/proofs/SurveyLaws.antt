@@ -85,18 +85,34 @@ near_behind size q c d file offset near = record {
 }
 
 -- at its beginning
-pub surveyed_none : (set : SliceSet) (old now : SurveyState) → fetched_of now.track ≡ start → now.shelf ≡ old.shelf
-    → now.found ≡ old.found → now.window ≡ old.window → Surveyed set old now origin
-surveyed_none set old now fetched shelf found window = rw (fetched, shelf, found, window) (record {
-  marks = λ _ n. sym (ap (λ b. mark_of old.found n || b) (none_first (scan_of set old.shelf) n) ∙ or-false (mark_of old.found n));
+
+near_first : (size : ℕ) (q : Place) (c : Cursor) → q ≡ start → IsNear size q c
+near_first size q c first = record {
+  file_is = omega (arith, ap (λ (p : Place). p.file) first);
+  offset_is = λ _. omega (arith, ap (λ (p : Place). p.offset) first);
+}
+
+surveyed_first : (set : SliceSet) (now : SurveyState) → fetched_of now.track ≡ start → Surveyed set now now origin
+surveyed_first set now fetched = record {
+  marks = λ _ n. sym (ap (λ b. mark_of now.found n || b) (none_first (scan_of set now.shelf) n) ∙ or-false (mark_of now.found n));
   kept = λ n marked. marked;
-  hands = hands_none old.shelf.lengths old.shelf.handed start;
+  hands = subst (HandsUpTo now.shelf.lengths now.shelf.handed now.shelf.handed start) (sym fetched) (hands_none now.shelf.lengths now.shelf.handed start);
   unfit = λ f none. omega arith;
-  near = record { file_is = omega arith; offset_is = λ _. omega arith };
-  stops = λ _ p _. record { file_is = omega arith; offset_is = λ _. omega arith };
+  near = near_first set.slice_size (fetched_of now.track) origin fetched;
+  stops = λ _ p _. near_first set.slice_size (fetched_of now.track) (cursor_at p) fetched;
   digests = λ _. omega arith;
   capacity = refl;
-})
+}
+
+pub surveyed_none : (set : SliceSet) (now : SurveyState) → IsUnread 0 0 now.track → Surveyed set now now (cursor_to now.track)
+surveyed_none set now unread =
+    let fetched : fetched_of now.track ≡ start =
+    ap (λ (f : ℕ). record { file = f; offset = now.track.base + now.track.end }) unread.file_is
+    ∙ ap (λ (o : ℕ). record { file = 0; offset = o }) (omega (arith, unread.base_is, unread.end_is)) in
+    let at : cursor_to now.track ≡ origin =
+    ap (λ (f : ℕ). record { file = f; offset = now.track.held; slice = 0 }) unread.file_is
+    ∙ ap (λ (o : ℕ). record { file = 0; offset = o; slice = 0 }) unread.held_is in
+    subst (Surveyed set now now) (sym at) (surveyed_first set now fetched)
 
 from_origin : (c : Cursor) → From origin c
 from_origin c = record { by_file = omega arith; by_offset = λ _. omega arith; by_slice = λ _ _. omega arith }

@@ -97,6 +97,8 @@ pub fn survey_in<H: Shelf>(
     ensures window { window.new ≡ record window.old {
         content = window.new.content; digests = window.new.digests } }
 {
+    let size = index.size();
+    prove!(window.size() as u64 == size);
     window.clear();
     let mut track = Track::new(0, 0);
     match sweep(index, shelf, window, &mut track, found) {
@@ -115,6 +117,7 @@ fn sweep<H: Shelf>(
 ) -> Result<(), ReadFault>
     requires sized { window.old.capacity ≡ index.now.slice_size }
     requires each { length found.old ≡ length index.now.slices }
+    requires few { window.old.capacity ≤ 268435456 }
     requires empty { window.old.content ≡ [] }
     requires unread { IsUnread 0 0 track.old }
     ensures ends { SurveyEnds index.now
