@@ -22,7 +22,8 @@ use Rattle.parfind.specs.Places.{Place, cursor_at, cursor_past, place_at}
 use Rattle.parfind.specs.Reach.{upto, HandsUpTo, ReadsUpTo, IsNear}
 use Rattle.parfind.specs.Sightings.{Scan, content_of, is_seen_in, sightings_between}
 use Rattle.parfind.specs.Steps.{scan_of, lengths_of}
-use Rattle.parfind.specs.Surveys.{is_sighted, is_sighted_before, mark_of, IsAllMarked, MarksSighted, MarksNoOther, MarksBefore, MarksUpToFault, KeepsMarks, AllSightedBy, HandsFilesOnce, HandsAround, StopsOnceFound, SkipsUnfit}
+use Rattle.parfind.specs.Handed.{HandsEachOnce, HandsAround, SkipsUnfit}
+use Rattle.parfind.specs.Surveys.{is_sighted, is_sighted_before, mark_of, IsAllMarked, MarksSighted, MarksNoOther, MarksBefore, MarksUpToFault, KeepsMarks, AllSightedBy, StopsOnceFound}
 use Rattle.parfind.specs.Surveying.{SurveyState, Surveyed, cursor_to, missing_to}
 use Rattle.parfind.specs.Tracks.{IsTied, SameTrack, IsUnread, HasNoCrc, Passes, fetched_of}
 use Rattle.parfind.proofs.MarkLaws.{counted_rises, counted_more, counted_most}
@@ -224,7 +225,7 @@ module _ (set : SliceSet) (old now : SurveyState) (c : Cursor) (so_far : Surveye
   surveyed_digests steady =
       omega (arith, so_far.digests steady, counted_most (is_missing_at (scan_of set old.shelf) old.found) (lengths_of (scan_of set old.shelf)) origin c)
 
-  pub surveyed_once : HandsFilesOnce old.shelf now.shelf
+  pub surveyed_once : HandsEachOnce old.shelf now.shelf
   surveyed_once f = omega (arith, so_far.hands.handed f, upto-most old.shelf.lengths (fetched_of now.track) f)
 
   around : (p : Place) → IsNear set.slice_size (fetched_of now.track) (cursor_at p) → HandsAround set.slice_size old.shelf now.shelf p

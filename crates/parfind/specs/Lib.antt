@@ -4,6 +4,7 @@ pub mod Sightings
 pub mod Moves
 pub mod Steps
 pub mod Reach
+pub mod Handed
 pub mod Tracks
 pub mod Marks
 pub mod Finders

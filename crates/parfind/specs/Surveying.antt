@@ -6,13 +6,14 @@ use Rattle.parwindow.specs.Index.{SliceSet}
 use Rattle.parwindow.specs.Window.{WindowState}
 use Rattle.parfind.specs.declared.cursor.Cursor.{Cursor}
 use Rattle.parfind.specs.declared.track.Track.{Track}
+use Rattle.parfind.specs.Handed.{SkipsUnfit}
 use Rattle.parfind.specs.Marks.{is_missing_at}
 use Rattle.parfind.specs.Order.{origin}
 use Rattle.parfind.specs.Places.{Place, cursor_at, places_between}
 use Rattle.parfind.specs.Reach.{ReadsUpTo, IsNear}
 use Rattle.parfind.specs.Sightings.{Scan}
 use Rattle.parfind.specs.Steps.{scan_of}
-use Rattle.parfind.specs.Surveys.{is_sighted_before, mark_of, IsAllMarked, AllSightedBy, SkipsUnfit}
+use Rattle.parfind.specs.Surveys.{is_sighted_before, mark_of, IsAllMarked, AllSightedBy}
 use Rattle.parfind.specs.Tracks.{fetched_of}
 
 -- where a survey is: its shelf and its window, the marks, and how the window goes along a file
@@ -21,6 +22,10 @@ pub record SurveyState : Type 0 where
   pub window : WindowState
   pub found : List Bool
   pub track : Track
+
+abbrev pub survey_at : ShelfState → WindowState → List Bool → Track → SurveyState
+survey_at shelf window found track =
+    record { shelf = shelf; window = window; found = found; track = track }
 
 -- the cursor at a window
 abbrev pub cursor_to : Track → Cursor

@@ -1,4 +1,4 @@
--- Which slices of a set have a sighting, as marks by slice number, and how far files are read for them.
+-- Which slices of a set have a sighting, as marks by slice number.
 use Rattle.std.specs.Prelude.{◌≡◌, ℕ, ◌+◌, ◌≤◌, ◌==◌, ◌&&◌, ◌||◌, Bool, false, List, EachIndex, IsTrue, slice_index, slice_index_or}
 use Rattle.std.specs.List.{list_any}
 use Rattle.parshelf.specs.Shelf.{ShelfState}
@@ -9,7 +9,7 @@ use Rattle.parfind.specs.declared.scanning.SurveyFault.{SurveyFault}
 use Rattle.parfind.specs.declared.scanning.SurveyFault.TheVariants.{Read, Memory}
 use Rattle.parfind.specs.Order.{is_before, cursor_of}
 use Rattle.parfind.specs.Places.{Place, cursor_at, cursor_past}
-use Rattle.parfind.specs.Reach.{upto}
+use Rattle.parfind.specs.Handed.{HandsAround}
 use Rattle.parfind.specs.Sightings.{Scan, sightings_of}
 use Rattle.parfind.specs.Steps.{scan_of}
 
@@ -54,31 +54,13 @@ abbrev pub AllSightedBy : Scan → List Bool → Place → Type 0
 AllSightedBy scan marks p =
     EachIndex marks (λ n. IsTrue (mark_of marks n || is_sighted_before scan (cursor_past p) n))
 
--- of each file at most its length was handed over
-abbrev pub HandsFilesOnce : ShelfState → ShelfState → Type 0
-HandsFilesOnce old new =
-    (f : ℕ) → slice_index new.handed f ≤ slice_index old.handed f + slice_index old.lengths f
-
--- of each file at most what lies before the place a window and 4,096 bytes behind another: of the
--- files behind that place's nothing
-abbrev pub HandsAround : ℕ → ShelfState → ShelfState → Place → Type 0
-HandsAround size old new p =
-    (f : ℕ) → slice_index new.handed f ≤ slice_index old.handed f
-    + upto old.lengths (record p { offset = p.offset + size + 4096 }) f
-
--- from the place on by which each slice is found, no more is handed over than that
+-- from the place on by which each slice is found, no more is handed over than around it
 abbrev pub StopsOnceFound : SliceSet → ShelfState → ShelfState → List Bool → Type 0
 StopsOnceFound set old new was =
     (p : Place) → AllSightedBy (scan_of set old) was p → HandsAround set.slice_size old new p
 
--- of a file into which no slice fits nothing was handed over
-abbrev pub SkipsUnfit : SliceSet → ShelfState → ShelfState → Type 0
-SkipsUnfit set old new =
-    (f : ℕ) → has_fit_in set (slice_index old.lengths f) ≡ false
-    → slice_index new.handed f ≤ slice_index old.handed f
-
--- what a fault of a file leaves: the marks of all sightings before a place of that file, around
--- which no more was handed over
+-- what a fault of a file leaves: the marks of all sightings before a place of that file, and no more
+-- was handed over than around it
 pub record MarksUpToFault
     (set : SliceSet) (old new : ShelfState) (was now : List Bool) (file : ℕ) : Type 0 where
   pub place : Place

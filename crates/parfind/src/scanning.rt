@@ -1,9 +1,10 @@
 ghost use Rattle.std.specs.Prelude.{◌≡◌, ◌+◌, ◌≤◌, [], length, IsTrue, OnOk, OnErr, IfErr};
 ghost use Rattle.parshelf.specs.Reads.{ReadsOnly, FaultsIn};
+ghost use Rattle.parfind.specs.Handed.{HandsEachOnce, SkipsUnfit};
 ghost use Rattle.parfind.specs.Marks.{missing_places};
 ghost use Rattle.parfind.specs.Steps.{scan_of};
-ghost use Rattle.parfind.specs.Surveys.{MarksSighted, MarksNoOther, MarksUpToFault, KeepsMarks, IsAllMarked, HandsFilesOnce, StopsOnceFound, SkipsUnfit, SurveyLeaves};
-ghost use Rattle.parfind.specs.Surveying.{SurveyEnds};
+ghost use Rattle.parfind.specs.Surveys.{MarksSighted, MarksNoOther, MarksUpToFault, KeepsMarks, IsAllMarked, StopsOnceFound, SurveyLeaves};
+ghost use Rattle.parfind.specs.Surveying.{SurveyEnds, survey_at};
 ghost use Rattle.parfind.specs.Tracks.{IsUnread};
 ghost use Rattle.parfind.specs.declared.scanning.SurveyFault.TheVariants.{Memory};
 
@@ -49,7 +50,7 @@ pub fn survey<H: Shelf>(
     ensures kept { KeepsMarks found.old found.new }
     ensures ok { OnOk result (ReadsOnly (H.state shelf.old) (H.state shelf.new)) }
     ensures fault { IfErr result (SurveyLeaves (H.state shelf.old) (H.state shelf.new)) }
-    ensures handed { HandsFilesOnce (H.state shelf.old) (H.state shelf.new) }
+    ensures handed { HandsEachOnce (H.state shelf.old) (H.state shelf.new) }
     ensures none { IsAllMarked found.old → H.state shelf.new ≡ H.state shelf.old }
 {
     let mut window = Window::new(alloc, index.size() as usize)?;
@@ -91,7 +92,7 @@ pub fn survey_in<H: Shelf>(
     ensures ok { OnOk result (ReadsOnly (H.state shelf.old) (H.state shelf.new)) }
     ensures fault { IfErr result (λ fault.
         FaultsIn (H.state shelf.old) (H.state shelf.new) fault.0 fault.1) }
-    ensures handed { HandsFilesOnce (H.state shelf.old) (H.state shelf.new) }
+    ensures handed { HandsEachOnce (H.state shelf.old) (H.state shelf.new) }
     ensures unfit { SkipsUnfit index.now (H.state shelf.old) (H.state shelf.new) }
     ensures none { IsAllMarked found.old → H.state shelf.new ≡ H.state shelf.old }
     ensures window { window.new ≡ record window.old {
@@ -121,9 +122,8 @@ fn sweep<H: Shelf>(
     requires empty { window.old.content ≡ [] }
     requires unread { IsUnread 0 0 track.old }
     ensures ends { SurveyEnds index.now
-        (record { shelf = H.state shelf.old; window = window.old; found = found.old; track = track.old })
-        (record { shelf = H.state shelf.new; window = window.new; found = found.new; track = track.new })
-        result }
+        (survey_at (H.state shelf.old) window.old found.old track.old)
+        (survey_at (H.state shelf.new) window.new found.new track.new) result }
     ensures ok { OnOk result (ReadsOnly (H.state shelf.old) (H.state shelf.new)) }
     ensures fault { IfErr result
         (FaultsIn (H.state shelf.old) (H.state shelf.new) track.new.file) }
