@@ -1,6 +1,6 @@
 -- A finder whose window goes on belongs to its slices and files as before.
-use Rattle.std.proofs.Common.{◌≡◌, ℕ, ◌+◌, ◌<◌, ◌≤◌, true, List, length, slice_index, refl, sym, ap, ◌∙◌, subst, arith, IsTrue, Result, Ok, Err, OnOk, IfErr}
-use Rattle.parshelf.specs.Shelf.{ShelfState, IsShelf, file_of}
+use Rattle.std.proofs.Common.{◌≡◌, ℕ, ◌<◌, ◌≤◌, length, slice_index, refl, sym, ap, ◌∙◌, subst, arith, IsTrue, Result, Ok, Err, OnOk, IfErr}
+use Rattle.parshelf.specs.Shelf.{ShelfState, IsShelf}
 use Rattle.parshelf.specs.Reads.{ReadsOnly, FaultsIn}
 use Rattle.parshelf.specs.declared.reading.ReadFault.{ReadFault}
 use Rattle.parshelf.specs.declared.reading.ReadFault.TheVariants.{Failed, Ended}
@@ -10,9 +10,8 @@ use Rattle.parwindow.specs.Window.{WindowState}
 use Rattle.parfind.specs.declared.cursor.Cursor.{Cursor}
 use Rattle.parfind.specs.declared.track.Track.{Track}
 use Rattle.parfind.specs.Finders.{FinderState, BelongsTo}
-use Rattle.parfind.specs.Marks.{is_marked, marked_between, marks}
-use Rattle.parfind.specs.Order.{is_from}
-use Rattle.parfind.specs.Places.{Place, cursor_past, place_at, start_of}
+use Rattle.parfind.specs.Marks.{marked_between, marks}
+use Rattle.parfind.specs.Places.{cursor_past, place_at, start_of}
 use Rattle.parfind.specs.Sightings.{Scan}
 use Rattle.parfind.specs.Steps.{scan_of, lengths_of}
 use Rattle.parfind.specs.Tracks.{IsTied, Looks, Remembers, SameTrack, remembered, hashed_of, fetched_of}

@@ -1,5 +1,5 @@
 -- How many places may have been hashed: as a search goes on there are no fewer, and one more behind one with a slice's CRC-32.
-use Rattle.std.proofs.Common.{◌≡◌, ℕ, ◌+◌, ◌<◌, ◌≤◌, Bool, true, false, cond, List, [], ◌∷◌, ◌++◌, filter, length, map, refl, sym, ap, ◌∙◌, subst, arith, slice_index, Option, None, Some, inl, inr, length-append}
+use Rattle.std.proofs.Common.{◌≡◌, ℕ, ◌+◌, ◌<◌, ◌≤◌, Bool, true, false, cond, List, [], ◌∷◌, ◌++◌, filter, length, refl, sym, ap, ◌∙◌, subst, arith, slice_index, Option, None, Some, inl, inr, length-append}
 use Rattle.std.proofs.lemmas.Bool.{cases_eq, cases_Bool}
 use Rattle.parfield.specs.declared.hash16.Hash16.{Hash16}
 use Rattle.parfind.specs.declared.track.Track.{Track}
@@ -57,8 +57,11 @@ module _ (test : Place → Bool) (lengths : List ℕ) where
   -- between two cursors there are no more than in all
   pub counted_most : (c d : Cursor) → counted_between c d ≤ length (filter test (places_of lengths))
   counted_most c d =
-      omega (arith, filter_fewer test (λ p. is_before (cursor_at p) (start_of d)) (places_ahead lengths c),
-      filter_fewer test (λ p. is_from (start_of c) (cursor_at p)) (places_of lengths))
+      omega (
+        arith,
+        filter_fewer test (λ p. is_before (cursor_at p) (start_of d)) (places_ahead lengths c),
+        filter_fewer test (λ p. is_from (start_of c) (cursor_at p)) (places_of lengths),
+      )
 
 pub marked_rises : (scan : Scan) (c d e : Cursor) → From (start_of c) d → From d e → marked_between scan c d ≤ marked_between scan c e
 marked_rises scan c d e on next = counted_rises (is_marked scan) (lengths_of scan) c d e on next

@@ -1,5 +1,5 @@
 -- The marks that a survey sets at one place, one slice after another, and the slices that have none.
-use Rattle.std.proofs.Common.{◌≡◌, ℕ, zero, suc, ◌+◌, ◌<◌, ◌≤◌, Bool, true, false, ◌||◌, ◌&&◌, ◌==◌, not, nat_lt, List, [], ◌∷◌, length, refl, sym, ap, ◌∙◌, subst, arith, IsTrue, Option, Some, None, inl, inr, get_or-set_same, get_or-set_other, slice_set, ◌⊎◌}
+use Rattle.std.proofs.Common.{◌≡◌, ℕ, ◌+◌, ◌<◌, ◌≤◌, Bool, true, false, ◌||◌, ◌&&◌, ◌==◌, not, nat_lt, List, [], ◌∷◌, length, refl, sym, ap, ◌∙◌, arith, Some, None, inl, inr, get_or-set_same, get_or-set_other, slice_set}
 use Rattle.std.specs.List.{list_any, range_with_len}
 use Rattle.std.proofs.lemmas.Bool.{cases_Bool, cases_eq, cases_lt, eq-eqb, ne_eqb, or_cases, or_left, or_right, lt-ltb, le-ltb, false_from_ne_true, and_parts, and_from, not-true, not_from_false}
 use Rattle.std.proofs.Math.Bool.{or-false, or_assoc}
@@ -12,7 +12,7 @@ use Rattle.parfield.specs.declared.hash16.Hash16.{Hash16}
 use Rattle.parfind.specs.Looking.{is_fit}
 use Rattle.parfind.specs.Marks.{is_missing_crc}
 use Rattle.parfind.specs.Marking.{MarksMore}
-use Rattle.parfind.specs.Surveys.{mark_of, KeepsMarks}
+use Rattle.parfind.specs.Surveys.{mark_of}
 
 -- two tests that pass alike
 pub same_truth : (a b : Bool) → (a ≡ true → b ≡ true) → (b ≡ true → a ≡ true) → a ≡ b

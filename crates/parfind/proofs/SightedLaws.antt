@@ -1,14 +1,14 @@
 -- Which slices have a sighting before a cursor.
-use Rattle.std.proofs.Common.{◌≡◌, ℕ, ◌+◌, ◌<◌, ◌≤◌, Bool, true, false, ◌||◌, ◌&&◌, ◌==◌, List, [], length, refl, sym, ap, ◌∙◌, subst, arith, inl, inr}
+use Rattle.std.proofs.Common.{◌≡◌, ℕ, ◌+◌, ◌<◌, ◌≤◌, Bool, true, false, ◌||◌, ◌&&◌, ◌==◌, List, [], length, refl, sym, ◌∙◌, subst, arith, inl, inr}
 use Rattle.std.proofs.lemmas.Bool.{cases_Bool, cases_lt, eq-eqb, eqb-true, or_cases, or_parts, or_left, or_right, and_parts, and_from}
 use Rattle.parfind.specs.declared.cursor.Cursor.{Cursor}
 use Rattle.parfind.specs.declared.sighting.Sighting.{Sighting}
 use Rattle.parfind.specs.Order.{is_before, cursor_of, origin}
-use Rattle.parfind.specs.Places.{Place, cursor_at, cursor_past, place_at}
+use Rattle.parfind.specs.Places.{Place, cursor_past, place_at}
 use Rattle.parfind.specs.Sightings.{Scan, content_of, is_seen_in, sightings_of, sightings_between}
 use Rattle.parfind.specs.Steps.{lengths_of}
 use Rattle.parfind.specs.Surveys.{is_sighted, is_sighted_before, mark_of, AllSightedBy}
-use Rattle.parfind.proofs.OrderLaws.{Before, From, Before-by_test, From-by_not_before, is_before-true, is_before-false, is_from-true, Before-From, From-before, not_both}
+use Rattle.parfind.proofs.OrderLaws.{Before, From, Before-by_test, From-by_not_before, is_before-true, is_from-true, Before-From, not_both}
 use Rattle.parfind.proofs.ListLaws.{Has, Has-filter}
 use Rattle.parfind.proofs.MarkingLaws.{same_truth, any_has, has_any}
 use Rattle.parfind.proofs.MoveLaws.{counted_of}
@@ -62,11 +62,13 @@ module _ (scan : Scan) where
         → (x.file ≡ c.file) × (x.offset ≡ c.offset)
     here_or_before x from before =
         let file : x.file ≡ c.file = omega (arith, from.by_file, before.by_file) in
-        let most : x.offset ≤ c.offset + 1 = before.by_offset file in
-        (file, elim (cases_lt c.offset x.offset) [
-          | inl less ↦ absurd (omega (arith, before.by_slice file (omega arith)))
-          | inr more ↦ omega (arith, from.by_offset (sym file))
-        ])
+        let most : x.offset ≤ c.offset + 1 = before.by_offset file in (
+          file,
+          elim (cases_lt c.offset x.offset) [
+            | inl less ↦ absurd (omega (arith, before.by_slice file (omega arith)))
+            | inr more ↦ omega (arith, from.by_offset (sym file))
+          ],
+        )
 
     same_seen : (x : Sighting) (n : ℕ) → x.file ≡ c.file → x.offset ≡ c.offset → x.slice ≡ n
         → is_seen_in scan.set (content_of scan x.file) x.offset x.slice ≡ true → seen_here n ≡ true
@@ -79,7 +81,8 @@ module _ (scan : Scan) where
           | inl sooner ↦
               let one = sighted_one c n sooner in
               one_sighted (cursor_past (place_at c)) n one.0 (record {
-                has = one.1.has; slice_is = one.1.slice_is;
+                has = one.1.has;
+                slice_is = one.1.slice_is;
                 before = Before-From (cursor_of one.0) c (cursor_past (place_at c)) one.1.before (From-past c);
               })
           | inr seen ↦
@@ -93,7 +96,9 @@ module _ (scan : Scan) where
         (λ h. let one = sighted_one (cursor_past (place_at c)) n h in
         elim (cases_Bool (is_before (cursor_of one.0) c)) [
           | inl sooner ↦ or_left (is_sighted_before scan c n) (seen_here n) (one_sighted c n one.0 (record {
-            has = one.1.has; slice_is = one.1.slice_is; before = Before-by_test (cursor_of one.0) c sooner;
+            has = one.1.has;
+            slice_is = one.1.slice_is;
+            before = Before-by_test (cursor_of one.0) c sooner;
           }))
           | inr later ↦
               let here = here_or_before one.0 (From-by_not_before (cursor_of one.0) c later) one.1.before in
@@ -139,21 +144,23 @@ module _ (scan : Scan) where
             let one = sighted_one (cursor_past p) m found in
             elim (cases_Bool (is_before (cursor_of one.0) c)) [
               | inl sooner ↦ absurd (
-                let has : is_sighted_before scan c m ≡ true = one_sighted c m one.0 (record {
-                  has = one.1.has; slice_is = one.1.slice_is; before = Before-by_test (cursor_of one.0) c sooner;
-                }) in
-                let both : true ≡ false = sym has ∙ parts.1 in cc
-              )
+                  let has : is_sighted_before scan c m ≡ true = one_sighted c m one.0 (record {
+                    has = one.1.has;
+                    slice_is = one.1.slice_is;
+                    before = Before-by_test (cursor_of one.0) c sooner;
+                  }) in
+                  let both : true ≡ false = sym has ∙ parts.1 in cc
+                  )
               | inr later ↦
                   let from : From c (cursor_of one.0) = From-by_not_before (cursor_of one.0) c later in
                   let before = one.1.before in (
                     omega (arith, from.by_file, before.by_file),
                     λ same.
-                    let file : one.0.file ≡ p.file = omega (arith, from.by_file, before.by_file) in
-                    elim (cases_lt p.offset one.0.offset) [
-                      | inl less ↦ absurd (omega (arith, before.by_slice file (omega (arith, before.by_offset file))))
-                      | inr more ↦ omega (arith, from.by_offset (same ∙ sym file))
-                    ],
+                        let file : one.0.file ≡ p.file = omega (arith, from.by_file, before.by_file) in
+                        elim (cases_lt p.offset one.0.offset) [
+                          | inl less ↦ absurd (omega (arith, before.by_slice file (omega (arith, before.by_offset file))))
+                          | inr more ↦ omega (arith, from.by_offset (same ∙ sym file))
+                        ],
                   )
             ]
       ]

@@ -1,34 +1,31 @@
 -- What a survey has done once it is at a cursor, and how it goes on.
-use Rattle.std.proofs.Common.{◌≡◌, ℕ, ◌+◌, ◌-◌, ◌<◌, ◌≤◌, Bool, true, false, ◌||◌, List, [], ◌∷◌, length, refl, sym, ap, ◌∙◌, subst, arith, IsTrue, inl, inr, slice_index, nat_le, Option, Some, None, if◌then◌else◌}
+use Rattle.std.proofs.Common.{◌≡◌, ℕ, ◌+◌, ◌<◌, ◌≤◌, Bool, true, false, ◌||◌, List, [], ◌∷◌, length, refl, sym, ap, ◌∙◌, subst, arith, IsTrue, inl, inr, slice_index, nat_le, Option, Some, None, if◌then◌else◌}
 use Rattle.std.specs.List.{list_any}
 use Rattle.std.specs.Option.{option_map_or}
-use Rattle.std.proofs.lemmas.Bool.{cases_Bool, cases_eq, cases_lt, or_cases, or_left, or_right, le-leb, leb-true}
+use Rattle.std.proofs.lemmas.Bool.{cases_eq, cases_lt, or_cases, or_left, or_right, le-leb, leb-true}
 use Rattle.std.proofs.lemmas.List.{length-map}
 use Rattle.std.proofs.Math.Bool.{or-false, or_assoc}
 use Rattle.parshelf.specs.Shelf.{ShelfState, IsShelf, file_of}
-use Rattle.parshelf.proofs.ShelfLaws.{length-file_of}
 use Rattle.parfield.specs.declared.hash16.Hash16.{Hash16}
 use Rattle.parset.specs.declared.recovery_set.SetSlice.{SetSlice}
-use Rattle.parwindow.specs.Crc32.{crc_of}
-use Rattle.parwindow.specs.Index.{SliceSet, slice_passes, sums_of, has_fit_of, has_fit_in}
-use Rattle.parwindow.specs.Window.{WindowState, window_at}
+use Rattle.parwindow.specs.Index.{SliceSet, has_fit_of, has_fit_in}
+use Rattle.parwindow.specs.Window.{WindowState}
 use Rattle.parfind.specs.declared.cursor.Cursor.{Cursor}
 use Rattle.parfind.specs.declared.track.Track.{Track}
-use Rattle.parfind.specs.Looking.{IsAtPlace, is_fit}
+use Rattle.parfind.specs.Looking.{IsAtPlace}
 use Rattle.parfind.specs.Marking.{MarksMore, TakesDigest}
-use Rattle.parfind.specs.Marks.{is_missing_crc, is_missing_at, missing_places}
+use Rattle.parfind.specs.Marks.{is_missing_at, missing_places}
 use Rattle.parfind.specs.Order.{origin}
 use Rattle.parfind.specs.Places.{Place, cursor_at, cursor_past, place_at}
-use Rattle.parfind.specs.Reach.{upto, HandsUpTo, ReadsUpTo, IsNear}
-use Rattle.parfind.specs.Sightings.{Scan, content_of, is_seen_in, sightings_between}
+use Rattle.parfind.specs.Reach.{upto, HandsUpTo, IsNear}
+use Rattle.parfind.specs.Sightings.{Scan, is_seen_in, sightings_between}
 use Rattle.parfind.specs.Steps.{scan_of, lengths_of}
-use Rattle.parfind.specs.Handed.{HandsEachOnce, HandsAround, SkipsUnfit}
-use Rattle.parfind.specs.Surveys.{is_sighted, is_sighted_before, mark_of, IsAllMarked, MarksSighted, MarksNoOther, MarksBefore, MarksUpToFault, KeepsMarks, AllSightedBy, StopsOnceFound}
+use Rattle.parfind.specs.Handed.{HandsEachOnce, HandsAround}
+use Rattle.parfind.specs.Surveys.{is_sighted, is_sighted_before, mark_of, IsAllMarked, MarksSighted, MarksNoOther, MarksUpToFault, KeepsMarks, StopsOnceFound}
 use Rattle.parfind.specs.Surveying.{SurveyState, Surveyed, cursor_to, missing_to}
-use Rattle.parfind.specs.Tracks.{IsTied, SameTrack, IsUnread, HasNoCrc, Passes, fetched_of}
+use Rattle.parfind.specs.Tracks.{IsTied, IsUnread, fetched_of}
 use Rattle.parfind.proofs.MarkLaws.{counted_rises, counted_more, counted_most}
-use Rattle.parfind.proofs.MarkingLaws.{missing_was}
-use Rattle.parfind.proofs.OrderLaws.{From, From-refl}
+use Rattle.parfind.proofs.OrderLaws.{From}
 use Rattle.parfind.proofs.PlaceLaws.{From-past}
 use Rattle.parfind.proofs.ReachLaws.{upto-before, upto-here, upto-behind, upto-most, upto-rises, hands_none, hands_more}
 use Rattle.parfind.proofs.SightedLaws.{none_more, here_more, none_first, before_sighted, all_before, still_missing}

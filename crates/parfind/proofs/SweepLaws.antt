@@ -1,5 +1,5 @@
 -- A survey that goes on: to the next file, to the next place with the CRC-32 of a slice, over reads, and past a place that it looked at.
-use Rattle.std.proofs.Common.{◌≡◌, ℕ, ◌+◌, ◌-◌, ◌<◌, ◌≤◌, ◌⊎◌, Bool, true, false, List, [], length, refl, sym, ap, ◌∙◌, subst, arith, IsTrue, inl, inr, slice_index}
+use Rattle.std.proofs.Common.{◌≡◌, ℕ, ◌+◌, ◌<◌, ◌≤◌, ◌⊎◌, true, false, List, [], length, refl, sym, ap, ◌∙◌, subst, arith, IsTrue, inl, inr, slice_index}
 use Rattle.std.proofs.lemmas.Bool.{cases_eq}
 use Rattle.parshelf.specs.Shelf.{ShelfState, IsShelf, file_of}
 use Rattle.parshelf.specs.Reads.{ReadsOnly}
@@ -12,17 +12,16 @@ use Rattle.parfind.specs.declared.cursor.Cursor.{Cursor}
 use Rattle.parfind.specs.declared.track.Track.{Track}
 use Rattle.parfind.specs.Looking.{is_fit}
 use Rattle.parfind.specs.Marking.{MarksMore, TakesDigest}
-use Rattle.parfind.specs.Marks.{is_missing_crc, is_missing_at}
+use Rattle.parfind.specs.Marks.{is_missing_crc}
 use Rattle.parfind.specs.Order.{cursor_of}
-use Rattle.parfind.specs.Places.{cursor_past, place_at}
-use Rattle.parfind.specs.Reach.{ReadsUpTo, IsNear}
+use Rattle.parfind.specs.Reach.{ReadsUpTo}
 use Rattle.parfind.specs.Sightings.{is_seen_in, sightings_of, sightings_between}
 use Rattle.parfind.specs.Steps.{scan_of}
 use Rattle.parfind.specs.Surveying.{SurveyState, Surveyed, cursor_to}
 use Rattle.parfind.specs.Surveys.{mark_of}
 use Rattle.parfind.specs.Tracks.{IsTied, SameTrack, IsUnread, HasNoCrc, fetched_of}
 use Rattle.parfind.proofs.MarkingLaws.{missing_was}
-use Rattle.parfind.proofs.OrderLaws.{From, From-refl}
+use Rattle.parfind.proofs.OrderLaws.{From-refl}
 use Rattle.parfind.proofs.PassLaws.{cursor_on, on_unseen, From-on}
 use Rattle.parfind.proofs.PlaceLaws.{sighting_seen}
 use Rattle.parfind.proofs.ReachLaws.{hands_enter}

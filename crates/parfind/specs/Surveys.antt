@@ -1,9 +1,9 @@
 -- Which slices of a set have a sighting, as marks by slice number.
-use Rattle.std.specs.Prelude.{◌≡◌, ℕ, ◌+◌, ◌≤◌, ◌==◌, ◌&&◌, ◌||◌, Bool, false, List, EachIndex, IsTrue, slice_index, slice_index_or}
+use Rattle.std.specs.Prelude.{◌≡◌, ℕ, ◌==◌, ◌&&◌, ◌||◌, Bool, false, List, EachIndex, IsTrue, slice_index_or}
 use Rattle.std.specs.List.{list_any}
 use Rattle.parshelf.specs.Shelf.{ShelfState}
 use Rattle.parshelf.specs.Reads.{FaultsIn}
-use Rattle.parwindow.specs.Index.{SliceSet, has_fit_in}
+use Rattle.parwindow.specs.Index.{SliceSet}
 use Rattle.parfind.specs.declared.cursor.Cursor.{Cursor}
 use Rattle.parfind.specs.declared.scanning.SurveyFault.{SurveyFault}
 use Rattle.parfind.specs.declared.scanning.SurveyFault.TheVariants.{Read, Memory}

@@ -15,6 +15,8 @@ mod scanning;
 mod sighting;
 mod sliding;
 #[cfg(test)]
+mod survey_tests;
+#[cfg(test)]
 mod tests;
 mod track;
 

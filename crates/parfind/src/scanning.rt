@@ -96,7 +96,9 @@ pub fn survey_in<H: Shelf>(
     ensures unfit { SkipsUnfit index.now (H.state shelf.old) (H.state shelf.new) }
     ensures none { IsAllMarked found.old → H.state shelf.new ≡ H.state shelf.old }
     ensures window { window.new ≡ record window.old {
-        content = window.new.content; digests = window.new.digests } }
+      content = window.new.content;
+      digests = window.new.digests;
+    } }
 {
     let size = index.size();
     prove!(window.size() as u64 == size);
@@ -129,7 +131,9 @@ fn sweep<H: Shelf>(
         (FaultsIn (H.state shelf.old) (H.state shelf.new) track.new.file) }
     ensures none { IsAllMarked found.old → H.state shelf.new ≡ H.state shelf.old }
     ensures window { window.new ≡ record window.old {
-        content = window.new.content; digests = window.new.digests } }
+      content = window.new.content;
+      digests = window.new.digests;
+    } }
 {
     let mut missing = next_missing(found, 0);
     while missing < found.len() && track.file < shelf.count() {

@@ -1,5 +1,4 @@
-use Rattle.std.proofs.Common.{◌∙◌, sym, ap, refl, arith, inl, inr, IsTrue}
-use Rattle.parshelf.specs.Shelf.{ShelfState}
+use Rattle.std.proofs.Common.{ap, arith, inl, inr}
 use Rattle.parwindow.specs.Index.{SliceSet}
 use Rattle.parwindow.specs.Window.{WindowState}
 use Rattle.parfind.specs.Surveying.{SurveyState}

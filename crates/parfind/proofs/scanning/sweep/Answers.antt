@@ -1,4 +1,4 @@
-use Rattle.std.proofs.Common.{rules, ◌≡◌, ◌+◌, ◌-◌, ◌<◌, ◌≤◌, ℕ, true, false, length, slice_index, List, refl, sym, ap, ◌∙◌, subst, arith, inl, inr, ◌⊎◌, IsTrue}
+use Rattle.std.proofs.Common.{rules, ◌≡◌, ◌+◌, ◌-◌, ◌<◌, ◌≤◌, ℕ, true, false, length, slice_index, List, refl, sym, ap, ◌∙◌, arith, inl, inr, ◌⊎◌}
 use Rattle.std.proofs.lemmas.Bool.{cases_lt, or_left}
 use Rattle.std.proofs.lemmas.Result.{err_from_is_err_and}
 use Rattle.parshelf.specs.Shelf.{ShelfState}
@@ -149,8 +149,13 @@ loop-missing-preserved g c =
     record {
       reads = ReadsOnly_more s full new only p.ok;
       tied = p.tied;
-      inside = λ _. omega (arith, p.passes.inside, p.passes.held_is, ap (λ (u : ShelfState). slice_index u.lengths c.fill.new.self.file) p.ok,
-          ap (λ (f : ℕ). slice_index new.lengths f) p.same);
+      inside = λ _. omega (
+        arith,
+        p.passes.inside,
+        p.passes.held_is,
+        ap (λ (u : ShelfState). slice_index u.lengths c.fill.new.self.file) p.ok,
+        ap (λ (f : ℕ). slice_index new.lengths f) p.same,
+      );
       within = last.ensures.within;
       first = last.ensures.missing;
       marked = λ k less. elim (cases_lt k c.loop-missing.missing) [

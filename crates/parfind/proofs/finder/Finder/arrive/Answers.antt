@@ -1,4 +1,4 @@
-use Rattle.std.proofs.Common.{◌≡◌, ℕ, refl, ap, ◌∙◌, arith, subst, IfErr}
+use Rattle.std.proofs.Common.{◌≡◌, ℕ, ap, ◌∙◌, arith, subst, IfErr}
 use Rattle.parshelf.specs.Reads.{FaultsIn}
 use Rattle.parshelf.specs.Shelf.{ShelfState}
 use Rattle.parwindow.specs.Index.{SliceSet}
