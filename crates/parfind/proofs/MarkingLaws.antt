@@ -1,5 +1,5 @@
 -- The marks that a survey sets at one place, one slice after another, and the slices that have none.
-use Rattle.std.proofs.Common.{◌≡◌, ℕ, ◌+◌, ◌<◌, ◌≤◌, Bool, true, false, ◌||◌, ◌&&◌, ◌==◌, not, nat_lt, List, [], ◌∷◌, length, refl, sym, ap, ◌∙◌, arith, Some, None, inl, inr, get_or-set_same, get_or-set_other, slice_set}
+use Rattle.std.proofs.Common.{◌≡◌, ℕ, ◌+◌, ◌<◌, ◌≤◌, Bool, true, false, ◌||◌, ◌&&◌, ◌==◌, not, nat_lt, List, [], ◌∷◌, length, refl, sym, ap, ◌∙◌, arith, IfSome, Option, Some, None, inl, inr, get_or-set_same, get_or-set_other, slice_set}
 use Rattle.std.specs.List.{list_any, range_with_len}
 use Rattle.std.proofs.lemmas.Bool.{cases_Bool, cases_eq, cases_lt, eq-eqb, ne_eqb, or_cases, or_left, or_right, lt-ltb, le-ltb, false_from_ne_true, and_parts, and_from, not-true, not_from_false}
 use Rattle.std.proofs.Math.Bool.{or-false, or_assoc}
@@ -11,7 +11,7 @@ use Rattle.parwindow.specs.Least.{IsLeastFrom}
 use Rattle.parfield.specs.declared.hash16.Hash16.{Hash16}
 use Rattle.parfind.specs.Looking.{is_fit}
 use Rattle.parfind.specs.Marks.{is_missing_crc}
-use Rattle.parfind.specs.Marking.{MarksMore}
+use Rattle.parfind.specs.Marking.{MarksMore, IsSettled}
 use Rattle.parfind.specs.Surveys.{mark_of}
 
 -- two tests that pass alike
@@ -88,6 +88,16 @@ fits_marked set found sums left known n =
             let both : true ≡ false = sym missing ∙ known in cc
       ]
     ])
+
+-- what is settled stays so as marks are set
+pub settled_more : (set : SliceSet) (was now : List Bool) (test : ℕ → Bool) (settled : Option ℕ) → MarksMore test was now
+    → IfSome settled (IsSettled set was) → IfSome settled (IsSettled set now)
+settled_more set was now test None marks h = tt
+settled_more set was now test (Some crc) marks h =
+    false_from_ne_true (is_missing_crc set now crc) (λ missing.
+    let before : is_missing_crc set was crc ≡ true =
+    missing_was set was now crc (λ k marked. marks k ∙ or_left (mark_of was k) (test k) marked) missing in
+    let both : true ≡ false = sym before ∙ h in cc)
 
 -- one more mark
 

@@ -1,9 +1,9 @@
-ghost use Rattle.std.specs.Prelude.{◌≡◌, ◌<◌, ◌≤◌, ◌||◌, ℕ, length, false, IsTrue};
+ghost use Rattle.std.specs.Prelude.{◌≡◌, ◌<◌, ◌≤◌, ◌||◌, ℕ, length, false, IfSome, IsTrue};
 ghost use Rattle.parwindow.specs.Index.{slice_passes, sums_of};
 ghost use Rattle.parwindow.specs.Crc32.{crc_of};
 ghost use Rattle.parfind.specs.Looking.{is_fit};
 ghost use Rattle.parfind.specs.Marks.{is_missing_crc};
-ghost use Rattle.parfind.specs.Marking.{MarksMore, TakesDigest};
+ghost use Rattle.parfind.specs.Marking.{MarksMore, TakesDigest, IsSettled};
 ghost use Rattle.parfind.specs.Surveys.{mark_of};
 
 use crate::looking::first_fit;
@@ -25,18 +25,32 @@ pub fn next_missing(found: &[bool], from: usize) -> usize
 }
 
 // Marks each slice that has both sums of a full window and fits into what is left of the file. The
-// MD5 is taken only where some slice with the CRC-32 has no mark.
-pub fn mark_seen(window: &mut Window, index: &Index, left: u64, found: &mut [bool])
+// MD5 is taken only where some slice with the CRC-32 has no mark. `settled` keeps a CRC-32 of which
+// each slice has its mark, so that in a run of equal windows, as of zeros, that is asked once.
+pub fn mark_seen(
+    window: &mut Window,
+    index: &Index,
+    left: u64,
+    found: &mut [bool],
+    settled: &mut Option<u32>,
+)
     requires each { length found.old ≡ length index.now.slices }
+    requires settled { IfSome settled.old (IsSettled index.now found.old) }
+    ensures settled { IfSome settled.new (IsSettled index.now found.new) }
     ensures marks { MarksMore
         (slice_passes index.now (is_fit (sums_of window.old.content) left)) found.old found.new }
     ensures digest { TakesDigest
         (is_missing_crc index.now found.old (crc_of window.old.content)) window.old window.new }
 {
     let crc = window.crc();
+    if *settled == Some(crc) {
+        return;
+    }
     if is_missing(index, crc, found) {
         let digest = window.digest();
         mark_matches(index, crc, digest, left, found);
+    } else {
+        *settled = Some(crc);
     }
 }
 

@@ -135,6 +135,7 @@ fn sweep<H: Shelf>(
       digests = window.new.digests;
     } }
 {
+    let mut settled = None;
     let mut missing = next_missing(found, 0);
     while missing < found.len() && track.file < shelf.count() {
         let left = shelf.length(track.file) - track.held;
@@ -144,7 +145,7 @@ fn sweep<H: Shelf>(
             continue;
         }
         track.fill(window, shelf)?;
-        mark_seen(window, index, left, found);
+        mark_seen(window, index, left, found, &mut settled);
         missing = next_missing(found, missing);
         if missing == found.len() {
             break;

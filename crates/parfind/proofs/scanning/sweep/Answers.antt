@@ -26,6 +26,7 @@ loop-missing-init g c =
       within = c.next_missing-missing.ensures.within;
       first = c.next_missing-missing.ensures.missing;
       marked = λ n less. c.next_missing-missing.ensures.marked n (omega arith) less;
+      settled = tt;
       none = λ _. refl;
       window_is = refl;
       surveyed = surveyed_none c.args.index.now now unread;
@@ -62,6 +63,7 @@ loop-missing-preserved-then-left-eq0 g c =
       within = inv.within;
       first = inv.first;
       marked = inv.marked;
+      settled = inv.settled;
       none = inv.none;
       window_is = kept_capacity c.args.window.now c.loop-missing.window c.enter.new.window inv.window_is (ap (λ (w : WindowState). w.capacity) entered.1);
       surveyed = swept_enter set old now shelf inv.reads c.loop-missing.missing there unmarked left room none inv.surveyed next refl refl entered.0 entered.1;
@@ -162,6 +164,7 @@ loop-missing-preserved g c =
         | inl early ↦ c.mark_seen.ensures.marks k ∙ or_left _ _ (inv.marked k early)
         | inr late ↦ last.ensures.marked k late less
       ];
+      settled = c.mark_seen.ensures.settled;
       none = λ all. absurd (not_all set old now (cursor_to t) inv.surveyed c.loop-missing.missing there unmarked all);
       window_is = kept_capacity c.args.window.now c.loop-missing.window c.pass.new.window inv.window_is
           (ap (λ (w : WindowState). w.capacity) p.window ∙ ap (λ (w : WindowState). w.capacity) c.mark_seen.ensures.digest

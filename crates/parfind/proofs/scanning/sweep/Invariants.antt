@@ -1,5 +1,6 @@
-use Rattle.std.proofs.Common.{◌≡◌, ℕ, ◌*◌, ◌-◌, ◌<◌, ◌≤◌, true, false, length, slice_index}
+use Rattle.std.proofs.Common.{◌≡◌, ℕ, ◌*◌, ◌-◌, ◌<◌, ◌≤◌, true, false, length, slice_index, IfSome}
 use Rattle.parshelf.specs.Reads.{ReadsOnly}
+use Rattle.parfind.specs.Marking.{IsSettled}
 use Rattle.parfind.specs.Surveying.{Surveyed, cursor_to}
 use Rattle.parfind.specs.Surveys.{mark_of, IsAllMarked}
 use Rattle.parfind.specs.Tracks.{IsTied}
@@ -13,6 +14,7 @@ invariant-loop-missing g l = record {
   within : l.missing ≤ length l.found;
   first : l.missing < length l.found → mark_of l.found l.missing ≡ false;
   marked : (n : ℕ) → n < l.missing → mark_of l.found n ≡ true;
+  settled : IfSome l.settled (IsSettled l.index l.found);
   none : IsAllMarked l.fn.found → g.H.Shelf.state l.shelf ≡ g.H.Shelf.state l.fn.shelf;
   window_is : l.window ≡ record l.fn.window { content = l.window.content; digests = l.window.digests };
   surveyed : Surveyed l.index
