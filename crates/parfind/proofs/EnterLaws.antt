@@ -16,7 +16,7 @@ use Rattle.parfind.proofs.ReachLaws.{hands_none, hands_enter}
 use Rattle.parfind.proofs.TrackLaws.{no_bytes}
 
 -- a window without bytes goes along any file
-unread_follows : (s : ShelfState) (v w : WindowState) (file offset : ℕ) (t : Track) → offset < 2 ^ 63 → v.capacity ≤ 268435456
+pub unread_follows : (s : ShelfState) (v w : WindowState) (file offset : ℕ) (t : Track) → offset < 2 ^ 63 → v.capacity ≤ 268435456
     → IsUnread file offset t → w ≡ record v { content = [] } → IsTied s w t
 unread_follows s v w file offset t small few unread empty =
     subst (λ (x : WindowState). IsTied s x t) (sym empty) (record {

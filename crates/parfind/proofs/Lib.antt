@@ -18,7 +18,10 @@ pub mod EnterLaws
 pub mod MarkLaws
 pub mod BelongsLaws
 pub mod FitLaws
+pub mod MarkingLaws
+pub mod SightedLaws
 pub mod SurveyLaws
+pub mod SweepLaws
 pub mod HandingLaws
 pub mod NumberLaws
 pub mod IdLaws

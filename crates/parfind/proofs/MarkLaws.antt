@@ -1,6 +1,6 @@
 -- How many places may have been hashed: as a search goes on there are no fewer, and one more behind one with a slice's CRC-32.
-use Rattle.std.proofs.Common.{◌≡◌, ℕ, ◌+◌, ◌<◌, ◌≤◌, true, List, [], ◌∷◌, ◌++◌, filter, length, map, refl, sym, ap, ◌∙◌, subst, arith, slice_index, Option, None, Some, inl, inr, length-append}
-use Rattle.std.proofs.lemmas.Bool.{cases_eq}
+use Rattle.std.proofs.Common.{◌≡◌, ℕ, ◌+◌, ◌<◌, ◌≤◌, Bool, true, false, cond, List, [], ◌∷◌, ◌++◌, filter, length, refl, sym, ap, ◌∙◌, subst, arith, slice_index, Option, None, Some, inl, inr, length-append}
+use Rattle.std.proofs.lemmas.Bool.{cases_eq, cases_Bool}
 use Rattle.parfield.specs.declared.hash16.Hash16.{Hash16}
 use Rattle.parfind.specs.declared.track.Track.{Track}
 use Rattle.parfind.specs.Tracks.{remembered, hashed_of}
@@ -8,32 +8,68 @@ use Rattle.std.proofs.lemmas.List.Elements.{filter-append}
 use Rattle.parfind.specs.declared.cursor.Cursor.{Cursor}
 use Rattle.parfind.specs.Looking.{IsAtPlace}
 use Rattle.parfind.specs.Marks.{is_marked, marked_between}
-use Rattle.parfind.specs.Places.{Place, cursor_past, place_at, start_of, places_between}
+use Rattle.parfind.specs.Order.{is_before, is_from}
+use Rattle.parfind.specs.Places.{Place, cursor_at, cursor_past, place_at, start_of, places_of, places_ahead, places_between}
 use Rattle.parfind.specs.Sightings.{Scan}
 use Rattle.parfind.specs.Steps.{lengths_of}
 use Rattle.parfind.proofs.OrderLaws.{From}
 use Rattle.parfind.proofs.MoveLaws.{places_then_between}
 use Rattle.parfind.proofs.PlaceLaws.{only_here, From-past}
 
-module _ (scan : Scan) (c d e : Cursor) (on : From (start_of c) d) (next : From d e) where
-  marked_split : marked_between scan c e ≡ marked_between scan c d + marked_between scan d e
-  marked_split =
-      let parts : places_between (lengths_of scan) c d ++ places_between (lengths_of scan) d e ≡ places_between (lengths_of scan) c e =
-      places_then_between (lengths_of scan) (start_of c) d on e next in
-      ap (λ (ps : List Place). length (filter (is_marked scan) ps)) (sym parts)
-      ∙ ap length (filter-append (is_marked scan) (places_between (lengths_of scan) c d) (places_between (lengths_of scan) d e))
-      ∙ length-append (filter (is_marked scan) (places_between (lengths_of scan) c d)) (filter (is_marked scan) (places_between (lengths_of scan) d e))
+-- of the elements that pass another test no more pass this one
+filter_fewer : {A : Type 0} (p q : A → Bool) (xs : List A) → length (filter p (filter q xs)) ≤ length (filter p xs)
+filter_fewer p q [] = omega arith
+filter_fewer p q (x ∷ xs) = elim (cases_Bool (q x)) [
+  | inl h ↦ rw h (elim (p x) as (λ t. length (cond t (x ∷ filter p (filter q xs)) (filter p (filter q xs))) ≤ length (cond t (x ∷ filter p xs) (filter p xs))) [
+    | true ↦ omega (arith, filter_fewer p q xs)
+    | false ↦ filter_fewer p q xs
+  ])
+  | inr h ↦ rw h (elim (p x) as (λ t. length (filter p (filter q xs)) ≤ length (cond t (x ∷ filter p xs) (filter p xs))) [
+    | true ↦ omega (arith, filter_fewer p q xs)
+    | false ↦ filter_fewer p q xs
+  ])
+]
 
-  pub marked_rises : marked_between scan c d ≤ marked_between scan c e
-  marked_rises = omega (arith, marked_split)
+-- places between two cursors that pass a test
+module _ (test : Place → Bool) (lengths : List ℕ) where
+  abbrev pub counted_between : Cursor → Cursor → ℕ
+  counted_between c d = length (filter test (places_between lengths c d))
+
+  module _ (c d e : Cursor) (on : From (start_of c) d) (next : From d e) where
+    counted_split : counted_between c e ≡ counted_between c d + counted_between d e
+    counted_split =
+        let parts : places_between lengths c d ++ places_between lengths d e ≡ places_between lengths c e =
+        places_then_between lengths (start_of c) d on e next in
+        ap (λ (ps : List Place). length (filter test ps)) (sym parts)
+        ∙ ap length (filter-append test (places_between lengths c d) (places_between lengths d e))
+        ∙ length-append (filter test (places_between lengths c d)) (filter test (places_between lengths d e))
+
+    pub counted_rises : counted_between c d ≤ counted_between c e
+    counted_rises = omega (arith, counted_split)
+
+  pub counted_more : (c d : Cursor) → From (start_of c) d → d.slice ≡ 0 → d.file < length lengths → IsAtPlace lengths d
+      → test (place_at d) ≡ true → counted_between c d + 1 ≡ counted_between c (cursor_past (place_at d))
+  counted_more c d on first counted there passes =
+      let one : counted_between d (cursor_past (place_at d)) ≡ 1 =
+      ap (λ (ps : List Place). length (filter test ps)) (only_here lengths d counted there) ∙ (rw passes refl) in
+      omega (arith, counted_split c d (cursor_past (place_at d)) on (From-past d), one)
+
+  -- between two cursors there are no more than in all
+  pub counted_most : (c d : Cursor) → counted_between c d ≤ length (filter test (places_of lengths))
+  counted_most c d =
+      omega (
+        arith,
+        filter_fewer test (λ p. is_before (cursor_at p) (start_of d)) (places_ahead lengths c),
+        filter_fewer test (λ p. is_from (start_of c) (cursor_at p)) (places_of lengths),
+      )
+
+pub marked_rises : (scan : Scan) (c d e : Cursor) → From (start_of c) d → From d e → marked_between scan c d ≤ marked_between scan c e
+marked_rises scan c d e on next = counted_rises (is_marked scan) (lengths_of scan) c d e on next
 
 pub marked_more : (scan : Scan) (c d : Cursor) → From (start_of c) d → d.slice ≡ 0 → d.file < length (lengths_of scan)
     → IsAtPlace (lengths_of scan) d → is_marked scan (place_at d) ≡ true
     → marked_between scan c d + 1 ≡ marked_between scan c (cursor_past (place_at d))
-marked_more scan c d on first counted there marked =
-    let one : marked_between scan d (cursor_past (place_at d)) ≡ 1 =
-    ap (λ (ps : List Place). length (filter (is_marked scan) ps)) (only_here (lengths_of scan) d counted there) ∙ (rw marked refl) in
-    omega (arith, marked_split scan c d (cursor_past (place_at d)) on (From-past d), one)
+marked_more scan c d on first counted there marked = counted_more (is_marked scan) (lengths_of scan) c d on first counted there marked
 
 -- a track that stands where it stood, or further on
 

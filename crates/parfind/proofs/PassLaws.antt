@@ -62,7 +62,7 @@ passes_some lengths d zero some counted inside = absurd (omega arith)
 passes_some lengths d (suc n) some counted inside = passes_many lengths d n counted inside
 
 -- no sighting lies between places without a slice's CRC-32
-on_unseen : (scan : Scan) (d : Cursor) (n : ℕ) → 0 < n → HasNoCrc scan.set (content_of scan d.file) d.offset n
+pub on_unseen : (scan : Scan) (d : Cursor) (n : ℕ) → 0 < n → HasNoCrc scan.set (content_of scan d.file) d.offset n
     → sightings_between scan (cursor_on d 1) (cursor_on d n) ≡ []
 on_unseen scan d n some none =
     none_between cursor_of (cursor_on d 1) (cursor_on d n) (sightings_of scan)

@@ -43,7 +43,7 @@ Has-places_of lengths f o counted inside =
 
 -- which sightings there are
 
-length-content_of : (scan : Scan) (f : ℕ) → slice_index (lengths_of scan) f ≡ length (content_of scan f)
+pub length-content_of : (scan : Scan) (f : ℕ) → slice_index (lengths_of scan) f ≡ length (content_of scan f)
 length-content_of scan f = get_or-map length scan.contents f []
 
 pub sighting_seen : (scan : Scan) (x : Sighting) → Has (sightings_of scan) x → is_sighting scan x ≡ true

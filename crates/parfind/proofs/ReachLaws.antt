@@ -1,6 +1,5 @@
 -- How far files are read, and how many of their bytes are handed over, one call after another.
 use Rattle.std.proofs.Common.{◌≡◌, ℕ, ◌+◌, ◌-◌, ◌<◌, ◌≤◌, ◌⊎◌, true, false, List, [], ◌∷◌, length, min, nat_lt, nat_eq, refl, sym, subst, arith, slice_index, inl, inr}
-use Rattle.parfind.specs.declared.cursor.Cursor.{Cursor}
 use Rattle.std.proofs.lemmas.Bool.{cases_lt, cases_eq, lt-ltb, le-ltb, eq-eqb, ne_eqb}
 use Rattle.std.proofs.lemmas.List.{get_or_past}
 use Rattle.parfield.specs.Added.{added_at, length-added_at, slice_index-added_at_same, slice_index-added_at_other}
@@ -39,7 +38,7 @@ module _ (lengths : List ℕ) (p : Place) (f : ℕ) where
   ]
 
 -- a place in a later file has more before it
-upto-rises : (lengths : List ℕ) (p q : Place) (f : ℕ) → p.file < q.file → upto lengths p f ≤ upto lengths q f
+pub upto-rises : (lengths : List ℕ) (p q : Place) (f : ℕ) → p.file < q.file → upto lengths p f ≤ upto lengths q f
 upto-rises lengths p q f h = elim (cases_lt f q.file) [
   | inl before ↦ omega (arith, upto-before lengths q f before, upto-most lengths p f)
   | inr past ↦ omega (arith, upto-behind lengths p f (omega arith))

@@ -1,92 +1,253 @@
--- The marks of a survey, one sighting after another.
-use Rattle.std.proofs.Common.{◌≡◌, ℕ, ◌<◌, Bool, true, false, None, Ok, ◌||◌, ◌==◌, List, [], ◌∷◌, ◌++◌, length, refl, sym, ap, ◌∙◌, inl, inr, append_assoc, append-nil, get_or-set_same, get_or-set_other, slice_set}
+-- What a survey has done once it is at a cursor, and how it goes on.
+use Rattle.std.proofs.Common.{◌≡◌, ℕ, ◌+◌, ◌<◌, ◌≤◌, Bool, true, false, ◌||◌, List, [], ◌∷◌, length, refl, sym, ap, ◌∙◌, subst, arith, IsTrue, inl, inr, slice_index, nat_le, Option, Some, None, if◌then◌else◌}
 use Rattle.std.specs.List.{list_any}
-use Rattle.std.proofs.lemmas.Bool.{cases_eq, eq-eqb, ne_eqb, or_cases, or_left, or_right}
-use Rattle.std.proofs.lemmas.List.Folds.{list_any-append}
+use Rattle.std.specs.Option.{option_map_or}
+use Rattle.std.proofs.lemmas.Bool.{cases_eq, cases_lt, or_cases, or_left, or_right, le-leb, leb-true}
+use Rattle.std.proofs.lemmas.List.{length-map}
 use Rattle.std.proofs.Math.Bool.{or-false, or_assoc}
+use Rattle.parshelf.specs.Shelf.{ShelfState, IsShelf, file_of}
+use Rattle.parfield.specs.declared.hash16.Hash16.{Hash16}
+use Rattle.parset.specs.declared.recovery_set.SetSlice.{SetSlice}
+use Rattle.parwindow.specs.Index.{SliceSet, has_fit_of, has_fit_in}
+use Rattle.parwindow.specs.Window.{WindowState}
 use Rattle.parfind.specs.declared.cursor.Cursor.{Cursor}
-use Rattle.parfind.specs.declared.sighting.Sighting.{Sighting}
-use Rattle.parshelf.specs.Shelf.{ShelfState}
-use Rattle.parwindow.specs.Index.{SliceSet}
-use Rattle.parfind.specs.declared.finder.Step.{Step}
-use Rattle.parfind.specs.declared.finder.Step.TheVariants.{Hit, Spent, Done}
-use Rattle.parfind.specs.Steps.{scan_of, StepGives}
+use Rattle.parfind.specs.declared.track.Track.{Track}
+use Rattle.parfind.specs.Looking.{IsAtPlace}
+use Rattle.parfind.specs.Marking.{MarksMore, TakesDigest}
+use Rattle.parfind.specs.Marks.{is_missing_at, missing_places}
 use Rattle.parfind.specs.Order.{origin}
-use Rattle.parfind.specs.Sightings.{Scan, sightings_of, sightings_from}
-use Rattle.parfind.specs.Surveys.{mark_of, is_sighted, MarksNoOther, MarksSighted, KeepsMarks}
-use Rattle.parfind.proofs.SightingLaws.{all_from_origin}
+use Rattle.parfind.specs.Places.{Place, cursor_at, cursor_past, place_at}
+use Rattle.parfind.specs.Reach.{upto, HandsUpTo, IsNear}
+use Rattle.parfind.specs.Sightings.{Scan, is_seen_in, sightings_between}
+use Rattle.parfind.specs.Steps.{scan_of, lengths_of}
+use Rattle.parfind.specs.Handed.{HandsEachOnce, HandsAround}
+use Rattle.parfind.specs.Surveys.{is_sighted, is_sighted_before, mark_of, IsAllMarked, MarksSighted, MarksNoOther, MarksUpToFault, KeepsMarks, StopsOnceFound}
+use Rattle.parfind.specs.Surveying.{SurveyState, Surveyed, cursor_to, missing_to}
+use Rattle.parfind.specs.Tracks.{IsTied, IsUnread, fetched_of}
+use Rattle.parfind.proofs.MarkLaws.{counted_rises, counted_more, counted_most}
+use Rattle.parfind.proofs.OrderLaws.{From}
+use Rattle.parfind.proofs.PlaceLaws.{From-past}
+use Rattle.parfind.proofs.ReachLaws.{upto-before, upto-here, upto-behind, upto-most, upto-rises, hands_none, hands_more}
+use Rattle.parfind.proofs.SightedLaws.{none_more, here_more, none_first, before_sighted, all_before, still_missing}
+use Rattle.parfind.proofs.VisitLaws.{same_lengths}
 
--- some of the sightings is one of slice n
-abbrev has_slice : List Sighting → ℕ → Bool
-has_slice xs n = list_any (λ x. x.slice == n) xs
+-- what fits into so many bytes fits into more
 
--- the sightings before c have their marks
-pub record SurveyedTo (scan : Scan) (was now : List Bool) (c : Cursor) : Type 0 where
-  pub handed : List Sighting
-  pub split : handed ++ sightings_from scan c ≡ sightings_of scan
-  pub marks : (n : ℕ) → mark_of now n ≡ (mark_of was n || list_any (λ x. x.slice == n) handed)
+fits_where : (left more : ℕ) → left ≤ more → (length_ : ℕ) (sums : Option (Hash16 × ℕ)) → option_map_or (λ k. nat_le length_ left) sums false ≡ true
+    → option_map_or (λ k. nat_le length_ more) sums false ≡ true
+fits_where left more less own None h = h
+fits_where left more less own (Some k) h = le-leb own more (omega (arith, leb-true own left h))
 
--- one more mark
-mark_of-set : (marks : List Bool) (k n : ℕ) → k < length marks → mark_of (slice_set marks k true) n ≡ (mark_of marks n || k == n)
-mark_of-set marks k n within = elim (cases_eq k n) [
-  | inl same ↦
-      let set : mark_of (slice_set marks k true) k ≡ true = get_or-set_same marks k true false within in
-      rw (← same, set) (sym (or_right (mark_of marks k) (k == k) (eq-eqb k k refl)))
-  | inr other ↦
-      let kept : mark_of (slice_set marks k true) n ≡ mark_of marks n = get_or-set_other marks k n true false (λ e. other (sym e)) in
-      rw (kept, ne_eqb k n other) (sym (or-false (mark_of marks n)))
+any_more : (left more : ℕ) → left ≤ more → (slices : List SetSlice) → list_any (has_fit_of left) slices ≡ true → list_any (has_fit_of more) slices ≡ true
+any_more left more less [] h = h
+any_more left more less (x ∷ xs) h = elim (or_cases (has_fit_of left x) (list_any (has_fit_of left) xs) h) [
+  | inl e ↦ or_left (has_fit_of more x) (list_any (has_fit_of more) xs) (fits_where left more less x.length x.sums e)
+  | inr k ↦ or_right (has_fit_of more x) (list_any (has_fit_of more) xs) (any_more left more less xs k)
 ]
 
-pub KeepsMarks_more : (was now : List Bool) (k : ℕ) → k < length now → KeepsMarks was now → KeepsMarks was (slice_set now k true)
-KeepsMarks_more was now k there kept n within marked =
-    mark_of-set now k n there ∙ or_left (mark_of now n) (k == n) (kept n within marked)
+fits_more : (set : SliceSet) (left more : ℕ) → left ≤ more → has_fit_in set left ≡ true → has_fit_in set more ≡ true
+fits_more set left more less fits = any_more left more less set.slices fits
 
-pub surveyed_none : (scan : Scan) (was : List Bool) → SurveyedTo scan was was origin
-surveyed_none scan was = record {
-  handed = [];
-  split = all_from_origin scan;
-  marks = λ n. sym (or-false (mark_of was n));
+-- where a survey begins
+abbrev pub start : Place
+start = record { file = 0; offset = 0 }
+
+-- a window that goes along a file has read little further than its place
+pub tied_near : (u : ShelfState) (w : WindowState) (t : Track) (size : ℕ) (c : Cursor) → IsTied u w t → w.capacity ≡ size
+    → t.file ≡ c.file → t.held ≤ c.offset → IsNear size (fetched_of t) c
+tied_near u w t size c tied sized file held = record {
+  file_is = omega arith;
+  offset_is = λ _. omega (arith, tied.behind, tied.within, tied.end_fits);
 }
 
-pub surveyed_more : (scan : Scan) (was now : List Bool) (c d : Cursor) (x : Sighting) → SurveyedTo scan was now c
-    → sightings_from scan c ≡ x ∷ sightings_from scan d → x.slice < length now
-    → SurveyedTo scan was (slice_set now x.slice true) d
-surveyed_more scan was now c d x so_far first within = record {
-  handed = so_far.handed ++ x ∷ [];
-  split =
-      append_assoc so_far.handed (x ∷ []) (sightings_from scan d)
-      ∙ ap (λ xs. so_far.handed ++ xs) (sym first) ∙ so_far.split;
-  marks = λ n.
-      let one : has_slice (so_far.handed ++ x ∷ []) n ≡ (has_slice so_far.handed n || x.slice == n) =
-      list_any-append (λ y. y.slice == n) so_far.handed (x ∷ [])
-      ∙ ap (λ b. has_slice so_far.handed n || b) (or-false (x.slice == n)) in
-      mark_of-set now x.slice n within
-      ∙ ap (λ b. b || x.slice == n) (so_far.marks n)
-      ∙ or_assoc (mark_of was n) (has_slice so_far.handed n) (x.slice == n)
-      ∙ ap (λ b. mark_of was n || b) (sym one);
-}
-
-module _ (scan : Scan) (was now : List Bool) (c : Cursor) (so_far : SurveyedTo scan was now c) where
-  sighted : (n : ℕ) → has_slice so_far.handed n ≡ true → is_sighted scan n ≡ true
-  sighted n h =
-      ap (λ xs. has_slice xs n) (sym so_far.split)
-      ∙ list_any-append (λ x. x.slice == n) so_far.handed (sightings_from scan c)
-      ∙ or_left (has_slice so_far.handed n) (has_slice (sightings_from scan c) n) h
-
-  pub surveyed_some : MarksNoOther scan was now
-  surveyed_some n within marked = elim (or_cases (mark_of was n) (has_slice so_far.handed n) (sym (so_far.marks n) ∙ marked)) [
-    | inl before ↦ or_left (mark_of was n) (is_sighted scan n) before
-    | inr h ↦ or_right (mark_of was n) (is_sighted scan n) (sighted n h)
+-- of files without room for a slice nothing is read while another one is
+pub others_unread : (set : SliceSet) (lengths a b : List ℕ) (p q : Place) (left : ℕ) → p.file ≡ q.file → HandsUpTo lengths a b p q
+    → has_fit_in set left ≡ true → left ≤ slice_index lengths p.file
+    → (f : ℕ) → has_fit_in set (slice_index lengths f) ≡ false → slice_index b f ≤ slice_index a f
+others_unread set lengths a b p q left same hands fits room f none = elim (cases_eq f p.file) [
+  | inl here ↦
+      let file : has_fit_in set (slice_index lengths f) ≡ true = fits_more set left (slice_index lengths f) (omega (arith, ap (λ (k : ℕ). slice_index lengths k) here)) fits in
+      let both : true ≡ false = sym file ∙ none in cc
+  | inr other ↦ elim (cases_lt f p.file) [
+    | inl before ↦ omega (arith, hands.handed f, upto-before lengths p f before, upto-before lengths q f (omega arith))
+    | inr past ↦ omega (arith, hands.handed f, upto-behind lengths p f (omega arith), upto-behind lengths q f (omega arith))
   ]
+]
 
-  pub surveyed_all : sightings_from scan c ≡ [] → MarksSighted scan was now
-  surveyed_all none n within =
-      let all : so_far.handed ≡ sightings_of scan = sym (append-nil so_far.handed) ∙ ap (λ xs. so_far.handed ++ xs) (sym none) ∙ so_far.split in
-      so_far.marks n ∙ ap (λ xs. mark_of was n || has_slice xs n) all
+near_behind : (size : ℕ) (q : Place) (c d : Cursor) → c.file ≤ d.file → (c.file ≡ d.file → c.offset ≤ d.offset) → IsNear size q c → IsNear size q d
+near_behind size q c d file offset near = record {
+  file_is = omega (arith, near.file_is);
+  offset_is = λ same.
+      let files : c.file ≡ d.file = omega (arith, near.file_is) in
+      omega (arith, offset files, near.offset_is (omega arith));
+}
 
--- `next` gives a hit, or there is none
-pub next_none : (set : SliceSet) (old new : ShelfState) (c d : Cursor) (step : Step) → ((x : Sighting) → step ≡ Hit x → ⊥)
-    → StepGives set old new None c (Ok step) d → sightings_from (scan_of set old) c ≡ []
-next_none set old new c d (Hit x) other gives = absurd (other x refl)
-next_none set old new c d Spent other gives = absurd gives
-next_none set old new c d Done other gives = gives.0.none
+-- at its beginning
+
+near_first : (size : ℕ) (q : Place) (c : Cursor) → q ≡ start → IsNear size q c
+near_first size q c first = record {
+  file_is = omega (arith, ap (λ (p : Place). p.file) first);
+  offset_is = λ _. omega (arith, ap (λ (p : Place). p.offset) first);
+}
+
+surveyed_first : (set : SliceSet) (now : SurveyState) → fetched_of now.track ≡ start → Surveyed set now now origin
+surveyed_first set now fetched = record {
+  marks = λ _ n. sym (ap (λ b. mark_of now.found n || b) (none_first (scan_of set now.shelf) n) ∙ or-false (mark_of now.found n));
+  kept = λ n marked. marked;
+  hands = subst (HandsUpTo now.shelf.lengths now.shelf.handed now.shelf.handed start) (sym fetched) (hands_none now.shelf.lengths now.shelf.handed start);
+  unfit = λ f none. omega arith;
+  near = near_first set.slice_size (fetched_of now.track) origin fetched;
+  stops = λ _ p _. near_first set.slice_size (fetched_of now.track) (cursor_at p) fetched;
+  digests = λ _. omega arith;
+  capacity = refl;
+}
+
+pub surveyed_none : (set : SliceSet) (now : SurveyState) → IsUnread 0 0 now.track → Surveyed set now now (cursor_to now.track)
+surveyed_none set now unread =
+    let fetched : fetched_of now.track ≡ start =
+    ap (λ (f : ℕ). record { file = f; offset = now.track.base + now.track.end }) unread.file_is
+    ∙ ap (λ (o : ℕ). record { file = 0; offset = o }) (omega (arith, unread.base_is, unread.end_is)) in
+    let at : cursor_to now.track ≡ origin =
+    ap (λ (f : ℕ). record { file = f; offset = now.track.held; slice = 0 }) unread.file_is
+    ∙ ap (λ (o : ℕ). record { file = 0; offset = o; slice = 0 }) unread.held_is in
+    subst (Surveyed set now now) (sym at) (surveyed_first set now fetched)
+
+from_origin : (c : Cursor) → From origin c
+from_origin c = record { by_file = omega arith; by_offset = λ _. omega arith; by_slice = λ _ _. omega arith }
+
+module _ (set : SliceSet) (old now : SurveyState) (c : Cursor) (so_far : Surveyed set old now c) where
+  scan : Scan
+  scan = scan_of set old.shelf
+
+  -- a slice without a mark had none at the beginning
+  pub not_all : (m : ℕ) → m < length old.found → mark_of now.found m ≡ false → IsAllMarked old.found → ⊥
+  not_all m there none all = let both : true ≡ false = sym (so_far.kept m (all m there)) ∙ none in cc
+
+  -- to a cursor before which no other slice has a sighting, while a slice has no mark
+  module _ (next : SurveyState) (d : Cursor) (same : next.found ≡ now.found) (on : From c d)
+      (none : IsTrue old.shelf.is_steady → sightings_between (scan_of set old.shelf) c d ≡ []) where
+    moved_marks : IsTrue old.shelf.is_steady → (n : ℕ)
+        → mark_of next.found n ≡ (mark_of old.found n || is_sighted_before (scan_of set old.shelf) d n)
+    moved_marks steady n =
+        ap (λ marks. mark_of marks n) same ∙ so_far.marks steady n
+        ∙ ap (λ b. mark_of old.found n || b) (none_more (scan_of set old.shelf) c d on (none steady) n)
+
+    pub surveyed_on : (m : ℕ) → m < length old.found → mark_of now.found m ≡ false
+        → HandsUpTo old.shelf.lengths now.shelf.handed next.shelf.handed (fetched_of now.track) (fetched_of next.track)
+        → ((f : ℕ) → has_fit_in set (slice_index old.shelf.lengths f) ≡ false → slice_index next.shelf.handed f ≤ slice_index now.shelf.handed f)
+        → IsNear set.slice_size (fetched_of next.track) d → next.window.digests ≡ now.window.digests
+        → next.window.capacity ≡ now.window.capacity → Surveyed set old next d
+    surveyed_on m there unmarked hands unfit near digests capacity = record {
+      marks = moved_marks;
+      kept = λ n marked. ap (λ marks. mark_of marks n) same ∙ so_far.kept n marked;
+      hands = hands_more old.shelf.lengths old.shelf.handed now.shelf.handed next.shelf.handed start (fetched_of now.track) (fetched_of next.track)
+          so_far.hands hands;
+      unfit = λ f none. omega (arith, so_far.unfit f none, unfit f none);
+      near = near;
+      stops = λ steady p all.
+          let open_ = sym (moved_marks steady m) ∙ (ap (λ marks. mark_of marks m) same ∙ unmarked) in
+          let before = still_missing (scan_of set old.shelf) old.found d m p there open_ all in
+          near_behind set.slice_size (fetched_of next.track) d (cursor_at p) before.0 before.1 near;
+      digests = λ steady. omega (
+        arith,
+        so_far.digests steady,
+        counted_rises (is_missing_at (scan_of set old.shelf) old.found) (lengths_of (scan_of set old.shelf)) origin c d (from_origin c) on,
+      );
+      capacity = capacity ∙ so_far.capacity;
+    }
+
+  -- past its place, once the slices that are seen there are marked
+  module _ (first : c.slice ≡ 0) (shelf : IsShelf old.shelf) (counted : c.file < length old.shelf.lengths) (there : IsAtPlace old.shelf.lengths c)
+      (next : SurveyState) (same : next.shelf ≡ now.shelf) (track : next.track ≡ now.track) (test : ℕ → Bool) (wanted : Bool)
+      (seen : IsTrue old.shelf.is_steady → (n : ℕ) → test n ≡ is_seen_in set (file_of old.shelf c.file) c.offset n)
+      (want : IsTrue old.shelf.is_steady → wanted ≡ true → is_missing_at (scan_of set old.shelf) old.found (place_at c) ≡ true)
+      (marks : MarksMore test now.found next.found) (takes : TakesDigest wanted now.window next.window) where
+    digests_more : IsTrue old.shelf.is_steady → (b : Bool) → wanted ≡ b
+        → next.window.digests ≤ old.window.digests + missing_to (scan_of set old.shelf) old.found (cursor_past (place_at c))
+    digests_more steady true is =
+        let lengths : lengths_of (scan_of set old.shelf) ≡ old.shelf.lengths = same_lengths set old.shelf shelf steady in
+        let counts = counted_more (is_missing_at (scan_of set old.shelf) old.found) (lengths_of (scan_of set old.shelf)) origin c (from_origin c)
+        first (rw lengths counted) (rw lengths there) (want steady is) in
+        let all : next.window.digests ≡ now.window.digests + (if wanted then 1 else 0) = ap (λ (x : WindowState). x.digests) takes in
+        let one : next.window.digests ≡ now.window.digests + 1 = rw is at all in
+        omega (arith, so_far.digests steady, counts)
+    digests_more steady false is =
+        let rises = counted_rises (is_missing_at (scan_of set old.shelf) old.found) (lengths_of (scan_of set old.shelf)) origin c (cursor_past (place_at c))
+        (from_origin c) (From-past c) in
+        let all : next.window.digests ≡ now.window.digests + (if wanted then 1 else 0) = ap (λ (x : WindowState). x.digests) takes in
+        let none : next.window.digests ≡ now.window.digests + 0 = rw is at all in
+        omega (arith, so_far.digests steady, rises)
+
+    pub surveyed_here : Surveyed set old next (cursor_past (place_at c))
+    surveyed_here = record {
+      marks = λ steady n.
+          let s : Scan = scan_of set old.shelf in
+          let lengths : lengths_of s ≡ old.shelf.lengths = same_lengths set old.shelf shelf steady in
+          let few : length (lengths_of s) ≡ length s.contents = length-map s.contents length in
+          let counted' : c.file < length s.contents = omega (arith, counted, few, ap length lengths) in
+          marks n ∙ ap (λ b. b || test n) (so_far.marks steady n)
+          ∙ or_assoc (mark_of old.found n) (is_sighted_before s c n) (test n)
+          ∙ ap (λ b. mark_of old.found n || (is_sighted_before s c n || b)) (seen steady n)
+          ∙ ap (λ b. mark_of old.found n || b) (here_more s c first counted' n);
+      kept = λ n had. marks n ∙ or_left (mark_of now.found n) (test n) (so_far.kept n had);
+      hands = rw (same, track) so_far.hands;
+      unfit = rw same so_far.unfit;
+      near = rw track (near_behind set.slice_size (fetched_of now.track) c (cursor_past (place_at c)) (omega arith) (λ _. omega arith) so_far.near);
+      stops = rw track so_far.stops;
+      digests = λ steady. digests_more steady wanted refl;
+      capacity = ap (λ (x : WindowState). x.capacity) takes ∙ so_far.capacity;
+    }
+
+  -- what it has done in the end
+
+  pub surveyed_kept : KeepsMarks old.found now.found
+  surveyed_kept n there marked = so_far.kept n marked
+
+  pub surveyed_no_other : IsTrue old.shelf.is_steady → MarksNoOther (scan_of set old.shelf) old.found now.found
+  surveyed_no_other steady n there marked =
+      elim (or_cases (mark_of old.found n) (is_sighted_before (scan_of set old.shelf) c n) (sym (so_far.marks steady n) ∙ marked)) [
+        | inl before ↦ or_left (mark_of old.found n) (is_sighted (scan_of set old.shelf) n) before
+        | inr h ↦ or_right (mark_of old.found n) (is_sighted (scan_of set old.shelf) n) (before_sighted (scan_of set old.shelf) c n h)
+      ]
+
+  pub surveyed_full : IsTrue old.shelf.is_steady → ((n : ℕ) → n < length now.found → mark_of now.found n ≡ true) → MarksSighted (scan_of set old.shelf) old.found now.found
+  surveyed_full steady all n there = all n there ∙ sym (surveyed_no_other steady n there (all n there))
+
+  pub surveyed_end : IsShelf old.shelf → IsTrue old.shelf.is_steady → length old.shelf.lengths ≤ c.file → MarksSighted (scan_of set old.shelf) old.found now.found
+  surveyed_end shelf steady past n there =
+      so_far.marks steady n ∙ ap (λ b. mark_of old.found n || b)
+      (all_before (scan_of set old.shelf) c (rw (same_lengths set old.shelf shelf steady) past) n)
+
+  pub surveyed_digests : IsTrue old.shelf.is_steady → now.window.digests ≤ old.window.digests + missing_places (scan_of set old.shelf) old.found
+  surveyed_digests steady =
+      omega (arith, so_far.digests steady, counted_most (is_missing_at (scan_of set old.shelf) old.found) (lengths_of (scan_of set old.shelf)) origin c)
+
+  pub surveyed_once : HandsEachOnce old.shelf now.shelf
+  surveyed_once f = omega (arith, so_far.hands.handed f, upto-most old.shelf.lengths (fetched_of now.track) f)
+
+  around : (p : Place) → IsNear set.slice_size (fetched_of now.track) (cursor_at p) → HandsAround set.slice_size old.shelf now.shelf p
+  around p near f =
+      let q : Place = fetched_of now.track in
+      let r : Place = record p { offset = p.offset + set.slice_size + 4096 } in
+      let less : upto old.shelf.lengths q f ≤ upto old.shelf.lengths r f = elim (cases_eq q.file p.file) [
+        | inl same ↦ elim (cases_eq f p.file) [
+          | inl here ↦ omega (arith, near.offset_is same, upto-here old.shelf.lengths q f (here ∙ sym same), upto-here old.shelf.lengths r f here)
+          | inr other ↦ elim (cases_lt f p.file) [
+            | inl before ↦ omega (arith, upto-before old.shelf.lengths r f before, upto-most old.shelf.lengths q f)
+            | inr past ↦ omega (arith, upto-behind old.shelf.lengths q f (omega arith))
+          ]
+        ]
+        | inr other ↦ upto-rises old.shelf.lengths q r f (omega (arith, near.file_is))
+      ] in
+      omega (arith, so_far.hands.handed f, less)
+
+  pub surveyed_stops : IsTrue old.shelf.is_steady → StopsOnceFound set old.shelf now.shelf old.found
+  surveyed_stops steady p all = around p (so_far.stops steady p all)
+
+  pub surveyed_fault : IsTrue old.shelf.is_steady → c.slice ≡ 0 → (file : ℕ) → c.file ≡ file → MarksUpToFault set old.shelf now.shelf old.found now.found file
+  surveyed_fault steady first file is = record {
+    place = place_at c;
+    file_is = is;
+    marks = λ n there. so_far.marks steady n ∙ ap (λ (k : ℕ). mark_of old.found n || is_sighted_before (scan_of set old.shelf) (record { file = c.file; offset = c.offset; slice = k }) n) first;
+    around = around (place_at c) (record { file_is = so_far.near.file_is; offset_is = so_far.near.offset_is });
+  }

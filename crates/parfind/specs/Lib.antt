@@ -4,12 +4,15 @@ pub mod Sightings
 pub mod Moves
 pub mod Steps
 pub mod Reach
+pub mod Handed
 pub mod Tracks
 pub mod Marks
 pub mod Finders
 pub mod Looking
 pub mod Visits
 pub mod Surveys
+pub mod Marking
+pub mod Surveying
 pub mod Worked
 pub mod CursorText
 pub use Rattle.parshelf.specs.Reads

@@ -1,10 +1,11 @@
 -- The places whose windows have the CRC-32 of a slice: only there a digest is taken.
-use Rattle.std.specs.Prelude.{ℕ, Bool, List, length, map, filter}
+use Rattle.std.specs.Prelude.{ℕ, ◌&&◌, not, Bool, false, List, length, map, filter, slice_index_or}
+use Rattle.std.specs.List.{list_any, range_with_len}
 use Rattle.parwindow.specs.Crc32.{crc_of}
-use Rattle.parwindow.specs.Index.{has_crc_in}
+use Rattle.parwindow.specs.Index.{SliceSet, slice_passes, has_crc_of, has_crc_in}
 use Rattle.parwindow.specs.Window.{window_at}
 use Rattle.parfind.specs.declared.cursor.Cursor.{Cursor}
-use Rattle.parfind.specs.Places.{Place, cursor_past, place_at, places_between}
+use Rattle.parfind.specs.Places.{Place, cursor_past, place_at, places_of, places_between}
 use Rattle.parfind.specs.Sightings.{Scan, content_of}
 
 -- the window of a place has the CRC-32 of a slice whose sums are known
@@ -21,3 +22,20 @@ marked_between scan c d =
 -- how many from the file and offset of a cursor up to those of another, both included
 abbrev pub marks : Scan → Cursor → Cursor → ℕ
 marks scan c d = marked_between scan c (cursor_past (place_at d))
+
+-- some slice that has no mark has this CRC-32
+abbrev pub is_missing_crc : SliceSet → List Bool → ℕ → Bool
+is_missing_crc set found crc =
+    list_any (λ n. slice_passes set (has_crc_of crc) n && not (slice_index_or found n false))
+    (range_with_len 0 (length set.slices))
+
+-- the window of a place has the CRC-32 of a slice whose sums are known and that has no mark
+abbrev pub is_missing_at : Scan → List Bool → Place → Bool
+is_missing_at scan found p =
+    is_missing_crc scan.set found
+    (crc_of (window_at scan.set.slice_size (content_of scan p.file) p.offset))
+
+-- how many of these places there are
+abbrev pub missing_places : Scan → List Bool → ℕ
+missing_places scan found =
+    length (filter (is_missing_at scan found) (places_of (map length scan.contents)))

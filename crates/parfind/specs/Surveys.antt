@@ -1,24 +1,44 @@
 -- Which slices of a set have a sighting, as marks by slice number.
-use Rattle.std.specs.Prelude.{◌≡◌, ℕ, ◌==◌, ◌||◌, Bool, false, List, EachIndex, IsTrue, slice_index_or}
+use Rattle.std.specs.Prelude.{◌≡◌, ℕ, ◌==◌, ◌&&◌, ◌||◌, Bool, false, List, EachIndex, IsTrue, slice_index_or}
 use Rattle.std.specs.List.{list_any}
 use Rattle.parshelf.specs.Shelf.{ShelfState}
 use Rattle.parshelf.specs.Reads.{FaultsIn}
+use Rattle.parwindow.specs.Index.{SliceSet}
+use Rattle.parfind.specs.declared.cursor.Cursor.{Cursor}
 use Rattle.parfind.specs.declared.scanning.SurveyFault.{SurveyFault}
 use Rattle.parfind.specs.declared.scanning.SurveyFault.TheVariants.{Read, Memory}
+use Rattle.parfind.specs.Order.{is_before, cursor_of}
+use Rattle.parfind.specs.Places.{Place, cursor_at, cursor_past}
+use Rattle.parfind.specs.Handed.{HandsAround}
 use Rattle.parfind.specs.Sightings.{Scan, sightings_of}
+use Rattle.parfind.specs.Steps.{scan_of}
 
 -- some sighting is one of slice n
 abbrev pub is_sighted : Scan → ℕ → Bool
 is_sighted scan n = list_any (λ x. x.slice == n) (sightings_of scan)
 
+-- some sighting before a cursor is one of slice n
+abbrev pub is_sighted_before : Scan → Cursor → ℕ → Bool
+is_sighted_before scan c n =
+    list_any (λ x. x.slice == n && is_before (cursor_of x) c) (sightings_of scan)
+
 -- the mark of slice n
 abbrev pub mark_of : List Bool → ℕ → Bool
 mark_of marks n = slice_index_or marks n false
+
+-- each slice is marked
+abbrev pub IsAllMarked : List Bool → Type 0
+IsAllMarked marks = EachIndex marks (λ n. IsTrue (mark_of marks n))
 
 -- a slice is marked exactly where it was or has a sighting
 abbrev pub MarksSighted : Scan → List Bool → List Bool → Type 0
 MarksSighted scan was now =
     EachIndex now (λ n. mark_of now n ≡ (mark_of was n || is_sighted scan n))
+
+-- a slice is marked exactly where it was or has a sighting before a cursor
+abbrev pub MarksBefore : Scan → Cursor → List Bool → List Bool → Type 0
+MarksBefore scan c was now =
+    EachIndex now (λ n. mark_of now n ≡ (mark_of was n || is_sighted_before scan c n))
 
 -- a slice is marked only where it was or has a sighting
 abbrev pub MarksNoOther : Scan → List Bool → List Bool → Type 0
@@ -28,6 +48,25 @@ MarksNoOther scan was now =
 -- no mark is taken away
 abbrev pub KeepsMarks : List Bool → List Bool → Type 0
 KeepsMarks was now = EachIndex was (λ n. IsTrue (mark_of was n) → IsTrue (mark_of now n))
+
+-- each slice that is not marked has a sighting at a place or before it
+abbrev pub AllSightedBy : Scan → List Bool → Place → Type 0
+AllSightedBy scan marks p =
+    EachIndex marks (λ n. IsTrue (mark_of marks n || is_sighted_before scan (cursor_past p) n))
+
+-- from the place on by which each slice is found, no more is handed over than around it
+abbrev pub StopsOnceFound : SliceSet → ShelfState → ShelfState → List Bool → Type 0
+StopsOnceFound set old new was =
+    (p : Place) → AllSightedBy (scan_of set old) was p → HandsAround set.slice_size old new p
+
+-- what a fault of a file leaves: the marks of all sightings before a place of that file, and no more
+-- was handed over than around it
+pub record MarksUpToFault
+    (set : SliceSet) (old new : ShelfState) (was now : List Bool) (file : ℕ) : Type 0 where
+  pub place : Place
+  pub file_is : place.file ≡ file
+  pub marks : MarksBefore (scan_of set old) (cursor_at place) was now
+  pub around : HandsAround set.slice_size old new place
 
 -- a read fault is one of the file that it names; where memory is refused, nothing was read
 abbrev pub SurveyLeaves : ShelfState → ShelfState → SurveyFault → Type 0

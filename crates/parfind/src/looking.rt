@@ -57,7 +57,7 @@ impl Track {
 }
 
 // The first slice from a number on that has both sums and fits into what is left of the file.
-fn first_fit(index: &Index, crc: u32, digest: Hash16, left: u64, first: u32) -> Option<u32>
+pub fn first_fit(index: &Index, crc: u32, digest: Hash16, left: u64, first: u32) -> Option<u32>
     ensures first { IsLeastFrom (slice_passes index.now (is_fit (digest, crc) left)) first result }
     ensures there { IfSome result (λ n. n < length index.now.slices) }
     ensures few { length index.now.slices ≤ 32768 }

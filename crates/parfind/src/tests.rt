@@ -94,13 +94,13 @@ fn set_of(alloc: Global, content: &[u8]) -> Result<RecoverySet, Fail> {
 }
 
 // An index of the slices of that set.
-fn index_of(rt: &(impl Abort + AllocGlobal), content: &[u8]) -> Result<Index, Fail> {
+pub fn index_of(rt: &(impl Abort + AllocGlobal), content: &[u8]) -> Result<Index, Fail> {
     let set = set_of(rt.alloc(), content)?;
     Ok(Index::new(rt.alloc(), &set)?)
 }
 
 // Files in memory that are read `piece` bytes at a time; the read of one number fails, none is 0.
-fn shelf_of(
+pub fn shelf_of(
     rt: &(impl Abort + AllocGlobal),
     files: &[&[u8]],
     piece: usize,
@@ -446,19 +446,4 @@ fn marks_law()
 #[test]
 fn marks_are_the_places_with_the_crc_of_a_slice(_rt: HostRuntime) {
     marks_law();
-}
-
-#[test]
-fn a_survey_marks_what_a_search_finds(rt: HostRuntime) -> Result<(), Fail> {
-    let index = index_of(&rt, b"abcdefghijkl")?;
-    let mut found = [false, false, true];
-    assert_eq!(rt; index.slices(), 3);
-    let mut failing = shelf_of(&rt, &[b"ab", b"XXabcdefgh"], 64, 1)?;
-    let fault = survey(rt.alloc(), &index, &mut failing, &mut found);
-    assert_eq!(rt; fault, Err(SurveyFault::Read(1, ReadFault::Failed)));
-    assert_eq!(rt; found, [false, false, true]);
-    let mut shelf = shelf_of(&rt, &[b"XXabcd"], 64, 0)?;
-    assert_eq!(rt; survey(rt.alloc(), &index, &mut shelf, &mut found), Ok(()));
-    assert_eq!(rt; found, [true, false, true]);
-    Ok(())
 }

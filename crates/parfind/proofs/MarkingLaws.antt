@@ -1,0 +1,151 @@
+-- The marks that a survey sets at one place, one slice after another, and the slices that have none.
+use Rattle.std.proofs.Common.{◌≡◌, ℕ, ◌+◌, ◌<◌, ◌≤◌, Bool, true, false, ◌||◌, ◌&&◌, ◌==◌, not, nat_lt, List, [], ◌∷◌, length, refl, sym, ap, ◌∙◌, arith, IfSome, Option, Some, None, inl, inr, get_or-set_same, get_or-set_other, slice_set}
+use Rattle.std.specs.List.{list_any, range_with_len}
+use Rattle.std.proofs.lemmas.Bool.{cases_Bool, cases_eq, cases_lt, eq-eqb, ne_eqb, or_cases, or_left, or_right, lt-ltb, le-ltb, false_from_ne_true, and_parts, and_from, not-true, not_from_false}
+use Rattle.std.proofs.Math.Bool.{or-false, or_assoc}
+use Rattle.parset.specs.declared.recovery_set.SetSlice.{SetSlice}
+use Rattle.parfind.proofs.ListLaws.{Has, Has-range}
+use Rattle.parfind.proofs.SeenLaws.{passes_there, fit_passes}
+use Rattle.parwindow.specs.Index.{SliceSet, slice_passes, has_crc_of}
+use Rattle.parwindow.specs.Least.{IsLeastFrom}
+use Rattle.parfield.specs.declared.hash16.Hash16.{Hash16}
+use Rattle.parfind.specs.Looking.{is_fit}
+use Rattle.parfind.specs.Marks.{is_missing_crc}
+use Rattle.parfind.specs.Marking.{MarksMore, IsSettled}
+use Rattle.parfind.specs.Surveys.{mark_of}
+
+-- two tests that pass alike
+pub same_truth : (a b : Bool) → (a ≡ true → b ≡ true) → (b ≡ true → a ≡ true) → a ≡ b
+same_truth a b f g = elim (cases_Bool a) [
+  | inl h ↦ h ∙ sym (f h)
+  | inr e ↦ e ∙ sym (false_from_ne_true b (λ h. let both : true ≡ false = sym (g h) ∙ e in cc))
+]
+
+-- some element passes a test
+
+pub any_has : {A : Type 0} (p : A → Bool) (xs : List A) → list_any p xs ≡ true → (x : A) × Has xs x × (p x ≡ true)
+any_has p [] h = cc
+any_has p (x ∷ xs) h = elim (or_cases (p x) (list_any p xs) h) [
+  | inl e ↦ (x, inl refl, e)
+  | inr k ↦ let later = any_has p xs k in (later.0, inr later.1, later.2)
+]
+
+pub has_any : {A : Type 0} (p : A → Bool) (xs : List A) (x : A) → Has xs x → p x ≡ true → list_any p xs ≡ true
+has_any p [] x has h = absurd has
+has_any p (y ∷ ys) x has h = elim has [
+  | inl e ↦ or_left (p y) (list_any p ys) (ap p e ∙ h)
+  | inr k ↦ or_right (p y) (list_any p ys) (has_any p ys x k h)
+]
+
+none_range : (p : ℕ → Bool) (n : ℕ) → ((k : ℕ) → p k ≡ true → ⊥) → list_any p (range_with_len 0 n) ≡ false
+none_range p n f = false_from_ne_true _ (λ h. let some = any_has p (range_with_len 0 n) h in f some.0 some.2)
+
+-- the slices with a CRC-32 that have no mark
+
+pub missing_some : (set : SliceSet) (found : List Bool) (crc n : ℕ) → n < length set.slices
+    → slice_passes set (has_crc_of crc) n ≡ true → mark_of found n ≡ false → is_missing_crc set found crc ≡ true
+missing_some set found crc n there has none =
+    has_any (λ k. slice_passes set (has_crc_of crc) k && not (mark_of found k)) (range_with_len 0 (length set.slices)) n
+    (Has-range 0 (length set.slices) n (omega arith) (omega arith)) (and_from _ _ has (not_from_false _ none))
+
+pub missing_none : (set : SliceSet) (found : List Bool) (crc : ℕ)
+    → ((k : ℕ) → slice_passes set (has_crc_of crc) k ≡ true → mark_of found k ≡ true) → is_missing_crc set found crc ≡ false
+missing_none set found crc all =
+    none_range (λ k. slice_passes set (has_crc_of crc) k && not (mark_of found k)) (length set.slices) (λ k h.
+    let parts = and_parts (slice_passes set (has_crc_of crc) k) (not (mark_of found k)) h in
+    let both : true ≡ false = sym (all k parts.0) ∙ not-true (mark_of found k) parts.1 in cc)
+
+pub passes_past : (set : SliceSet) (test : SetSlice → Bool) (n : ℕ) → length set.slices ≤ n → slice_passes set test n ≡ false
+passes_past set test n past = false_from_ne_true _ (λ h. absurd (omega (arith, passes_there set test n h)))
+
+-- a slice that has no mark had none before, as no mark is taken away
+pub missing_was : (set : SliceSet) (was now : List Bool) (crc : ℕ) → ((k : ℕ) → mark_of was k ≡ true → mark_of now k ≡ true)
+    → is_missing_crc set now crc ≡ true → is_missing_crc set was crc ≡ true
+missing_was set was now crc kept missing = elim (cases_Bool (is_missing_crc set was crc)) [
+  | inl is ↦ is
+  | inr known ↦
+      let nowhere : is_missing_crc set now crc ≡ false = missing_none set now crc (λ k has. elim (cases_Bool (mark_of was k)) [
+        | inl marked ↦ kept k marked
+        | inr none ↦
+            let both : true ≡ false = sym (missing_some set was crc k (passes_there set (has_crc_of crc) k has) has none) ∙ known in cc
+      ]) in
+      let both : true ≡ false = sym missing ∙ nowhere in cc
+]
+
+-- where each of them has its mark, none of the slices that fit is without
+pub fits_marked : (set : SliceSet) (found : List Bool) (sums : Hash16 × ℕ) (left : ℕ) → is_missing_crc set found sums.1 ≡ false
+    → MarksMore (slice_passes set (is_fit sums left)) found found
+fits_marked set found sums left known n =
+    let fit : Bool = slice_passes set (is_fit sums left) n in
+    same_truth (mark_of found n) (mark_of found n || fit) (λ h. or_left (mark_of found n) fit h) (λ h.
+    elim (or_cases (mark_of found n) fit h) [
+      | inl marked ↦ marked
+      | inr fits ↦ elim (cases_Bool (mark_of found n)) [
+        | inl marked ↦ marked
+        | inr none ↦
+            let missing : is_missing_crc set found sums.1 ≡ true =
+            missing_some set found sums.1 n (passes_there set (is_fit sums left) n fits) (fit_passes set sums left n fits) none in
+            let both : true ≡ false = sym missing ∙ known in cc
+      ]
+    ])
+
+-- what is settled stays so as marks are set
+pub settled_more : (set : SliceSet) (was now : List Bool) (test : ℕ → Bool) (settled : Option ℕ) → MarksMore test was now
+    → IfSome settled (IsSettled set was) → IfSome settled (IsSettled set now)
+settled_more set was now test None marks h = tt
+settled_more set was now test (Some crc) marks h =
+    false_from_ne_true (is_missing_crc set now crc) (λ missing.
+    let before : is_missing_crc set was crc ≡ true =
+    missing_was set was now crc (λ k marked. marks k ∙ or_left (mark_of was k) (test k) marked) missing in
+    let both : true ≡ false = sym before ∙ h in cc)
+
+-- one more mark
+
+pub mark_of-set : (marks : List Bool) (k n : ℕ) → k < length marks → mark_of (slice_set marks k true) n ≡ (mark_of marks n || k == n)
+mark_of-set marks k n within = elim (cases_eq k n) [
+  | inl same ↦
+      let set : mark_of (slice_set marks k true) k ≡ true = get_or-set_same marks k true false within in
+      rw (← same, set) (sym (or_right (mark_of marks k) (k == k) (eq-eqb k k refl)))
+  | inr other ↦
+      let kept : mark_of (slice_set marks k true) n ≡ mark_of marks n = get_or-set_other marks k n true false (λ e. other (sym e)) in
+      rw (kept, ne_eqb k n other) (sym (or-false (mark_of marks n)))
+]
+
+-- those slices below a number that pass a test have their marks
+abbrev pub MarksBelow : (ℕ → Bool) → ℕ → List Bool → List Bool → Type 0
+MarksBelow test k was now = (n : ℕ) → mark_of now n ≡ (mark_of was n || (nat_lt n k && test n))
+
+module _ (test : ℕ → Bool) (was now : List Bool) where
+  pub below_none : MarksBelow test 0 was was
+  below_none n = rw (le-ltb n 0 (omega arith)) (sym (or-false (mark_of was n)))
+
+  pub below_all : (k : ℕ) → IsLeastFrom test k None → MarksBelow test k was now → MarksMore test was now
+  below_all k none so_far n =
+      so_far n ∙ ap (λ b. mark_of was n || b) (elim (cases_lt n k) [
+        | inl less ↦ rw (lt-ltb n k less) refl
+        | inr more ↦ rw (le-ltb n k more) (sym (false_from_ne_true (test n) (none n more)))
+      ])
+
+  -- the next slice that passes
+  next_below : (k m n : ℕ) → IsLeastFrom test k (Some m) → ((nat_lt n k && test n) || m == n) ≡ (nat_lt n (m + 1) && test n)
+  next_below k m n least = elim (cases_eq m n) [
+    | inl same ↦
+        let passes : test n ≡ true = ap test (sym same) ∙ least.passes in
+        rw (eq-eqb m n same, lt-ltb n (m + 1) (omega arith), passes) (or_right (nat_lt n k && true) true refl)
+    | inr other ↦
+        rw (ne_eqb m n other) (or-false (nat_lt n k && test n) ∙ elim (cases_lt n k) [
+          | inl less ↦ rw (lt-ltb n k less, lt-ltb n (m + 1) (omega (arith, least.at_or_above))) refl
+          | inr more ↦ elim (cases_lt n m) [
+            | inl between ↦
+                rw (le-ltb n k more, lt-ltb n (m + 1) (omega arith)) (sym (false_from_ne_true (test n) (least.least n more between)))
+            | inr past ↦ rw (le-ltb n k more, le-ltb n (m + 1) (omega arith)) refl
+          ]
+        ])
+  ]
+
+  pub below_more : (k m : ℕ) → IsLeastFrom test k (Some m) → m < length now → MarksBelow test k was now
+      → MarksBelow test (m + 1) was (slice_set now m true)
+  below_more k m least there so_far n =
+      mark_of-set now m n there ∙ ap (λ b. b || m == n) (so_far n)
+      ∙ or_assoc (mark_of was n) (nat_lt n k && test n) (m == n)
+      ∙ ap (λ b. mark_of was n || b) (next_below k m n least)

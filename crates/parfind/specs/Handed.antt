@@ -1,0 +1,28 @@
+-- How much of the files is handed over from one state of a shelf to another.
+use Rattle.std.specs.Prelude.{◌≡◌, ◌+◌, ◌≤◌, ℕ, false, slice_index}
+use Rattle.parshelf.specs.Shelf.{ShelfState}
+use Rattle.parwindow.specs.Index.{SliceSet, has_fit_in}
+use Rattle.parfind.specs.Places.{Place}
+use Rattle.parfind.specs.Reach.{upto}
+
+-- of each file at most its length
+abbrev pub HandsEachOnce : ShelfState → ShelfState → Type 0
+HandsEachOnce old new =
+    (f : ℕ) → slice_index new.handed f ≤ slice_index old.handed f + slice_index old.lengths f
+
+-- the place a window of this size and 4,096 bytes behind another
+abbrev pub further : ℕ → Place → Place
+further size p = record p { offset = p.offset + size + 4096 }
+
+-- around a place: of each file at most the bytes that lie before the place a window and 4,096 bytes
+-- behind it, so of the files behind its own none
+abbrev pub HandsAround : ℕ → ShelfState → ShelfState → Place → Type 0
+HandsAround size old new p =
+    (f : ℕ) → slice_index new.handed f ≤ slice_index old.handed f
+    + upto old.lengths (further size p) f
+
+-- nothing of a file into which no slice with sums fits
+abbrev pub SkipsUnfit : SliceSet → ShelfState → ShelfState → Type 0
+SkipsUnfit set old new =
+    (f : ℕ) → has_fit_in set (slice_index old.lengths f) ≡ false
+    → slice_index new.handed f ≤ slice_index old.handed f

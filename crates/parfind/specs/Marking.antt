@@ -1,0 +1,19 @@
+-- What a survey does at one place: the marks that it sets, and the digest that it takes.
+use Rattle.std.specs.Prelude.{◌≡◌, ℕ, ◌+◌, ◌||◌, Bool, false, List, if◌then◌else◌}
+use Rattle.parwindow.specs.Index.{SliceSet}
+use Rattle.parwindow.specs.Window.{WindowState}
+use Rattle.parfind.specs.Marks.{is_missing_crc}
+use Rattle.parfind.specs.Surveys.{mark_of}
+
+-- those slices are marked too whose numbers pass a test, and no other
+abbrev pub MarksMore : (ℕ → Bool) → List Bool → List Bool → Type 0
+MarksMore test was now = (n : ℕ) → mark_of now n ≡ (mark_of was n || test n)
+
+-- one digest is taken of the window where one is wanted, and else none
+abbrev pub TakesDigest : Bool → WindowState → WindowState → Type 0
+TakesDigest wanted old new =
+    new ≡ record old { digests = old.digests + (if wanted then 1 else 0) }
+
+-- each slice with this CRC-32 has its mark
+abbrev pub IsSettled : SliceSet → List Bool → ℕ → Type 0
+IsSettled set found crc = is_missing_crc set found crc ≡ false

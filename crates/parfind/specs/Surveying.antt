@@ -1,0 +1,63 @@
+-- A survey on its way: what it has marked, read and hashed once it is at a cursor.
+use Rattle.std.specs.Prelude.{◌≡◌, ℕ, ◌+◌, ◌≤◌, ◌||◌, ◌⊎◌, Bool, true, List, length, map, filter, IsTrue, Result, OnOk}
+use Rattle.parshelf.specs.Shelf.{ShelfState}
+use Rattle.parshelf.specs.declared.reading.ReadFault.{ReadFault}
+use Rattle.parwindow.specs.Index.{SliceSet}
+use Rattle.parwindow.specs.Window.{WindowState}
+use Rattle.parfind.specs.declared.cursor.Cursor.{Cursor}
+use Rattle.parfind.specs.declared.track.Track.{Track}
+use Rattle.parfind.specs.Handed.{SkipsUnfit}
+use Rattle.parfind.specs.Marks.{is_missing_at}
+use Rattle.parfind.specs.Order.{origin}
+use Rattle.parfind.specs.Places.{Place, cursor_at, places_between}
+use Rattle.parfind.specs.Reach.{ReadsUpTo, IsNear}
+use Rattle.parfind.specs.Sightings.{Scan}
+use Rattle.parfind.specs.Steps.{scan_of}
+use Rattle.parfind.specs.Surveys.{is_sighted_before, mark_of, IsAllMarked, AllSightedBy}
+use Rattle.parfind.specs.Tracks.{fetched_of}
+
+-- where a survey is: its shelf and its window, the marks, and how the window goes along a file
+pub record SurveyState : Type 0 where
+  pub shelf : ShelfState
+  pub window : WindowState
+  pub found : List Bool
+  pub track : Track
+
+abbrev pub survey_at : ShelfState → WindowState → List Bool → Track → SurveyState
+survey_at shelf window found track =
+    record { shelf = shelf; window = window; found = found; track = track }
+
+-- the cursor at a window
+abbrev pub cursor_to : Track → Cursor
+cursor_to t = record { file = t.file; offset = t.held; slice = 0 }
+
+-- how many places before a cursor have the CRC-32 of a slice that has no mark
+abbrev pub missing_to : Scan → List Bool → Cursor → ℕ
+missing_to scan found c =
+    length (filter (is_missing_at scan found) (places_between (map length scan.contents) origin c))
+
+-- from the beginning of all files it has come to a cursor
+pub record Surveyed (set : SliceSet) (old now : SurveyState) (c : Cursor) : Type 0 where
+  pub marks : IsTrue old.shelf.is_steady → (n : ℕ)
+      → mark_of now.found n ≡ (mark_of old.found n || is_sighted_before (scan_of set old.shelf) c n)
+  pub kept : (n : ℕ) → mark_of old.found n ≡ true → mark_of now.found n ≡ true
+  pub hands :
+      ReadsUpTo old.shelf now.shelf (record { file = 0; offset = 0 }) (fetched_of now.track)
+  pub unfit : SkipsUnfit set old.shelf now.shelf
+  pub near : IsNear set.slice_size (fetched_of now.track) c
+  pub stops : IsTrue old.shelf.is_steady → (p : Place)
+      → AllSightedBy (scan_of set old.shelf) old.found p
+      → IsNear set.slice_size (fetched_of now.track) (cursor_at p)
+  pub digests : IsTrue old.shelf.is_steady → now.window.digests
+      ≤ old.window.digests + missing_to (scan_of set old.shelf) old.found c
+  pub capacity : now.window.capacity ≡ old.window.capacity
+
+-- it ends at a cursor: each slice has its mark there, or all files are before it, or a file could
+-- not be read
+pub record SurveyEnds
+    (set : SliceSet) (old new : SurveyState) (result : Result Unit ReadFault) : Type 0 where
+  pub cursor : Cursor
+  pub surveyed : Surveyed set old new cursor
+  pub first : cursor.slice ≡ 0
+  pub file_is : cursor.file ≡ new.track.file
+  pub all : OnOk result (IsAllMarked new.found ⊎ (length old.shelf.lengths ≤ cursor.file))

@@ -1,0 +1,219 @@
+ghost use Rattle.std.specs.Prelude.{◌≡◌, ◌∷◌, [], true, false};
+ghost use Rattle.parfind.specs.Marks.{missing_places};
+ghost use Rattle.parfind.specs.Worked.{two_slices, equal_slices};
+
+use crate::tests::{index_of, shelf_of};
+use crate::{SurveyFault, survey, survey_in};
+use parshelf::{MemShelf, ReadFault};
+use parwindow::Window;
+use std::process::Abort;
+use std::test::Fail;
+
+// Surveys files for the slices of these bytes; wants this answer and these marks.
+fn surveys(
+    rt: &(impl Abort + AllocGlobal),
+    content: &[u8],
+    shelf: &mut MemShelf,
+    found: &mut [bool],
+    answer: Result<(), (u32, ReadFault)>,
+    wanted: &[bool],
+) -> Result<(), Fail> {
+    let index = index_of(rt, content)?;
+    assert_eq!(rt; index.slices() as usize, found.len());
+    let mut window = Window::new(rt.alloc(), index.size() as usize)?;
+    assert_eq!(rt; survey_in(&index, shelf, &mut window, found), answer);
+    assert_eq!(rt; *found, *wanted);
+    Ok(())
+}
+
+// The same over files that are read in pieces of 1 and of 64 bytes, from no mark on; wants no more
+// bytes handed over than this.
+fn marks(
+    rt: &(impl Abort + AllocGlobal),
+    content: &[u8],
+    files: &[&[u8]],
+    wanted: &[bool],
+    most: u64,
+) -> Result<(), Fail> {
+    for piece in [1, 64] {
+        let mut shelf = shelf_of(rt, files, piece, 0)?;
+        let mut found = vec![in rt.alloc(); false; wanted.len()]?;
+        surveys(
+            rt,
+            content,
+            &mut shelf,
+            found.as_mut_slice(),
+            Ok(()),
+            wanted,
+        )?;
+        assert!(rt; shelf.handed() <= most, "pieces of {piece}");
+    }
+    Ok(())
+}
+
+#[test]
+fn each_slice_that_is_seen_is_marked(rt: HostRuntime) -> Result<(), Fail> {
+    marks(
+        &rt,
+        b"abcdefghijkl",
+        &[b"ab", b"XXabcdefgh"],
+        &[true, true, false],
+        10,
+    )?;
+    marks(&rt, b"abcdefgh", &[b"abcXabcdef"], &[true, false], 10)?;
+    marks(&rt, b"abcdefgh", &[b"", b"ab", b"abcd"], &[true, false], 4)?;
+    marks(&rt, b"abcdefgh", &[], &[false, false], 0)
+}
+
+#[test]
+fn equal_slices_are_marked_together(rt: HostRuntime) -> Result<(), Fail> {
+    marks(&rt, &[0; 8], &[&[0; 6]], &[true, true], 6)?;
+    marks(&rt, &[0; 12], &[b"XX\0\0\0\0"], &[true, true, true], 6)
+}
+
+#[test]
+fn a_short_slice_is_marked_where_the_file_ends_or_goes_on_with_zeros(
+    rt: HostRuntime,
+) -> Result<(), Fail> {
+    marks(&rt, b"ij", &[b"ij"], &[true], 2)?;
+    marks(&rt, b"ij", &[b"XXij\0"], &[true], 5)?;
+    marks(&rt, b"ij", &[b"ijk"], &[false], 3)?;
+    marks(&rt, b"i\0", &[b"i"], &[false], 0)
+}
+
+#[test]
+fn files_into_which_no_slice_fits_are_not_read(rt: HostRuntime) -> Result<(), Fail> {
+    marks(
+        &rt,
+        b"abcdefgh",
+        &[b"", b"a", b"ab", b"abc"],
+        &[false, false],
+        0,
+    )
+}
+
+#[test]
+fn nothing_is_read_where_each_slice_has_its_mark(rt: HostRuntime) -> Result<(), Fail> {
+    let mut shelf = shelf_of(&rt, &[b"abcdefgh"], 64, 1)?;
+    let mut found = [true, true];
+    surveys(
+        &rt,
+        b"abcdefgh",
+        &mut shelf,
+        &mut found,
+        Ok(()),
+        &[true, true],
+    )?;
+    assert_eq!(rt; shelf.handed(), 0);
+    Ok(())
+}
+
+#[test]
+fn reading_stops_once_each_slice_is_found(rt: HostRuntime) -> Result<(), Fail> {
+    let mut file = Vec::from_slice(rt.alloc(), b"XXabcdefgh")?;
+    file.extend_from_slice(&[b'x'; 20_000])?;
+    let files: [&[u8]; 2] = [file.as_slice(), b"abcdefgh"];
+    marks(&rt, b"abcdefgh", &files, &[true, true], 6 + 4 + 4_096)?;
+    let mut shelf = shelf_of(&rt, &files, 64, 0)?;
+    let mut found = [false, true];
+    surveys(
+        &rt,
+        b"abcdefgh",
+        &mut shelf,
+        &mut found,
+        Ok(()),
+        &[true, true],
+    )?;
+    assert!(rt; shelf.handed() <= 2 + 4 + 4_096);
+    Ok(())
+}
+
+// Surveys two files, of which the read of one number fails.
+fn fails(
+    rt: &(impl Abort + AllocGlobal),
+    piece: usize,
+    failing: u64,
+    answer: Result<(), (u32, ReadFault)>,
+    wanted: &[bool],
+) -> Result<(), Fail> {
+    assert!(rt; piece > 0);
+    let mut shelf = shelf_of(rt, &[b"abcd", b"XXefghijkl"], piece, failing)?;
+    let mut found = [false, false, false];
+    surveys(rt, b"abcdefghijkl", &mut shelf, &mut found, answer, wanted)
+}
+
+#[test]
+fn after_a_failed_read_the_marks_before_it_stand(rt: HostRuntime) -> Result<(), Fail> {
+    for failing in 1..=4 {
+        fails(
+            &rt,
+            1,
+            failing,
+            Err((0, ReadFault::Failed)),
+            &[false, false, false],
+        )?;
+    }
+    for failing in 5..=10 {
+        fails(
+            &rt,
+            1,
+            failing,
+            Err((1, ReadFault::Failed)),
+            &[true, false, false],
+        )?;
+    }
+    for failing in 11..=14 {
+        fails(
+            &rt,
+            1,
+            failing,
+            Err((1, ReadFault::Failed)),
+            &[true, true, false],
+        )?;
+    }
+    fails(&rt, 1, 15, Ok(()), &[true, true, true])?;
+    fails(
+        &rt,
+        64,
+        1,
+        Err((0, ReadFault::Failed)),
+        &[false, false, false],
+    )?;
+    fails(
+        &rt,
+        64,
+        2,
+        Err((1, ReadFault::Failed)),
+        &[true, false, false],
+    )?;
+    fails(&rt, 64, 3, Ok(()), &[true, true, true])
+}
+
+#[test]
+fn a_survey_marks_what_a_search_finds(rt: HostRuntime) -> Result<(), Fail> {
+    let index = index_of(&rt, b"abcdefghijkl")?;
+    let mut found = [false, false, true];
+    assert_eq!(rt; index.slices(), 3);
+    let mut failing = shelf_of(&rt, &[b"ab", b"XXabcdefgh"], 64, 1)?;
+    let fault = survey(rt.alloc(), &index, &mut failing, &mut found);
+    assert_eq!(rt; fault, Err(SurveyFault::Read(1, ReadFault::Failed)));
+    assert_eq!(rt; found, [false, false, true]);
+    let mut shelf = shelf_of(&rt, &[b"XXabcd"], 64, 0)?;
+    assert_eq!(rt; survey(rt.alloc(), &index, &mut shelf, &mut found), Ok(()));
+    assert_eq!(rt; found, [true, false, true]);
+    Ok(())
+}
+
+// What the word counts that bounds the digests of a survey. Does nothing.
+fn missing_law()
+    ensures none { missing_places two_slices (false ∷ false ∷ []) ≡ 2 }
+    ensures one { missing_places two_slices (true ∷ false ∷ []) ≡ 1 }
+    ensures all { missing_places two_slices (true ∷ true ∷ []) ≡ 0 }
+    ensures equal { missing_places equal_slices (true ∷ false ∷ []) ≡ 6 }
+    ensures both { missing_places equal_slices (true ∷ true ∷ []) ≡ 0 }
+{}
+
+#[test]
+fn digests_are_counted_where_a_slice_has_no_mark(_rt: HostRuntime) {
+    missing_law();
+}
