@@ -7,7 +7,7 @@ use Rattle.parshelf.specs.Shelf.{ShelfState, IsShelf}
 use Rattle.parshelf.specs.Reads.{FaultsWithin, ReadsOnly}
 use Rattle.parshelf.specs.declared.reading.ReadFault.{ReadFault}
 use Rattle.parshelf.specs.declared.reading.ReadFault.TheVariants.{Failed, Ended}
-use Rattle.parreport.specs.Contents.{HandsOnce, HandsEachOnce, bytes_asked}
+use Rattle.parreport.specs.Contents.{HandsOnce, HandsAsked, bytes_asked}
 use Rattle.parreport.specs.States.{has_length}
 
 -- of a file whose length some file of the set has, all bytes are asked for
@@ -52,8 +52,8 @@ pub record HandsBefore (files : List SetFile) (old new : ShelfState) (file : ℕ
   pub read : (k : ℕ) → k < file → slice_index new.handed k ≤ slice_index old.handed k + bytes_asked files (slice_index old.lengths k)
   pub unread : (k : ℕ) → file ≤ k → slice_index new.handed k ≡ slice_index old.handed k
 
-pub HandsEachOnce-before : (files : List SetFile) (old new : ShelfState) (file : ℕ) → HandsBefore files old new file → HandsEachOnce files old new
-HandsEachOnce-before files old new file before = λ k. elim (cases_lt k file) [
+pub HandsAsked-before : (files : List SetFile) (old new : ShelfState) (file : ℕ) → HandsBefore files old new file → HandsAsked files old new
+HandsAsked-before files old new file before = λ k. elim (cases_lt k file) [
   | inl less ↦ before.read k less
   | inr more ↦ omega (arith, before.unread k more)
 ]
@@ -79,7 +79,7 @@ HandsBefore-suc files old now new file reads before one =
           one.others k other ∙ before.unread k far;
     }
 
-pub HandsEachOnce-more : (files : List SetFile) (old now new : ShelfState) (file : ℕ) → ReadsOnly old now → HandsBefore files old now file
-    → HandsOnce files now new file → HandsEachOnce files old new
-HandsEachOnce-more files old now new file reads before one =
-    HandsEachOnce-before files old new (file + 1) (HandsBefore-suc files old now new file reads before one)
+pub HandsAsked-more : (files : List SetFile) (old now new : ShelfState) (file : ℕ) → ReadsOnly old now → HandsBefore files old now file
+    → HandsOnce files now new file → HandsAsked files old new
+HandsAsked-more files old now new file reads before one =
+    HandsAsked-before files old new (file + 1) (HandsBefore-suc files old now new file reads before one)

@@ -15,8 +15,8 @@ pub record HandsOnce (files : List SetFile) (old new : ShelfState) (file : ℕ) 
   pub others : (k : ℕ) → k ≢ file → slice_index new.handed k ≡ slice_index old.handed k
 
 -- at most what is asked for of each file
-abbrev pub HandsEachOnce : List SetFile → ShelfState → ShelfState → Type 0
-HandsEachOnce files old new =
+abbrev pub HandsAsked : List SetFile → ShelfState → ShelfState → Type 0
+HandsAsked files old new =
     (file : ℕ)
     → slice_index new.handed file
     ≤ slice_index old.handed file + bytes_asked files (slice_index old.lengths file)

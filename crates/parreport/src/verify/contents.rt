@@ -3,7 +3,7 @@ ghost use Rattle.std.specs.BTreeSet.{contains};
 ghost use Rattle.std.specs.Ordering.{nat_cmp};
 ghost use Rattle.parshelf.specs.Reads.{ReadsOnly};
 ghost use Rattle.parshelf.specs.Shelf.{file_of};
-ghost use Rattle.parreport.specs.Contents.{HandsOnce, HandsEachOnce};
+ghost use Rattle.parreport.specs.Contents.{HandsOnce, HandsAsked};
 ghost use Rattle.parreport.specs.Faults.{FilesLeave};
 ghost use Rattle.parreport.specs.States.{has_length, asked_of};
 
@@ -32,7 +32,7 @@ pub fn contents<Q: Shelf>(
 ) -> Result<Vec<Option<LengthAndMd5>>, FilesFault>
     ensures contents { IsTrue (Q.state shelf.old).is_steady → IfOk result (λ contents.
         contents.items ≡ map (asked_of files.now) (Q.state shelf.old).files) }
-    ensures bytes { HandsEachOnce files.now (Q.state shelf.old) (Q.state shelf.new) }
+    ensures bytes { HandsAsked files.now (Q.state shelf.old) (Q.state shelf.new) }
     ensures ok { OnOk result (ReadsOnly (Q.state shelf.old) (Q.state shelf.new)) }
     ensures fault { IfErr result (FilesLeave (Q.state shelf.old) (Q.state shelf.new)) }
 {
