@@ -8,6 +8,7 @@ cp v.par2 w.par2
 head -c 92 v.par2 > main.par2
 printf 'XXabcdefgh' > x.bin
 printf 'abcdefgh' > y.bin
+printf 'abcdXXXX' > z.bin
 
 disturb() {
     "$tools/disturb.sh" "$@" || failed=1
@@ -47,7 +48,10 @@ about() {
 reads "$(about v.par2 w.par2)" packets v.par2 w.par2
 reads "$(about v.par2 w.par2)" set v.par2 w.par2
 reads "$(about v.par2 w.par2 x.bin y.bin)" find v.par2 x.bin w.par2 y.bin
-reads "$(about v.par2 w.par2 x.bin y.bin)" verify x.bin v.par2 w.par2 y.bin
+# All slices are those of y.bin: x.bin has the length of no file of the set, and nothing is left to find.
+reads "$(about v.par2 w.par2 y.bin)" verify x.bin v.par2 w.par2 y.bin
+# z.bin is read for its MD5, and then it is searched for slices, before x.bin.
+reads "$(about v.par2 z.bin x.bin)" verify z.bin x.bin v.par2
 for words in "packets v.par2 w.par2" "set v.par2 w.par2" "find v.par2 x.bin y.bin" "verify v.par2 x.bin y.bin"; do
     # shellcheck disable=SC2086
     disturb FAIL_WRITE $words
