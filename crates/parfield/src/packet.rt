@@ -36,7 +36,8 @@ pub fn header(bytes: &[u8]) -> Result<Header, HeaderFault>
 /// The packet at this offset, or `None` where none stands there.
 pub fn packet_at(bytes: &[u8], at: usize) -> Option<Packet<'_>>
     ensures found { is_some result ≡ begins_packet (drop at bytes.now) }
-    ensures packet { IfSome result (λ packet. packet_view packet ≡ packet_of at (drop at bytes.now)) }
+    ensures packet { IfSome result (λ packet.
+        packet_view packet ≡ packet_of at (drop at bytes.now)) }
 {
     let rest = bytes.get(at..)?;
     match header(rest) {

@@ -33,7 +33,7 @@ search_of shelf finder = record { shelf = shelf; fetched = finder.fetched; curso
 
 -- the finder searches for these slices in these files: its window has their size and goes along a
 -- file, not past the cursor, and at it where a slice fits into what is left of that file; on a steady
--- shelf it was hashed at marked places only
+-- shelf it was hashed no more often than there are marked places
 pub record BelongsTo (finder : FinderState) (set : SliceSet) (shelf : ShelfState) : Type 0 where
   pub sized : finder.window.capacity ≡ set.slice_size
   pub tied : IsTied shelf finder.window finder.track

@@ -60,10 +60,12 @@ pub record HandsWithin (size : ℕ) (old new : SearchState) : Type 0 where
   pub none : (f : ℕ) → new.cursor.file < f
       → slice_index new.shelf.handed f ≤ slice_index old.shelf.handed f
   pub near : slice_index new.shelf.handed new.cursor.file
-      ≤ slice_index old.shelf.handed new.cursor.file + (new.cursor.offset - entry_of old.cursor new.cursor.file + size + 4096)
+      ≤ slice_index old.shelf.handed new.cursor.file
+      + (new.cursor.offset - entry_of old.cursor new.cursor.file + size + 4096)
 
 -- that is so after all calls since an opening, however many there were
 abbrev pub ReachAddsUp : Type 0
 ReachAddsUp =
     (size : ℕ) (opened now : SearchState) (calls : List SearchState)
-    → opened.fetched ≡ place_at opened.cursor → CallsRead size opened calls now → HandsWithin size opened now
+    → opened.fetched ≡ place_at opened.cursor → CallsRead size opened calls now
+    → HandsWithin size opened now

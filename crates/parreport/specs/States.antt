@@ -72,7 +72,8 @@ state_of scanned file =
 -- the same by what was asked of the scanned files
 abbrev pub state_by : List Scanned → List (Option LengthAndMd5) → SetFile → State
 state_by files asked file =
-    if list_any (λ pair. shows_content_of file pair.1 && is_name_of file pair.0.name) (zip files asked)
+    if list_any (λ pair. shows_content_of file pair.1 && is_name_of file pair.0.name)
+    (zip files asked)
     then Complete
     else state_else (position (shows_content_of file) asked)
     (list_any (λ one. is_name_of file one.name) files)

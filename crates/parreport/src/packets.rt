@@ -22,7 +22,8 @@ pub fn write_packets<W: Sink>(
     kept: &[Kept],
     out: &mut W,
 ) -> Result<Status, RunFault>
-    ensures text { Answers (packets_report plan.now kept.now) result (W.state out.old) (W.state out.new) }
+    ensures text { Answers (packets_report plan.now kept.now) result
+        (W.state out.old) (W.state out.new) }
     ensures no_read { IfErr result (λ fault. is_read fault ≡ false) }
     ensures silent { IfErr result (λ fault. follows_text command.Packets fault ≡ false
         → W.state out.new ≡ W.state out.old) }

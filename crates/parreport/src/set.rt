@@ -23,7 +23,8 @@ pub fn write_set<W: Sink>(
     kept: &[Kept],
     out: &mut W,
 ) -> Result<Status, RunFault>
-    ensures text { Answers (report_with_set (set_of kept.now plan.now.set) (set_report plan.now)) result
+    ensures text { Answers
+        (report_with_set (set_of kept.now plan.now.set) (set_report plan.now)) result
         (W.state out.old) (W.state out.new) }
     ensures no_read { IfErr result (λ fault. is_read fault ≡ false) }
     ensures silent { IfErr result (λ fault. follows_text command.Set fault ≡ false

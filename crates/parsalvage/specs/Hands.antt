@@ -32,4 +32,5 @@ FaultsAfter old new file limit Ended = HandsThenEnds old new file
 -- what a fault of a salvage leaves; on a steady shelf memory is wanted only where something is true
 abbrev pub FaultsEarly : ShelfState → ShelfState → ℕ → ℕ → Type 0 → SalvageFault → Type 0
 FaultsEarly old new file limit Grows (Read fault) = FaultsAfter old new file limit fault
-FaultsEarly old new file limit Grows Memory = Hands old new file limit × (IsTrue old.is_steady → Grows)
+FaultsEarly old new file limit Grows Memory =
+    Hands old new file limit × (IsTrue old.is_steady → Grows)

@@ -1,4 +1,4 @@
--- Bodies of a file that are held in one list of bytes, each byte once.
+-- Bodies of a file that are held in one list of bytes, no longer than the file.
 use Rattle.std.specs.Prelude.{◌≡◌, ◌≤◌, ◌+◌, ◌-◌, ℕ, List, length, take, drop}
 use Rattle.parsalvage.specs.declared.bodies.Bodies.{Bodies}
 

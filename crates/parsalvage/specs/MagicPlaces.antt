@@ -6,7 +6,8 @@ use Rattle.parfield.specs.Packet.{has_header, length_field, magic_bytes}
 
 -- the magic stands at this offset
 abbrev pub is_magic_at : List ℕ → ℕ → Bool
-is_magic_at bytes at = nat_le (at + 8) (length bytes) && bytes_eq (take 8 (drop at bytes)) magic_bytes
+is_magic_at bytes at =
+    nat_le (at + 8) (length bytes) && bytes_eq (take 8 (drop at bytes)) magic_bytes
 
 -- the bytes begin with all that makes a packet but the right hash
 abbrev pub begins_framed : List ℕ → Bool

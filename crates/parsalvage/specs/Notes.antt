@@ -37,7 +37,8 @@ kept_note file store note = record {
 
 -- the packets that begin below this offset, rising
 unfoldable pub packets_below : List ℕ → ℕ → List FoundPacket
-packets_below bytes end = map (packet_found_at bytes) (filter (is_packet_at bytes) (range_with_len 0 end))
+packets_below bytes end =
+    map (packet_found_at bytes) (filter (is_packet_at bytes) (range_with_len 0 end))
 
 -- packets below this offset of a file of this length, by offset
 pub record LiesIn (size below : ℕ) (found : Found) : Type 0 where

@@ -8,7 +8,7 @@ use crate::files::SalvageFault;
 use crate::piece::{Piece, read};
 use parshelf::Shelf;
 
-/// Bodies of a file, each byte held once. Bodies that overlap make a run; the last run, from
+/// Bodies of a file. Those that overlap make a run, in which each byte stands once; the last run, from
 /// `start` up to `end` of the file, stands at the end of the bytes.
 #[derive(Drop)]
 pub struct Bodies {

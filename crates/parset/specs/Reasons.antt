@@ -11,7 +11,6 @@ use Rattle.parset.specs.Bodies.{name_of, pairs_of, exponent_of}
 use Rattle.parset.specs.declared.aside.Aside.{Aside}
 use Rattle.parset.specs.declared.aside.Aside.TheVariants.{WrongLength, SliceSize, IdTwice, SetId}
 use Rattle.parset.specs.declared.aside.Aside.TheVariants.{Name, OverLimit}
-use Rattle.parset.specs.declared.aside.BodyFault.TheVariants as faults
 
 -- the number of a reason; 6 is none
 abbrev pub reason_number : Aside → ℕ

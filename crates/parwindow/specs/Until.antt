@@ -12,7 +12,8 @@ slid_content content bytes k = drop k (content ++ take k bytes)
 pub record PushesSlide : Type 0 where
   pub none : (content bytes : List ℕ) → slid_content content bytes 0 ≡ content
   pub one_more : (w : WindowState) (bytes : List ℕ) (k : ℕ) → length w.content ≡ w.capacity
-      → k < length bytes → content_after (record w { content = slid_content w.content bytes k }) (slice_index bytes k)
+      → k < length bytes
+      → content_after (record w { content = slid_content w.content bytes k }) (slice_index bytes k)
       ≡ slid_content w.content bytes (k + 1)
 
 -- after k pushes the content has the CRC-32 of a slice

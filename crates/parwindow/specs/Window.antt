@@ -17,7 +17,8 @@ empty_window size = record { content = []; capacity = size; digests = 0 }
 -- the content once a byte is pushed: that byte last, and the first byte gone where the window was full
 abbrev pub content_after : WindowState → ℕ → List ℕ
 content_after w byte =
-    if length w.content == w.capacity then drop 1 (w.content ++ byte ∷ []) else w.content ++ byte ∷ []
+    if length w.content == w.capacity then drop 1 (w.content ++ byte ∷ [])
+    else w.content ++ byte ∷ []
 
 -- the byte that falls out once one is pushed: the first, where the window was full
 abbrev pub fallen_byte : WindowState → Option ℕ

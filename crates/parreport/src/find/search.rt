@@ -67,8 +67,8 @@ fn write_from<Q: Shelf, W: Sink>(
         (sightings_from (scan_in set.now (Q.state shelf.old).files) finder.old.cursor)))
         (as_run result) (W.state out.old) (W.state out.new) }
     ensures lines { IsTrue (Q.state shelf.old).is_steady → IfErr result (λ fault.
-        KeepsLines (names_of files.now) set.now (Q.state shelf.old).files limit finder.old.cursor fault
-        (W.state out.old) (W.state out.new)) }
+        KeepsLines (names_of files.now) set.now (Q.state shelf.old).files limit
+        finder.old.cursor fault (W.state out.old) (W.state out.new)) }
     ensures reads { EndsScanned (as_run result) (Q.state shelf.old) (Q.state shelf.new) }
     ensures sink { EndsSink (as_run result) (W.state out.old) (W.state out.new) }
 {

@@ -108,7 +108,8 @@ fn is_named(files: &[Scanned], file: &SetFile) -> bool
 }
 
 fn has_both(scanned: &Scanned, content: &Option<LengthAndMd5>, file: &SetFile) -> bool
-    ensures { result ≡ (shows_content_of file.now content.now && is_name_of file.now scanned.now.name) }
+    ensures { result
+        ≡ (shows_content_of file.now content.now && is_name_of file.now scanned.now.name) }
 {
     has_content(content, file) && has_name(scanned, file)
 }

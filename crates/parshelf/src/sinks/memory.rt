@@ -56,12 +56,14 @@ impl Sink for MemSink {
     fn put(&mut self, part: &[u8]) -> Result<usize, Failed>
         ensures bound { IfOk result (λ n. n ≤ length part.now) }
         ensures taken { IfOk result (λ n. 0 < n
-            → memory_sink_state self.new ≡ appended (memory_sink_state self.old) (take n part.now)) }
+            → memory_sink_state self.new
+            ≡ appended (memory_sink_state self.old) (take n part.now)) }
         ensures nothing { IfOk result (λ _. length part.now ≡ 0
             → memory_sink_state self.new ≡ memory_sink_state self.old) }
         ensures full { IfOk result (λ n. n ≡ 0 → 0 < length part.now
             → memory_sink_state self.new ≡ refused (memory_sink_state self.old)) }
-        ensures failed { OnErr result (memory_sink_state self.new ≡ refused (memory_sink_state self.old)) }
+        ensures failed { OnErr result
+            (memory_sink_state self.new ≡ refused (memory_sink_state self.old)) }
 
         ensures size { IfOk result (λ n. n
             ≡ min (min (length part.now) (piece_of self.old)) (room_of self.old)) }

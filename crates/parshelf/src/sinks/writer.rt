@@ -41,16 +41,18 @@ impl<W: Write> Sink for WriteSink<W> {
     fn put(&mut self, part: &[u8]) -> Result<usize, Failed>
         ensures bound { IfOk result (λ n. n ≤ length part.now) }
         ensures taken { IfOk result (λ n. 0 < n
-            → writer_sink_state self.new ≡ appended (writer_sink_state self.old) (take n part.now)) }
+            → writer_sink_state self.new
+            ≡ appended (writer_sink_state self.old) (take n part.now)) }
         ensures nothing { IfOk result (λ _. length part.now ≡ 0
             → writer_sink_state self.new ≡ writer_sink_state self.old) }
         ensures full { IfOk result (λ n. n ≡ 0 → 0 < length part.now
             → writer_sink_state self.new ≡ refused (writer_sink_state self.old)) }
-        ensures failed { OnErr result (writer_sink_state self.new ≡ refused (writer_sink_state self.old)) }
+        ensures failed { OnErr result
+            (writer_sink_state self.new ≡ refused (writer_sink_state self.old)) }
 
         // What the writer holds, where its type tells, grows by what was taken.
-        ensures writer { WriteAppends (W.contents (writer_of self.old)) (W.contents (writer_of self.new))
-            result part.now }
+        ensures writer { WriteAppends (W.contents (writer_of self.old))
+            (W.contents (writer_of self.new)) result part.now }
     {
         match self.writer.write(part) {
             Ok(0) if !part.is_empty() => {
