@@ -9,7 +9,8 @@ use parwindow::Window;
 use std::process::Abort;
 use std::test::Fail;
 
-// Surveys files for the slices of these bytes; wants this answer and these marks.
+// Surveys files for the slices of these bytes, in a window that was used before; wants this answer
+// and these marks.
 fn surveys(
     rt: &(impl Abort + AllocGlobal),
     content: &[u8],
@@ -21,6 +22,7 @@ fn surveys(
     let index = index_of(rt, content)?;
     assert_eq!(rt; index.slices() as usize, found.len());
     let mut window = Window::new(rt.alloc(), index.size() as usize)?;
+    let _ = window.push(b'a');
     assert_eq!(rt; survey_in(&index, shelf, &mut window, found), answer);
     assert_eq!(rt; *found, *wanted);
     Ok(())
@@ -68,7 +70,15 @@ fn each_slice_that_is_seen_is_marked(rt: HostRuntime) -> Result<(), Fail> {
 #[test]
 fn equal_slices_are_marked_together(rt: HostRuntime) -> Result<(), Fail> {
     marks(&rt, &[0; 8], &[&[0; 6]], &[true, true], 6)?;
-    marks(&rt, &[0; 12], &[b"XX\0\0\0\0"], &[true, true, true], 6)
+    marks(&rt, &[0; 12], &[b"XX\0\0\0\0"], &[true, true, true], 6)?;
+    let run: [&[u8]; 1] = [b"\0\0\0\0\0\0\0\0abcd\0\0\0\0"];
+    marks(
+        &rt,
+        b"\0\0\0\0\0\0\0\0abcdefgh",
+        &run,
+        &[true, true, true, false],
+        16,
+    )
 }
 
 #[test]
