@@ -1,5 +1,5 @@
 -- A finder whose window goes on belongs to its slices and files as before.
-use Rattle.std.proofs.Common.{◌≡◌, ℕ, ◌<◌, ◌≤◌, length, slice_index, refl, sym, ap, ◌∙◌, subst, arith, IsTrue, Result, Ok, Err, OnOk, IfErr}
+use Rattle.std.proofs.Common.{◌≡◌, ℕ, ◌+◌, ◌<◌, ◌≤◌, length, slice_index, refl, sym, ap, ◌∙◌, subst, arith, IsTrue, Result, Ok, Err, OnOk, IfErr}
 use Rattle.parshelf.specs.Shelf.{ShelfState, IsShelf}
 use Rattle.parshelf.specs.Reads.{ReadsOnly, FaultsIn}
 use Rattle.parshelf.specs.declared.reading.ReadFault.{ReadFault}
@@ -9,12 +9,13 @@ use Rattle.parwindow.specs.Index.{SliceSet, has_crc_in}
 use Rattle.parwindow.specs.Window.{WindowState}
 use Rattle.parfind.specs.declared.cursor.Cursor.{Cursor}
 use Rattle.parfind.specs.declared.track.Track.{Track}
-use Rattle.parfind.specs.Finders.{FinderState, BelongsTo}
+use Rattle.parfind.specs.Finders.{FinderState, BelongsTo, search_of}
 use Rattle.parfind.specs.Marks.{marked_between, marks}
-use Rattle.parfind.specs.Places.{cursor_past, place_at, start_of}
+use Rattle.parfind.specs.Reach.{CallReads, IsNear, ReadsUpTo}
+use Rattle.parfind.specs.Places.{Place, cursor_past, place_at, start_of}
 use Rattle.parfind.specs.Sightings.{Scan}
 use Rattle.parfind.specs.Steps.{scan_of, lengths_of}
-use Rattle.parfind.specs.Tracks.{IsTied, Looks, Remembers, SameTrack, remembered, hashed_of, fetched_of}
+use Rattle.parfind.specs.Tracks.{IsTied, Looks, StandsAt, Remembers, SameTrack, remembered, hashed_of, fetched_of}
 use Rattle.parfind.proofs.LookLaws.{window_there}
 use Rattle.parfind.proofs.MarkLaws.{From-further, counted_look, marked_rises, remembered-most}
 use Rattle.parfind.proofs.OrderLaws.{From, From-by_test, From-trans, is_from-true}
@@ -31,7 +32,7 @@ digests_marked f set s belongs steady =
     let on : From (start_of f.opening) (hashed_of f.track) = From-by_test (start_of f.opening) (hashed_of f.track) belongs.onward in
     let next : From (hashed_of f.track) (cursor_past (place_at f.cursor)) = record {
       by_file = belongs.behind;
-      by_offset = λ same. omega (arith, belongs.here same, remembered-most f.track.digest);
+      by_offset = λ same. omega (arith, belongs.not_past same, remembered-most f.track.digest);
       by_slice = λ _ _. omega arith;
     } in
     omega (
@@ -59,6 +60,33 @@ pub call_files : {A : Type 0} (set : SliceSet) (s t : ShelfState) (file : ℕ) (
 call_files set s t file (Ok x) reads faults = read_files set s t reads
 call_files set s t file (Err fault) reads faults = fault_files set s t file fault faults
 
+call_lengths : {A : Type 0} (s t : ShelfState) (file : ℕ) (answer : Result A ReadFault)
+    → OnOk answer (ReadsOnly s t) → IfErr answer (FaultsIn s t file) → t.lengths ≡ s.lengths
+call_lengths s t file (Ok x) reads faults = ap (λ (u : ShelfState). u.lengths) reads
+call_lengths s t file (Err Failed) reads faults = ap (λ (u : ShelfState). u.lengths) faults.1
+call_lengths s t file (Err Ended) reads faults = ap (λ (u : ShelfState). u.lengths) faults.1
+
+-- files are read little further than the cursor
+near_cursor : (f : FinderState) (set : SliceSet) (s : ShelfState) → BelongsTo f set s → IsNear set.slice_size f.fetched f.cursor
+near_cursor f set s belongs =
+    let file : f.fetched.file ≡ f.track.file = ap (λ (p : Place). p.file) belongs.fetched_is in
+    let offset : f.fetched.offset ≡ f.track.base + f.track.end = ap (λ (p : Place). p.offset) belongs.fetched_is in
+    let t = belongs.tied in
+    record {
+      file_is = omega (arith, file, belongs.behind);
+      offset_is = λ same. omega (arith, offset, belongs.not_past (sym file ∙ same), t.behind, t.within, t.end_fits, belongs.sized);
+    }
+
+-- what a call reads, whatever it answers
+pub call_reads : {A : Type 0} (set : SliceSet) (s t : ShelfState) (f g : FinderState) (file : ℕ) (answer : Result A ReadFault)
+    → OnOk answer (ReadsOnly s t) → IfErr answer (FaultsIn s t file) → ReadsUpTo s t f.fetched g.fetched → BelongsTo g set t
+    → CallReads set.slice_size (search_of s f) (search_of t g)
+call_reads set s t f g file answer ok fault reads belongs = record {
+  lengths_are = call_lengths s t file answer ok fault;
+  reads = reads;
+  near = near_cursor g set t belongs;
+}
+
 -- another place is come to, with a window v and a track a, which are filled
 module _ (f : FinderState) (set : SliceSet) (s t : ShelfState) (belongs : BelongsTo f set s) (files : SameFiles set s t)
     (at : Cursor) (v : WindowState) (a : Track) (w : WindowState) (b : Track) (tied : IsTied t w b) (window : w ≡ record v { content = w.content })
@@ -75,7 +103,8 @@ module _ (f : FinderState) (set : SliceSet) (s t : ShelfState) (belongs : Belong
         sized = ap (λ (x : WindowState). x.capacity) window ∙ sized;
         tied = tied;
         behind = omega (arith, same.file_is, file);
-        here = λ _. same.held_is ∙ held;
+        not_past = λ _. omega (arith, same.held_is, held);
+        here = λ _ _. same.held_is ∙ held;
         fetched_is = refl;
         digests_are = refl;
         onward = is_from-true (start_of f.opening) (hashed_of b) (From-trans (start_of f.opening) (hashed_of f.track) (hashed_of b) on next);
@@ -99,7 +128,8 @@ module _ (f : FinderState) (set : SliceSet) (s t : ShelfState) (belongs : Belong
         sized = ap (λ (v : WindowState). v.capacity) window ∙ belongs.sized;
         tied = tied;
         behind = behind;
-        here = here;
+        not_past = λ there. omega (arith, here there);
+        here = λ there _. here there;
         fetched_is = refl;
         digests_are = refl;
         onward = is_from-true (start_of f.opening) (hashed_of b) (From-trans (start_of f.opening) (hashed_of f.track) (hashed_of b) on onward);
@@ -113,7 +143,7 @@ module _ (f : FinderState) (set : SliceSet) (s t : ShelfState) (belongs : Belong
 
 -- a digest may be taken where the finder stands
 module _ (f : FinderState) (set : SliceSet) (s : ShelfState) (shelf : IsShelf s) (belongs : BelongsTo f set s)
-    (same : f.track.file ≡ f.cursor.file) (full : length f.window.content ≡ f.window.capacity)
+    (stands : StandsAt f.track f.cursor) (full : length f.window.content ≡ f.window.capacity)
     (counted : f.cursor.file < length s.lengths) (there : f.cursor.offset < slice_index s.lengths f.cursor.file)
     (w : WindowState) (b : Track) (looks : Looks f.window f.track w b) (remembers : Remembers w b)
     (marked : remembered f.track.digest < remembered b.digest → IsTrue (has_crc_in set (crc_of f.window.content))) where
@@ -147,12 +177,11 @@ module _ (f : FinderState) (set : SliceSet) (s : ShelfState) (shelf : IsShelf s)
   look_counted : IsTrue s.is_steady → w.digests ≤ marked_between (scan_of set s) f.opening (hashed_of b)
   look_counted steady =
       let lengths : lengths_of (scan_of set s) ≡ s.lengths = same_lengths set s shelf steady in
-      let held : f.track.held ≡ f.cursor.offset = belongs.here same in
-      let window = window_there f set s belongs shelf steady same full in
+      let window = window_there f set s belongs shelf steady stands full in
       counted_look (scan_of set s) f.opening f.track b f.window.digests w.digests
       (From-by_test (start_of f.opening) (hashed_of f.track) belongs.onward) look_file look_held looks.counted looks.kept
-      (rw (lengths, same) counted) (rw (lengths, same, held) there)
-      (λ more. rw (same, held) (rw window at (marked more)))
+      (rw (lengths, stands.file_is) counted) (rw (lengths, stands.file_is, stands.held_is) there)
+      (λ more. rw (stands.file_is, stands.held_is) (rw window at (marked more)))
       (belongs.counted steady)
 
   pub look_belongs : (d : Cursor) → d.file ≡ f.cursor.file → d.offset ≡ f.cursor.offset → BelongsTo (with_window f d w b) set s
@@ -161,8 +190,9 @@ module _ (f : FinderState) (set : SliceSet) (s : ShelfState) (shelf : IsShelf s)
       record {
         sized = ap (λ (v : WindowState). v.capacity) looks.window_is ∙ belongs.sized;
         tied = tied_look;
-        behind = omega (arith, look_file);
-        here = λ _. look_held ∙ belongs.here same ∙ sym offset;
+        behind = omega (arith, look_file, stands.file_is);
+        not_past = λ _. omega (arith, look_held, stands.held_is);
+        here = λ _ _. look_held ∙ stands.held_is ∙ sym offset;
         fetched_is = refl;
         digests_are = refl;
         onward = is_from-true (start_of f.opening) (hashed_of b) (From-trans (start_of f.opening) (hashed_of f.track) (hashed_of b) on look_onward);

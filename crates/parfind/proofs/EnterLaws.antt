@@ -7,10 +7,10 @@ use Rattle.parwindow.specs.Window.{WindowState}
 use Rattle.parfind.specs.declared.cursor.Cursor.{Cursor}
 use Rattle.parfind.specs.declared.track.Track.{Track}
 use Rattle.parfind.specs.Finders.{FinderState, BelongsTo}
-use Rattle.parfind.specs.Looking.{IsNextPlace}
+use Rattle.parfind.specs.Looking.{HasFit, IsNextPlace}
 use Rattle.parfind.specs.Places.{Place}
 use Rattle.parfind.specs.Reach.{HandsUpTo, ReadsUpTo}
-use Rattle.parfind.specs.Tracks.{IsTied, IsUnread, fetched_of, hashed_of}
+use Rattle.parfind.specs.Tracks.{IsTied, IsUnread, StandsAt, fetched_of, hashed_of}
 use Rattle.parfind.proofs.OrderLaws.{From, From-by_test, From-refl, is_from-true}
 use Rattle.parfind.proofs.ReachLaws.{hands_none, hands_enter}
 use Rattle.parfind.proofs.TrackLaws.{no_bytes}
@@ -32,7 +32,7 @@ unread_follows s v w file offset t small few unread empty =
     })
 
 module _ (f : FinderState) (set : SliceSet) (s : ShelfState) (shelf : IsShelf s) (belongs : BelongsTo f set s) (at : Cursor)
-    (next : IsNextPlace s.lengths f.cursor at) where
+    (next : IsNextPlace s.lengths f.cursor at) (fits : HasFit set s.lengths at) where
   -- in one file the next place is where the cursor stands
   next_offset_same : f.cursor.file ≡ at.file → f.cursor.offset ≡ at.offset
   next_offset_same same =
@@ -75,9 +75,14 @@ module _ (f : FinderState) (set : SliceSet) (s : ShelfState) (shelf : IsShelf s)
       | inl same ↦
           let on : From f.cursor at = From-by_test f.cursor at next.onward in
           let files : f.cursor.file ≡ at.file = omega (arith, on.by_file, belongs.behind) in
-          ap (λ (u : Track). u.held) (stays same).0 ∙ belongs.here (same ∙ sym files) ∙ next_offset_same files
+          let offset : f.cursor.offset ≡ at.offset = next_offset_same files in
+          let room : HasFit set s.lengths f.cursor = rw (files, offset) fits in
+          ap (λ (u : Track). u.held) (stays same).0 ∙ belongs.here (same ∙ sym files) room ∙ offset
       | inr other ↦ (enters other).0.held_is
     ]
+
+    pub enter_stands : StandsAt t at
+    enter_stands = record { file_is = enter_file; held_is = enter_held }
 
     pub enter_hands : ReadsUpTo s s f.fetched (fetched_of t)
     enter_hands =

@@ -17,6 +17,7 @@ pub mod LookLaws
 pub mod EnterLaws
 pub mod MarkLaws
 pub mod BelongsLaws
+pub mod FitLaws
 pub mod MarkingLaws
 pub mod SightedLaws
 pub mod SurveyLaws

@@ -10,20 +10,20 @@ use Rattle.parfind.specs.Finders.{FinderState, BelongsTo}
 use Rattle.parfind.specs.Looking.{is_fit}
 use Rattle.parfind.specs.Moves.{IsWithin}
 use Rattle.parfind.specs.Sightings.{is_seen_in}
-use Rattle.parfind.specs.Tracks.{HasNoCrc}
+use Rattle.parfind.specs.Tracks.{HasNoCrc, StandsAt}
 use Rattle.parfind.proofs.SeenLaws.{first_seen}
 use Rattle.parfind.proofs.TrackLaws.{whole_window}
 
 module _ (f : FinderState) (set : SliceSet) (s : ShelfState) (belongs : BelongsTo f set s) (shelf : IsShelf s) (steady : IsTrue s.is_steady)
-    (same : f.track.file ≡ f.cursor.file) where
+    (stands : StandsAt f.track f.cursor) where
   -- the full window is that of the cursor's place
   pub window_there : length f.window.content ≡ f.window.capacity
       → f.window.content ≡ window_at set.slice_size (file_of s f.cursor.file) f.cursor.offset
   window_there full =
       let there : f.window.content ≡ window_at set.slice_size (file_of s f.track.file) f.track.held =
       whole_window (file_of s f.track.file) set.slice_size f.track.held f.window.content (full ∙ belongs.sized) (belongs.tied.content steady) in
-      there ∙ ap (λ (n : ℕ). window_at set.slice_size (file_of s n) f.track.held) same
-      ∙ ap (window_at set.slice_size (file_of s f.cursor.file)) (belongs.here same)
+      there ∙ ap (λ (n : ℕ). window_at set.slice_size (file_of s n) f.track.held) stands.file_is
+      ∙ ap (window_at set.slice_size (file_of s f.cursor.file)) stands.held_is
 
   -- the slices that fit are those that are seen
   pub look_seen : length f.window.content ≡ f.window.capacity → (left : ℕ) → f.cursor.offset < slice_index s.lengths f.cursor.file
@@ -38,7 +38,7 @@ module _ (f : FinderState) (set : SliceSet) (s : ShelfState) (belongs : BelongsT
 
   -- the windows that are passed
   pub none_there : (n : ℕ) → HasNoCrc set (file_of s f.track.file) f.track.held n → HasNoCrc set (file_of s f.cursor.file) f.cursor.offset n
-  none_there n none = rw (← same, ← belongs.here same) none
+  none_there n none = rw (← stands.file_is, ← stands.held_is) none
 
 -- within what is left, where that is above all numbers if there is no budget
 pub within_left : (left : Option ℕ) (n most : ℕ) → n ≤ unwrap_or left most → IsWithin n left

@@ -16,7 +16,7 @@ use Rattle.parfind.specs.Sightings.{is_seen, is_seen_in}
 use Rattle.parfind.specs.Looking.{is_fit}
 
 -- a slice that passes a test is there
-passing : {A : Type 0} (test : A → Bool) (found : Option A) → option_map_or test found false ≡ true
+pub passing : {A : Type 0} (test : A → Bool) (found : Option A) → option_map_or test found false ≡ true
     → (x : A) × (found ≡ Some x) × (test x ≡ true)
 passing test None h = cc
 passing test (Some x) h = (x, refl, h)
@@ -73,7 +73,7 @@ module _ (set : SliceSet) (file : List ℕ) (offset left : ℕ) (sums : Hash16 �
 
 -- a slice that fits has the CRC-32 of the window
 
-passing_has : {A : Type 0} (test : A → Bool) (xs : List A) (n : ℕ) (x : A) → slice_get xs n ≡ Some x → test x ≡ true → list_any test xs ≡ true
+pub passing_has : {A : Type 0} (test : A → Bool) (xs : List A) (n : ℕ) (x : A) → slice_get xs n ≡ Some x → test x ≡ true → list_any test xs ≡ true
 passing_has test [] n x at h = cc
 passing_has test (y ∷ ys) zero x at h = let e : y ≡ x = cc in or_left (test y) (list_any test ys) (ap test e ∙ h)
 passing_has test (y ∷ ys) (suc n) x at h = or_right (test y) (list_any test ys) (passing_has test ys n x at h)

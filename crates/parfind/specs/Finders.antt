@@ -5,9 +5,11 @@ use Rattle.parwindow.specs.Index.{SliceSet}
 use Rattle.parwindow.specs.Window.{WindowState}
 use Rattle.parfind.specs.declared.cursor.Cursor.{Cursor}
 use Rattle.parfind.specs.declared.track.Track.{Track}
+use Rattle.parfind.specs.Looking.{HasFit}
 use Rattle.parfind.specs.Marks.{marked_between}
 use Rattle.parfind.specs.Order.{is_from}
 use Rattle.parfind.specs.Places.{Place, start_of}
+use Rattle.parfind.specs.Reach.{SearchState}
 use Rattle.parfind.specs.Steps.{scan_of}
 use Rattle.parfind.specs.Tracks.{IsTied, fetched_of, hashed_of}
 
@@ -25,13 +27,20 @@ pub record FinderState : Type 0 where
   pub window : WindowState
   pub track : Track
 
+-- how far a finder is, and how far its shelf was read
+abbrev pub search_of : ShelfState → FinderState → SearchState
+search_of shelf finder = record { shelf = shelf; fetched = finder.fetched; cursor = finder.cursor }
+
 -- the finder searches for these slices in these files: its window has their size and goes along a
--- file, at the cursor if that is in this file; on a steady shelf it was hashed at marked places only
+-- file, not past the cursor, and at it where a slice fits into what is left of that file; on a steady
+-- shelf it was hashed at marked places only
 pub record BelongsTo (finder : FinderState) (set : SliceSet) (shelf : ShelfState) : Type 0 where
   pub sized : finder.window.capacity ≡ set.slice_size
   pub tied : IsTied shelf finder.window finder.track
   pub behind : finder.track.file ≤ finder.cursor.file
-  pub here : finder.track.file ≡ finder.cursor.file → finder.track.held ≡ finder.cursor.offset
+  pub not_past : finder.track.file ≡ finder.cursor.file → finder.track.held ≤ finder.cursor.offset
+  pub here : finder.track.file ≡ finder.cursor.file → HasFit set shelf.lengths finder.cursor
+      → finder.track.held ≡ finder.cursor.offset
   pub fetched_is : finder.fetched ≡ fetched_of finder.track
   pub digests_are : finder.digests ≡ finder.window.digests
   pub onward : IsTrue (is_from (start_of finder.opening) (hashed_of finder.track))

@@ -1,14 +1,22 @@
 -- The place that a search comes to next, and the slices that may be seen there.
-use Rattle.std.specs.Prelude.{ℕ, ◌<◌, ◌&&◌, nat_le, Bool, List, length, slice_index, IsTrue}
+use Rattle.std.specs.Prelude.{ℕ, ◌-◌, ◌<◌, ◌&&◌, nat_le, Bool, List, length, slice_index, IsTrue}
 use Rattle.parfield.specs.declared.hash16.Hash16.{Hash16}
 use Rattle.parset.specs.declared.recovery_set.SetSlice.{SetSlice}
-use Rattle.parwindow.specs.Index.{has_sums}
+use Rattle.parwindow.specs.Index.{SliceSet, has_sums, has_fit_in}
 use Rattle.parfind.specs.declared.cursor.Cursor.{Cursor}
 use Rattle.parfind.specs.Order.{is_from}
 
 -- the cursor stands at a place
 abbrev pub IsAtPlace : List ℕ → Cursor → Type 0
 IsAtPlace lengths c = c.offset < slice_index lengths c.file
+
+-- how many bytes of its file are ahead of a cursor
+abbrev pub rest_of : List ℕ → Cursor → ℕ
+rest_of lengths c = slice_index lengths c.file - c.offset
+
+-- what is left of the cursor's file has room for some slice with sums
+abbrev pub HasFit : SliceSet → List ℕ → Cursor → Type 0
+HasFit set lengths c = IsTrue (has_fit_in set (rest_of lengths c))
 
 -- d is the least cursor from c on that stands at a place
 pub record IsNextPlace (lengths : List ℕ) (c d : Cursor) : Type 0 where

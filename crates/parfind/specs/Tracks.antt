@@ -67,6 +67,11 @@ pub record SameTrack (a b : Track) : Type 0 where
   pub held_is : b.held ≡ a.held
   pub digest_is : b.digest ≡ a.digest
 
+-- the window is that of the cursor's place, or is being filled for it
+pub record StandsAt (t : Track) (c : Cursor) : Type 0 where
+  pub file_is : t.file ≡ c.file
+  pub held_is : t.held ≡ c.offset
+
 -- what was read last now begins where it ended before
 pub record IsReadOn (a b : Track) : Type 0 where
   pub same : SameTrack a b

@@ -1,16 +1,18 @@
-ghost use Rattle.std.specs.Prelude.{◌≡◌, ◌≢◌, ◌-◌, ◌<◌, ◌≤◌, None, Some, length, option_map, IsTrue, OnOk, IfOk, IfErr};
+ghost use Rattle.std.specs.Prelude.{◌≡◌, ◌≢◌, ◌-◌, ◌<◌, ◌≤◌, None, Some, Ok, length, option_map, IsTrue, OnOk, IfOk, IfErr};
 ghost use Rattle.parshelf.specs.Reads.{ReadsOnly, FaultsIn};
-ghost use Rattle.parfind.specs.Finders.{BelongsTo};
-ghost use Rattle.parfind.specs.Looking.{IsAtPlace, IsNextPlace};
+ghost use Rattle.parfind.specs.Finders.{BelongsTo, search_of};
+ghost use Rattle.parfind.specs.declared.finder.Step.TheVariants.{Spent};
+ghost use Rattle.parfind.specs.Looking.{HasFit, IsAtPlace, IsNextPlace};
 ghost use Rattle.parfind.specs.Marks.{marks};
-ghost use Rattle.parfind.specs.Moves.{StepMoves, IsWithin, Advances};
+ghost use Rattle.parfind.specs.Moves.{StepMoves, PassesAll, IsWithin, Advances, steps_left};
 ghost use Rattle.parfind.specs.Places.{place_at};
-ghost use Rattle.parfind.specs.Reach.{ReadsUpTo, IsNear};
+ghost use Rattle.parfind.specs.Reach.{CallReads, ReadsUpTo};
 ghost use Rattle.parfind.specs.Steps.{StepGives, scan_of};
+ghost use Rattle.parfind.specs.Tracks.{StandsAt};
 ghost use Rattle.parfind.specs.Visits.{StepSees, step_of, count_of};
 
 use crate::cursor::Cursor;
-use crate::places::next_place;
+use crate::places::{next_place, rest_of};
 use crate::sighting::Sighting;
 use crate::track::Track;
 use parshelf::{ReadFault, Shelf};
@@ -106,9 +108,8 @@ impl Finder {
             (FaultsIn (H.state shelf.old) (H.state shelf.new) self.new.cursor.file) }
 
         // How much is read, on any shelf.
-        ensures reads { ReadsUpTo (H.state shelf.old) (H.state shelf.new)
-            self.old.fetched self.new.fetched }
-        ensures near { IsNear index.now.slice_size self.new.fetched self.new.cursor }
+        ensures reads { CallReads index.now.slice_size
+            (search_of (H.state shelf.old) self.old) (search_of (H.state shelf.new) self.new) }
         ensures digests { IsTrue (H.state shelf.new).is_steady → self.new.digests
             ≤ marks (scan_of index.now (H.state shelf.new)) self.new.opening self.new.cursor }
         ensures opening { self.new.opening ≡ self.old.opening }
@@ -145,9 +146,8 @@ impl Finder {
             (FaultsIn (H.state shelf.old) (H.state shelf.new) self.new.cursor.file) }
 
         // How much is read, on any shelf.
-        ensures reads { ReadsUpTo (H.state shelf.old) (H.state shelf.new)
-            self.old.fetched self.new.fetched }
-        ensures near { IsNear index.now.slice_size self.new.fetched self.new.cursor }
+        ensures reads { CallReads index.now.slice_size
+            (search_of (H.state shelf.old) self.old) (search_of (H.state shelf.new) self.new) }
         ensures digests { IsTrue (H.state shelf.new).is_steady → self.new.digests
             ≤ marks (scan_of index.now (H.state shelf.new)) self.new.opening self.new.cursor }
         ensures opening { self.new.opening ≡ self.old.opening }
@@ -201,7 +201,8 @@ impl Finder {
     }
 
     // A step with a budget that it names, which is within the one that is left: the first place
-    // from the cursor on, and those behind it where the window's CRC-32 is no slice's.
+    // from the cursor on, and those behind it where the window's CRC-32 is no slice's, or all that
+    // are left of a file into which no slice fits any more.
     fn visit<H: Shelf>(
         &mut self,
         index: &Index,
@@ -240,8 +241,40 @@ impl Finder {
             }
             return Ok((Step::Done, 1));
         };
+        if !index.fits(rest_of(shelf, at)) {
+            return Ok((Step::Spent, self.skip(index, shelf, at, left)));
+        }
         self.arrive(index, shelf, at)?;
         self.look(index, shelf, left)
+    }
+
+    // Passes the places that are left of a file into which no slice fits any more, as many as the
+    // budget has. The window stays.
+    fn skip<H: Shelf>(&mut self, index: &Index, shelf: &H, at: Cursor, left: Option<u64>) -> u64
+        requires left { left ≢ Some 0 }
+        requires next { IsNextPlace (H.state shelf.now).lengths self.old.cursor at }
+        requires none { ¬ HasFit index.now (H.state shelf.now).lengths at }
+        requires belongs { BelongsTo self.old index.now (H.state shelf.now) }
+        ensures belongs { BelongsTo self.new index.now (H.state shelf.now) }
+
+        ensures sees { IsTrue (H.state shelf.now).is_steady →
+            StepSees (scan_of index.now (H.state shelf.now))
+            self.old.cursor (Ok Spent) self.new.cursor }
+        ensures passes { PassesAll (H.state shelf.now).lengths result
+            self.old.cursor self.new.cursor }
+        ensures advances { steps_left index.now (H.state shelf.now).lengths self.new.cursor
+            < steps_left index.now (H.state shelf.now).lengths self.old.cursor }
+        ensures within { IsWithin result left }
+        ensures stays { self.new ≡ record self.old { cursor = self.new.cursor } }
+    {
+        let _ = index;
+        let count = rest_of(shelf, at).min(left.unwrap_or(u64::MAX));
+        self.cursor = Cursor {
+            file: at.file,
+            offset: at.offset + count,
+            slice: 0,
+        };
+        count
     }
 
     // Goes to the next place, and brings the window there.
@@ -252,10 +285,11 @@ impl Finder {
         at: Cursor,
     ) -> Result<(), ReadFault>
         requires next { IsNextPlace (H.state shelf.old).lengths self.old.cursor at }
+        requires fits { HasFit index.now (H.state shelf.old).lengths at }
         requires belongs { BelongsTo self.old index.now (H.state shelf.old) }
         ensures belongs { BelongsTo self.new index.now (H.state shelf.new) }
         ensures cursor { self.new.cursor ≡ at }
-        ensures same { self.new.track.file ≡ at.file }
+        ensures stands { StandsAt self.new.track at }
         ensures full { OnOk result (length self.new.window.content ≡ self.new.window.capacity) }
 
         ensures ok { OnOk result (ReadsOnly (H.state shelf.old) (H.state shelf.new)) }
@@ -281,7 +315,7 @@ impl Finder {
         requires left { left ≢ Some 0 }
         requires file { self.old.cursor.file < length (H.state shelf.old).lengths }
         requires there { IsAtPlace (H.state shelf.old).lengths self.old.cursor }
-        requires same { self.old.track.file ≡ self.old.cursor.file }
+        requires stands { StandsAt self.old.track self.old.cursor }
         requires full { length self.old.window.content ≡ self.old.window.capacity }
         requires belongs { BelongsTo self.old index.now (H.state shelf.old) }
         ensures belongs { BelongsTo self.new index.now (H.state shelf.new) }
@@ -305,7 +339,7 @@ impl Finder {
         ensures no_fewer { self.old.digests ≤ self.new.digests }
     {
         let at = self.cursor;
-        let rest = shelf.length(at.file) - at.offset;
+        let rest = rest_of(shelf, at);
         if let Some(slice) = self
             .track
             .first_seen(&mut self.window, index, rest, at.slice)

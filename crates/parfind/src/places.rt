@@ -1,5 +1,5 @@
-ghost use Rattle.std.specs.Prelude.{IfSome, IfNone};
-ghost use Rattle.parfind.specs.Looking.{IsNextPlace, NoPlaceFrom};
+ghost use Rattle.std.specs.Prelude.{◌≡◌, ◌<◌, length, IfSome, IfNone};
+ghost use Rattle.parfind.specs.Looking.{IsAtPlace, IsNextPlace, NoPlaceFrom, rest_of};
 
 use crate::cursor::Cursor;
 use parshelf::Shelf;
@@ -21,4 +21,13 @@ pub fn next_place<H: Shelf>(shelf: &H, from: Cursor) -> Option<Cursor>
         };
     }
     None
+}
+
+// How many bytes of its file are ahead of a place.
+pub fn rest_of<H: Shelf>(shelf: &H, at: Cursor) -> u64
+    requires counted { at.file < length (H.state shelf.now).lengths }
+    requires there { IsAtPlace (H.state shelf.now).lengths at }
+    ensures { result ≡ rest_of (H.state shelf.now).lengths at }
+{
+    shelf.length(at.file) - at.offset
 }

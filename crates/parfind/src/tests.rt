@@ -60,30 +60,37 @@ fn digest_of(alloc: Global, bytes: &[u8]) -> Result<Hash16, Fail> {
     Ok(window.digest())
 }
 
-// The set of one file of these bytes, in slices of four, whose sums are known.
-fn set_of(alloc: Global, content: &[u8]) -> Result<RecoverySet, Fail> {
+// The set of one file of this length, in slices of four, with these sums, if they are all.
+fn set_with(alloc: Global, length: u64, pairs: &[u8]) -> Result<RecoverySet, Fail> {
     let mut main = Vec::new(alloc);
     main.extend_from_slice(b"\x04\0\0\0\0\0\0\0\x01\0\0\0")?;
     main.extend_from_slice(&[7; 16])?;
     let set = digest_of(alloc, main.as_slice())?;
     let mut description = vec![in alloc; 7; 48]?;
-    description.extend_from_slice(&(content.len() as u64).to_le_bytes())?;
+    description.extend_from_slice(&length.to_le_bytes())?;
     description.extend_from_slice(b"name")?;
     let mut sums = vec![in alloc; 7; 16]?;
-    for own in content.chunks(4) {
-        let mut window = Window::new(alloc, 4)?;
-        for place in 0..4 {
-            let _ = window.push(own.get(place).copied().unwrap_or(0));
-        }
-        sums.extend_from_slice(&window.digest().0)?;
-        sums.extend_from_slice(&window.crc().to_le_bytes())?;
-    }
+    sums.extend_from_slice(pairs)?;
     let packets = vec![in alloc;
         packet(set, Kind::Main, main)?,
         packet(set, Kind::FileDesc, description)?,
         packet(set, Kind::Ifsc, sums)?,
     ]?;
     Ok(build(alloc, &packets, None)?)
+}
+
+// The set of one file of these bytes, in slices of four, whose sums are known.
+fn set_of(alloc: Global, content: &[u8]) -> Result<RecoverySet, Fail> {
+    let mut pairs = Vec::new(alloc);
+    for own in content.chunks(4) {
+        let mut window = Window::new(alloc, 4)?;
+        for place in 0..4 {
+            let _ = window.push(own.get(place).copied().unwrap_or(0));
+        }
+        pairs.extend_from_slice(&window.digest().0)?;
+        pairs.extend_from_slice(&window.crc().to_le_bytes())?;
+    }
+    set_with(alloc, content.len() as u64, pairs.as_slice())
 }
 
 // An index of the slices of that set.
@@ -364,6 +371,70 @@ fn a_step_reads_little_further_than_its_window(rt: HostRuntime) -> Result<(), Fa
     steps_give(&rt, &mut finder, &index, &mut shelf, &wanted);
     assert!(rt; shelf.handed() <= 4_101);
     Ok(())
+}
+
+// Takes steps with these budgets over files whose first read fails; wants these answers and cursors,
+// and no byte handed over.
+fn reads_nothing(
+    rt: &(impl Abort + AllocGlobal),
+    index: &Index,
+    files: &[&[u8]],
+    at: Cursor,
+    wanted: &[(u64, Step, Cursor)],
+) -> Result<(), Fail> {
+    let mut shelf = shelf_of(rt, files, 64, 1)?;
+    let mut finder = Finder::open(rt.alloc(), index, &shelf, at)?;
+    steps_give(rt, &mut finder, index, &mut shelf, wanted);
+    assert_eq!(rt; shelf.handed(), 0);
+    Ok(())
+}
+
+#[test]
+fn files_into_which_no_slice_fits_are_not_read(rt: HostRuntime) -> Result<(), Fail> {
+    let index = index_of(&rt, b"abcdefgh")?;
+    let files: [&[u8]; 3] = [b"abc", b"", b"ef"];
+    let small = [
+        (2, Step::Spent, cursor(0, 2, 0)),
+        (2, Step::Spent, cursor(2, 1, 0)),
+        (1, Step::Spent, cursor(2, 2, 0)),
+        (1, Step::Done, cursor(3, 0, 0)),
+    ];
+    reads_nothing(&rt, &index, &files, START, &small)?;
+    let most = [(u64::MAX, Step::Done, cursor(3, 0, 0))];
+    reads_nothing(&rt, &index, &files, START, &most)
+}
+
+#[test]
+fn the_rest_of_a_file_is_not_read_where_no_slice_fits(rt: HostRuntime) -> Result<(), Fail> {
+    let index = index_of(&rt, b"abcdef")?;
+    let wanted = [
+        (1, Step::Spent, cursor(0, 10, 0)),
+        (1, Step::Done, cursor(1, 0, 0)),
+    ];
+    reads_nothing(&rt, &index, &[b"XXXXXXXXab"], cursor(0, 9, 1), &wanted)?;
+    let mut shelf = shelf_of(&rt, &[b"e", b"ef"], 64, 0)?;
+    let mut finder = Finder::open(rt.alloc(), &index, &shelf, START)?;
+    gives(
+        &rt,
+        &mut finder,
+        &index,
+        &mut shelf,
+        &[hit(1, 0, 1), Step::Done],
+    );
+    assert_eq!(rt; shelf.handed(), 2);
+    Ok(())
+}
+
+#[test]
+fn nothing_is_read_where_no_sums_are_known(rt: HostRuntime) -> Result<(), Fail> {
+    let index = Index::new(rt.alloc(), &set_with(rt.alloc(), 8, b"")?)?;
+    let files: [&[u8]; 2] = [b"abcdefgh", b"abcd"];
+    let wanted = [
+        (5, Step::Spent, cursor(0, 5, 0)),
+        (5, Step::Spent, cursor(1, 2, 0)),
+        (3, Step::Done, cursor(2, 0, 0)),
+    ];
+    reads_nothing(&rt, &index, &files, START, &wanted)
 }
 
 // What the word counts that bounds the digests. Does nothing.

@@ -1,4 +1,4 @@
-use Rattle.std.proofs.Common.{◌≡◌, ℕ, ◌+◌, ◌-◌, ◌≤◌, slice_index, sym, ap, ◌∙◌, subst, arith, Some, None, refl, length, ◌<◌}
+use Rattle.std.proofs.Common.{◌≡◌, ℕ, ◌+◌, ◌≤◌, slice_index, sym, ap, ◌∙◌, subst, arith, Some, None, refl, length, ◌<◌}
 use Rattle.std.proofs.lemmas.Result.{err_from_is_err_and}
 use Rattle.parshelf.specs.Shelf.{ShelfState}
 use Rattle.parwindow.specs.Index.{SliceSet}
@@ -10,7 +10,7 @@ use Rattle.parfind.specs.Moves.{StepMoves}
 use Rattle.parfind.specs.Steps.{scan_of}
 use Rattle.parfind.specs.Visits.{StepSees, step_of, count_of}
 use Rattle.parfind.proofs.AdvanceLaws.{fewer_after, fewer_past, no_more}
-use Rattle.parfind.specs.Tracks.{remembered}
+use Rattle.parfind.specs.Tracks.{StandsAt, remembered}
 use Rattle.parfind.proofs.BelongsLaws.{with_window, look_belongs, goes_on_belongs, fault_files, read_files}
 use Rattle.parfind.proofs.MarkLaws.{From-further, remembered-most}
 use Rattle.parfind.proofs.LookLaws.{look_seen, within_left}
@@ -36,12 +36,12 @@ returns-in-Some-clause-sees g c = λ steady.
     let same : c.self.inside.cursor ≡ at = ap (λ (f : FinderState). f.cursor) c.self.view_is in
     let window = ap (λ (f : FinderState). f.window) c.self.view_is in
     let next : IsNextPlace s.lengths at at = next_here s.lengths at c.requires.file c.requires.there in
-    let rest : at.offset + (c.length.result - at.offset) ≡ slice_index s.lengths at.file =
-    omega (arith, c.requires.there, c.length.ensures.value, ap (λ (b : Cursor). slice_index s.lengths b.file) same, ap (λ (b : Cursor). b.offset) same) in
+    let rest : at.offset + c.rest_of-rest.result ≡ slice_index s.lengths at.file =
+    omega (arith, c.requires.there, c.rest_of-rest.ensures, ap (λ (b : Cursor). slice_index s.lengths b.file) same, ap (λ (b : Cursor). b.offset) same) in
     let least = rw (c.in-Some.is, same, window) at c.first_seen.ensures.first in
     rw same (visit_hit set s (g.met.H.Shelf.in_order c.args.shelf.now) steady at at next c.in-Some.slice
-    (look_seen f set s c.requires.belongs (g.met.H.Shelf.in_order c.args.shelf.now) steady c.requires.same c.requires.full
-    (c.length.result - at.offset) c.requires.there rest (Some c.in-Some.slice) least))
+    (look_seen f set s c.requires.belongs (g.met.H.Shelf.in_order c.args.shelf.now) steady c.requires.stands c.requires.full
+    c.rest_of-rest.result c.requires.there rest (Some c.in-Some.slice) least))
 
 pub returns-in-Some-clause-advances : goal.returns-in-Some-clause-advances
 returns-in-Some-clause-advances g c =
@@ -87,10 +87,10 @@ returns-clause-moves g c =
     let same : c.self.inside.cursor ≡ at = ap (λ (f : FinderState). f.cursor) c.self.view_is in
     let passes = c.in_ok-count.ensures.passes in
     let file : c.first_seen.new.self.file ≡ at.file =
-    ap (λ (t : Track). t.file) c.first_seen.ensures.looks.track_is ∙ ap (λ (f : FinderState). f.track.file) c.self.view_is ∙ c.requires.same in
+    ap (λ (t : Track). t.file) c.first_seen.ensures.looks.track_is ∙ ap (λ (f : FinderState). f.track.file) c.self.view_is ∙ c.requires.stands.file_is in
     let held : c.first_seen.new.self.held ≡ at.offset =
     ap (λ (t : Track). t.held) c.first_seen.ensures.looks.track_is ∙ ap (λ (f : FinderState). f.track.held) c.self.view_is
-    ∙ c.requires.belongs.here c.requires.same in
+    ∙ c.requires.stands.held_is in
     let inside = rw (held, file) at passes.inside in
     rw same (passes_some s.lengths at c.in_ok-count.count passes.some c.requires.file inside)
 
@@ -103,18 +103,18 @@ returns-clause-sees g c = λ steady.
     let same : c.self.inside.cursor ≡ at = ap (λ (f : FinderState). f.cursor) c.self.view_is in
     let next : IsNextPlace s.lengths at at = next_here s.lengths at c.requires.file c.requires.there in
     let file : c.first_seen.new.self.file ≡ at.file =
-    ap (λ (t : Track). t.file) c.first_seen.ensures.looks.track_is ∙ ap (λ (f : FinderState). f.track.file) c.self.view_is ∙ c.requires.same in
+    ap (λ (t : Track). t.file) c.first_seen.ensures.looks.track_is ∙ ap (λ (f : FinderState). f.track.file) c.self.view_is ∙ c.requires.stands.file_is in
     let held : c.first_seen.new.self.held ≡ at.offset =
     ap (λ (t : Track). t.held) c.first_seen.ensures.looks.track_is ∙ ap (λ (f : FinderState). f.track.held) c.self.view_is
-    ∙ c.requires.belongs.here c.requires.same in
+    ∙ c.requires.stands.held_is in
     let window = ap (λ (f : FinderState). f.window) c.self.view_is in
-    let rest : at.offset + (c.length.result - at.offset) ≡ slice_index s.lengths at.file =
-    omega (arith, c.requires.there, c.length.ensures.value, ap (λ (b : Cursor). slice_index s.lengths b.file) same, ap (λ (b : Cursor). b.offset) same) in
+    let rest : at.offset + c.rest_of-rest.result ≡ slice_index s.lengths at.file =
+    omega (arith, c.requires.there, c.rest_of-rest.ensures, ap (λ (b : Cursor). slice_index s.lengths b.file) same, ap (λ (b : Cursor). b.offset) same) in
     let least = rw (c.in_default.is, same, window) at c.first_seen.ensures.first in
     let none = rw (file, held) at (c.in_ok-count.ensures.none steady) in
     rw same (many_unseen set s (g.met.H.Shelf.in_order c.args.shelf.now) steady at next c.in_ok-count.count c.in_ok-count.ensures.passes.some
-    (look_seen f set s c.requires.belongs (g.met.H.Shelf.in_order c.args.shelf.now) steady c.requires.same c.requires.full
-    (c.length.result - at.offset) c.requires.there rest None least) none)
+    (look_seen f set s c.requires.belongs (g.met.H.Shelf.in_order c.args.shelf.now) steady c.requires.stands c.requires.full
+    c.rest_of-rest.result c.requires.there rest None least) none)
 
 pub returns-clause-advances : goal.returns-clause-advances
 returns-clause-advances g c =
@@ -135,12 +135,12 @@ returns-in-Some-clause-belongs g c =
     let f : FinderState = with_window (record c.args.self.now { opening = i.opening }) i.cursor i.window i.track in
     let is : f ≡ c.args.self.now = c.self.view_is in
     let belongs : BelongsTo f set s = subst (λ (x : FinderState). BelongsTo x set s) (sym is) c.requires.belongs in
-    let same : f.track.file ≡ f.cursor.file = subst (λ (x : FinderState). x.track.file ≡ x.cursor.file) (sym is) c.requires.same in
+    let stands : StandsAt f.track f.cursor = subst (λ (x : FinderState). StandsAt x.track x.cursor) (sym is) c.requires.stands in
     let full : length f.window.content ≡ f.window.capacity =
     subst (λ (x : FinderState). length x.window.content ≡ x.window.capacity) (sym is) c.requires.full in
     let counted : f.cursor.file < length s.lengths = subst (λ (x : FinderState). x.cursor.file < length s.lengths) (sym is) c.requires.file in
     let there : IsAtPlace s.lengths f.cursor = subst (λ (x : FinderState). IsAtPlace s.lengths x.cursor) (sym is) c.requires.there in
-    look_belongs f set s (g.met.H.Shelf.in_order c.args.shelf.now) belongs same full counted there c.first_seen.new.window c.first_seen.new.self
+    look_belongs f set s (g.met.H.Shelf.in_order c.args.shelf.now) belongs stands full counted there c.first_seen.new.window c.first_seen.new.self
     c.first_seen.ensures.looks c.first_seen.ensures.remembers c.first_seen.ensures.marked
     (record i.cursor { slice = c.in-Some.slice + 1 }) refl refl
 
@@ -152,22 +152,22 @@ returns-in_err-count-clause-belongs g c =
     let f : FinderState = with_window (record c.args.self.now { opening = i.opening }) i.cursor i.window i.track in
     let is : f ≡ c.args.self.now = c.self.view_is in
     let belongs : BelongsTo f set s = subst (λ (x : FinderState). BelongsTo x set s) (sym is) c.requires.belongs in
-    let same : f.track.file ≡ f.cursor.file = subst (λ (x : FinderState). x.track.file ≡ x.cursor.file) (sym is) c.requires.same in
+    let stands : StandsAt f.track f.cursor = subst (λ (x : FinderState). StandsAt x.track x.cursor) (sym is) c.requires.stands in
     let full : length f.window.content ≡ f.window.capacity =
     subst (λ (x : FinderState). length x.window.content ≡ x.window.capacity) (sym is) c.requires.full in
     let counted : f.cursor.file < length s.lengths = subst (λ (x : FinderState). x.cursor.file < length s.lengths) (sym is) c.requires.file in
     let there : IsAtPlace s.lengths f.cursor = subst (λ (x : FinderState). IsAtPlace s.lengths x.cursor) (sym is) c.requires.there in
     let f1 : FinderState = with_window f i.cursor c.first_seen.new.window c.first_seen.new.self in
-    let belongs1 : BelongsTo f1 set s = look_belongs f set s (g.met.H.Shelf.in_order c.args.shelf.now) belongs same full counted there c.first_seen.new.window c.first_seen.new.self
+    let belongs1 : BelongsTo f1 set s = look_belongs f set s (g.met.H.Shelf.in_order c.args.shelf.now) belongs stands full counted there c.first_seen.new.window c.first_seen.new.self
     c.first_seen.ensures.looks c.first_seen.ensures.remembers c.first_seen.ensures.marked
     i.cursor refl refl in
     let t : ShelfState = g.H.Shelf.state c.pass.new.shelf in
     let stays = c.in_err-count.ensures.stays in
-    let file : c.pass.new.self.file ≡ i.cursor.file = stays.0.file_is ∙ ap (λ (a : Track). a.file) c.first_seen.ensures.looks.track_is ∙ same in
+    let file : c.pass.new.self.file ≡ i.cursor.file = stays.0.file_is ∙ ap (λ (a : Track). a.file) c.first_seen.ensures.looks.track_is ∙ stands.file_is in
     goes_on_belongs f1 set s t belongs1 (fault_files set s t c.first_seen.new.self.file c.in_err-count.field-0.0 c.in_err-count.ensures.fault)
     i.cursor c.pass.new.window c.pass.new.self c.in_err-count.ensures.tied c.in_err-count.ensures.window
     (From-further c.first_seen.new.self c.pass.new.self (sym stays.0.file_is) (omega (arith, stays.0.held_is, ap remembered stays.0.digest_is)))
-    (omega (arith, file)) (λ e. stays.0.held_is ∙ ap (λ (a : Track). a.held) c.first_seen.ensures.looks.track_is ∙ belongs.here same)
+    (omega (arith, file)) (λ e. stays.0.held_is ∙ ap (λ (a : Track). a.held) c.first_seen.ensures.looks.track_is ∙ stands.held_is)
 
 pub returns-clause-belongs : goal.returns-clause-belongs
 returns-clause-belongs g c =
@@ -177,22 +177,36 @@ returns-clause-belongs g c =
     let f : FinderState = with_window (record c.args.self.now { opening = i.opening }) i.cursor i.window i.track in
     let is : f ≡ c.args.self.now = c.self.view_is in
     let belongs : BelongsTo f set s = subst (λ (x : FinderState). BelongsTo x set s) (sym is) c.requires.belongs in
-    let same : f.track.file ≡ f.cursor.file = subst (λ (x : FinderState). x.track.file ≡ x.cursor.file) (sym is) c.requires.same in
+    let stands : StandsAt f.track f.cursor = subst (λ (x : FinderState). StandsAt x.track x.cursor) (sym is) c.requires.stands in
     let full : length f.window.content ≡ f.window.capacity =
     subst (λ (x : FinderState). length x.window.content ≡ x.window.capacity) (sym is) c.requires.full in
     let counted : f.cursor.file < length s.lengths = subst (λ (x : FinderState). x.cursor.file < length s.lengths) (sym is) c.requires.file in
     let there : IsAtPlace s.lengths f.cursor = subst (λ (x : FinderState). IsAtPlace s.lengths x.cursor) (sym is) c.requires.there in
     let f1 : FinderState = with_window f i.cursor c.first_seen.new.window c.first_seen.new.self in
-    let belongs1 : BelongsTo f1 set s = look_belongs f set s (g.met.H.Shelf.in_order c.args.shelf.now) belongs same full counted there c.first_seen.new.window c.first_seen.new.self
+    let belongs1 : BelongsTo f1 set s = look_belongs f set s (g.met.H.Shelf.in_order c.args.shelf.now) belongs stands full counted there c.first_seen.new.window c.first_seen.new.self
     c.first_seen.ensures.looks c.first_seen.ensures.remembers c.first_seen.ensures.marked
     i.cursor refl refl in
     let t : ShelfState = g.H.Shelf.state c.pass.new.shelf in
     let r = c.in_ok-count.ensures in
-    let file : c.pass.new.self.file ≡ i.cursor.file = r.same ∙ ap (λ (a : Track). a.file) c.first_seen.ensures.looks.track_is ∙ same in
-    let held : c.first_seen.new.self.held ≡ i.cursor.offset = ap (λ (a : Track). a.held) c.first_seen.ensures.looks.track_is ∙ belongs.here same in
+    let file : c.pass.new.self.file ≡ i.cursor.file = r.same ∙ ap (λ (a : Track). a.file) c.first_seen.ensures.looks.track_is ∙ stands.file_is in
+    let held : c.first_seen.new.self.held ≡ i.cursor.offset = ap (λ (a : Track). a.held) c.first_seen.ensures.looks.track_is ∙ stands.held_is in
     let n : ℕ = c.in_ok-count.count in
     goes_on_belongs f1 set s t belongs1 (read_files set s t r.ok)
     (record { file = i.cursor.file; offset = i.cursor.offset + n; slice = 0 }) c.pass.new.window c.pass.new.self r.tied r.window
     (From-further c.first_seen.new.self c.pass.new.self (sym r.same)
     (omega (arith, r.passes.held_is, r.passes.some, remembered-most c.first_seen.new.self.digest)))
     (omega (arith, file)) (λ e. r.passes.held_is ∙ ap (λ (o : ℕ). o + n) held)
+
+pub overflow_add-self-2 : goal.overflow_add-self-2
+overflow_add-self-2 g c =
+    let s : ShelfState = g.H.Shelf.state c.args.shelf.now in
+    let at : Cursor = c.args.self.now.cursor in
+    let same : c.self.inside.cursor ≡ at = ap (λ (f : FinderState). f.cursor) c.self.view_is in
+    let passes = c.in_ok-count.ensures.passes in
+    let file : c.first_seen.new.self.file ≡ at.file =
+    ap (λ (t : Track). t.file) c.first_seen.ensures.looks.track_is ∙ ap (λ (f : FinderState). f.track.file) c.self.view_is ∙ c.requires.stands.file_is in
+    let held : c.first_seen.new.self.held ≡ at.offset =
+    ap (λ (t : Track). t.held) c.first_seen.ensures.looks.track_is ∙ ap (λ (f : FinderState). f.track.held) c.self.view_is
+    ∙ c.requires.stands.held_is in
+    let inside = rw (held, file) at passes.inside in
+    rw same (omega (arith, inside, (g.met.H.Shelf.in_order c.args.shelf.now).short at.file 0 c.requires.file))
