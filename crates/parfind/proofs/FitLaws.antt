@@ -46,7 +46,7 @@ fits_more set less more up fits =
     slice.sums) set.slices fits
 
 -- a slice that is seen fits
-seen_fits : (set : SliceSet) (file : List ℕ) (offset n : ℕ) → is_seen_in set file offset n ≡ true
+pub seen_fits : (set : SliceSet) (file : List ℕ) (offset n : ℕ) → is_seen_in set file offset n ≡ true
     → has_fit_in set (length file - offset) ≡ true
 seen_fits set file offset n seen =
     let sums : Hash16 × ℕ = sums_of (window_at set.slice_size file offset) in

@@ -1,6 +1,6 @@
 -- A window, and the slices that are seen in it.
-use Rattle.std.proofs.Common.{◌≡◌, ℕ, zero, suc, ◌+◌, ◌<◌, ◌≤◌, true, List, [], ◌∷◌, length, refl, sym, ap, ◌∙◌, arith, slice_get, Bool, false, ◌&&◌, ◌==◌, nat_le, nat_lt, Option, Some, None}
-use Rattle.std.proofs.lemmas.Bool.{and_parts, or_left, or_right, ltb-true, lt-ltb, leb-true, le-leb}
+use Rattle.std.proofs.Common.{◌≡◌, ℕ, zero, suc, ◌+◌, ◌<◌, true, List, [], ◌∷◌, length, refl, sym, ap, ◌∙◌, arith, slice_get, Bool, false, ◌&&◌, ◌==◌, nat_le, Option, Some, None}
+use Rattle.std.proofs.lemmas.Bool.{and_parts, or_left, or_right, ltb-true, lt-ltb}
 use Rattle.std.specs.List.{list_any}
 use Rattle.std.specs.Str.{bytes_eq}
 use Rattle.std.specs.Option.{option_map_or}
@@ -10,7 +10,7 @@ use Rattle.parfield.specs.declared.hash16.Hash16.{Hash16}
 use Rattle.parset.specs.declared.recovery_set.SetSlice.{SetSlice}
 use Rattle.parwindow.specs.Window.{window_at}
 use Rattle.parwindow.specs.Crc32.{crc_of}
-use Rattle.parwindow.specs.Index.{SliceSet, slice_passes, sums_of, has_crc_of, has_crc_in, has_fit_of, has_fit_in}
+use Rattle.parwindow.specs.Index.{SliceSet, slice_passes, sums_of, has_crc_of, has_crc_in}
 use Rattle.parwindow.specs.Least.{IsLeastFrom}
 use Rattle.parfind.specs.Sightings.{is_seen, is_seen_in}
 use Rattle.parfind.specs.Looking.{is_fit}
@@ -101,20 +101,3 @@ seen_has_crc set file offset n seen =
     let slice = passing (is_seen set.slice_size file offset) (slice_get set.slices n) seen in
     passing_has (has_crc_of sums.1) set.slices n slice.0 slice.1
     (has_both sums slice.0.sums (and_parts _ _ (and_parts _ _ slice.2).1).1)
-
--- a slice that is seen fits into what is left of the file
-
-fit_with_sums : (fits : Bool) (sums : Hash16 × ℕ) (known : Option (Hash16 × ℕ)) → fits ≡ true
-    → option_map_or (λ k. k.1 == sums.1 && bytes_eq k.0.0 sums.0.0) known false ≡ true → option_map_or (λ k. fits) known false ≡ true
-fit_with_sums fits sums None h has = has
-fit_with_sums fits sums (Some k) h has = h
-
-pub seen_fits : (set : SliceSet) (file : List ℕ) (offset left n : ℕ) → length file ≤ offset + left → is_seen_in set file offset n ≡ true
-    → has_fit_in set left ≡ true
-seen_fits set file offset left n rest seen =
-    let sums : Hash16 × ℕ = sums_of (window_at set.slice_size file offset) in
-    let slice = passing (is_seen set.slice_size file offset) (slice_get set.slices n) seen in
-    let parts = and_parts (nat_le (offset + slice.0.length) (length file)) _ (and_parts (nat_lt offset (length file)) _ slice.2).1 in
-    let within : offset + slice.0.length ≤ length file = leb-true (offset + slice.0.length) (length file) parts.0 in
-    let fits : nat_le slice.0.length left ≡ true = le-leb slice.0.length left (omega arith) in
-    passing_has (has_fit_of left) set.slices n slice.0 slice.1 (fit_with_sums (nat_le slice.0.length left) sums slice.0.sums fits parts.1)

@@ -1,14 +1,10 @@
 -- What a survey has done once it is at a cursor, and how it goes on.
-use Rattle.std.proofs.Common.{◌≡◌, ℕ, ◌+◌, ◌<◌, ◌≤◌, Bool, true, false, ◌||◌, List, [], ◌∷◌, length, refl, sym, ap, ◌∙◌, subst, arith, IsTrue, inl, inr, slice_index, nat_le, Option, Some, None, if◌then◌else◌}
-use Rattle.std.specs.List.{list_any}
-use Rattle.std.specs.Option.{option_map_or}
-use Rattle.std.proofs.lemmas.Bool.{cases_eq, cases_lt, or_cases, or_left, or_right, le-leb, leb-true}
+use Rattle.std.proofs.Common.{◌≡◌, ℕ, ◌+◌, ◌<◌, ◌≤◌, Bool, true, false, ◌||◌, List, [], length, refl, sym, ap, ◌∙◌, subst, arith, IsTrue, inl, inr, slice_index, if◌then◌else◌}
+use Rattle.std.proofs.lemmas.Bool.{cases_eq, cases_lt, or_cases, or_left, or_right}
 use Rattle.std.proofs.lemmas.List.{length-map}
 use Rattle.std.proofs.Math.Bool.{or-false, or_assoc}
 use Rattle.parshelf.specs.Shelf.{ShelfState, IsShelf, file_of}
-use Rattle.parfield.specs.declared.hash16.Hash16.{Hash16}
-use Rattle.parset.specs.declared.recovery_set.SetSlice.{SetSlice}
-use Rattle.parwindow.specs.Index.{SliceSet, has_fit_of, has_fit_in}
+use Rattle.parwindow.specs.Index.{SliceSet, has_fit_in}
 use Rattle.parwindow.specs.Window.{WindowState}
 use Rattle.parfind.specs.declared.cursor.Cursor.{Cursor}
 use Rattle.parfind.specs.declared.track.Track.{Track}
@@ -24,29 +20,13 @@ use Rattle.parfind.specs.Handed.{HandsEachOnce, HandsAround}
 use Rattle.parfind.specs.Surveys.{is_sighted, is_sighted_before, mark_of, IsAllMarked, MarksSighted, MarksNoOther, MarksUpToFault, KeepsMarks, StopsOnceFound}
 use Rattle.parfind.specs.Surveying.{SurveyState, Surveyed, cursor_to, missing_to}
 use Rattle.parfind.specs.Tracks.{IsTied, IsUnread, fetched_of}
+use Rattle.parfind.proofs.FitLaws.{fits_more}
 use Rattle.parfind.proofs.MarkLaws.{counted_rises, counted_more, counted_most}
 use Rattle.parfind.proofs.OrderLaws.{From}
 use Rattle.parfind.proofs.PlaceLaws.{From-past}
 use Rattle.parfind.proofs.ReachLaws.{upto-before, upto-here, upto-behind, upto-most, upto-rises, hands_none, hands_more}
 use Rattle.parfind.proofs.SightedLaws.{none_more, here_more, none_first, before_sighted, all_before, still_missing}
 use Rattle.parfind.proofs.VisitLaws.{same_lengths}
-
--- what fits into so many bytes fits into more
-
-fits_where : (left more : ℕ) → left ≤ more → (length_ : ℕ) (sums : Option (Hash16 × ℕ)) → option_map_or (λ k. nat_le length_ left) sums false ≡ true
-    → option_map_or (λ k. nat_le length_ more) sums false ≡ true
-fits_where left more less own None h = h
-fits_where left more less own (Some k) h = le-leb own more (omega (arith, leb-true own left h))
-
-any_more : (left more : ℕ) → left ≤ more → (slices : List SetSlice) → list_any (has_fit_of left) slices ≡ true → list_any (has_fit_of more) slices ≡ true
-any_more left more less [] h = h
-any_more left more less (x ∷ xs) h = elim (or_cases (has_fit_of left x) (list_any (has_fit_of left) xs) h) [
-  | inl e ↦ or_left (has_fit_of more x) (list_any (has_fit_of more) xs) (fits_where left more less x.length x.sums e)
-  | inr k ↦ or_right (has_fit_of more x) (list_any (has_fit_of more) xs) (any_more left more less xs k)
-]
-
-fits_more : (set : SliceSet) (left more : ℕ) → left ≤ more → has_fit_in set left ≡ true → has_fit_in set more ≡ true
-fits_more set left more less fits = any_more left more less set.slices fits
 
 -- where a survey begins
 abbrev pub start : Place

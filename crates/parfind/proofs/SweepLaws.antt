@@ -1,5 +1,5 @@
 -- A survey that goes on: to the next file, to the next place with the CRC-32 of a slice, over reads, and past a place that it looked at.
-use Rattle.std.proofs.Common.{◌≡◌, ℕ, ◌+◌, ◌<◌, ◌≤◌, ◌⊎◌, true, false, List, [], length, refl, sym, ap, ◌∙◌, subst, arith, IsTrue, inl, inr, slice_index}
+use Rattle.std.proofs.Common.{◌≡◌, ℕ, ◌+◌, ◌-◌, ◌<◌, ◌≤◌, ◌⊎◌, true, false, List, [], length, refl, sym, ap, ◌∙◌, subst, arith, IsTrue, inl, inr, slice_index}
 use Rattle.std.proofs.lemmas.Bool.{cases_eq}
 use Rattle.parshelf.specs.Shelf.{ShelfState, IsShelf, file_of}
 use Rattle.parshelf.specs.Reads.{ReadsOnly}
@@ -20,13 +20,14 @@ use Rattle.parfind.specs.Steps.{scan_of}
 use Rattle.parfind.specs.Surveying.{SurveyState, Surveyed, cursor_to}
 use Rattle.parfind.specs.Surveys.{mark_of}
 use Rattle.parfind.specs.Tracks.{IsTied, SameTrack, IsUnread, HasNoCrc, fetched_of}
+use Rattle.parfind.proofs.FitLaws.{fits_more, seen_fits}
 use Rattle.parfind.proofs.MarkingLaws.{missing_was}
 use Rattle.parfind.proofs.OrderLaws.{From-refl}
 use Rattle.parfind.proofs.PassLaws.{cursor_on, on_unseen, From-on}
 use Rattle.parfind.proofs.PlaceLaws.{sighting_seen}
 use Rattle.parfind.proofs.ReachLaws.{hands_enter}
 use Rattle.parfind.proofs.RisingLaws.{none_between}
-use Rattle.parfind.proofs.SeenLaws.{fit_seen, seen_inside, seen_fits}
+use Rattle.parfind.proofs.SeenLaws.{fit_seen, seen_inside}
 use Rattle.parfind.proofs.SurveyLaws.{surveyed_on, surveyed_here, others_unread, tied_near}
 use Rattle.parfind.proofs.TrackLaws.{whole_window}
 
@@ -93,7 +94,7 @@ module _ (set : SliceSet) (old now : SurveyState) (shelf : IsShelf old.shelf) (r
           elim full [
             | inl none ↦ omega arith
             | inr none ↦
-                let fits : has_fit_in set left ≡ true = seen_fits set file o left n (omega arith) seen in
+                let fits : has_fit_in set left ≡ true = fits_more set (length file - o) left (omega arith) (seen_fits set file o n seen) in
                 let both : true ≡ false = sym fits ∙ none in cc
           ]
 

@@ -59,8 +59,8 @@ abbrev pub StopsOnceFound : SliceSet → ShelfState → ShelfState → List Bool
 StopsOnceFound set old new was =
     (p : Place) → AllSightedBy (scan_of set old) was p → HandsAround set.slice_size old new p
 
--- what a fault of a file leaves: the marks of all sightings before a place of that file, and no more
--- was handed over than around it
+-- what a fault of a file leaves: the marks of all sightings before a place of that file, and no
+-- more was handed over than around it
 pub record MarksUpToFault
     (set : SliceSet) (old new : ShelfState) (was now : List Bool) (file : ℕ) : Type 0 where
   pub place : Place
