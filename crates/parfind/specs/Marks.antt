@@ -1,4 +1,4 @@
--- The places whose windows have the CRC-32 of a slice: only there a digest is taken.
+-- The places whose windows have the CRC-32 of a slice, as many as digests may be taken.
 use Rattle.std.specs.Prelude.{ℕ, ◌&&◌, not, Bool, List, length, map, filter}
 use Rattle.std.specs.List.{list_any, range_with_len}
 use Rattle.parwindow.specs.Crc32.{crc_of}

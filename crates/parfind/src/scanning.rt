@@ -45,12 +45,15 @@ pub fn survey<H: Shelf>(
         OnOk result (MarksSighted (scan_of index.now (H.state shelf.old)) found.old found.new) }
     ensures no_other { IsTrue (H.state shelf.old).is_steady →
         OnErr result (MarksNoOther (scan_of index.now (H.state shelf.old)) found.old found.new) }
+    ensures stops { IsTrue (H.state shelf.old).is_steady →
+        StopsOnceFound index.now (H.state shelf.old) (H.state shelf.new) found.old }
 
     // On any shelf.
     ensures kept { KeepsMarks found.old found.new }
     ensures ok { OnOk result (ReadsOnly (H.state shelf.old) (H.state shelf.new)) }
     ensures fault { IfErr result (SurveyLeaves (H.state shelf.old) (H.state shelf.new)) }
     ensures handed { HandsEachOnce (H.state shelf.old) (H.state shelf.new) }
+    ensures unfit { SkipsUnfit index.now (H.state shelf.old) (H.state shelf.new) }
     ensures none { IsAllMarked found.old → H.state shelf.new ≡ H.state shelf.old }
 {
     let mut window = Window::new(alloc, index.size() as usize)?;
@@ -61,8 +64,8 @@ pub fn survey<H: Shelf>(
 }
 
 /// The same with a window that is handed in, and without memory; a fault comes with its file's
-/// number. An MD5 is taken only where a slice that has no mark has the CRC-32, and nothing is read
-/// once each slice has its mark.
+/// number. MD5s are taken no more often than there are places where a slice that has no mark at the
+/// call has the CRC-32, and no more is read than around the place by which each slice has its mark.
 pub fn survey_in<H: Shelf>(
     index: &Index,
     shelf: &mut H,

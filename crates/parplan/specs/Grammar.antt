@@ -36,5 +36,6 @@ abbrev pub grammar_of : Verb → App
 grammar_of verb.Packets = shared_grammar
 grammar_of verb.Set = shared_grammar
 grammar_of verb.Find =
-    with_rule (with_rule shared_grammar (option_rule (codes "limit"))) (option_rule (codes "cursor"))
+    with_rule (with_rule shared_grammar (option_rule (codes "limit")))
+    (option_rule (codes "cursor"))
 grammar_of verb.Verify = with_rule shared_grammar quiet_rule

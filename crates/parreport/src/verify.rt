@@ -87,7 +87,8 @@ pub fn verify<Q: Shelf, W: Sink>(
 }
 
 // The text and the status: how the files on the shelf, of these names, stand to the
-// files of the set. Each is read whole, and then they are searched for the set's slices.
+// files of the set. Those of a length of the set are read whole, and then all are searched for
+// slices that are not found yet.
 fn text_and_status<Q: Shelf>(
     alloc: Global,
     quiet: u8,
@@ -113,7 +114,7 @@ fn text_and_status<Q: Shelf>(
     Ok((text, findings.status(set)))
 }
 
-// The findings of the scanned files, which are read whole and then searched for slices.
+// The findings of the scanned files, whose MD5s are taken before they are searched for slices.
 fn findings_on<Q: Shelf>(
     alloc: Global,
     files: &[Scanned],

@@ -24,7 +24,7 @@ pub struct LengthAndMd5 {
 }
 
 /// What is asked of each scanned file, in order: its length and its MD5, where some file of the set
-/// has that length. No other is read.
+/// has that length. Of no other file a byte is handed over.
 pub fn contents<Q: Shelf>(
     alloc: Global,
     files: &[SetFile],
