@@ -1,9 +1,12 @@
 #!/usr/bin/env python3
-"""Compares the verdict of `parv verify` with that of `par2 verify` on small sets, damaged in many ways.
+"""Compares the verdict of `parv verify` with that of `par2 verify` on sets that are damaged in many ways.
 
-Needs par2 (Debian package par2) and the built program. Each case makes a set of three files anew,
-damages the folder, and runs both over all that is there. Prints a line for each case; a case whose
-answers differ is one that EXPLAINED names, or the exit status is 1.
+usage: compare_with_par2.py [SLICE_SIZE ..]
+
+Needs par2 (Debian package par2) and the built program. With slices of 512 bytes, 64 KiB and 1 MiB, or
+of the sizes that are given, each case makes a set of three files of some thirty slices anew, damages the
+folder, and runs both over all that is there. Prints a line for each case; a case whose answers differ is
+one that EXPLAINED names, or the exit status is 1.
 """
 
 import glob
@@ -16,7 +19,10 @@ import tempfile
 
 PARV = os.path.join(os.path.dirname(os.path.abspath(__file__)), "../crates/parv/out/parv")
 VERDICTS = {0: "complete", 1: "possible", 2: "impossible", 4: "no set"}
+SIZES = [512, 65536, 1048576]
+# Lengths, and below the places of damage, are those of slices of 512 bytes; larger ones multiply them.
 FILES = {"a.bin": 9000, "b.bin": 5120, "c.bin": 777}
+times = 1
 
 # The cases in which the two answer differently, and why.
 SHORT_SLICE = "par2 also sees a short last slice where other bytes follow it; parv where the file ends or goes on with zeros"
@@ -36,25 +42,33 @@ def write(name, data):
         file.write(data)
 
 
-def flip(name, at):
+def flip_byte(name, at):
     data = read(name)
     data[at] ^= 0xFF
     write(name, data)
 
 
+def flip(name, at):
+    flip_byte(name, at * times)
+
+
 def insert(name, at, more):
     data = read(name)
-    data[at:at] = more
+    data[at * times:at * times] = more
     write(name, data)
 
 
 def remove(name, at, count):
     data = read(name)
-    del data[at:at + count]
+    del data[at * times:at * times + count]
     write(name, data)
 
 
 def cut(name, length):
+    write(name, read(name)[:length * times])
+
+
+def cut_bytes(name, length):
     write(name, read(name)[:length])
 
 
@@ -69,7 +83,8 @@ def drop_volumes(keep):
 
 def swap_slices(name):
     data = read(name)
-    write(name, data[512:1024] + data[:512] + data[1024:])
+    size = 512 * times
+    write(name, data[size:2 * size] + data[:size] + data[2 * size:])
 
 
 def join_files():
@@ -80,7 +95,7 @@ def join_files():
 
 def damage_packets():
     for name in volumes():
-        flip(name, len(read(name)) // 2)
+        flip_byte(name, len(read(name)) // 2)
 
 
 CASES = {
@@ -104,8 +119,8 @@ CASES = {
     "no volume left, a bit flipped": lambda: (drop_volumes(0), flip("a.bin", 5000)),
     "no volume left, nothing damaged": lambda: drop_volumes(0),
     "volumes damaged, a bit flipped": lambda: (damage_packets(), flip("a.bin", 5000)),
-    "the index damaged": lambda: (flip("set.par2", 20), flip("b.bin", 2000)),
-    "a volume cut, a file missing": lambda: (cut(volumes()[-1], 3000), os.remove("b.bin")),
+    "the index damaged": lambda: (flip_byte("set.par2", 20), flip("b.bin", 2000)),
+    "a volume cut, a file missing": lambda: (cut_bytes(volumes()[-1], 3000), os.remove("b.bin")),
 }
 
 
@@ -131,26 +146,36 @@ def by_par2(packet_files, files):
     return verdict, need, int(have[1]) if have else recovery
 
 
+def compare(size, case, damage):
+    """Prints what both say of a case, and whether that is as it should be."""
+    with tempfile.TemporaryDirectory() as folder:
+        os.chdir(folder)
+        for name, length in FILES.items():
+            write(name, hashlib.shake_256(name.encode()).digest(length * times))
+        subprocess.run(["par2", "create", "-q", "-q", f"-s{size}", "-c8", "set.par2", *FILES], check=True,
+                       stdout=subprocess.DEVNULL)
+        damage()
+        files = sorted(name for name in os.listdir(".") if not name.endswith(".par2"))
+        packet_files = sorted(glob.glob("*.par2"))
+        ours, theirs = by_parv(packet_files, files), by_par2(packet_files, files)
+        os.chdir("/")
+    explained = EXPLAINED.get(case, (ours, ours, "the same"))
+    same = explained[2] if (ours, theirs) == explained[:2] else "DIFFERENT"
+    print(f"slices of {size}, {case}: parv {ours[0]}, need {ours[1]} have {ours[2]}; "
+          f"par2 {theirs[0]}, need {theirs[1]} have {theirs[2]}; {same}")
+    return same != "DIFFERENT"
+
+
 def main():
-    failed = False
-    for case, damage in CASES.items():
-        with tempfile.TemporaryDirectory() as folder:
-            os.chdir(folder)
-            for name, length in FILES.items():
-                write(name, hashlib.shake_256(name.encode()).digest(length))
-            subprocess.run(["par2", "create", "-q", "-q", "-s512", "-c8", "set.par2", *FILES], check=True,
-                           stdout=subprocess.DEVNULL)
-            damage()
-            files = sorted(name for name in os.listdir(".") if not name.endswith(".par2"))
-            packet_files = sorted(glob.glob("*.par2"))
-            ours, theirs = by_parv(packet_files, files), by_par2(packet_files, files)
-            os.chdir("/")
-        explained = EXPLAINED.get(case, (ours, ours, "the same"))
-        same = explained[2] if (ours, theirs) == explained[:2] else "DIFFERENT"
-        failed = failed or same == "DIFFERENT"
-        print(f"{case}: parv {ours[0]}, need {ours[1]} have {ours[2]}; "
-              f"par2 {theirs[0]}, need {theirs[1]} have {theirs[2]}; {same}")
-    return 1 if failed else 0
+    global times
+    agree = True
+    for size in map(int, sys.argv[1:]) if sys.argv[1:] else SIZES:
+        if size < 512 or size % 512:
+            sys.exit(__doc__)
+        times = size // 512
+        for case, damage in CASES.items():
+            agree = compare(size, case, damage) and agree
+    return 0 if agree else 1
 
 
 if __name__ == "__main__":
