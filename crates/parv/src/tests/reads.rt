@@ -7,7 +7,7 @@ use std::process::Abort;
 use std::test::Fail;
 
 // Rows where the read of this number of the scanned files fails.
-static FAULTY: [(u64, Row); 6] = [
+static FAULTY: [(u64, Row); 7] = [
     // Without a set no scanned file is read.
     (
         1,
@@ -67,14 +67,28 @@ static FAULTY: [(u64, Row); 6] = [
             ends: Ends::Refused("parv: read fault in d/x.bin\n", 6),
         },
     ),
-    // The first file is read once for its digest, and then the second.
+    // No file of the set has the length of the first file, so the second is read first.
+    (
+        1,
+        Row {
+            words: &["verify", "v.par2", "a.bin", "b.bin"],
+            packets: &["a_with_a_slice"],
+            scanned: &[b"abcd", b"abcdef"],
+            ends: Ends::Refused("parv: read fault in b.bin\n", 6),
+        },
+    ),
+    // All slices are those of the second file, so nothing more is read.
     (
         2,
         Row {
             words: &["verify", "v.par2", "a.bin", "b.bin"],
             packets: &["a_with_a_slice"],
             scanned: &[b"abcd", b"abcdef"],
-            ends: Ends::Refused("parv: read fault in b.bin\n", 6),
+            ends: Ends::Wrote(
+                "set 2b5d19a47ee4561a2c85b51d7f6d65c4 size 4 slices 2\n\
+                 renamed a.bin from b.bin\nneed 0 have 1\nresult possible\n",
+                1,
+            ),
         },
     ),
 ];
@@ -185,8 +199,8 @@ fn each_read_failing_in_turn(rt: HostRuntime) -> Result<(), Fail> {
     Ok(())
 }
 
-// A file with both slices of the set of g.bin, and one with a single place.
-static TWO_FILES: [&[u8]; 2] = [b"XXabcdefgh", b"y"];
+// A file with both slices of the set of g.bin, and one into which a slice fits at a single place.
+static TWO_FILES: [&[u8]; 2] = [b"XXabcdefgh", b"yyyy"];
 
 #[test]
 fn lines_of_the_files_before_one_that_fails(rt: HostRuntime) -> Result<(), Fail> {
