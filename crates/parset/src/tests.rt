@@ -4,6 +4,7 @@ use super::*;
 use md5::{Digest, Md5};
 use parfield::Hash16;
 use std::alloc::{AllocError, Global};
+use std::process::Abort;
 use std::test::Fail;
 
 // The set of one file `g.bin` of the bytes `abcdefgh`, in slices of 4 bytes, as `tools/vectors.py`
@@ -71,36 +72,60 @@ fn desc_bytes(alloc: Global, length: u64, field: &[u8]) -> Result<Vec<u8>, Alloc
     Ok(body)
 }
 
+// A Main body has this slice size, these recovery IDs and these others.
+fn has_ids(rt: &impl Abort, main: &Main, size: u64, recovery: &[Hash16], others: &[Hash16]) {
+    assert_eq!(rt; main.size, size);
+    assert_eq!(rt;
+        (main.recovery.as_slice(), main.others.as_slice()),
+        (recovery, others)
+    );
+}
+
 #[test]
 fn fields_of_a_main_body(rt: HostRuntime) -> Result<(), Fail> {
     let main = main_body(rt.alloc(), &MAIN, SET)?;
-    assert_eq!(rt; main.size, 4);
-    assert_eq!(rt; main.recovery.as_slice(), [FILE].as_slice());
-    assert!(rt; main.others.is_empty());
+    has_ids(&rt, &main, 4, &[FILE], &[]);
+    Ok(())
+}
+
+#[test]
+fn fields_of_a_main_body_with_two_ids(rt: HostRuntime) -> Result<(), Fail> {
     let body = main_bytes(rt.alloc(), 8, 1, &[1, 2])?;
     let set = Hash16(*b"Z\xa4\xe0\x8c-\x8c\x8a\xe7\xbd\xa6\xa1\xc1\xe4!\xcf\xa0");
     let main = main_body(rt.alloc(), &body, set)?;
-    assert_eq!(rt; main.size, 8);
-    assert_eq!(rt; main.recovery.as_slice(), [Hash16([1; 16])].as_slice());
-    assert_eq!(rt; main.others.as_slice(), [Hash16([2; 16])].as_slice());
+    has_ids(&rt, &main, 8, &[Hash16([1; 16])], &[Hash16([2; 16])]);
     Ok(())
+}
+
+// A description has this ID, these MD5s of the whole file and of its front, this length and name.
+fn describes(
+    rt: &impl Abort,
+    desc: &Desc,
+    sums: (Hash16, Hash16, Hash16),
+    length: u64,
+    name: &str,
+) {
+    assert_eq!(rt; (desc.id, desc.whole, desc.front), sums);
+    assert_eq!(rt;
+        (desc.length, desc.name.as_slice()),
+        (length, name.as_bytes())
+    );
 }
 
 #[test]
 fn fields_of_a_description_body(rt: HostRuntime) -> Result<(), Fail> {
     let desc = desc_body(rt.alloc(), &DESC)?;
-    assert_eq!(rt; desc.id, FILE);
-    assert_eq!(rt; desc.whole, CONTENT);
-    assert_eq!(rt; desc.front, CONTENT);
-    assert_eq!(rt; desc.length, 8);
-    assert_eq!(rt; desc.name.as_slice(), b"g.bin".as_slice());
+    describes(&rt, &desc, (FILE, CONTENT, CONTENT), 8, "g.bin");
+    Ok(())
+}
+
+#[test]
+fn fields_of_a_description_of_a_file_longer_than_its_front(rt: HostRuntime) -> Result<(), Fail> {
     let long = desc_body(rt.alloc(), &LONG_DESC)?;
     let id = Hash16(*b"\x10\xa1\xa0\xe8\xa38\x16\xd0RjVdEU\xa3\xe7");
     let whole = Hash16(*b"\x8d\x07_r5V\xe7v\xf6\xf5\xdc\xf2\x8eh\x89\xa7");
     let front = Hash16(*b"\t\xb4|\xf0|\x9d\x0e\xa5\x89\xe0\xe2\xaa}\r5P");
-    assert_eq!(rt; (long.id, long.whole, long.front), (id, whole, front));
-    assert_eq!(rt; long.length, 16_385);
-    assert_eq!(rt; long.name.as_slice(), b"l.bin".as_slice());
+    describes(&rt, &long, (id, whole, front), 16_385, "l.bin");
     Ok(())
 }
 
@@ -223,6 +248,26 @@ fn one_id_too_often(rt: HostRuntime) -> Result<(), Fail> {
     Ok(())
 }
 
+// The reason of a File Description body with this name field.
+fn desc_number(alloc: Global, length: u64, field: &[u8]) -> Result<u8, AllocError> {
+    let body = desc_bytes(alloc, length, field)?;
+    Ok(number_of(desc_body(alloc, &body)))
+}
+
+// So many letters, and then so many zeros.
+fn letters_and_zeros(
+    alloc: Global,
+    letter: u8,
+    letters: usize,
+    zeros: usize,
+) -> Result<Vec<u8>, AllocError> {
+    let mut bytes = vec![in alloc; letter; letters]?;
+    for _ in 0..zeros {
+        bytes.push(0)?;
+    }
+    Ok(bytes)
+}
+
 #[test]
 fn reasons_of_description_bodies(rt: HostRuntime) -> Result<(), Fail> {
     for (length, field, reason) in [
@@ -240,13 +285,14 @@ fn reasons_of_description_bodies(rt: HostRuntime) -> Result<(), Fail> {
         (u64::MAX, "a\0\0\0", 7),
         (9_223_372_036_854_775_808, "a\0b\0", 5),
     ] {
-        let body = desc_bytes(rt.alloc(), length, field.as_bytes())?;
-        assert_eq!(rt;
-            number_of(desc_body(rt.alloc(), &body)),
-            reason,
-            "{length} {field:?}"
-        );
+        let number = desc_number(rt.alloc(), length, field.as_bytes())?;
+        assert_eq!(rt; number, reason, "{length} {field:?}");
     }
+    Ok(())
+}
+
+#[test]
+fn reasons_of_description_bodies_by_length(rt: HostRuntime) -> Result<(), Fail> {
     for (length, reason) in [(0, 1), (52, 1), (55, 1), (56, 5), (60, 0)] {
         let front = DESC.get(..length).ok_or("length")?;
         assert_eq!(rt; number_of(desc_body(rt.alloc(), front)), reason, "{length}");
@@ -258,14 +304,9 @@ fn reasons_of_description_bodies(rt: HostRuntime) -> Result<(), Fail> {
         (1_048_520, 0, 5),
         (1_048_521, 0, 7),
     ] {
-        let mut field = vec![in rt.alloc(); b'x'; letters]?;
-        field.extend_from_slice(&vec![in rt.alloc(); 0; zeros]?)?;
-        let body = desc_bytes(rt.alloc(), 0, &field)?;
-        assert_eq!(rt;
-            number_of(desc_body(rt.alloc(), &body)),
-            reason,
-            "{letters}"
-        );
+        let field = letters_and_zeros(rt.alloc(), b'x', letters, zeros)?;
+        let number = desc_number(rt.alloc(), 0, &field)?;
+        assert_eq!(rt; number, reason, "{letters}");
     }
     Ok(())
 }

@@ -61,39 +61,52 @@ fn fault_of(
     Ok(build(alloc, &packets, None).err())
 }
 
-#[test]
-fn slices_take_the_first_sums_of_the_right_number(rt: HostRuntime) -> Result<(), Fail> {
-    let main = kept_main(rt.alloc(), 4, 1, &[1])?;
+// The packets of a set of one file, among them the sums of too few slices and those of another set.
+fn packets_with_sums(alloc: Global) -> Result<Vec<Kept>, AllocError> {
+    let mut packets = Vec::new(alloc);
+    let main = kept_main(alloc, 4, 1, &[1])?;
     let set = main.set;
-    let mut packets = Vec::new(rt.alloc());
     packets.push(main)?;
-    packets.push(kept_sums(rt.alloc(), set, &[9])?)?;
-    packets.push(kept_sums(rt.alloc(), Hash16([8; 16]), &[8, 8])?)?;
-    packets.push(kept_sums(rt.alloc(), set, &[3, 4])?)?;
-    packets.push(kept_sums(rt.alloc(), set, &[5, 6])?)?;
-    packets.push(kept_desc(rt.alloc(), set, &[1; 16], b"name")?)?;
-    let built = build(rt.alloc(), &packets, None).ok().ok_or("set")?;
-    assert_eq!(rt; built.id(), set);
-    assert_eq!(rt; built.size(), 4);
-    let slices = built.slices();
-    assert_eq!(rt; slices.len(), 2);
-    let slice = |number, length, digest: u8| SetSlice {
+    packets.push(kept_sums(alloc, set, &[9])?)?;
+    packets.push(kept_sums(alloc, Hash16([8; 16]), &[8, 8])?)?;
+    packets.push(kept_sums(alloc, set, &[3, 4])?)?;
+    packets.push(kept_sums(alloc, set, &[5, 6])?)?;
+    packets.push(kept_desc(alloc, set, &[1; 16], b"name")?)?;
+    Ok(packets)
+}
+
+// A slice of file 1 with the sums of one digit.
+fn slice_with(number: u32, length: u64, digest: u8) -> SetSlice {
+    SetSlice {
         id: Hash16([1; 16]),
         number,
         length,
         sums: Some((Hash16([digest; 16]), u32::from(digest))),
-    };
-    assert_eq!(rt; slices[0], slice(0, 4, 3));
-    assert_eq!(rt; slices[1], slice(1, 2, 4));
-    let files = built.files();
-    assert_eq!(rt; files.len(), 1);
-    assert_eq!(rt; files[0].name.as_slice(), b"name".as_slice());
-    assert!(rt; files[0].known);
+    }
+}
+
+// The set has nothing but one file of this name, whose sums are known, and these slices.
+fn has_one_file(rt: &impl Abort, built: &RecoverySet, name: &[u8], slices: &[SetSlice]) {
+    assert_eq!(rt; built.size(), 4);
+    assert_eq!(rt; built.slices(), slices);
+    assert!(rt; matches!(built.files(), [file] if file.known && file.name.as_slice() == name));
     assert_eq!(rt;
         (built.others(), built.have(), built.creator()),
         (0, 0, None)
     );
-    assert_eq!(rt; built.aside().len(), 0);
+    assert!(rt; built.aside().is_empty());
+}
+
+#[test]
+fn slices_take_the_first_sums_of_the_right_number(rt: HostRuntime) -> Result<(), Fail> {
+    let packets = packets_with_sums(rt.alloc())?;
+    let built = build(rt.alloc(), &packets, None).ok().ok_or("set")?;
+    has_one_file(
+        &rt,
+        &built,
+        b"name",
+        &[slice_with(0, 4, 3), slice_with(1, 2, 4)],
+    );
     Ok(())
 }
 
@@ -183,62 +196,90 @@ fn bodies_that_are_too_long_to_be_held(rt: HostRuntime) -> Result<(), Fail> {
     Ok(())
 }
 
-#[test]
-fn a_usable_set_puts_aside_a_packet_for_each_reason(rt: HostRuntime) -> Result<(), Fail> {
-    let main = kept_main(rt.alloc(), 4, 1, &[1])?;
+// Bodies that no set can use: so many letters and then so many zeros, and why.
+static UNUSABLE: [(Kind, u8, usize, usize, Aside); 13] = [
+    (Kind::Main, 0, 0, 11, Aside::WrongLength),
+    (Kind::Main, 0, 0, 12, Aside::SliceSize),
+    (Kind::Main, 4, 8, 4, Aside::OverLimit),
+    (Kind::Main, 4, 1, 43, Aside::IdTwice),
+    (Kind::Main, 4, 1, 27, Aside::SetId),
+    (Kind::FileDesc, 0, 0, 55, Aside::WrongLength),
+    (Kind::FileDesc, 0, 0, 56, Aside::Name),
+    (Kind::FileDesc, 255, 57, 3, Aside::OverLimit),
+    (Kind::Ifsc, 0, 0, 15, Aside::WrongLength),
+    (Kind::Ifsc, 0, 0, 655_396, Aside::OverLimit),
+    (Kind::RecvSlic, 0, 0, 9, Aside::WrongLength),
+    (Kind::RecvSlic, 255, 4, 4, Aside::OverLimit),
+    (Kind::Creator, 0, 0, 1_048_577, Aside::OverLimit),
+];
+
+// Packets with those bodies, each at the offset of its number, and then those of a set of one file.
+fn packets_aside(alloc: Global) -> Result<Vec<Kept>, AllocError> {
+    let main = kept_main(alloc, 4, 1, &[1])?;
     let set = main.set;
-    let mut packets = Vec::new(rt.alloc());
-    let mut asides = Vec::new(rt.alloc());
-    for (kind, letter, letters, zeros, reason) in [
-        (Kind::Main, 0, 0, 11, Aside::WrongLength),
-        (Kind::Main, 0, 0, 12, Aside::SliceSize),
-        (Kind::Main, 4, 8, 4, Aside::OverLimit),
-        (Kind::Main, 4, 1, 43, Aside::IdTwice),
-        (Kind::Main, 4, 1, 27, Aside::SetId),
-        (Kind::FileDesc, 0, 0, 55, Aside::WrongLength),
-        (Kind::FileDesc, 0, 0, 56, Aside::Name),
-        (Kind::FileDesc, 255, 57, 3, Aside::OverLimit),
-        (Kind::Ifsc, 0, 0, 15, Aside::WrongLength),
-        (Kind::Ifsc, 0, 0, 655_396, Aside::OverLimit),
-        (Kind::RecvSlic, 0, 0, 9, Aside::WrongLength),
-        (Kind::RecvSlic, 255, 4, 4, Aside::OverLimit),
-        (Kind::Creator, 0, 0, 1_048_577, Aside::OverLimit),
-    ] {
-        let mut body = vec![in rt.alloc(); letter; letters]?;
-        body.extend_from_slice(&vec![in rt.alloc(); 0; zeros]?)?;
-        let at = asides.len() as u64;
+    let mut packets = Vec::new(alloc);
+    for (kind, letter, letters, zeros, _) in &UNUSABLE {
+        let body = letters_and_zeros(alloc, *letter, *letters, *zeros)?;
         let whole = KeptBody::Whole(Part::from_vec(body)?);
-        packets.push(kept_at(at, set, kind, whole))?;
-        asides.push(SetAside {
-            file: 0,
-            at,
-            reason,
-        })?;
+        let at = packets.len() as u64;
+        packets.push(kept_at(at, set, *kind, whole))?;
     }
     packets.push(main)?;
-    packets.push(kept_desc(rt.alloc(), set, &[1; 16], b"name")?)?;
-    let built = build(rt.alloc(), &packets, None).ok().ok_or("set")?;
-    assert_eq!(rt; built.aside(), asides.as_slice());
-    assert_eq!(rt; (built.id(), built.files().len()), (set, 1));
-    Ok(())
+    packets.push(kept_desc(alloc, set, &[1; 16], b"name")?)?;
+    Ok(packets)
+}
+
+// What is put aside is each of those packets, for its reason.
+fn puts_each_aside(rt: &impl Abort, aside: &[SetAside]) {
+    assert_eq!(rt; aside.len(), UNUSABLE.len());
+    for (one, (_, _, _, _, reason)) in aside.iter().zip(&UNUSABLE) {
+        assert_eq!(rt; (one.file, one.reason), (0, *reason));
+    }
+    assert!(rt;
+        aside
+            .iter()
+            .enumerate()
+            .all(|(at, one)| one.at == at as u64)
+    );
 }
 
 #[test]
-fn a_set_of_more_than_1000_packets_is_built(rt: HostRuntime) -> Result<(), Fail> {
-    let mut main = main_bytes(rt.alloc(), 4, 1_100, &[])?;
+fn a_usable_set_puts_aside_a_packet_for_each_reason(rt: HostRuntime) -> Result<(), Fail> {
+    let packets = packets_aside(rt.alloc())?;
+    let built = build(rt.alloc(), &packets, None).ok().ok_or("set")?;
+    puts_each_aside(&rt, built.aside());
+    assert_eq!(rt; built.files().len(), 1);
+    Ok(())
+}
+
+// A Main body with 1,100 IDs.
+fn main_of_1100(alloc: Global) -> Result<Vec<u8>, AllocError> {
+    let mut main = main_bytes(alloc, 4, 1_100, &[])?;
     for high in 1..11_u8 {
         for low in 1..111_u8 {
             main.extend_from_slice(&[low, high, 1, 1])?;
             main.extend_from_slice(&[0; 12])?;
         }
     }
-    let set = Hash16(Md5::digest(&main));
-    let mut packets = Vec::new(rt.alloc());
+    Ok(main)
+}
+
+// The packets of the set of a Main body, with a description of each of its files.
+fn packets_of(alloc: Global, main: &[u8]) -> Result<Vec<Kept>, Fail> {
+    let set = Hash16(Md5::digest(main));
+    let mut packets = Vec::new(alloc);
     let (ids, _) = main.get(12..).ok_or("ids")?.as_chunks::<16>();
     for id in ids {
-        packets.push(kept_desc(rt.alloc(), set, id, &id[..4])?)?;
+        packets.push(kept_desc(alloc, set, id, &id[..4])?)?;
     }
-    packets.push(kept(rt.alloc(), set, Kind::Main, &main)?)?;
+    packets.push(kept(alloc, set, Kind::Main, main)?)?;
+    Ok(packets)
+}
+
+#[test]
+fn a_set_of_more_than_1000_packets_is_built(rt: HostRuntime) -> Result<(), Fail> {
+    let main = main_of_1100(rt.alloc())?;
+    let packets = packets_of(rt.alloc(), &main)?;
     let built = build(rt.alloc(), &packets, None).ok().ok_or("set")?;
     assert_eq!(rt; (built.files().len(), built.slices().len()), (1_100, 2_200));
     assert!(rt; built.aside().is_empty());
