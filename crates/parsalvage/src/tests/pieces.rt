@@ -1,7 +1,5 @@
 use super::*;
 use md5::{Digest, Md5};
-use std::alloc::{AllocError, Global};
-use std::process::Abort;
 
 const MAGIC: [u8; 8] = *b"PAR2\0PKT";
 
@@ -38,11 +36,21 @@ fn same_body(one: &KeptBody, other: &KeptBody) -> bool {
     }
 }
 
-// A file of these bytes, read at most so many at a time.
-fn shelf_of(alloc: Global, bytes: &[u8], piece: usize) -> Result<MemShelf, AllocError> {
-    let mut files = Vec::new(alloc);
-    files.push(Vec::from_slice(alloc, bytes)?)?;
-    Ok(MemShelf::new(files, piece.max(1), Vec::new(alloc)))
+// What is found in a file read by pieces is what the bytes have.
+fn are_same(rt: &impl Abort, found: &[Kept], kept: &[Kept], piece: usize) {
+    assert_eq!(rt; found.len(), kept.len(), "pieces of {piece}");
+    for (one, other) in found.iter().zip(kept) {
+        assert_eq!(rt;
+            (one.file, one.at, one.length, one.set, one.kind),
+            (other.file, other.at, other.length, other.set, other.kind),
+            "pieces of {piece}"
+        );
+        assert!(rt;
+            same_body(&one.body, &other.body),
+            "at {} in pieces of {piece}",
+            one.at
+        );
+    }
 }
 
 // A file of these bytes has the packets of the bytes, at these offsets.
@@ -54,22 +62,10 @@ fn found_at(rt: &(impl Abort + AllocGlobal), bytes: &[u8], wanted: &[u64]) -> Re
         assert_eq!(rt; packet.at, *at);
     }
     for piece in [1, 7, 65_536] {
-        let mut shelf = shelf_of(rt.alloc(), bytes, piece)?;
+        let mut shelf = shelf_of(rt.alloc(), bytes, piece, &[])?;
         assert_eq!(rt; shelf.count(), 1);
         let found = salvage_file(rt.alloc(), &mut shelf, 0).ok().ok_or("found")?;
-        assert_eq!(rt; found.len(), kept.len(), "pieces of {piece}");
-        for (one, other) in found.iter().zip(&kept) {
-            assert_eq!(rt;
-                (one.file, one.at, one.length),
-                (other.file, other.at, other.length)
-            );
-            assert!(rt; one.set == other.set && one.kind == other.kind);
-            assert!(rt;
-                same_body(&one.body, &other.body),
-                "body at {} in pieces of {piece}",
-                one.at
-            );
-        }
+        are_same(rt, &found, &kept, piece);
     }
     Ok(())
 }
@@ -128,7 +124,7 @@ fn overlapping_packets(rt: HostRuntime) -> Result<(), Fail> {
 // A file of these bytes has no packet. No memory is taken, so the answer is the same where an
 // allocation of the call would be refused.
 fn nothing_in(rt: &(impl Abort + AllocGlobal), bytes: &[u8]) -> Result<(), Fail> {
-    let mut shelf = shelf_of(rt.alloc(), bytes, 65_536)?;
+    let mut shelf = shelf_of(rt.alloc(), bytes, 65_536, &[])?;
     assert_eq!(rt; shelf.count(), 1);
     match salvage_file(rt.alloc(), &mut shelf, 0) {
         Ok(found) => assert!(rt; found.is_empty()),
