@@ -114,7 +114,7 @@ def by_par2(folder, options=()):
 def one_thread():
     """What puts par2 on one thread: words before its own, and options."""
     text = subprocess.run(["par2", "--help"], capture_output=True, text=True).stdout
-    options = [option for option, known in (("-t1", "-t<n>"), ("-T1", "-T<n>")) if known in text]
+    options = [f"{flag}1" for flag in ("-t", "-T") if f"{flag}<n>" in text]
     return ([], options) if "-t1" in options else (["taskset", "-c", str(min(os.sched_getaffinity(0)))], [])
 
 
