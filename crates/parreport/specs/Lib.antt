@@ -3,6 +3,7 @@ pub mod Ends
 pub mod Faults
 pub mod FindText
 pub mod Lines
+pub mod Listing
 pub mod OpenedFiles
 pub mod Outcomes
 pub mod PacketsText

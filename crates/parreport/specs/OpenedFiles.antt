@@ -5,7 +5,7 @@ use Rattle.parshelf.specs.Shelf.{ShelfState}
 use Rattle.parplan.specs.Commands.{reads_scanned}
 use Rattle.parreport.specs.Unchanged.{AreSteadyFor}
 use Rattle.parreport.specs.Ends.{run_end_of, exit_status_of, message_of, error_line_of}
-use Rattle.parreport.specs.Outcomes.{Answers, KeepsText, EndsPackets, EndsScanned, EndsSink, follows_text}
+use Rattle.parreport.specs.Outcomes.{Answers, KeepsText, EndsPackets, EndsScanned, EndsSink, written, follows_text}
 use Rattle.parreport.specs.Report.{report_of}
 use Rattle.parshelf.specs.SinkState.{SinkState}
 use Rattle.parreport.specs.declared.ends.End.{End}
@@ -28,7 +28,8 @@ pub record TellsRun (plan : Plan) (packets packets_after scanned scanned_after :
   pub lines : AreSteadyFor plan.command packets scanned
       → IfErr answer (λ fault. KeepsText plan.command plan (kept_in_files packets.files)
       scanned.files fault out out_after)
-  pub silent : IfErr answer (λ fault. follows_text plan.command fault ≡ false → out_after ≡ out)
+  pub silent : IfErr answer (λ fault. follows_text plan.command (written out out_after) fault ≡ false
+      → out_after ≡ out)
   pub packets_read : EndsPackets answer packets packets_after
   pub scanned_read : EndsScanned answer scanned scanned_after
   pub sink : EndsSink answer out out_after

@@ -1,5 +1,5 @@
 -- What a run leaves: of its output, and of the files that it reads.
-use Rattle.std.specs.Prelude.{◌≡◌, ℕ, ◌+◌, ◌&&◌, not, Bool, true, false, List, [], Option, Some, Result, Ok, Err, ⊤}
+use Rattle.std.specs.Prelude.{◌≡◌, ℕ, ◌+◌, ◌-◌, ◌&&◌, ◌||◌, not, nat_le, Bool, true, false, List, [], length, Option, Some, Result, Ok, Err, ⊤}
 use Rattle.parfield.specs.declared.hash16.Hash16.{Hash16}
 use Rattle.parshelf.specs.Shelf.{ShelfState}
 use Rattle.parshelf.specs.Reads.{ReadsOnly, FaultsIn}
@@ -8,8 +8,9 @@ use Rattle.parset.specs.RecoverySet.{SetView, set_of}
 use Rattle.parset.specs.declared.recovery_set.SetFault.{SetFault}
 use Rattle.parfind.specs.declared.cursor.Cursor.{Cursor}
 use Rattle.parreport.specs.FindText.{names_of, WritesLinesBefore}
-use Rattle.parplan.specs.Commands.{is_find}
+use Rattle.parplan.specs.Commands.{is_find, reads_scanned}
 use Rattle.parreport.specs.Report.{Report, report_with_set, start_in}
+use Rattle.parshelf.specs.Blocks.{block}
 use Rattle.parshelf.specs.SinkState.{SinkState, appended, WritesFront, RefusesFront}
 use Rattle.parplan.specs.declared.command.Command.{Command}
 use Rattle.parplan.specs.declared.command.Command.TheVariants as command
@@ -62,13 +63,18 @@ KeepsText asked plan packets scanned fault.Write old new = ⊤
 KeepsText asked plan packets scanned fault.Memory old new = ⊤
 KeepsText asked plan packets scanned fault.OtherSet old new = ⊤
 
--- some text may stand before a fault: one of writing, or in the midst of a search
-abbrev pub follows_text : Command → RunFault → Bool
-follows_text asked (fault.Read packet file why) = is_find asked && not packet
-follows_text asked (fault.Set why) = false
-follows_text asked fault.Write = true
-follows_text asked fault.Memory = is_find asked
-follows_text asked fault.OtherSet = false
+-- so many bytes were written
+abbrev pub written : SinkState → SinkState → ℕ
+written old new = length new.bytes - length old.bytes
+
+-- some text may stand before a fault: one of writing, or in the midst of a search; or want of
+-- memory in a list, once a block of it was written
+abbrev pub follows_text : Command → ℕ → RunFault → Bool
+follows_text asked n (fault.Read packet file why) = is_find asked && not packet
+follows_text asked n (fault.Set why) = false
+follows_text asked n fault.Write = true
+follows_text asked n fault.Memory = is_find asked || not (reads_scanned asked) && nat_le block n
+follows_text asked n fault.OtherSet = false
 
 -- the set, or the cause that every report over it has, or want of memory
 abbrev pub MakesSet : Result SetView SetFault → Result SetView RunFault → Type 0

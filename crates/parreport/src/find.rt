@@ -1,6 +1,6 @@
 ghost use Rattle.std.specs.Prelude.{◌≡◌, ◌≢◌, IsTrue, false, IfErr, Some};
 ghost use Rattle.parset.specs.RecoverySet.{set_of};
-ghost use Rattle.parreport.specs.Outcomes.{is_packet_read, follows_text, Answers, KeepsText, EndsScanned, EndsSink};
+ghost use Rattle.parreport.specs.Outcomes.{is_packet_read, written, follows_text, Answers, KeepsText, EndsScanned, EndsSink};
 ghost use Rattle.parreport.specs.Report.{report_with_set, find_report, start_in};
 ghost use Rattle.parplan.specs.declared.command.Command.TheVariants as command;
 
@@ -39,7 +39,8 @@ pub fn find<Q: Shelf, W: Sink>(
         → IfErr result (λ fault. KeepsText (command.Find limit cursor) plan.now kept.now
         (Q.state scanned.old).files fault (W.state out.old) (W.state out.new)) }
     ensures no_packet { IfErr result (λ fault. is_packet_read fault ≡ false) }
-    ensures silent { IfErr result (λ fault. follows_text (command.Find limit cursor) fault ≡ false
+    ensures silent { IfErr result (λ fault. follows_text (command.Find limit cursor)
+        (written (W.state out.old) (W.state out.new)) fault ≡ false
         → W.state out.new ≡ W.state out.old) }
     ensures scanned { EndsScanned result (Q.state scanned.old) (Q.state scanned.new) }
     ensures sink { EndsSink result (W.state out.old) (W.state out.new) }

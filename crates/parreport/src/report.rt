@@ -2,7 +2,7 @@ ghost use Rattle.std.specs.Prelude.{◌≡◌, length, IsTrue, false, IfErr};
 ghost use Rattle.parsalvage.specs.Kept.{kept_in_files};
 ghost use Rattle.parplan.specs.Commands.{reads_scanned, HasLimit};
 ghost use Rattle.parreport.specs.Unchanged.{IsSteadyFor, AreSteadyFor};
-ghost use Rattle.parreport.specs.Outcomes.{is_packet_read, follows_text, Answers, KeepsText, EndsPackets, EndsScanned, EndsSink};
+ghost use Rattle.parreport.specs.Outcomes.{is_packet_read, written, follows_text, Answers, KeepsText, EndsPackets, EndsScanned, EndsSink};
 ghost use Rattle.parreport.specs.Report.{report_of, report_by};
 
 use crate::ends::Status;
@@ -41,7 +41,8 @@ pub fn run<P: Shelf, Q: Shelf, W: Sink>(
         (W.state out.old) (W.state out.new)) }
 
     // On any shelf: the answer tells what failed, and nothing else did.
-    ensures silent { IfErr result (λ fault. follows_text plan.now.command fault ≡ false
+    ensures silent { IfErr result (λ fault. follows_text plan.now.command
+        (written (W.state out.old) (W.state out.new)) fault ≡ false
         → W.state out.new ≡ W.state out.old) }
     ensures packets { EndsPackets result (P.state packets.old) (P.state packets.new) }
     ensures scanned { EndsScanned result (Q.state scanned.old) (Q.state scanned.new) }
@@ -74,7 +75,8 @@ fn run_over<Q: Shelf, W: Sink>(
         → IfErr result (λ fault. KeepsText plan.now.command plan.now kept.now
         (Q.state scanned.old).files fault (W.state out.old) (W.state out.new)) }
     ensures no_packet { IfErr result (λ fault. is_packet_read fault ≡ false) }
-    ensures silent { IfErr result (λ fault. follows_text plan.now.command fault ≡ false
+    ensures silent { IfErr result (λ fault. follows_text plan.now.command
+        (written (W.state out.old) (W.state out.new)) fault ≡ false
         → W.state out.new ≡ W.state out.old) }
     ensures scanned { EndsScanned result (Q.state scanned.old) (Q.state scanned.new) }
     ensures sink { EndsSink result (W.state out.old) (W.state out.new) }

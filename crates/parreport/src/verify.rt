@@ -2,7 +2,7 @@ ghost use Rattle.std.specs.Prelude.{◌≡◌, length, string_bytes, IsTrue, fal
 ghost use Rattle.parset.specs.RecoverySet.{set_of};
 ghost use Rattle.parshelf.specs.Reads.{ReadsOnly};
 ghost use Rattle.parreport.specs.Faults.{FilesLeave};
-ghost use Rattle.parreport.specs.Outcomes.{is_packet_read, follows_text, Answers, KeepsText, EndsScanned, EndsSink};
+ghost use Rattle.parreport.specs.Outcomes.{is_packet_read, written, follows_text, Answers, KeepsText, EndsScanned, EndsSink};
 ghost use Rattle.parreport.specs.Report.{report_with_set, verify_report};
 ghost use Rattle.parreport.specs.States.{findings_of, named_files};
 ghost use Rattle.parreport.specs.VerifyText.{verify_text, verify_status_of};
@@ -76,7 +76,8 @@ pub fn verify<Q: Shelf, W: Sink>(
         KeepsText (command.Verify quiet) plan.now kept.now (Q.state scanned.old).files fault
         (W.state out.old) (W.state out.new)) }
     ensures no_packet { IfErr result (λ fault. is_packet_read fault ≡ false) }
-    ensures silent { IfErr result (λ fault. follows_text (command.Verify quiet) fault ≡ false
+    ensures silent { IfErr result (λ fault. follows_text (command.Verify quiet)
+        (written (W.state out.old) (W.state out.new)) fault ≡ false
         → W.state out.new ≡ W.state out.old) }
     ensures scanned { EndsScanned result (Q.state scanned.old) (Q.state scanned.new) }
     ensures sink { EndsSink result (W.state out.old) (W.state out.new) }

@@ -1,33 +1,59 @@
-ghost use Rattle.std.specs.Prelude.{◌≡◌, ◌++◌, IfOk, OnOk, filter, string_bytes};
+ghost use Rattle.std.specs.Prelude.{◌≡◌, ◌++◌, length, IfOk, OnOk, IfErr, string_bytes};
+ghost use Rattle.std.specs.List.{flat_map};
+ghost use Rattle.parshelf.specs.Blocks.{Waits};
 ghost use Rattle.parreport.specs.Lines.{packet_line, count_line, kind_word};
-ghost use Rattle.parreport.specs.PacketsText.{packets_text, chosen_of, line_among};
+ghost use Rattle.parreport.specs.Listing.{Breaks};
+ghost use Rattle.parreport.specs.PacketsText.{chosen_of, line_among};
 
+use crate::faults::RunFault;
 use crate::names::packet_name;
 use parfield::{Hash16, Kind, Shown, Text};
 use parsalvage::Kept;
-use std::alloc::{AllocError, Global};
+use parshelf::{Sink, write_block};
+use std::alloc::AllocError;
 
-/// The text of `packets`, over packet files of these names.
-#[tactic(auto, unfolding(crate::specs::PacketsText::packets_text))]
-pub fn packets_text(
-    alloc: Global,
+/// Puts the lines of the packets that are asked for behind what waits, and writes each block of
+/// them; gives their number.
+pub fn put_packets<W: Sink>(
     names: &[Text],
     choice: Option<Hash16>,
     packets: &[Kept],
-) -> Result<String, AllocError>
-    ensures { IfOk result (λ text. string_bytes text
-        ≡ packets_text names.now choice packets.now) }
+    waiting: &mut String,
+    out: &mut W,
+) -> Result<u64, RunFault>
+    ensures count { IfOk result (λ n. n ≡ length (chosen_of choice packets.now)) }
+    ensures lines { OnOk result (Waits (W.state out.old) (W.state out.new)
+        (string_bytes waiting.old
+        ++ flat_map (line_among names.now) (chosen_of choice packets.now))
+        (string_bytes waiting.new)) }
+    ensures fault { IfErr result (λ fault. Breaks fault (W.state out.old) (W.state out.new)
+        (string_bytes waiting.old
+        ++ flat_map (line_among names.now) (chosen_of choice packets.now))) }
 {
-    let mut text = String::new(alloc);
     let mut count = 0u64;
     for packet in packets {
         if packet.is_chosen(choice) {
-            push_packet(&mut text, packet_name(names, packet.file), packet)?;
+            put_packet(packet_name(names, packet.file), packet, waiting, out)?;
             count += 1;
         }
     }
-    push_count(&mut text, count)?;
-    Ok(text)
+    Ok(count)
+}
+
+// Puts the line of a packet behind what waits, and writes that once it is a block.
+fn put_packet<W: Sink>(
+    name: &[u8],
+    packet: &Kept,
+    waiting: &mut String,
+    out: &mut W,
+) -> Result<(), RunFault>
+    ensures line { OnOk result (Waits (W.state out.old) (W.state out.new)
+        (string_bytes waiting.old ++ packet_line name.now packet.now) (string_bytes waiting.new)) }
+    ensures fault { IfErr result (λ fault. Breaks fault (W.state out.old) (W.state out.new)
+        (string_bytes waiting.old ++ packet_line name.now packet.now)) }
+{
+    push_packet(waiting, name, packet)?;
+    Ok(write_block(out, waiting)?)
 }
 
 // Appends the line of a packet.
@@ -47,9 +73,9 @@ fn push_packet(text: &mut String, name: &[u8], packet: &Kept) -> Result<(), Allo
     )
 }
 
-// Appends the line after those of all packets.
+/// Appends the line after those of all packets.
 #[tactic(auto, unfolding(crate::specs::Lines::count_line))]
-fn push_count(text: &mut String, count: u64) -> Result<(), AllocError>
+pub fn push_count(text: &mut String, count: u64) -> Result<(), AllocError>
     ensures { OnOk result (string_bytes text.new ≡ string_bytes text.old ++ count_line count) }
 {
     writeln!(text, "packets {count}")

@@ -1,26 +1,34 @@
-ghost use Rattle.std.specs.Prelude.{◌≡◌, ◌++◌, ◌<◌, IfOk, OnOk, string_bytes, option_map};
+ghost use Rattle.std.specs.Prelude.{◌≡◌, ◌++◌, ◌<◌, OnOk, IfErr, string_bytes, option_map};
 ghost use Rattle.std.specs.List.{flat_map};
+ghost use Rattle.parshelf.specs.Blocks.{Waits};
 ghost use Rattle.parreport.specs.Lines.{set_line, file_line, others_line, have_line, creator_line, aside_line, yes_or_no};
+ghost use Rattle.parreport.specs.Listing.{Breaks};
 ghost use Rattle.parreport.specs.SetText.{set_text, creator_lines, aside_among};
 
+use crate::faults::RunFault;
 use crate::names::packet_name;
 use parfield::{Shown, Text};
 use parset::{RecoverySet, SetAside, SetFile};
-use std::alloc::{AllocError, Global};
+use parshelf::{Sink, write_block};
+use std::alloc::AllocError;
 
-/// The text of `set`, over packet files of these names.
-#[tactic(auto, unfolding(crate::specs::SetText::set_text))]
-pub fn set_text(alloc: Global, names: &[Text], set: &RecoverySet) -> Result<String, AllocError>
-    ensures { IfOk result (λ text. string_bytes text ≡ set_text names.now set.now) }
+/// Puts the text of `set`, over packet files of these names, behind what waits, and writes each
+/// block of it.
+pub fn put_set<W: Sink>(
+    names: &[Text],
+    set: &RecoverySet,
+    waiting: &mut String,
+    out: &mut W,
+) -> Result<(), RunFault>
+    ensures text { OnOk result (Waits (W.state out.old) (W.state out.new)
+        (string_bytes waiting.old ++ set_text names.now set.now) (string_bytes waiting.new)) }
+    ensures fault { IfErr result (λ fault. Breaks fault (W.state out.old) (W.state out.new)
+        (string_bytes waiting.old ++ set_text names.now set.now)) }
 {
-    let mut text = String::new(alloc);
-    push_set(&mut text, set)?;
-    push_files(&mut text, set.size(), set.files())?;
-    push_others(&mut text, set.others())?;
-    push_have(&mut text, set.have())?;
-    push_creator(&mut text, set.creator())?;
-    push_asides(&mut text, names, set.aside())?;
-    Ok(text)
+    push_set(waiting, set)?;
+    put_files(set.size(), set.files(), waiting, out)?;
+    push_counts(waiting, set)?;
+    put_asides(names, set.aside(), waiting, out)
 }
 
 // Appends the line of the set.
@@ -34,16 +42,41 @@ pub fn push_set(text: &mut String, set: &RecoverySet) -> Result<(), AllocError>
     writeln!(text, "set {id} size {size} slices {count}")
 }
 
-// Appends a line for each file.
-fn push_files(text: &mut String, size: u64, files: &[SetFile]) -> Result<(), AllocError>
+// Puts a line for each file behind what waits, and writes each block of them.
+fn put_files<W: Sink>(
+    size: u64,
+    files: &[SetFile],
+    waiting: &mut String,
+    out: &mut W,
+) -> Result<(), RunFault>
     requires { 0 < size }
-    ensures { OnOk result (string_bytes text.new
-        ≡ string_bytes text.old ++ flat_map (file_line size) files.now) }
+    ensures lines { OnOk result (Waits (W.state out.old) (W.state out.new)
+        (string_bytes waiting.old ++ flat_map (file_line size) files.now)
+        (string_bytes waiting.new)) }
+    ensures fault { IfErr result (λ fault. Breaks fault (W.state out.old) (W.state out.new)
+        (string_bytes waiting.old ++ flat_map (file_line size) files.now)) }
 {
     for file in files {
-        push_file(text, size, file)?;
+        put_file(size, file, waiting, out)?;
     }
     Ok(())
+}
+
+// Puts the line of a file behind what waits, and writes that once it is a block.
+fn put_file<W: Sink>(
+    size: u64,
+    file: &SetFile,
+    waiting: &mut String,
+    out: &mut W,
+) -> Result<(), RunFault>
+    requires { 0 < size }
+    ensures line { OnOk result (Waits (W.state out.old) (W.state out.new)
+        (string_bytes waiting.old ++ file_line size file.now) (string_bytes waiting.new)) }
+    ensures fault { IfErr result (λ fault. Breaks fault (W.state out.old) (W.state out.new)
+        (string_bytes waiting.old ++ file_line size file.now)) }
+{
+    push_file(waiting, size, file)?;
+    Ok(write_block(out, waiting)?)
 }
 
 // Appends the line of a file.
@@ -65,6 +98,17 @@ fn yes_if(known: bool) -> &'static str
     ensures { result.now ≡ yes_or_no known }
 {
     if known { "yes" } else { "no" }
+}
+
+// Appends the lines between those of the files and those of the packets that are put aside.
+fn push_counts(text: &mut String, set: &RecoverySet) -> Result<(), AllocError>
+    ensures { OnOk result (string_bytes text.new ≡ string_bytes text.old
+        ++ (others_line set.now.others ++ (have_line set.now.have
+        ++ creator_lines set.now.creator))) }
+{
+    push_others(text, set.others())?;
+    push_have(text, set.have())?;
+    push_creator(text, set.creator())
 }
 
 // Appends how many non-recovery files there are.
@@ -95,15 +139,40 @@ fn push_creator(text: &mut String, creator: Option<&[u8]>) -> Result<(), AllocEr
     }
 }
 
-// Appends a line for each packet that is put aside.
-fn push_asides(text: &mut String, names: &[Text], asides: &[SetAside]) -> Result<(), AllocError>
-    ensures { OnOk result (string_bytes text.new
-        ≡ string_bytes text.old ++ flat_map (aside_among names.now) asides.now) }
+// Puts a line for each packet that is put aside behind what waits, and writes each block of them.
+fn put_asides<W: Sink>(
+    names: &[Text],
+    asides: &[SetAside],
+    waiting: &mut String,
+    out: &mut W,
+) -> Result<(), RunFault>
+    ensures lines { OnOk result (Waits (W.state out.old) (W.state out.new)
+        (string_bytes waiting.old ++ flat_map (aside_among names.now) asides.now)
+        (string_bytes waiting.new)) }
+    ensures fault { IfErr result (λ fault. Breaks fault (W.state out.old) (W.state out.new)
+        (string_bytes waiting.old ++ flat_map (aside_among names.now) asides.now)) }
 {
     for aside in asides {
-        push_aside(text, packet_name(names, aside.file), aside)?;
+        put_aside(names, aside, waiting, out)?;
     }
     Ok(())
+}
+
+// Puts the line of a packet that is put aside behind what waits, and writes that once it is a
+// block.
+fn put_aside<W: Sink>(
+    names: &[Text],
+    aside: &SetAside,
+    waiting: &mut String,
+    out: &mut W,
+) -> Result<(), RunFault>
+    ensures line { OnOk result (Waits (W.state out.old) (W.state out.new)
+        (string_bytes waiting.old ++ aside_among names.now aside.now) (string_bytes waiting.new)) }
+    ensures fault { IfErr result (λ fault. Breaks fault (W.state out.old) (W.state out.new)
+        (string_bytes waiting.old ++ aside_among names.now aside.now)) }
+{
+    push_aside(waiting, packet_name(names, aside.file), aside)?;
+    Ok(write_block(out, waiting)?)
 }
 
 // Appends the line of a packet that is put aside.
