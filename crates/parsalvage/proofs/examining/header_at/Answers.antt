@@ -35,3 +35,6 @@ returns-else-head-room-clause-found g c = λ steady.
     let long : 64 ≤ length (drop c.args.at bytes) = omega (arith, rest, size) in
     framed_too_long (drop c.args.at bytes) _ (c.in_ok-read.ensures.bytes steady) long c.in-Ok.head
     c.in-Ok.ensures.fields (omega (arith, rest, size, c.if-head-room.false, c.length.ensures.value))
+
+pub returns-then-head-room-clause-fits : goal.returns-then-head-room-clause-fits
+returns-then-head-room-clause-fits g c = omega (arith, c.if-head-room.true, c.length.ensures.value)
