@@ -60,22 +60,37 @@ fn digest_of(alloc: Global, bytes: &[u8]) -> Result<Hash16, Fail> {
     Ok(window.digest())
 }
 
+// The Main packet of a set of one file, in slices of four.
+fn main_packet(alloc: Global) -> Result<Kept, Fail> {
+    let mut body = Vec::from_slice(alloc, b"\x04\0\0\0\0\0\0\0\x01\0\0\0")?;
+    body.extend_from_slice(&[7; 16])?;
+    let set = digest_of(alloc, body.as_slice())?;
+    packet(set, Kind::Main, body)
+}
+
+// The description of that file, which has this length.
+fn description_packet(alloc: Global, set: Hash16, length: u64) -> Result<Kept, Fail> {
+    let mut body = vec![in alloc; 7; 48]?;
+    body.extend_from_slice(&length.to_le_bytes())?;
+    body.extend_from_slice(b"name")?;
+    packet(set, Kind::FileDesc, body)
+}
+
+// The packet with these sums of its slices.
+fn sums_packet(alloc: Global, set: Hash16, pairs: &[u8]) -> Result<Kept, Fail> {
+    let mut body = vec![in alloc; 7; 16]?;
+    body.extend_from_slice(pairs)?;
+    packet(set, Kind::Ifsc, body)
+}
+
 // The set of one file of this length, in slices of four, with these sums, if they are all.
 fn set_with(alloc: Global, length: u64, pairs: &[u8]) -> Result<RecoverySet, Fail> {
-    let mut main = Vec::new(alloc);
-    main.extend_from_slice(b"\x04\0\0\0\0\0\0\0\x01\0\0\0")?;
-    main.extend_from_slice(&[7; 16])?;
-    let set = digest_of(alloc, main.as_slice())?;
-    let mut description = vec![in alloc; 7; 48]?;
-    description.extend_from_slice(&length.to_le_bytes())?;
-    description.extend_from_slice(b"name")?;
-    let mut sums = vec![in alloc; 7; 16]?;
-    sums.extend_from_slice(pairs)?;
-    let packets = vec![in alloc;
-        packet(set, Kind::Main, main)?,
-        packet(set, Kind::FileDesc, description)?,
-        packet(set, Kind::Ifsc, sums)?,
-    ]?;
+    let main = main_packet(alloc)?;
+    let set = main.set;
+    let mut packets = Vec::new(alloc);
+    packets.push(main)?;
+    packets.push(description_packet(alloc, set, length)?)?;
+    packets.push(sums_packet(alloc, set, pairs)?)?;
     Ok(build(alloc, &packets, None)?)
 }
 
@@ -125,6 +140,21 @@ fn gives(rt: &impl Abort, finder: &mut Finder, index: &Index, shelf: &mut MemShe
     }
 }
 
+// Where a search stands.
+fn stands_at(rt: &impl Abort, finder: &Finder, end: Cursor) {
+    assert_eq!(rt; finder.cursor(), end);
+}
+
+// How many bytes a shelf has handed over.
+pub fn has_handed(rt: &impl Abort, shelf: &MemShelf, bytes: u64) {
+    assert_eq!(rt; shelf.handed(), bytes);
+}
+
+// The same, no more than this.
+pub fn has_handed_at_most(rt: &impl Abort, shelf: &MemShelf, most: u64) {
+    assert!(rt; shelf.handed() <= most, "{} bytes", shelf.handed());
+}
+
 // Looks for the slices of a file of these bytes in files from a cursor on; wants these answers in order, and the cursor then.
 fn finds(
     rt: &(impl Abort + AllocGlobal),
@@ -138,7 +168,7 @@ fn finds(
     let mut shelf = shelf_of(rt, files, 64, 0)?;
     let mut finder = Finder::open(rt.alloc(), &index, &shelf, at)?;
     gives(rt, &mut finder, &index, &mut shelf, wanted);
-    assert_eq!(rt; finder.cursor(), end);
+    stands_at(rt, &finder, end);
     Ok(())
 }
 
@@ -253,8 +283,8 @@ fn steps_give(
 {
     for (budget, step, end) in wanted {
         assert!(rt; *budget > 0);
-        assert_eq!(rt; finder.step(index, shelf, *budget), Ok(*step));
-        assert_eq!(rt; finder.cursor(), *end);
+        let answer = finder.step(index, shelf, *budget);
+        assert_eq!(rt; (answer, finder.cursor()), (Ok(*step), *end));
     }
 }
 
@@ -349,7 +379,7 @@ fn reads_at_most(
         let mut shelf = shelf_of(rt, &[b"XXabcdefgh"], piece, 0)?;
         let mut finder = Finder::open(rt.alloc(), &index, &shelf, at)?;
         gives(rt, &mut finder, &index, &mut shelf, wanted);
-        assert!(rt; shelf.handed() <= most, "pieces of {piece}");
+        has_handed_at_most(rt, &shelf, most);
     }
     Ok(())
 }
@@ -369,7 +399,7 @@ fn a_step_reads_little_further_than_its_window(rt: HostRuntime) -> Result<(), Fa
     let mut finder = Finder::open(rt.alloc(), &index, &shelf, START)?;
     let wanted = [(1, Step::Spent, cursor(0, 1, 0))];
     steps_give(&rt, &mut finder, &index, &mut shelf, &wanted);
-    assert!(rt; shelf.handed() <= 4_101);
+    has_handed_at_most(&rt, &shelf, 4_101);
     Ok(())
 }
 
@@ -385,7 +415,7 @@ fn reads_nothing(
     let mut shelf = shelf_of(rt, files, 64, 1)?;
     let mut finder = Finder::open(rt.alloc(), index, &shelf, at)?;
     steps_give(rt, &mut finder, index, &mut shelf, wanted);
-    assert_eq!(rt; shelf.handed(), 0);
+    has_handed(rt, &shelf, 0);
     Ok(())
 }
 
@@ -411,7 +441,12 @@ fn the_rest_of_a_file_is_not_read_where_no_slice_fits(rt: HostRuntime) -> Result
         (1, Step::Spent, cursor(0, 10, 0)),
         (1, Step::Done, cursor(1, 0, 0)),
     ];
-    reads_nothing(&rt, &index, &[b"XXXXXXXXab"], cursor(0, 9, 1), &wanted)?;
+    reads_nothing(&rt, &index, &[b"XXXXXXXXab"], cursor(0, 9, 1), &wanted)
+}
+
+#[test]
+fn files_into_which_only_the_short_slice_fits_are_read(rt: HostRuntime) -> Result<(), Fail> {
+    let index = index_of(&rt, b"abcdef")?;
     let mut shelf = shelf_of(&rt, &[b"e", b"ef"], 64, 0)?;
     let mut finder = Finder::open(rt.alloc(), &index, &shelf, START)?;
     gives(
@@ -421,13 +456,19 @@ fn the_rest_of_a_file_is_not_read_where_no_slice_fits(rt: HostRuntime) -> Result
         &mut shelf,
         &[hit(1, 0, 1), Step::Done],
     );
-    assert_eq!(rt; shelf.handed(), 2);
+    has_handed(&rt, &shelf, 2);
     Ok(())
+}
+
+// An index of a file of eight bytes, of which no sums are known.
+fn index_without_sums(alloc: Global) -> Result<Index, Fail> {
+    let set = set_with(alloc, 8, b"")?;
+    Ok(Index::new(alloc, &set)?)
 }
 
 #[test]
 fn nothing_is_read_where_no_sums_are_known(rt: HostRuntime) -> Result<(), Fail> {
-    let index = Index::new(rt.alloc(), &set_with(rt.alloc(), 8, b"")?)?;
+    let index = index_without_sums(rt.alloc())?;
     let files: [&[u8]; 2] = [b"abcdefgh", b"abcd"];
     let wanted = [
         (5, Step::Spent, cursor(0, 5, 0)),
