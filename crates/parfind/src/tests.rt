@@ -155,6 +155,19 @@ pub fn has_handed_at_most(rt: &impl Abort, shelf: &MemShelf, most: u64) {
     assert!(rt; shelf.handed() <= most, "{} bytes", shelf.handed());
 }
 
+// Looks for slices in files from a cursor on; wants these answers.
+fn searches(
+    rt: &(impl Abort + AllocGlobal),
+    index: &Index,
+    shelf: &mut MemShelf,
+    at: Cursor,
+    wanted: &[Step],
+) -> Result<(), Fail> {
+    let mut finder = Finder::open(rt.alloc(), index, &*shelf, at)?;
+    gives(rt, &mut finder, index, shelf, wanted);
+    Ok(())
+}
+
 // Looks for the slices of a file of these bytes in files from a cursor on; wants these answers in order, and the cursor then.
 fn finds(
     rt: &(impl Abort + AllocGlobal),
@@ -288,7 +301,20 @@ fn steps_give(
     }
 }
 
-// The same from a cursor on, over the slices of these bytes and over files.
+// The same from a cursor on, over slices and files.
+fn steps_through(
+    rt: &(impl Abort + AllocGlobal),
+    index: &Index,
+    shelf: &mut MemShelf,
+    at: Cursor,
+    wanted: &[(u64, Step, Cursor)],
+) -> Result<(), Fail> {
+    let mut finder = Finder::open(rt.alloc(), index, &*shelf, at)?;
+    steps_give(rt, &mut finder, index, shelf, wanted);
+    Ok(())
+}
+
+// The same over the slices of these bytes.
 fn steps(
     rt: &(impl Abort + AllocGlobal),
     content: &[u8],
@@ -298,9 +324,7 @@ fn steps(
 ) -> Result<(), Fail> {
     let index = index_of(rt, content)?;
     let mut shelf = shelf_of(rt, files, 64, 0)?;
-    let mut finder = Finder::open(rt.alloc(), &index, &shelf, at)?;
-    steps_give(rt, &mut finder, &index, &mut shelf, wanted);
-    Ok(())
+    steps_through(rt, &index, &mut shelf, at, wanted)
 }
 
 #[test]
@@ -377,8 +401,7 @@ fn reads_at_most(
     let index = index_of(rt, b"abcdefgh")?;
     for piece in [1, 3, 64] {
         let mut shelf = shelf_of(rt, &[b"XXabcdefgh"], piece, 0)?;
-        let mut finder = Finder::open(rt.alloc(), &index, &shelf, at)?;
-        gives(rt, &mut finder, &index, &mut shelf, wanted);
+        searches(rt, &index, &mut shelf, at, wanted)?;
         has_handed_at_most(rt, &shelf, most);
     }
     Ok(())
@@ -396,9 +419,8 @@ fn a_step_reads_little_further_than_its_window(rt: HostRuntime) -> Result<(), Fa
     let index = index_of(&rt, b"abcdefgh")?;
     let file = vec![in rt.alloc(); b'x'; 20_000]?;
     let mut shelf = shelf_of(&rt, &[file.as_slice()], 20_000, 0)?;
-    let mut finder = Finder::open(rt.alloc(), &index, &shelf, START)?;
     let wanted = [(1, Step::Spent, cursor(0, 1, 0))];
-    steps_give(&rt, &mut finder, &index, &mut shelf, &wanted);
+    steps_through(&rt, &index, &mut shelf, START, &wanted)?;
     has_handed_at_most(&rt, &shelf, 4_101);
     Ok(())
 }
@@ -413,8 +435,7 @@ fn reads_nothing(
     wanted: &[(u64, Step, Cursor)],
 ) -> Result<(), Fail> {
     let mut shelf = shelf_of(rt, files, 64, 1)?;
-    let mut finder = Finder::open(rt.alloc(), index, &shelf, at)?;
-    steps_give(rt, &mut finder, index, &mut shelf, wanted);
+    steps_through(rt, index, &mut shelf, at, wanted)?;
     has_handed(rt, &shelf, 0);
     Ok(())
 }
@@ -448,14 +469,8 @@ fn the_rest_of_a_file_is_not_read_where_no_slice_fits(rt: HostRuntime) -> Result
 fn files_into_which_only_the_short_slice_fits_are_read(rt: HostRuntime) -> Result<(), Fail> {
     let index = index_of(&rt, b"abcdef")?;
     let mut shelf = shelf_of(&rt, &[b"e", b"ef"], 64, 0)?;
-    let mut finder = Finder::open(rt.alloc(), &index, &shelf, START)?;
-    gives(
-        &rt,
-        &mut finder,
-        &index,
-        &mut shelf,
-        &[hit(1, 0, 1), Step::Done],
-    );
+    let wanted = [hit(1, 0, 1), Step::Done];
+    searches(&rt, &index, &mut shelf, START, &wanted)?;
     has_handed(&rt, &shelf, 2);
     Ok(())
 }
