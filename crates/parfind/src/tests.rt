@@ -414,15 +414,24 @@ fn each_byte_is_read_once(rt: HostRuntime) -> Result<(), Fail> {
     reads_at_most(&rt, cursor(0, 3, 0), &[hit(0, 6, 1), Step::Done], 7)
 }
 
+// Takes one step of one place in a file that is read at once; wants no more bytes handed over.
+fn a_step_reads_at_most(
+    rt: &(impl Abort + AllocGlobal),
+    file: &[u8],
+    most: u64,
+) -> Result<(), Fail> {
+    let index = index_of(rt, b"abcdefgh")?;
+    let mut shelf = shelf_of(rt, &[file], 20_000, 0)?;
+    let wanted = [(1, Step::Spent, cursor(0, 1, 0))];
+    steps_through(rt, &index, &mut shelf, START, &wanted)?;
+    has_handed_at_most(rt, &shelf, most);
+    Ok(())
+}
+
 #[test]
 fn a_step_reads_little_further_than_its_window(rt: HostRuntime) -> Result<(), Fail> {
-    let index = index_of(&rt, b"abcdefgh")?;
     let file = vec![in rt.alloc(); b'x'; 20_000]?;
-    let mut shelf = shelf_of(&rt, &[file.as_slice()], 20_000, 0)?;
-    let wanted = [(1, Step::Spent, cursor(0, 1, 0))];
-    steps_through(&rt, &index, &mut shelf, START, &wanted)?;
-    has_handed_at_most(&rt, &shelf, 4_101);
-    Ok(())
+    a_step_reads_at_most(&rt, file.as_slice(), 4_101)
 }
 
 // Takes steps with these budgets over files whose first read fails; wants these answers and cursors,
@@ -465,14 +474,26 @@ fn the_rest_of_a_file_is_not_read_where_no_slice_fits(rt: HostRuntime) -> Result
     reads_nothing(&rt, &index, &[b"XXXXXXXXab"], cursor(0, 9, 1), &wanted)
 }
 
+// Looks for the slices of these bytes in files from the first on; wants these answers, and so many
+// bytes handed over.
+fn reads(
+    rt: &(impl Abort + AllocGlobal),
+    content: &[u8],
+    files: &[&[u8]],
+    wanted: &[Step],
+    bytes: u64,
+) -> Result<(), Fail> {
+    let index = index_of(rt, content)?;
+    let mut shelf = shelf_of(rt, files, 64, 0)?;
+    searches(rt, &index, &mut shelf, START, wanted)?;
+    has_handed(rt, &shelf, bytes);
+    Ok(())
+}
+
 #[test]
 fn files_into_which_only_the_short_slice_fits_are_read(rt: HostRuntime) -> Result<(), Fail> {
-    let index = index_of(&rt, b"abcdef")?;
-    let mut shelf = shelf_of(&rt, &[b"e", b"ef"], 64, 0)?;
     let wanted = [hit(1, 0, 1), Step::Done];
-    searches(&rt, &index, &mut shelf, START, &wanted)?;
-    has_handed(&rt, &shelf, 2);
-    Ok(())
+    reads(&rt, b"abcdef", &[b"e", b"ef"], &wanted, 2)
 }
 
 // An index of a file of eight bytes, of which no sums are known.
