@@ -168,7 +168,8 @@ fn searches(
     Ok(())
 }
 
-// Looks for the slices of a file of these bytes in files from a cursor on; wants these answers in order, and the cursor then.
+// Looks for the slices of a file of these bytes in files from a cursor on; wants these answers in
+// order, and the cursor then.
 fn finds(
     rt: &(impl Abort + AllocGlobal),
     content: &[u8],
@@ -434,8 +435,8 @@ fn a_step_reads_little_further_than_its_window(rt: HostRuntime) -> Result<(), Fa
     a_step_reads_at_most(&rt, file.as_slice(), 4_101)
 }
 
-// Takes steps with these budgets over files whose first read fails; wants these answers and cursors,
-// and no byte handed over.
+// Takes steps with these budgets over files whose first read fails; wants these answers and
+// cursors, and no byte handed over.
 fn reads_nothing(
     rt: &(impl Abort + AllocGlobal),
     index: &Index,
