@@ -1,5 +1,6 @@
 use super::*;
 use parfield::Hash16;
+use std::process::Abort;
 use std::test::Fail;
 
 const ZEROS: Hash16 = Hash16([0; 16]);
@@ -8,6 +9,13 @@ const SET: Hash16 = Hash16([
     0x61, 0x7c, 0xdc, 0x72, 0xba, 0x53, 0xd9, 0x4f, 0xe7, 0x13, 0xfe, 0xa2, 0xae, 0x18, 0xf7, 0x76,
 ]);
 
+// The text of a cursor of the set.
+fn is_written(rt: &(impl Abort + AllocGlobal), cursor: Cursor, wanted: &[u8]) -> Result<(), Fail> {
+    let text = cursor.text(rt.alloc(), SET)?;
+    assert_eq!(rt; text.as_slice(), wanted);
+    Ok(())
+}
+
 #[test]
 fn a_cursor_is_written(rt: HostRuntime) -> Result<(), Fail> {
     let cursor = Cursor {
@@ -15,12 +23,7 @@ fn a_cursor_is_written(rt: HostRuntime) -> Result<(), Fail> {
         offset: 2,
         slice: 1,
     };
-    let text = cursor.text(rt.alloc(), SET)?;
-    assert_eq!(rt;
-        text.as_slice(),
-        b"617cdc72ba53d94fe713fea2ae18f776:0:2:1".as_slice()
-    );
-    Ok(())
+    is_written(&rt, cursor, b"617cdc72ba53d94fe713fea2ae18f776:0:2:1")
 }
 
 #[test]
@@ -33,9 +36,7 @@ fn the_greatest_cursor_has_75_bytes(rt: HostRuntime) -> Result<(), Fail> {
     let text = b"617cdc72ba53d94fe713fea2ae18f776:4294967295:18446744073709551615:4294967295";
     assert_eq!(rt; text.len(), 75);
     assert_eq!(rt; split_cursor(text), Some((SET, greatest)));
-    let written = greatest.text(rt.alloc(), SET)?;
-    assert_eq!(rt; written.as_slice(), text.as_slice());
-    Ok(())
+    is_written(&rt, greatest, text)
 }
 
 #[test]
@@ -51,33 +52,40 @@ fn a_cursor_is_read_for_its_set(rt: HostRuntime) {
     assert_eq!(rt; read_cursor(text, SET), Err(CursorFault::OtherSet));
 }
 
+// Texts that are no cursor's.
+static TEXTS: [&[u8]; 17] = [
+    b"",
+    b"00000000000000000000000000000000",
+    b"00000000000000000000000000000000:0:1",
+    b"00000000000000000000000000000000:0:1:",
+    b"00000000000000000000000000000000:0:1:1:",
+    b"00000000000000000000000000000000:0:1:1:1",
+    b"00000000000000000000000000000000:0:01:1",
+    b"00000000000000000000000000000000:0:+1:1",
+    b"00000000000000000000000000000000:0:1:1 ",
+    b" 00000000000000000000000000000000:0:1:1",
+    b"00000000000000000000000000000000:0:1:4294967296",
+    b"00000000000000000000000000000000:4294967296:0:0",
+    b"00000000000000000000000000000000:0:18446744073709551616:0",
+    b"00000000000000000000000000000000:0:340282366920938463463374607431768211456:0",
+    b"0000000000000000000000000000000A:0:1:1",
+    b"0000000000000000000000000000000:0:1:1",
+    b"000000000000000000000000000000000:0:1:1",
+];
+
+// No cursor can be read from a text.
+fn is_refused(rt: &impl Abort, text: &[u8]) {
+    assert_eq!(rt; split_cursor(text), None, "{text:?}");
+    assert_eq!(rt;
+        read_cursor(text, ZEROS),
+        Err(CursorFault::Form),
+        "{text:?}"
+    );
+}
+
 #[test]
 fn any_other_text_is_refused(rt: HostRuntime) {
-    let texts: [&[u8]; 17] = [
-        b"",
-        b"00000000000000000000000000000000",
-        b"00000000000000000000000000000000:0:1",
-        b"00000000000000000000000000000000:0:1:",
-        b"00000000000000000000000000000000:0:1:1:",
-        b"00000000000000000000000000000000:0:1:1:1",
-        b"00000000000000000000000000000000:0:01:1",
-        b"00000000000000000000000000000000:0:+1:1",
-        b"00000000000000000000000000000000:0:1:1 ",
-        b" 00000000000000000000000000000000:0:1:1",
-        b"00000000000000000000000000000000:0:1:4294967296",
-        b"00000000000000000000000000000000:4294967296:0:0",
-        b"00000000000000000000000000000000:0:18446744073709551616:0",
-        b"00000000000000000000000000000000:0:340282366920938463463374607431768211456:0",
-        b"0000000000000000000000000000000A:0:1:1",
-        b"0000000000000000000000000000000:0:1:1",
-        b"000000000000000000000000000000000:0:1:1",
-    ];
-    for text in texts {
-        assert_eq!(rt; split_cursor(text), None, "{text:?}");
-        assert_eq!(rt;
-            read_cursor(text, ZEROS),
-            Err(CursorFault::Form),
-            "{text:?}"
-        );
+    for text in &TEXTS {
+        is_refused(&rt, text);
     }
 }

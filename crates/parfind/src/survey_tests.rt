@@ -2,10 +2,11 @@ ghost use Rattle.std.specs.Prelude.{◌≡◌, ◌∷◌, [], true, false};
 ghost use Rattle.parfind.specs.Marks.{missing_places};
 ghost use Rattle.parfind.specs.Worked.{two_slices, equal_slices};
 
-use crate::tests::{index_of, shelf_of};
+use crate::tests::{has_handed, has_handed_at_most, index_of, shelf_of};
 use crate::{SurveyFault, survey, survey_in};
 use parshelf::{MemShelf, ReadFault};
 use parwindow::Window;
+use std::alloc::{AllocError, Global};
 use std::process::Abort;
 use std::test::Fail;
 
@@ -48,7 +49,7 @@ fn marks(
             Ok(()),
             wanted,
         )?;
-        assert!(rt; shelf.handed() <= most, "pieces of {piece}");
+        has_handed_at_most(rt, &shelf, most);
     }
     Ok(())
 }
@@ -114,16 +115,28 @@ fn nothing_is_read_where_each_slice_has_its_mark(rt: HostRuntime) -> Result<(), 
         Ok(()),
         &[true, true],
     )?;
-    assert_eq!(rt; shelf.handed(), 0);
+    has_handed(&rt, &shelf, 0);
     Ok(())
+}
+
+// A file with two slices near its beginning, and much behind them.
+fn long_file(alloc: Global) -> Result<Vec<u8>, AllocError> {
+    let mut file = Vec::from_slice(alloc, b"XXabcdefgh")?;
+    file.extend_from_slice(&[b'x'; 20_000])?;
+    Ok(file)
 }
 
 #[test]
 fn reading_stops_once_each_slice_is_found(rt: HostRuntime) -> Result<(), Fail> {
-    let mut file = Vec::from_slice(rt.alloc(), b"XXabcdefgh")?;
-    file.extend_from_slice(&[b'x'; 20_000])?;
+    let file = long_file(rt.alloc())?;
     let files: [&[u8]; 2] = [file.as_slice(), b"abcdefgh"];
-    marks(&rt, b"abcdefgh", &files, &[true, true], 6 + 4 + 4_096)?;
+    marks(&rt, b"abcdefgh", &files, &[true, true], 6 + 4 + 4_096)
+}
+
+#[test]
+fn reading_stops_once_the_slice_without_a_mark_is_found(rt: HostRuntime) -> Result<(), Fail> {
+    let file = long_file(rt.alloc())?;
+    let files: [&[u8]; 2] = [file.as_slice(), b"abcdefgh"];
     let mut shelf = shelf_of(&rt, &files, 64, 0)?;
     let mut found = [false, true];
     surveys(
@@ -134,7 +147,7 @@ fn reading_stops_once_each_slice_is_found(rt: HostRuntime) -> Result<(), Fail> {
         Ok(()),
         &[true, true],
     )?;
-    assert!(rt; shelf.handed() <= 2 + 4 + 4_096);
+    has_handed_at_most(&rt, &shelf, 2 + 4 + 4_096);
     Ok(())
 }
 
@@ -199,19 +212,29 @@ fn after_a_failed_read_the_marks_before_it_stand(rt: HostRuntime) -> Result<(), 
     fails(&rt, 64, 3, Ok(()), &[true, true, true])
 }
 
+// Surveys files for three slices, in a window of its own; wants this answer and these marks.
+fn surveys_three(
+    rt: &(impl Abort + AllocGlobal),
+    shelf: &mut MemShelf,
+    found: &mut [bool],
+    answer: Result<(), SurveyFault>,
+    wanted: &[bool],
+) -> Result<(), Fail> {
+    let index = index_of(rt, b"abcdefghijkl")?;
+    assert_eq!(rt; (index.slices(), found.len()), (3, 3));
+    assert_eq!(rt; survey(rt.alloc(), &index, shelf, found), answer);
+    assert_eq!(rt; *found, *wanted);
+    Ok(())
+}
+
 #[test]
 fn a_survey_marks_what_a_search_finds(rt: HostRuntime) -> Result<(), Fail> {
-    let index = index_of(&rt, b"abcdefghijkl")?;
     let mut found = [false, false, true];
-    assert_eq!(rt; index.slices(), 3);
     let mut failing = shelf_of(&rt, &[b"ab", b"XXabcdefgh"], 64, 1)?;
-    let fault = survey(rt.alloc(), &index, &mut failing, &mut found);
-    assert_eq!(rt; fault, Err(SurveyFault::Read(1, ReadFault::Failed)));
-    assert_eq!(rt; found, [false, false, true]);
+    let fault = Err(SurveyFault::Read(1, ReadFault::Failed));
+    surveys_three(&rt, &mut failing, &mut found, fault, &[false, false, true])?;
     let mut shelf = shelf_of(&rt, &[b"XXabcd"], 64, 0)?;
-    assert_eq!(rt; survey(rt.alloc(), &index, &mut shelf, &mut found), Ok(()));
-    assert_eq!(rt; found, [true, false, true]);
-    Ok(())
+    surveys_three(&rt, &mut shelf, &mut found, Ok(()), &[true, false, true])
 }
 
 // What the word counts that bounds the digests of a survey. Does nothing.

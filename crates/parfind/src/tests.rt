@@ -60,22 +60,37 @@ fn digest_of(alloc: Global, bytes: &[u8]) -> Result<Hash16, Fail> {
     Ok(window.digest())
 }
 
+// The Main packet of a set of one file, in slices of four.
+fn main_packet(alloc: Global) -> Result<Kept, Fail> {
+    let mut body = Vec::from_slice(alloc, b"\x04\0\0\0\0\0\0\0\x01\0\0\0")?;
+    body.extend_from_slice(&[7; 16])?;
+    let set = digest_of(alloc, body.as_slice())?;
+    packet(set, Kind::Main, body)
+}
+
+// The description of that file, which has this length.
+fn description_packet(alloc: Global, set: Hash16, length: u64) -> Result<Kept, Fail> {
+    let mut body = vec![in alloc; 7; 48]?;
+    body.extend_from_slice(&length.to_le_bytes())?;
+    body.extend_from_slice(b"name")?;
+    packet(set, Kind::FileDesc, body)
+}
+
+// The packet with these sums of its slices.
+fn sums_packet(alloc: Global, set: Hash16, pairs: &[u8]) -> Result<Kept, Fail> {
+    let mut body = vec![in alloc; 7; 16]?;
+    body.extend_from_slice(pairs)?;
+    packet(set, Kind::Ifsc, body)
+}
+
 // The set of one file of this length, in slices of four, with these sums, if they are all.
 fn set_with(alloc: Global, length: u64, pairs: &[u8]) -> Result<RecoverySet, Fail> {
-    let mut main = Vec::new(alloc);
-    main.extend_from_slice(b"\x04\0\0\0\0\0\0\0\x01\0\0\0")?;
-    main.extend_from_slice(&[7; 16])?;
-    let set = digest_of(alloc, main.as_slice())?;
-    let mut description = vec![in alloc; 7; 48]?;
-    description.extend_from_slice(&length.to_le_bytes())?;
-    description.extend_from_slice(b"name")?;
-    let mut sums = vec![in alloc; 7; 16]?;
-    sums.extend_from_slice(pairs)?;
-    let packets = vec![in alloc;
-        packet(set, Kind::Main, main)?,
-        packet(set, Kind::FileDesc, description)?,
-        packet(set, Kind::Ifsc, sums)?,
-    ]?;
+    let main = main_packet(alloc)?;
+    let set = main.set;
+    let mut packets = Vec::new(alloc);
+    packets.push(main)?;
+    packets.push(description_packet(alloc, set, length)?)?;
+    packets.push(sums_packet(alloc, set, pairs)?)?;
     Ok(build(alloc, &packets, None)?)
 }
 
@@ -125,7 +140,36 @@ fn gives(rt: &impl Abort, finder: &mut Finder, index: &Index, shelf: &mut MemShe
     }
 }
 
-// Looks for the slices of a file of these bytes in files from a cursor on; wants these answers in order, and the cursor then.
+// Where a search stands.
+fn stands_at(rt: &impl Abort, finder: &Finder, end: Cursor) {
+    assert_eq!(rt; finder.cursor(), end);
+}
+
+// How many bytes a shelf has handed over.
+pub fn has_handed(rt: &impl Abort, shelf: &MemShelf, bytes: u64) {
+    assert_eq!(rt; shelf.handed(), bytes);
+}
+
+// The same, no more than this.
+pub fn has_handed_at_most(rt: &impl Abort, shelf: &MemShelf, most: u64) {
+    assert!(rt; shelf.handed() <= most, "{} bytes", shelf.handed());
+}
+
+// Looks for slices in files from a cursor on; wants these answers.
+fn searches(
+    rt: &(impl Abort + AllocGlobal),
+    index: &Index,
+    shelf: &mut MemShelf,
+    at: Cursor,
+    wanted: &[Step],
+) -> Result<(), Fail> {
+    let mut finder = Finder::open(rt.alloc(), index, &*shelf, at)?;
+    gives(rt, &mut finder, index, shelf, wanted);
+    Ok(())
+}
+
+// Looks for the slices of a file of these bytes in files from a cursor on; wants these answers in
+// order, and the cursor then.
 fn finds(
     rt: &(impl Abort + AllocGlobal),
     content: &[u8],
@@ -138,7 +182,7 @@ fn finds(
     let mut shelf = shelf_of(rt, files, 64, 0)?;
     let mut finder = Finder::open(rt.alloc(), &index, &shelf, at)?;
     gives(rt, &mut finder, &index, &mut shelf, wanted);
-    assert_eq!(rt; finder.cursor(), end);
+    stands_at(rt, &finder, end);
     Ok(())
 }
 
@@ -253,12 +297,25 @@ fn steps_give(
 {
     for (budget, step, end) in wanted {
         assert!(rt; *budget > 0);
-        assert_eq!(rt; finder.step(index, shelf, *budget), Ok(*step));
-        assert_eq!(rt; finder.cursor(), *end);
+        let answer = finder.step(index, shelf, *budget);
+        assert_eq!(rt; (answer, finder.cursor()), (Ok(*step), *end));
     }
 }
 
-// The same from a cursor on, over the slices of these bytes and over files.
+// The same from a cursor on, over slices and files.
+fn steps_through(
+    rt: &(impl Abort + AllocGlobal),
+    index: &Index,
+    shelf: &mut MemShelf,
+    at: Cursor,
+    wanted: &[(u64, Step, Cursor)],
+) -> Result<(), Fail> {
+    let mut finder = Finder::open(rt.alloc(), index, &*shelf, at)?;
+    steps_give(rt, &mut finder, index, shelf, wanted);
+    Ok(())
+}
+
+// The same over the slices of these bytes.
 fn steps(
     rt: &(impl Abort + AllocGlobal),
     content: &[u8],
@@ -268,9 +325,7 @@ fn steps(
 ) -> Result<(), Fail> {
     let index = index_of(rt, content)?;
     let mut shelf = shelf_of(rt, files, 64, 0)?;
-    let mut finder = Finder::open(rt.alloc(), &index, &shelf, at)?;
-    steps_give(rt, &mut finder, &index, &mut shelf, wanted);
-    Ok(())
+    steps_through(rt, &index, &mut shelf, at, wanted)
 }
 
 #[test]
@@ -347,9 +402,8 @@ fn reads_at_most(
     let index = index_of(rt, b"abcdefgh")?;
     for piece in [1, 3, 64] {
         let mut shelf = shelf_of(rt, &[b"XXabcdefgh"], piece, 0)?;
-        let mut finder = Finder::open(rt.alloc(), &index, &shelf, at)?;
-        gives(rt, &mut finder, &index, &mut shelf, wanted);
-        assert!(rt; shelf.handed() <= most, "pieces of {piece}");
+        searches(rt, &index, &mut shelf, at, wanted)?;
+        has_handed_at_most(rt, &shelf, most);
     }
     Ok(())
 }
@@ -361,20 +415,28 @@ fn each_byte_is_read_once(rt: HostRuntime) -> Result<(), Fail> {
     reads_at_most(&rt, cursor(0, 3, 0), &[hit(0, 6, 1), Step::Done], 7)
 }
 
-#[test]
-fn a_step_reads_little_further_than_its_window(rt: HostRuntime) -> Result<(), Fail> {
-    let index = index_of(&rt, b"abcdefgh")?;
-    let file = vec![in rt.alloc(); b'x'; 20_000]?;
-    let mut shelf = shelf_of(&rt, &[file.as_slice()], 20_000, 0)?;
-    let mut finder = Finder::open(rt.alloc(), &index, &shelf, START)?;
+// Takes one step of one place in a file that is read at once; wants no more bytes handed over.
+fn a_step_reads_at_most(
+    rt: &(impl Abort + AllocGlobal),
+    file: &[u8],
+    most: u64,
+) -> Result<(), Fail> {
+    let index = index_of(rt, b"abcdefgh")?;
+    let mut shelf = shelf_of(rt, &[file], 20_000, 0)?;
     let wanted = [(1, Step::Spent, cursor(0, 1, 0))];
-    steps_give(&rt, &mut finder, &index, &mut shelf, &wanted);
-    assert!(rt; shelf.handed() <= 4_101);
+    steps_through(rt, &index, &mut shelf, START, &wanted)?;
+    has_handed_at_most(rt, &shelf, most);
     Ok(())
 }
 
-// Takes steps with these budgets over files whose first read fails; wants these answers and cursors,
-// and no byte handed over.
+#[test]
+fn a_step_reads_little_further_than_its_window(rt: HostRuntime) -> Result<(), Fail> {
+    let file = vec![in rt.alloc(); b'x'; 20_000]?;
+    a_step_reads_at_most(&rt, file.as_slice(), 4_101)
+}
+
+// Takes steps with these budgets over files whose first read fails; wants these answers and
+// cursors, and no byte handed over.
 fn reads_nothing(
     rt: &(impl Abort + AllocGlobal),
     index: &Index,
@@ -383,9 +445,8 @@ fn reads_nothing(
     wanted: &[(u64, Step, Cursor)],
 ) -> Result<(), Fail> {
     let mut shelf = shelf_of(rt, files, 64, 1)?;
-    let mut finder = Finder::open(rt.alloc(), index, &shelf, at)?;
-    steps_give(rt, &mut finder, index, &mut shelf, wanted);
-    assert_eq!(rt; shelf.handed(), 0);
+    steps_through(rt, index, &mut shelf, at, wanted)?;
+    has_handed(rt, &shelf, 0);
     Ok(())
 }
 
@@ -411,23 +472,40 @@ fn the_rest_of_a_file_is_not_read_where_no_slice_fits(rt: HostRuntime) -> Result
         (1, Step::Spent, cursor(0, 10, 0)),
         (1, Step::Done, cursor(1, 0, 0)),
     ];
-    reads_nothing(&rt, &index, &[b"XXXXXXXXab"], cursor(0, 9, 1), &wanted)?;
-    let mut shelf = shelf_of(&rt, &[b"e", b"ef"], 64, 0)?;
-    let mut finder = Finder::open(rt.alloc(), &index, &shelf, START)?;
-    gives(
-        &rt,
-        &mut finder,
-        &index,
-        &mut shelf,
-        &[hit(1, 0, 1), Step::Done],
-    );
-    assert_eq!(rt; shelf.handed(), 2);
+    reads_nothing(&rt, &index, &[b"XXXXXXXXab"], cursor(0, 9, 1), &wanted)
+}
+
+// Looks for the slices of these bytes in files from the first on; wants these answers, and so many
+// bytes handed over.
+fn reads(
+    rt: &(impl Abort + AllocGlobal),
+    content: &[u8],
+    files: &[&[u8]],
+    wanted: &[Step],
+    bytes: u64,
+) -> Result<(), Fail> {
+    let index = index_of(rt, content)?;
+    let mut shelf = shelf_of(rt, files, 64, 0)?;
+    searches(rt, &index, &mut shelf, START, wanted)?;
+    has_handed(rt, &shelf, bytes);
     Ok(())
 }
 
 #[test]
+fn files_into_which_only_the_short_slice_fits_are_read(rt: HostRuntime) -> Result<(), Fail> {
+    let wanted = [hit(1, 0, 1), Step::Done];
+    reads(&rt, b"abcdef", &[b"e", b"ef"], &wanted, 2)
+}
+
+// An index of a file of eight bytes, of which no sums are known.
+fn index_without_sums(alloc: Global) -> Result<Index, Fail> {
+    let set = set_with(alloc, 8, b"")?;
+    Ok(Index::new(alloc, &set)?)
+}
+
+#[test]
 fn nothing_is_read_where_no_sums_are_known(rt: HostRuntime) -> Result<(), Fail> {
-    let index = Index::new(rt.alloc(), &set_with(rt.alloc(), 8, b"")?)?;
+    let index = index_without_sums(rt.alloc())?;
     let files: [&[u8]; 2] = [b"abcdefgh", b"abcd"];
     let wanted = [
         (5, Step::Spent, cursor(0, 5, 0)),

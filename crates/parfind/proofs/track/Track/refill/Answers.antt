@@ -1,4 +1,4 @@
-use Rattle.std.proofs.Common.{ap, ◌+◌, ◌∙◌, arith}
+use Rattle.std.proofs.Common.{ap, ◌+◌, ◌∙◌, arith, refl, rules}
 use Rattle.parshelf.specs.Shelf.{ShelfState}
 use Rattle.parshelf.proofs.ShelfLaws.{after_read-some}
 use Rattle.parfind.proofs.ReachLaws.{hands_read}
@@ -11,3 +11,11 @@ returns-in-Ok-clause-reads g c =
     hands_read s.lengths s.handed (g.H.Shelf.state c.read_at.new.self).handed t.file (t.base + t.end) c.in-Ok.count
     (ap (λ (u : ShelfState). u.handed) (c.in-Ok.ensures.ok ∙ after_read-some s t.file (t.base + t.end) _ c.in-Ok.count (omega (arith, c.in-Ok.count-test.1))))
     (λ some. omega (arith, c.in-Ok.ensures.bound, c.length-file_end.ensures.value, c.min-size.ensures))
+
+pub returns-in-Err-clause-on : goal.returns-in-Err-clause-on
+returns-in-Err-clause-on g c = record {
+  same = record { file_is = refl; held_is = refl; digest_is = refl };
+  base_is = refl;
+  end_fits = omega arith;
+  small = search rules;
+}
