@@ -15,9 +15,9 @@ fn written(rt: &HostRuntime, name: &str, bytes: &[u8]) -> io::Result<Text> {
 }
 
 // The shelf of a file at a path, which is removed once it is open.
-fn opened(rt: &HostRuntime, path: &str) -> Result<DiskShelf, Fail> {
-    let shelf = DiskShelf::open(rt, rt.alloc(), &[path])?;
-    fs::remove_file(rt, path)?;
+fn opened(rt: &HostRuntime, path: Text) -> Result<DiskShelf, Fail> {
+    let shelf = DiskShelf::open(rt, rt.alloc(), &[path.as_str()])?;
+    fs::remove_file(rt, path.as_str())?;
     Ok(shelf)
 }
 
@@ -36,9 +36,13 @@ fn opened_all(rt: &HostRuntime, paths: &[Text]) -> Result<DiskShelf, Fail>
 fn three_files(rt: &HostRuntime) -> Result<Vec<Text>, Fail> {
     let long = vec![in rt.alloc(); b'x'; 100_000]?;
     let mut paths = Vec::new(rt.alloc());
-    paths.push(written(rt, "letters", b"abc")?)?;
-    paths.push(written(rt, "empty", b"")?)?;
-    paths.push(written(rt, "long", long.as_slice())?)?;
+    for (name, bytes) in [
+        ("letters", &b"abc"[..]),
+        ("empty", b""),
+        ("long", long.as_slice()),
+    ] {
+        paths.push(written(rt, name, bytes)?)?;
+    }
     Ok(paths)
 }
 
@@ -60,12 +64,11 @@ fn files_on_disk_are_read_whole(rt: HostRuntime) -> Result<(), Fail> {
 
 #[test]
 fn a_part_of_a_file_on_disk_is_read(rt: HostRuntime) -> Result<(), Fail> {
-    let path = written(&rt, "part", b"abc")?;
-    let mut shelf = opened(&rt, path.as_str())?;
+    let mut shelf = opened(&rt, written(&rt, "part", b"abc")?)?;
     let mut buf = [0; 2];
     has_length(&rt, &shelf, 0, 3);
     fills(&rt, &mut shelf, 1, &mut buf, Ok(()));
-    assert_eq!(rt; buf, *b"bc");
+    are(&rt, &buf, b"bc");
     // The system refuses an offset that is no file's.
     reads(&rt, &mut shelf, 1 << 63, &mut buf, Err(Failed));
     Ok(())
@@ -82,8 +85,7 @@ fn sparse(rt: &HostRuntime) -> Result<Text, Fail> {
 
 #[test]
 fn a_file_above_4_gib_is_read_at_each_offset(rt: HostRuntime) -> Result<(), Fail> {
-    let path = sparse(&rt)?;
-    let mut shelf = opened(&rt, path.as_str())?;
+    let mut shelf = opened(&rt, sparse(&rt)?)?;
     has_files(&rt, &shelf, 1);
     has_length(&rt, &shelf, 0, 5 << 30);
     for (offset, size, want) in [
@@ -101,13 +103,18 @@ fn a_file_above_4_gib_is_read_at_each_offset(rt: HostRuntime) -> Result<(), Fail
     Ok(())
 }
 
-// The paths of a hundred files, of which file number n has n + 1 bytes n.
+// Writes the file of this number, of so many bytes and one more, all the number.
+fn numbered(rt: &HostRuntime, number: u8) -> Result<Text, Fail> {
+    let name = format!(in rt.alloc(); "many{number}")?;
+    let bytes = vec![in rt.alloc(); number; number as usize + 1]?;
+    Ok(written(rt, name.as_str(), &bytes)?)
+}
+
+// The paths of a hundred files by their numbers.
 fn hundred_files(rt: &HostRuntime) -> Result<Vec<Text>, Fail> {
     let mut paths = Vec::new(rt.alloc());
     for number in 0..100u8 {
-        let name = format!(in rt.alloc(); "many{number}")?;
-        let bytes = vec![in rt.alloc(); number; number as usize + 1]?;
-        paths.push(written(rt, name.as_str(), &bytes)?)?;
+        paths.push(numbered(rt, number)?)?;
     }
     Ok(paths)
 }
@@ -136,13 +143,24 @@ fn each_of_a_hundred_files_is_read_by_its_number(rt: HostRuntime) -> Result<(), 
     Ok(())
 }
 
+// The shelf of a file at a path, which is shortened and removed once it is open.
+fn shortened(rt: &HostRuntime, path: Text) -> Result<DiskShelf, Fail> {
+    let shelf = DiskShelf::open(rt, rt.alloc(), &[path.as_str()])?;
+    fs::write(rt, path.as_str(), b"abc")?;
+    fs::remove_file(rt, path.as_str())?;
+    Ok(shelf)
+}
+
 #[test]
 fn a_file_that_was_shortened_ends(rt: HostRuntime) -> Result<(), Fail> {
-    let path = written(&rt, "shortened", b"abcdefgh")?;
-    let mut shelf = DiskShelf::open(&rt, rt.alloc(), &[path.as_str()])?;
-    fs::write(&rt, path.as_str(), b"abc")?;
+    let mut shelf = shortened(&rt, written(&rt, "shortened", b"abcdefgh")?)?;
     digest_fails(&rt, &mut shelf, ReadFault::Ended);
-    Ok(fs::remove_file(&rt, path.as_str())?)
+    Ok(())
+}
+
+// The path at this index can't be opened.
+fn names_path(rt: &impl Abort, fault: Option<OpenFault>, index: usize) {
+    assert_eq!(rt; fault, Some(OpenFault::CannotOpen(index)));
 }
 
 #[test]
@@ -155,7 +173,7 @@ fn the_first_path_that_is_no_regular_file_is_named(rt: HostRuntime) -> Result<()
         (2, [regular, regular, "/dev/null"]),
     ] {
         let fault = DiskShelf::open(&rt, rt.alloc(), &paths).err();
-        assert_eq!(rt; fault, Some(OpenFault::CannotOpen(index)));
+        names_path(&rt, fault, index);
     }
     Ok(fs::remove_file(&rt, regular)?)
 }
