@@ -5,11 +5,10 @@ use parsalvage::{Kept, KeptBody, Part};
 use parset::build;
 
 // The ID of the one file of the set.
-const FILE: [u8; 16] = [7; 16];
+const FILE: [u8; 16] = [b'f'; 16];
 
 // The body of the Main packet of a set of the one file, in slices of 4 bytes.
-const MAIN: [u8; 28] =
-    *b"\x04\0\0\0\0\0\0\0\x01\0\0\0\x07\x07\x07\x07\x07\x07\x07\x07\x07\x07\x07\x07\x07\x07\x07\x07";
+const MAIN: [u8; 28] = *b"\x04\0\0\0\0\0\0\0\x01\0\0\0ffffffffffffffff";
 
 // A packet of the set, whose body is held whole.
 fn packet(kind: Kind, body: Vec<u8>) -> Result<Kept, AllocError> {
@@ -25,7 +24,7 @@ fn packet(kind: Kind, body: Vec<u8>) -> Result<Kept, AllocError> {
 
 // The body of the File Description packet of the file, of this length.
 fn desc_bytes(alloc: Global, length: u64) -> Result<Vec<u8>, AllocError> {
-    let mut body = vec![in alloc; 7; 48]?;
+    let mut body = vec![in alloc; b'f'; 48]?;
     body.extend_from_slice(&length.to_le_bytes())?;
     body.extend_from_slice(b"name")?;
     Ok(body)
