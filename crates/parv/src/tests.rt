@@ -1,3 +1,4 @@
+mod blocks;
 mod describing;
 mod disk;
 mod ending;

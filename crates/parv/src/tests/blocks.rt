@@ -1,0 +1,103 @@
+// Lists of more than a block of 65,536 bytes.
+use crate::tests::fixtures::{Files, Outcome, Room, packet_file, ran_with};
+use parreport::RunFault;
+use std::alloc::{AllocError, Global};
+use std::process::Abort;
+use std::test::Fail;
+
+// How many packets are listed; the Creator packet of g has 68 bytes.
+const PACKETS: u64 = 1300;
+
+// How many packets are put aside behind the set of g, the first of them at 340.
+const ASIDES: u64 = 3200;
+
+// So many bytes of a list are taken, and then the sink fails.
+static ROOMS: [usize; 7] = [0, 1, 65_535, 65_536, 65_600, 66_500, 1_000_000];
+
+// The bytes, so many times.
+fn repeated(alloc: Global, bytes: &[u8], times: u64) -> Result<Vec<u8>, AllocError> {
+    let mut all = Vec::new(alloc);
+    for _ in 0..times {
+        all.extend_from_slice(bytes)?;
+    }
+    Ok(all)
+}
+
+// The list of so many Creator packets of 68 bytes.
+fn packets_list(alloc: Global) -> Result<String, AllocError> {
+    let mut text = String::new(alloc);
+    for i in 0..PACKETS {
+        let at = 68 * i;
+        writeln!(text, "v.par2 {at} 68 creator 617cdc72ba53d94fe713fea2ae18f776")?;
+    }
+    writeln!(text, "packets {PACKETS}")?;
+    Ok(text)
+}
+
+// The text of `set` over g and so many packets of this length that are put aside.
+fn set_list(alloc: Global, length: u64) -> Result<String, AllocError> {
+    let mut text = String::new(alloc);
+    text.push_str(
+        "set 617cdc72ba53d94fe713fea2ae18f776 size 4 slices 2\n\
+         file e345eacbe656c0e6fd20ed63cb7b062c 8 2 yes g.bin\nothers 0\nhave 0\n",
+    )?;
+    for i in 0..ASIDES {
+        let at = 340 + length * i;
+        writeln!(text, "aside v.par2 {at} 1")?;
+    }
+    Ok(text)
+}
+
+// As many bytes of the list were written as there was room for, and a fault where it was less.
+fn shows(rt: &impl Abort, ran: &Outcome, list: &[u8], room: usize) {
+    let size = room.min(list.len());
+    assert!(rt; ran.text.as_slice() == &list[..size]);
+    let fault = if size < list.len() { Some(RunFault::Write) } else { None };
+    assert_eq!(rt; ran.fault, fault);
+}
+
+// The list of a command over one packet file, by sinks of each room.
+fn lists(
+    rt: &(impl Abort + AllocGlobal),
+    command: &str,
+    packets: &[u8],
+    list: &[u8],
+) -> Result<(), Fail> {
+    assert!(rt; list.len() > 66_500);
+    for bytes in &ROOMS {
+        let files = Files {
+            packets: &[packets],
+            scanned: &[],
+            piece: 65_536,
+            failing_packet: 0,
+            failing_scanned: 0,
+        };
+        let room = Room {
+            bytes: *bytes,
+            piece: 4096,
+            takes_zero: false,
+        };
+        let ran = ran_with(rt, &[command, "v.par2"], files, room)?;
+        shows(rt, &ran, list, *bytes);
+    }
+    Ok(())
+}
+
+#[test]
+fn packets_writes_each_block_once(rt: HostRuntime) -> Result<(), Fail> {
+    let creator = packet_file("creator_of_g").ok_or("no such packet file")?;
+    let packets = repeated(rt.alloc(), creator, PACKETS)?;
+    let list = packets_list(rt.alloc())?;
+    lists(&rt, "packets", &packets, list.as_bytes())
+}
+
+#[test]
+fn set_writes_each_block_once(rt: HostRuntime) -> Result<(), Fail> {
+    let set = packet_file("g").ok_or("no such packet file")?;
+    assert!(&rt; set.len() > 340);
+    let mut packets = Vec::from_slice(rt.alloc(), &set[..340])?;
+    let aside = &set[340..];
+    packets.append(&mut repeated(rt.alloc(), aside, ASIDES)?)?;
+    let list = set_list(rt.alloc(), aside.len() as u64)?;
+    lists(&rt, "set", &packets, list.as_bytes())
+}

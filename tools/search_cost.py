@@ -1,0 +1,115 @@
+#!/usr/bin/env python3
+"""Measures what a search costs a byte, for slices of 4 bytes to 256 MiB and for 1 to 32,768 slices.
+
+usage: search_cost.py FOLDER
+
+FOLDER gets a packet file for each pair and the files that are searched: 65,536 bytes again and again,
+at least eight times the slice size. No slice has the CRC-32 of one of their windows, so no MD5 is
+taken: what is told is the search alone, in nanoseconds of the processor a byte, the best of three runs.
+
+PARV is the program (crates/parv/out/parv).
+"""
+
+import hashlib
+import os
+import resource
+import struct
+import subprocess
+import sys
+import zlib
+
+from vectors import main_body, md5, packet
+
+HERE = os.path.dirname(os.path.abspath(__file__))
+PARV = os.path.abspath(os.environ.get("PARV") or os.path.join(HERE, "../crates/parv/out/parv"))
+KIB, MIB = 1 << 10, 1 << 20
+SIZES = [4, 64, KIB, 64 * KIB, MIB, 16 * MIB, 256 * MIB]
+COUNTS = [1, 256, 32768]
+PERIOD = hashlib.shake_256(b"searched").digest(64 * KIB)
+
+
+def table_of(polynomial=0xEDB88320):
+    table = []
+    for value in range(256):
+        for _ in range(8):
+            value = value >> 1 ^ (polynomial if value & 1 else 0)
+        table.append(value)
+    return table
+
+
+def window_sums(size):
+    """The CRC-32 of each window of this size in the repeated bytes."""
+    table = table_of()
+    window = (PERIOD * (size // len(PERIOD) + 2))[:size + len(PERIOD)]
+    crc = zlib.crc32(window[:size])
+    # What a byte that falls out leaves behind it: its CRC-32 before so many zeros, without the zeros' own.
+    zeros = bytes(size)
+    none = zlib.crc32(bytes(size + 1))
+    bits = [zlib.crc32(bytes([1 << bit]) + zeros) ^ none for bit in range(8)]
+    leaves = [0] * 256
+    for byte in range(256):
+        for bit in range(8):
+            if byte >> bit & 1:
+                leaves[byte] ^= bits[bit]
+    # And what the register's begin makes of one byte more.
+    more = zlib.crc32(bytes(size + 1)) ^ zlib.crc32(bytes(size))
+    sums = set()
+    for at in range(len(PERIOD)):
+        sums.add(crc)
+        register = crc ^ 0xFFFFFFFF
+        longer = (register >> 8 ^ table[(register ^ window[at + size]) & 255]) ^ 0xFFFFFFFF
+        crc = longer ^ leaves[window[at]] ^ more
+    assert crc == zlib.crc32(window[len(PERIOD):]), "the CRC-32 rolls"
+    return sums
+
+
+def packets_of(size, count, windows):
+    """A set of one file of so many slices, whose sums no window has."""
+    owner, pairs, number = b"o" * 16, [], 0
+    while len(pairs) < count:
+        crc = zlib.crc32(b"slice %d" % number)
+        number += 1
+        if crc not in windows:
+            pairs.append(md5(b"%d" % number) + struct.pack("<I", crc))
+    body = main_body(size, [owner])
+    desc = owner + bytes(32) + struct.pack("<Q", size * count) + b"file"
+    kinds = [("main", body), ("filedesc", desc), ("ifsc", owner + b"".join(pairs))]
+    return b"".join(packet(md5(body), kind, text) for kind, text in kinds)
+
+
+def searched(folder, length):
+    path = os.path.join(folder, f"{length // MIB}.bin")
+    if not os.path.exists(path):
+        with open(path, "wb") as out:
+            for _ in range(length // MIB):
+                out.write(PERIOD * 16)
+    return path
+
+
+def seconds(words):
+    before = resource.getrusage(resource.RUSAGE_CHILDREN)
+    ran = subprocess.run(words, stdout=subprocess.PIPE, check=True)
+    assert ran.stdout == b"end\n", ran.stdout[:80]
+    after = resource.getrusage(resource.RUSAGE_CHILDREN)
+    return after.ru_utime + after.ru_stime - before.ru_utime - before.ru_stime
+
+
+def main():
+    folder = sys.argv[1]
+    os.makedirs(folder, exist_ok=True)
+    print(f"{'slices of':>12}" + "".join(f"{count:>10}" for count in COUNTS) + "   ns a byte, by their number")
+    for size in SIZES:
+        length = max(128 * MIB, 8 * size)
+        path, windows = searched(folder, length), window_sums(size)
+        row = f"{size:>12}"
+        for count in COUNTS:
+            packets = os.path.join(folder, f"{size}-{count}.par2")
+            with open(packets, "wb") as out:
+                out.write(packets_of(size, count, windows))
+            best = min(seconds([PARV, "find", packets, path]) for _ in range(3))
+            row += f"{best / length * 1e9:10.2f}"
+        print(row, flush=True)
+
+
+if __name__ == "__main__":
+    main()
