@@ -1,7 +1,8 @@
-use crate::tests::fixtures::{packet_file, shelf_of, words_of};
-use parreport::{Command, End, MemSink, Plan, Status, ending, plan, run};
+use crate::tests::ending::ends_with;
+use crate::tests::fixtures::{is_text, packet_file, shelf_of, words_of};
+use parreport::{Command, End, MemSink, Plan, Status, plan, run};
 use parshelf::{DiskShelf, OpenFault, Shelf};
-use std::alloc::AllocError;
+use std::alloc::{AllocError, Global};
 use std::test::Fail;
 use std::{fs, process};
 
@@ -76,34 +77,52 @@ fn listed_from(rt: &HostRuntime, path: &str, bytes: &[u8]) -> Result<Vec<u8>, Fa
     listed(rt, &plan, &mut shelf)
 }
 
+// Lines with a path before each, and the last line.
+fn text_of(alloc: Global, path: &str, lines: &[&str], last: &str) -> Result<String, AllocError> {
+    let mut text = String::new(alloc);
+    for line in lines {
+        text.push_str(path)?;
+        text.push_str(line)?;
+    }
+    text.push_str(last)?;
+    Ok(text)
+}
+
+// The text of `packets` over a packet file, and what it is to be.
+fn listed_and_wanted(
+    rt: &HostRuntime,
+    name: &str,
+    lines: &[&str],
+    last: &str,
+) -> Result<(Vec<u8>, String), Fail> {
+    let bytes = packet_file(name).ok_or("no such packet file")?;
+    let path = path_for(rt, name)?;
+    let listed = listed_from(rt, path.as_str(), bytes)?;
+    let text = text_of(rt.alloc(), path.as_str(), lines, last)?;
+    Ok((listed, text))
+}
+
 #[test]
 fn packets_of_files_on_disk(rt: HostRuntime) -> Result<(), Fail> {
     for (name, lines, last) in &LISTED {
-        let bytes = packet_file(name).ok_or("no such packet file")?;
-        let path = path_for(&rt, name)?;
-        let listed = listed_from(&rt, path.as_str(), bytes)?;
-        let mut text = String::new(rt.alloc());
-        for line in *lines {
-            text.push_str(path.as_str())?;
-            text.push_str(line)?;
-        }
-        text.push_str(last)?;
-        assert_eq!(rt; std::str::from_utf8(&listed), Ok(text.as_str()));
+        let (listed, wanted) = listed_and_wanted(&rt, name, lines, last)?;
+        is_text(&rt, &listed, wanted.as_str(), name);
     }
     Ok(())
+}
+
+// Why one file can't be opened.
+fn fault_at(rt: &HostRuntime, path: &str) -> Result<Option<OpenFault>, Fail> {
+    let plan = plan_over(rt, path)?;
+    Ok(on_disk(rt, &plan).err())
 }
 
 #[test]
 fn a_packet_file_that_is_not_there(rt: HostRuntime) -> Result<(), Fail> {
     let path = "/tmp/parv_has_no_such_file.par2";
-    let plan = plan_over(&rt, path)?;
-    let fault = on_disk(&rt, &plan).err();
+    let fault = fault_at(&rt, path)?;
     assert_eq!(rt; fault, Some(OpenFault::CannotOpen(0)));
-    let (status, line) = ending(rt.alloc(), &End::CannotOpen, path)?;
-    assert_eq!(rt; status, 6);
-    assert_eq!(rt;
-        std::str::from_utf8(&line),
-        Ok("parv: cannot open /tmp/parv_has_no_such_file.par2\n")
-    );
+    let line = "parv: cannot open /tmp/parv_has_no_such_file.par2\n";
+    ends_with(&rt, &End::CannotOpen, path, 6, line)?;
     Ok(())
 }

@@ -1,5 +1,5 @@
 // Worked command lines: rows of a table, and the one function that runs them.
-use crate::tests::fixtures::{Files, ROOMY, packet_files, ran_with};
+use crate::tests::fixtures::{Files, Outcome, ROOMY, is_text, packet_files, ran_with};
 use std::process::Abort;
 use std::test::Fail;
 
@@ -43,12 +43,17 @@ pub fn runs_so(
     ends: Ends,
 ) -> Result<(), Fail> {
     let ran = ran_with(rt, words, files, ROOMY)?;
+    has_ended(rt, &ran, ends, words);
+    Ok(())
+}
+
+/// Wants that the run of a command line ended so.
+pub fn has_ended(rt: &impl Abort, ran: &Outcome, ends: Ends, words: &[&str]) {
     let (text, line, status) = match ends {
         Ends::Wrote(text, status) => (text, "", status),
         Ends::Refused(line, status) => ("", line, status),
     };
-    assert_eq!(rt; std::str::from_utf8(&ran.text), Ok(text), "{words:?}");
-    assert_eq!(rt; std::str::from_utf8(&ran.line), Ok(line), "{words:?}");
+    is_text(rt, &ran.text, text, &words);
+    is_text(rt, &ran.line, line, &words);
     assert_eq!(rt; ran.status, status, "{words:?}");
-    Ok(())
 }

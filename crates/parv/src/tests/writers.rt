@@ -1,4 +1,4 @@
-use crate::tests::fixtures::{Files, Room, packet_files, ran_with};
+use crate::tests::fixtures::{Files, Outcome, Room, packet_files, ran_with};
 use crate::tests::rows::{Ends, Row};
 use crate::tests::whole_rows::WHOLE;
 use parreport::RunFault;
@@ -19,18 +19,21 @@ fn written(rt: &(impl Abort + AllocGlobal), row: &Row, room: Room) -> Result<(),
     let Ends::Wrote(whole, status) = row.ends else {
         return Err("a row with no text".into());
     };
-    let size = room.bytes.min(whole.len());
-    assert_eq!(rt; ran.text.as_slice(), &whole.as_bytes()[..size]);
-    if size == whole.len() {
-        assert_eq!(rt; ran.fault, None);
-        assert_eq!(rt; ran.status, status);
-        assert!(rt; ran.line.is_empty());
-    } else {
-        assert_eq!(rt; ran.fault, Some(RunFault::Write));
-        assert_eq!(rt; ran.status, 6);
-        assert!(rt; ran.line.as_slice() == b"parv: write fault\n".as_slice());
-    }
+    is_written(rt, &ran, whole, status, room.bytes);
     Ok(())
+}
+
+// A run with this whole text and exit status, in room for so many bytes.
+fn is_written(rt: &impl Abort, ran: &Outcome, whole: &str, status: u8, bytes: usize) {
+    let size = bytes.min(whole.len());
+    let (fault, status, line) = if size == whole.len() {
+        (None, status, "")
+    } else {
+        (Some(RunFault::Write), 6, "parv: write fault\n")
+    };
+    assert_eq!(rt; ran.text.as_slice(), &whole.as_bytes()[..size]);
+    assert_eq!(rt; (ran.fault, ran.status), (fault, status));
+    assert_eq!(rt; ran.line.as_slice(), line.as_bytes());
 }
 
 // Room for so many bytes, which are taken in pieces; then no byte is taken, or the writer fails.
