@@ -1,4 +1,4 @@
-use crate::tests::fixtures::is_text;
+use crate::tests::fixtures::{is_same, is_text};
 use parreport::{End, PlanFault, RunFault, Sink, Status, WriteSink, ending};
 use parshelf::ReadFault;
 use std::alloc::AllocError;
@@ -56,7 +56,7 @@ pub fn ends_with(
 
 // The exit status and the line of an end are these.
 fn has_code_and_line(rt: &impl Abort, end: &End, found: (u8, &[u8]), wanted: (u8, &str)) {
-    assert_eq!(rt; found.0, wanted.0, "{end:?}");
+    is_same(rt, &found.0, &wanted.0, end);
     is_text(rt, found.1, wanted.1, end);
 }
 

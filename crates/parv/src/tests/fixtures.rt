@@ -202,7 +202,12 @@ fn ran_plan(
     outcome_of(rt.alloc(), plan, answer, out.text())
 }
 
+/// Wants that a value is this one, and else names what it is of.
+pub fn is_same<T: PartialEq + Debug>(rt: &impl Abort, found: &T, wanted: &T, of: &impl Debug) {
+    assert_eq!(rt; found, wanted, "{of:?}");
+}
+
 /// Wants that bytes are this text, and else names what they are of.
 pub fn is_text(rt: &impl Abort, bytes: &[u8], text: &str, of: &impl Debug) {
-    assert_eq!(rt; std::str::from_utf8(bytes), Ok(text), "{of:?}");
+    is_same(rt, &std::str::from_utf8(bytes), &Ok(text), of);
 }

@@ -1,4 +1,4 @@
-use crate::tests::fixtures::{Files, Outcome, ROOMY, packet_files, ran_with};
+use crate::tests::fixtures::{Files, Outcome, ROOMY, is_same, packet_files, ran_with};
 use crate::tests::rows::{Ends, Row, ends_so, has_ended};
 use crate::tests::whole_rows::{FIRST, SECOND, WHOLE};
 use parreport::RunFault;
@@ -156,11 +156,15 @@ fn has_failed(rt: &impl Abort, ran: &Outcome, packet: bool, file: u32, row: &Row
         file,
         fault: ReadFault::Failed,
     };
-    assert_eq!(rt; (ran.fault, ran.status), (Some(fault), 6));
+    is_same(rt, &(ran.fault, ran.status), &(Some(fault), 6), &row.words);
     let path = path_of(row.words, packet, file);
-    assert!(rt; path.is_some());
-    assert_eq!(rt; path_in(&ran.line), path);
-    assert!(rt; is_front(&ran.text, whole));
+    is_same(
+        rt,
+        &(path_in(&ran.line), path.is_some()),
+        &(path, true),
+        &row.words,
+    );
+    is_same(rt, &is_front(&ran.text, whole), &true, &row.words);
 }
 
 // The path in the line of a read fault.
@@ -195,9 +199,9 @@ fn left_by(
     Ok(Some((ran.text.len(), ran.text.as_slice() == part.as_bytes())))
 }
 
-// Each read failing in turn, of the packet files, where it is told how many each has, or else of the
-// one scanned file: the fault, and a beginning of the text in whole lines, until so many reads are
-// not made.
+// Each read failing in turn, of the packet files, where it is told how many each has, or else of
+// the one scanned file: the fault, and a beginning of the text in whole lines, until so many reads
+// are not made.
 fn reads_fail_in_turn(
     rt: &(impl Abort + AllocGlobal),
     row: &Row,
@@ -258,7 +262,7 @@ fn second_fails(rt: &impl Abort, ran: &Outcome) -> bool {
     let fails = path_in(&ran.line) == Some("y.bin");
     if fails {
         let text = ran.text.strip_prefix(FIRST.as_bytes());
-        assert_eq!(rt; text, Some(SECOND.as_bytes()));
+        is_same(rt, &text, &Some(SECOND.as_bytes()), &"y.bin");
     }
     fails
 }

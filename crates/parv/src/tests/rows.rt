@@ -1,5 +1,5 @@
 // Worked command lines: rows of a table, and the one function that runs them.
-use crate::tests::fixtures::{Files, Outcome, ROOMY, is_text, packet_files, ran_with};
+use crate::tests::fixtures::{Files, Outcome, ROOMY, is_same, is_text, packet_files, ran_with};
 use std::process::Abort;
 use std::test::Fail;
 
@@ -35,6 +35,14 @@ pub fn ends_so(rt: &(impl Abort + AllocGlobal), row: &Row, failing: u64) -> Resu
     runs_so(rt, row.words, files, row.ends)
 }
 
+/// Runs the command lines of rows, where no read fails; wants the ends that they have.
+pub fn all_end_so(rt: &(impl Abort + AllocGlobal), rows: &[Row]) -> Result<(), Fail> {
+    for row in rows {
+        ends_so(rt, row, 0)?;
+    }
+    Ok(())
+}
+
 /// Runs a command line over files; wants this end.
 pub fn runs_so(
     rt: &(impl Abort + AllocGlobal),
@@ -55,5 +63,5 @@ pub fn has_ended(rt: &impl Abort, ran: &Outcome, ends: Ends, words: &[&str]) {
     };
     is_text(rt, &ran.text, text, &words);
     is_text(rt, &ran.line, line, &words);
-    assert_eq!(rt; ran.status, status, "{words:?}");
+    is_same(rt, &ran.status, &status, &words);
 }

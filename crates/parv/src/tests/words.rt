@@ -1,4 +1,4 @@
-use crate::tests::fixtures::words_of;
+use crate::tests::fixtures::{is_same, words_of};
 use parfield::Hash16;
 use parfind::Cursor;
 use parreport::{Command, Plan, PlanFault, plan};
@@ -142,7 +142,7 @@ fn is_refused(
     fault: PlanFault,
 ) -> Result<(), Fail> {
     let found = planned(rt, words)?.err();
-    assert_eq!(rt; found, Some(fault), "{words:?}");
+    is_same(rt, &found, &Some(fault), &words);
     Ok(())
 }
 
@@ -153,7 +153,7 @@ fn is_command(
     command: Command,
 ) -> Result<(), Fail> {
     let (found, _) = planned(rt, words)?.ok().ok_or("plan")?;
-    assert_eq!(rt; found, command, "{words:?}");
+    is_same(rt, &found, &command, &words);
     Ok(())
 }
 
@@ -340,7 +340,7 @@ fn has_files(rt: &(impl Abort + AllocGlobal), words: &[&str], wanted: &str) -> R
 
 // The files of the plan of words are these, each with a bar behind it.
 fn are_files(rt: &impl Abort, files: &str, wanted: &str, words: &[&str]) {
-    assert_eq!(rt; files.strip_suffix("|"), Some(wanted), "{words:?}");
+    is_same(rt, &files.strip_suffix("|"), &Some(wanted), &words);
 }
 
 #[test]

@@ -1,4 +1,4 @@
-use crate::tests::fixtures::{Files, Outcome, Room, packet_files, ran_with};
+use crate::tests::fixtures::{Files, Outcome, Room, is_same, is_text, packet_files, ran_with};
 use crate::tests::rows::{Ends, Row};
 use crate::tests::whole_rows::WHOLE;
 use parreport::RunFault;
@@ -31,9 +31,9 @@ fn is_written(rt: &impl Abort, ran: &Outcome, whole: &str, status: u8, bytes: us
     } else {
         (Some(RunFault::Write), 6, "parv: write fault\n")
     };
-    assert_eq!(rt; ran.text.as_slice(), &whole.as_bytes()[..size]);
-    assert_eq!(rt; (ran.fault, ran.status), (fault, status));
-    assert_eq!(rt; ran.line.as_slice(), line.as_bytes());
+    is_same(rt, &ran.text.get(..), &whole.as_bytes().get(..size), &bytes);
+    is_same(rt, &(ran.fault, ran.status), &(fault, status), &bytes);
+    is_text(rt, &ran.line, line, &bytes);
 }
 
 // Room for so many bytes, which are taken in pieces; then no byte is taken, or the writer fails.
