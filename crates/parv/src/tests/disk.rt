@@ -1,5 +1,5 @@
 use crate::tests::ending::ends_with;
-use crate::tests::fixtures::{is_text, packet_file, shelf_of, words_of};
+use crate::tests::fixtures::{is_same, is_text, packet_file, shelf_of, words_of};
 use parreport::{Command, End, MemSink, Plan, Status, plan, run};
 use parshelf::{DiskShelf, OpenFault, Shelf};
 use std::alloc::{AllocError, Global};
@@ -48,12 +48,12 @@ fn plan_over(rt: &HostRuntime, path: &str) -> Result<Plan, Fail> {
 
 // What the plan of `packets` over one file writes.
 fn listed(rt: &HostRuntime, plan: &Plan, shelf: &mut DiskShelf) -> Result<Vec<u8>, Fail> {
-    let alloc = rt.alloc();
-    let mut scanned = shelf_of(alloc, &[], 1, 0)?;
-    let mut out = MemSink::new(alloc, 4096, 4096, false)?;
     if shelf.count() as usize != plan.packets.len() || plan.command != Command::Packets {
         return Err("another plan".into());
     }
+    let alloc = rt.alloc();
+    let mut scanned = shelf_of(alloc, &[], 1, 0)?;
+    let mut out = MemSink::new(alloc, 4096, 4096, false)?;
     match run(alloc, plan, shelf, &mut scanned, &mut out) {
         Ok(Status::Listed) => Ok(Vec::from_slice(alloc, out.text())?),
         _ => Err("no list".into()),
@@ -68,12 +68,23 @@ fn on_disk(rt: &HostRuntime, plan: &Plan) -> Result<DiskShelf, OpenFault> {
     DiskShelf::open(rt, rt.alloc(), plan.packets.as_slice())
 }
 
-// The text of `packets` over a file that is written first, and taken away again.
+// The files of a plan over one file that is written first, and taken away again.
+fn written_first(
+    rt: &HostRuntime,
+    plan: &Plan,
+    path: &str,
+    bytes: &[u8],
+) -> Result<DiskShelf, Fail> {
+    fs::write(rt, path, bytes)?;
+    let shelf = on_disk(rt, plan)?;
+    fs::remove_file(rt, path)?;
+    Ok(shelf)
+}
+
+// The text of `packets` over such a file.
 fn listed_from(rt: &HostRuntime, path: &str, bytes: &[u8]) -> Result<Vec<u8>, Fail> {
     let plan = plan_over(rt, path)?;
-    fs::write(rt, path, bytes)?;
-    let mut shelf = on_disk(rt, &plan)?;
-    fs::remove_file(rt, path)?;
+    let mut shelf = written_first(rt, &plan, path, bytes)?;
     listed(rt, &plan, &mut shelf)
 }
 
@@ -121,7 +132,7 @@ fn fault_at(rt: &HostRuntime, path: &str) -> Result<Option<OpenFault>, Fail> {
 fn a_packet_file_that_is_not_there(rt: HostRuntime) -> Result<(), Fail> {
     let path = "/tmp/parv_has_no_such_file.par2";
     let fault = fault_at(&rt, path)?;
-    assert_eq!(rt; fault, Some(OpenFault::CannotOpen(0)));
+    is_same(&rt, &fault, &Some(OpenFault::CannotOpen(0)), &path);
     let line = "parv: cannot open /tmp/parv_has_no_such_file.par2\n";
     ends_with(&rt, &End::CannotOpen, path, 6, line)?;
     Ok(())

@@ -70,7 +70,7 @@ fn endings_and_their_lines(rt: HostRuntime) -> Result<(), Fail> {
 
 // Wants that a sink takes so many bytes of a part.
 fn takes(rt: &impl Abort, out: &mut impl Sink, part: &[u8], count: usize) {
-    assert_eq!(rt; out.put(part), Ok(count));
+    is_same(rt, &out.put(part), &Ok(count), &part);
 }
 
 // Puts three parts into a sink over bytes.
@@ -85,6 +85,6 @@ fn puts_parts(rt: &impl Abort, bytes: &mut Vec<u8>) {
 fn writer_sinks_write_what_they_take(rt: HostRuntime) -> Result<(), Fail> {
     let mut bytes = Vec::new(rt.alloc());
     puts_parts(&rt, &mut bytes);
-    assert_eq!(rt; bytes.as_slice(), b"abcd".as_slice());
+    is_text(&rt, &bytes, "abcd", &"bytes");
     Ok(())
 }

@@ -1,6 +1,6 @@
 use crate::tests::fixtures::{Files, Outcome, ROOMY, is_same, packet_files, ran_with};
 use crate::tests::rows::{Ends, Row, ends_so, has_ended};
-use crate::tests::whole_rows::{FIRST, SECOND, WHOLE};
+use crate::tests::whole_rows::{FIRST, SECOND, whole_rows};
 use parreport::RunFault;
 use parshelf::ReadFault;
 use std::process::Abort;
@@ -174,8 +174,31 @@ fn path_in(line: &[u8]) -> Option<&str> {
         .strip_suffix("\n")
 }
 
-// The length of the text that is left where the read of a number fails, and whether it is the part;
-// none where the read is not made.
+// The length of the text that a run leaves where the read of a number fails, and whether it is the
+// part; none where the read is not made.
+fn left_in(
+    rt: &impl Abort,
+    ran: &Outcome,
+    row: &Row,
+    part: &str,
+    reads: Option<&[u64]>,
+    number: u64,
+) -> Result<Option<(usize, bool)>, &'static str> {
+    let Ends::Wrote(whole, _) = row.ends else {
+        return Err("a row with no text");
+    };
+    let file = file_read(reads.unwrap_or(&[u64::MAX]), number);
+    if ran.fault.is_none() {
+        has_ended(rt, ran, row.ends, row.words);
+        is_same(rt, &(reads.is_none() || file.is_none()), &true, &number);
+        return Ok(None);
+    }
+    let file = file.ok_or("more reads than bytes")?;
+    has_failed(rt, ran, reads.is_some(), file, row, whole);
+    Ok(Some((ran.text.len(), ran.text.as_slice() == part.as_bytes())))
+}
+
+// The same of a row that is run.
 fn left_by(
     rt: &(impl Abort + AllocGlobal),
     row: &Row,
@@ -185,18 +208,7 @@ fn left_by(
     number: u64,
 ) -> Result<Option<(usize, bool)>, Fail> {
     let ran = ran_failing(rt, row, reads.is_some(), piece, number)?;
-    let file = file_read(reads.unwrap_or(&[u64::MAX]), number);
-    if ran.fault.is_none() {
-        has_ended(rt, &ran, row.ends, row.words);
-        assert!(rt; reads.is_none() || file.is_none());
-        return Ok(None);
-    }
-    let Ends::Wrote(whole, _) = row.ends else {
-        return Err("a row with no text".into());
-    };
-    let file = file.ok_or("more reads than bytes")?;
-    has_failed(rt, &ran, reads.is_some(), file, row, whole);
-    Ok(Some((ran.text.len(), ran.text.as_slice() == part.as_bytes())))
+    Ok(left_in(rt, &ran, row, part, reads, number)?)
 }
 
 // Each read failing in turn, of the packet files, where it is told how many each has, or else of
@@ -213,11 +225,16 @@ fn reads_fail_in_turn(
     let mut saw_part = part.is_empty();
     for number in 1..1000u64 {
         let Some((size, is_part)) = left_by(rt, row, part, reads, piece, number)? else {
-            assert!(rt; saw_part || reads.is_some());
+            is_same(rt, &(saw_part || reads.is_some()), &true, &part);
             return Ok(());
         };
         let may_leave = reads.is_none() && number > 1 && !part.is_empty();
-        assert!(rt; size >= most && (size == 0 || may_leave), "read {number}");
+        is_same(
+            rt,
+            &(size >= most, size == 0 || may_leave),
+            &(true, true),
+            &number,
+        );
         most = size;
         saw_part = saw_part || is_part;
     }
@@ -231,7 +248,7 @@ fn is_front(text: &[u8], whole: &str) -> bool {
 
 #[test]
 fn each_read_failing_in_turn(rt: HostRuntime) -> Result<(), Fail> {
-    for (row, part, by_1, by_64) in &WHOLE {
+    for (row, part, by_1, by_64) in whole_rows() {
         reads_fail_in_turn(&rt, row, part, None, 1)?;
         // One read gives a whole scanned file then, so its failing leaves no text.
         reads_fail_in_turn(&rt, row, "", None, 64)?;

@@ -236,16 +236,20 @@ static SETS: [(&str, Option<[u8; 16]>); 7] = [
     ("", None),
 ];
 
+// Wants that words are a plan with this set.
+fn has_set(rt: &(impl Abort + AllocGlobal), words: &[&str], set: Hash16) -> Result<(), Fail> {
+    let (_, found) = planned(rt, words)?.ok().ok_or("plan")?;
+    is_same(rt, &found, &Some(set), &words);
+    Ok(())
+}
+
 #[test]
 fn a_set_is_32_hexadecimal_digits(rt: HostRuntime) -> Result<(), Fail> {
     for (text, set) in &SETS {
         let words = ["packets", "--set", *text, "v.par2"];
         match *set {
             None => is_refused(&rt, &words, PlanFault::Value)?,
-            Some(set) => {
-                let (_, found) = planned(&rt, &words)?.ok().ok_or("plan")?;
-                assert_eq!(rt; found, Some(Hash16(set)));
-            }
+            Some(set) => has_set(&rt, &words, Hash16(set))?,
         }
     }
     Ok(())
@@ -327,8 +331,10 @@ fn files_of(alloc: Global, plan: &Plan) -> Result<String, AllocError> {
 
 // The files of the plan of words.
 fn files_for(rt: &(impl Abort + AllocGlobal), words: &[&str]) -> Result<String, Fail> {
-    let plan = plan_for(rt, words)?.ok().ok_or("plan")?;
-    Ok(files_of(rt.alloc(), &plan)?)
+    match plan_for(rt, words)? {
+        Ok(plan) => Ok(files_of(rt.alloc(), &plan)?),
+        Err(_) => Err("plan".into()),
+    }
 }
 
 // Wants that the plan of words has these files.
@@ -363,8 +369,8 @@ fn fault_over(alloc: Global, others: u32) -> Result<Option<PlanFault>, AllocErro
 #[test]
 fn at_most_65535_files(rt: HostRuntime) -> Result<(), Fail> {
     let fault = fault_over(rt.alloc(), 65_534)?;
-    assert_eq!(rt; fault, None);
+    is_same(&rt, &fault, &None, &65_535);
     let fault = fault_over(rt.alloc(), 65_535)?;
-    assert_eq!(rt; fault, Some(PlanFault::Value));
+    is_same(&rt, &fault, &Some(PlanFault::Value), &65_536);
     Ok(())
 }

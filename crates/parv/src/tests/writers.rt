@@ -1,6 +1,6 @@
 use crate::tests::fixtures::{Files, Outcome, Room, is_same, is_text, packet_files, ran_with};
 use crate::tests::rows::{Ends, Row};
-use crate::tests::whole_rows::WHOLE;
+use crate::tests::whole_rows::whole_rows;
 use parreport::RunFault;
 use std::process::Abort;
 use std::test::Fail;
@@ -67,7 +67,7 @@ static ROOMS: [Room; 5] = [
 
 #[test]
 fn writers_with_some_room(rt: HostRuntime) -> Result<(), Fail> {
-    for (row, _, _, _) in &WHOLE {
+    for (row, _, _, _) in whole_rows() {
         for room in &ROOMS {
             written(&rt, row, *room)?;
         }
@@ -77,7 +77,7 @@ fn writers_with_some_room(rt: HostRuntime) -> Result<(), Fail> {
 
 #[test]
 fn writers_with_room_for_each_number_of_bytes(rt: HostRuntime) -> Result<(), Fail> {
-    for (row, _, _, _) in &WHOLE {
+    for (row, _, _, _) in whole_rows() {
         for bytes in 0..300 {
             let takes_zero = bytes % 2 == 0;
             written(
