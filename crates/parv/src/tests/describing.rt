@@ -1,4 +1,4 @@
-use crate::tests::rows::{Ends, Row, ends_so};
+use crate::tests::rows::{Ends, Row, all_end_so};
 use std::test::Fail;
 
 // Packets, and the set that they describe, or why there is none.
@@ -148,8 +148,5 @@ static SETS: [Row; 16] = [
 
 #[test]
 fn sets_of_packet_files(rt: HostRuntime) -> Result<(), Fail> {
-    for row in &SETS {
-        ends_so(&rt, row, 0)?;
-    }
-    Ok(())
+    all_end_so(&rt, &SETS)
 }

@@ -1,7 +1,8 @@
-use crate::tests::fixtures::{packet_file, shelf_of, words_of};
-use parreport::{Command, End, MemSink, Plan, Status, ending, plan, run};
+use crate::tests::ending::ends_with;
+use crate::tests::fixtures::{is_same, is_text, packet_file, shelf_of, words_of};
+use parreport::{Command, End, MemSink, Plan, Status, plan, run};
 use parshelf::{DiskShelf, OpenFault, Shelf};
-use std::alloc::AllocError;
+use std::alloc::{AllocError, Global};
 use std::test::Fail;
 use std::{fs, process};
 
@@ -47,12 +48,12 @@ fn plan_over(rt: &HostRuntime, path: &str) -> Result<Plan, Fail> {
 
 // What the plan of `packets` over one file writes.
 fn listed(rt: &HostRuntime, plan: &Plan, shelf: &mut DiskShelf) -> Result<Vec<u8>, Fail> {
-    let alloc = rt.alloc();
-    let mut scanned = shelf_of(alloc, &[], 1, 0)?;
-    let mut out = MemSink::new(alloc, 4096, 4096, false)?;
     if shelf.count() as usize != plan.packets.len() || plan.command != Command::Packets {
         return Err("another plan".into());
     }
+    let alloc = rt.alloc();
+    let mut scanned = shelf_of(alloc, &[], 1, 0)?;
+    let mut out = MemSink::new(alloc, 4096, 4096, false)?;
     match run(alloc, plan, shelf, &mut scanned, &mut out) {
         Ok(Status::Listed) => Ok(Vec::from_slice(alloc, out.text())?),
         _ => Err("no list".into()),
@@ -67,43 +68,72 @@ fn on_disk(rt: &HostRuntime, plan: &Plan) -> Result<DiskShelf, OpenFault> {
     DiskShelf::open(rt, rt.alloc(), plan.packets.as_slice())
 }
 
-// The text of `packets` over a file that is written first, and taken away again.
+// The files of a plan over one file that is written first, and taken away again.
+fn written_first(
+    rt: &HostRuntime,
+    plan: &Plan,
+    path: &str,
+    bytes: &[u8],
+) -> Result<DiskShelf, Fail> {
+    fs::write(rt, path, bytes)?;
+    let shelf = on_disk(rt, plan)?;
+    fs::remove_file(rt, path)?;
+    Ok(shelf)
+}
+
+// The text of `packets` over such a file.
 fn listed_from(rt: &HostRuntime, path: &str, bytes: &[u8]) -> Result<Vec<u8>, Fail> {
     let plan = plan_over(rt, path)?;
-    fs::write(rt, path, bytes)?;
-    let mut shelf = on_disk(rt, &plan)?;
-    fs::remove_file(rt, path)?;
+    let mut shelf = written_first(rt, &plan, path, bytes)?;
     listed(rt, &plan, &mut shelf)
+}
+
+// Lines with a path before each, and the last line.
+fn text_of(alloc: Global, path: &str, lines: &[&str], last: &str) -> Result<String, AllocError> {
+    let mut text = String::new(alloc);
+    for line in lines {
+        text.push_str(path)?;
+        text.push_str(line)?;
+    }
+    text.push_str(last)?;
+    Ok(text)
+}
+
+// The text of `packets` over a packet file, and what it is to be.
+fn listed_and_wanted(
+    rt: &HostRuntime,
+    name: &str,
+    lines: &[&str],
+    last: &str,
+) -> Result<(Vec<u8>, String), Fail> {
+    let bytes = packet_file(name).ok_or("no such packet file")?;
+    let path = path_for(rt, name)?;
+    let listed = listed_from(rt, path.as_str(), bytes)?;
+    let text = text_of(rt.alloc(), path.as_str(), lines, last)?;
+    Ok((listed, text))
 }
 
 #[test]
 fn packets_of_files_on_disk(rt: HostRuntime) -> Result<(), Fail> {
     for (name, lines, last) in &LISTED {
-        let bytes = packet_file(name).ok_or("no such packet file")?;
-        let path = path_for(&rt, name)?;
-        let listed = listed_from(&rt, path.as_str(), bytes)?;
-        let mut text = String::new(rt.alloc());
-        for line in *lines {
-            text.push_str(path.as_str())?;
-            text.push_str(line)?;
-        }
-        text.push_str(last)?;
-        assert_eq!(rt; std::str::from_utf8(&listed), Ok(text.as_str()));
+        let (listed, wanted) = listed_and_wanted(&rt, name, lines, last)?;
+        is_text(&rt, &listed, wanted.as_str(), name);
     }
     Ok(())
+}
+
+// Why one file can't be opened.
+fn fault_at(rt: &HostRuntime, path: &str) -> Result<Option<OpenFault>, Fail> {
+    let plan = plan_over(rt, path)?;
+    Ok(on_disk(rt, &plan).err())
 }
 
 #[test]
 fn a_packet_file_that_is_not_there(rt: HostRuntime) -> Result<(), Fail> {
     let path = "/tmp/parv_has_no_such_file.par2";
-    let plan = plan_over(&rt, path)?;
-    let fault = on_disk(&rt, &plan).err();
-    assert_eq!(rt; fault, Some(OpenFault::CannotOpen(0)));
-    let (status, line) = ending(rt.alloc(), &End::CannotOpen, path)?;
-    assert_eq!(rt; status, 6);
-    assert_eq!(rt;
-        std::str::from_utf8(&line),
-        Ok("parv: cannot open /tmp/parv_has_no_such_file.par2\n")
-    );
+    let fault = fault_at(&rt, path)?;
+    is_same(&rt, &fault, &Some(OpenFault::CannotOpen(0)), &path);
+    let line = "parv: cannot open /tmp/parv_has_no_such_file.par2\n";
+    ends_with(&rt, &End::CannotOpen, path, 6, line)?;
     Ok(())
 }

@@ -1,5 +1,8 @@
+use crate::tests::fixtures::{is_same, is_text};
 use parreport::{End, PlanFault, RunFault, Sink, Status, WriteSink, ending};
 use parshelf::ReadFault;
+use std::alloc::AllocError;
+use std::process::Abort;
 use std::test::Fail;
 
 const READ: RunFault = RunFault::Read {
@@ -38,23 +41,50 @@ static ENDINGS: [(End, u8, &str); 14] = [
     ),
 ];
 
+/// Wants that an end about this argument has this exit status and this line.
+pub fn ends_with(
+    rt: &(impl Abort + AllocGlobal),
+    end: &End,
+    argument: &str,
+    status: u8,
+    line: &str,
+) -> Result<(), AllocError> {
+    let (code, text) = ending(rt.alloc(), end, argument)?;
+    has_code_and_line(rt, end, (code, &text), (status, line));
+    Ok(())
+}
+
+// The exit status and the line of an end are these.
+fn has_code_and_line(rt: &impl Abort, end: &End, found: (u8, &[u8]), wanted: (u8, &str)) {
+    is_same(rt, &found.0, &wanted.0, end);
+    is_text(rt, found.1, wanted.1, end);
+}
+
 #[test]
 fn endings_and_their_lines(rt: HostRuntime) -> Result<(), Fail> {
     for (end, status, line) in &ENDINGS {
-        let (code, text) = ending(rt.alloc(), end, "a\nb")?;
-        assert_eq!(rt; code, *status, "{end:?}");
-        assert_eq!(rt; std::str::from_utf8(&text), Ok(*line), "{end:?}");
+        ends_with(&rt, end, "a\nb", *status, line)?;
     }
     Ok(())
+}
+
+// Wants that a sink takes so many bytes of a part.
+fn takes(rt: &impl Abort, out: &mut impl Sink, part: &[u8], count: usize) {
+    is_same(rt, &out.put(part), &Ok(count), &part);
+}
+
+// Puts three parts into a sink over bytes.
+fn puts_parts(rt: &impl Abort, bytes: &mut Vec<u8>) {
+    let mut out = WriteSink::new(bytes);
+    takes(rt, &mut out, b"", 0);
+    takes(rt, &mut out, b"abc", 3);
+    takes(rt, &mut out, b"d", 1);
 }
 
 #[test]
 fn writer_sinks_write_what_they_take(rt: HostRuntime) -> Result<(), Fail> {
     let mut bytes = Vec::new(rt.alloc());
-    let mut out = WriteSink::new(&mut bytes);
-    assert_eq!(rt; out.put(b""), Ok(0));
-    assert_eq!(rt; out.put(b"abc"), Ok(3));
-    assert_eq!(rt; out.put(b"d"), Ok(1));
-    assert_eq!(rt; bytes.as_slice(), b"abcd".as_slice());
+    puts_parts(&rt, &mut bytes);
+    is_text(&rt, &bytes, "abcd", &"bytes");
     Ok(())
 }

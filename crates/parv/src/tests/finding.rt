@@ -1,4 +1,4 @@
-use crate::tests::rows::{Ends, Row, ends_so};
+use crate::tests::rows::{Ends, Row, all_end_so};
 use std::test::Fail;
 
 // Files, and where slices of a set are seen in them.
@@ -128,8 +128,5 @@ static SEARCHES: [Row; 12] = [
 
 #[test]
 fn sightings_in_files(rt: HostRuntime) -> Result<(), Fail> {
-    for row in &SEARCHES {
-        ends_so(&rt, row, 0)?;
-    }
-    Ok(())
+    all_end_so(&rt, &SEARCHES)
 }

@@ -5,9 +5,10 @@ ghost use Rattle.parplan.specs.Commands.{HasLimit};
 
 use crate::tests::packet_files::PACKET_FILES;
 use crate::tests::packet_sets::PACKET_SETS;
-use parreport::{End, MemSink, Plan, RunFault, ending, plan, reads_scanned, run, run_end};
+use parreport::{End, MemSink, Plan, RunFault, Status, ending, plan, reads_scanned, run, run_end};
 use parshelf::{MemShelf, Shelf};
 use std::alloc::{AllocError, Global};
+use std::fmt::Debug;
 use std::process::Abort;
 use std::test::Fail;
 
@@ -117,7 +118,7 @@ pub fn ran_with(
     let alloc = rt.alloc();
     let words = words_of(alloc, words)?;
     match plan(alloc, &words) {
-        Ok(plan) => ran_plan(rt, &plan, files, room),
+        Ok(plan) => Ok(ran_plan(rt, &plan, files, room)?),
         Err(fault) => {
             let (status, line) = ending(alloc, &End::Plan(fault), "")?;
             Ok(Outcome {
@@ -130,36 +131,83 @@ pub fn ran_with(
     }
 }
 
-/// Runs a plan.
-pub fn ran_plan(
+// Few files in memory.
+fn few_files(
+    rt: &(impl Abort + AllocGlobal),
+    files: &[&[u8]],
+    piece: usize,
+    failing: u64,
+) -> Result<MemShelf, AllocError> {
+    assert!(rt; files.len() < 1000 && piece > 0);
+    shelf_of(rt.alloc(), files, piece, failing)
+}
+
+// A sink in memory with this room.
+fn sink_with(rt: &(impl Abort + AllocGlobal), room: Room) -> Result<MemSink, AllocError> {
+    assert!(rt; room.piece > 0);
+    MemSink::new(rt.alloc(), room.bytes, room.piece, room.takes_zero)
+}
+
+// Runs a plan over as many files as it has.
+fn run_over(
     rt: &(impl Abort + AllocGlobal),
     plan: &Plan,
-    files: Files<'_, '_>,
-    room: Room,
-) -> Result<Outcome, Fail>
+    packets: &mut MemShelf,
+    scanned: &mut MemShelf,
+    out: &mut MemSink,
+) -> Result<Status, RunFault>
     requires { HasLimit plan.now.command }
 {
-    let alloc = rt.alloc();
-    assert!(rt; files.packets.len() < 1000 && files.scanned.len() < 1000);
-    assert!(rt; files.piece > 0 && room.piece > 0);
-    let mut packets = shelf_of(alloc, files.packets, files.piece, files.failing_packet)?;
-    let mut scanned = shelf_of(alloc, files.scanned, files.piece, files.failing_scanned)?;
-    let mut out = MemSink::new(alloc, room.bytes, room.piece, room.takes_zero)?;
     assert_eq!(rt; packets.count() as usize, plan.packets.len());
     if reads_scanned(plan.command) {
         assert_eq!(rt; scanned.count() as usize, plan.scanned.len());
     }
-    let result = run(alloc, plan, &mut packets, &mut scanned, &mut out);
-    let (end, argument) = run_end(plan, result);
+    run(rt.alloc(), plan, packets, scanned, out)
+}
+
+// How a run of a plan ended that wrote a text.
+fn outcome_of(
+    alloc: Global,
+    plan: &Plan,
+    answer: Result<Status, RunFault>,
+    text: &[u8],
+) -> Result<Outcome, AllocError> {
+    let (end, argument) = run_end(plan, answer);
     let argument = match argument {
         Some(argument) => argument.as_str(),
         None => "",
     };
     let (status, line) = ending(alloc, &end, argument)?;
     Ok(Outcome {
-        fault: result.err(),
+        fault: answer.err(),
         status,
-        text: Vec::from_slice(alloc, out.text())?,
+        text: Vec::from_slice(alloc, text)?,
         line,
     })
+}
+
+// Runs a plan over files, with a sink of some room.
+fn ran_plan(
+    rt: &(impl Abort + AllocGlobal),
+    plan: &Plan,
+    files: Files<'_, '_>,
+    room: Room,
+) -> Result<Outcome, AllocError>
+    requires { HasLimit plan.now.command }
+{
+    let mut packets = few_files(rt, files.packets, files.piece, files.failing_packet)?;
+    let mut scanned = few_files(rt, files.scanned, files.piece, files.failing_scanned)?;
+    let mut out = sink_with(rt, room)?;
+    let answer = run_over(rt, plan, &mut packets, &mut scanned, &mut out);
+    outcome_of(rt.alloc(), plan, answer, out.text())
+}
+
+/// Wants that a value is this one, and else names what it is of.
+pub fn is_same<T: PartialEq + Debug>(rt: &impl Abort, found: &T, wanted: &T, of: &impl Debug) {
+    assert_eq!(rt; found, wanted, "{of:?}");
+}
+
+/// Wants that bytes are this text, and else names what they are of.
+pub fn is_text(rt: &impl Abort, bytes: &[u8], text: &str, of: &impl Debug) {
+    is_same(rt, &std::str::from_utf8(bytes), &Ok(text), of);
 }

@@ -1,23 +1,40 @@
 use crate::tests::fixtures::{Files, packet_file};
 use crate::tests::rows::{Ends, runs_so};
+use std::alloc::{AllocError, Global};
+use std::process::Abort;
 use std::test::Fail;
 
 static SCANNED: [&[u8]; 1] = [b"XXabcdefgh"];
+
+// These packet files and that scanned file, read without a fault.
+fn over<'p>(packets: &'p [&'p [u8]]) -> Files<'p, 'static> {
+    Files {
+        packets,
+        scanned: &SCANNED,
+        piece: 65_536,
+        failing_packet: 0,
+        failing_scanned: 0,
+    }
+}
+
+// A front with so many zeros behind it.
+fn with_zeros(alloc: Global, front: &[u8], zeros: usize) -> Result<Vec<u8>, AllocError> {
+    let mut bytes = Vec::from_slice(alloc, front)?;
+    bytes.append(&mut vec![in alloc; 0; zeros]?)?;
+    Ok(bytes)
+}
 
 #[test]
 fn creator_packet_above_the_limit_is_put_aside(rt: HostRuntime) -> Result<(), Fail> {
     let set = packet_file("g").ok_or("no such packet file")?;
     let front = packet_file("large_creator_front").ok_or("no such packet file")?;
-    let mut large = Vec::from_slice(rt.alloc(), front)?;
-    large.append(&mut vec![in rt.alloc(); 0; 1_048_580]?)?;
-    let files = Files {
-        packets: &[set, &large],
-        scanned: &SCANNED,
-        piece: 65_536,
-        failing_packet: 0,
-        failing_scanned: 0,
-    };
-    runs_so(&rt, &["set", "g.par2", "c.par2"], files, ASIDE)
+    let large = with_zeros(rt.alloc(), front, 1_048_580)?;
+    runs_so(
+        &rt,
+        &["set", "g.par2", "c.par2"],
+        over(&[set, &large]),
+        ASIDE,
+    )
 }
 
 // The end of `set` over the set of g.bin and that packet.
@@ -51,24 +68,28 @@ static BEHIND: [(&[&str], &str, u8); 3] = [
     ),
 ];
 
+// The last bytes behind 1,001 times the first.
+fn behind_many(alloc: Global, first: &[u8], last: &[u8]) -> Result<Vec<u8>, AllocError> {
+    let mut many = Vec::new(alloc);
+    for _ in 0..1001 {
+        many.extend_from_slice(first)?;
+    }
+    many.extend_from_slice(last)?;
+    Ok(many)
+}
+
+// Wants that each command line over a packet file ends so.
+fn all_end_so(rt: &(impl Abort + AllocGlobal), packets: &[u8]) -> Result<(), Fail> {
+    for (words, text, status) in &BEHIND {
+        runs_so(rt, words, over(&[packets]), Ends::Wrote(*text, *status))?;
+    }
+    Ok(())
+}
+
 #[test]
 fn set_behind_more_than_a_thousand_packets(rt: HostRuntime) -> Result<(), Fail> {
     let creator = packet_file("creator_of_g").ok_or("no such packet file")?;
     let set = packet_file("g").ok_or("no such packet file")?;
-    let mut many = Vec::new(rt.alloc());
-    for _ in 0..1001 {
-        many.extend_from_slice(creator)?;
-    }
-    many.extend_from_slice(set)?;
-    let files = Files {
-        packets: &[&many],
-        scanned: &SCANNED,
-        piece: 65_536,
-        failing_packet: 0,
-        failing_scanned: 0,
-    };
-    for (words, text, status) in &BEHIND {
-        runs_so(&rt, words, files, Ends::Wrote(*text, *status))?;
-    }
-    Ok(())
+    let many = behind_many(rt.alloc(), creator, set)?;
+    all_end_so(&rt, &many)
 }

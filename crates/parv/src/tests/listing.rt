@@ -1,4 +1,4 @@
-use crate::tests::rows::{Ends, Row, ends_so};
+use crate::tests::rows::{Ends, Row, all_end_so};
 use std::test::Fail;
 
 // Packets and what stands between them; several files; a chosen set.
@@ -172,8 +172,5 @@ static LISTINGS: [Row; 18] = [
 
 #[test]
 fn packets_of_packet_files(rt: HostRuntime) -> Result<(), Fail> {
-    for row in &LISTINGS {
-        ends_so(&rt, row, 0)?;
-    }
-    Ok(())
+    all_end_so(&rt, &LISTINGS)
 }

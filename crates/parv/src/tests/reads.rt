@@ -1,6 +1,6 @@
-use crate::tests::fixtures::{Files, ROOMY, packet_files, ran_with};
-use crate::tests::rows::{Ends, Row, ends_so};
-use crate::tests::whole_rows::{FIRST, SECOND, WHOLE};
+use crate::tests::fixtures::{Files, Outcome, ROOMY, is_same, packet_files, ran_with};
+use crate::tests::rows::{Ends, Row, ends_so, has_ended};
+use crate::tests::whole_rows::{FIRST, SECOND, whole_rows};
 use parreport::RunFault;
 use parshelf::ReadFault;
 use std::process::Abort;
@@ -129,9 +129,91 @@ fn path_of(words: &'static [&'static str], packet: bool, file: u32) -> Option<&'
     None
 }
 
-// Each read failing in turn, of the packet files, where it is told how many each has, or else of the
-// one scanned file: the fault, and a beginning of the text in whole lines, until so many reads are
-// not made.
+// The run of a row where one read fails, of the packet files or else of the scanned file.
+fn ran_failing(
+    rt: &(impl Abort + AllocGlobal),
+    row: &Row,
+    packet: bool,
+    piece: usize,
+    number: u64,
+) -> Result<Outcome, Fail> {
+    let packets = packet_files(rt, row.packets)?;
+    let files = Files {
+        packets: packets.as_slice(),
+        scanned: row.scanned,
+        piece,
+        failing_packet: if packet { number } else { 0 },
+        failing_scanned: if packet { 0 } else { number },
+    };
+    ran_with(rt, row.words, files, ROOMY)
+}
+
+// Wants that a run ended with the fault of a read of this file, after a beginning of the text in
+// whole lines.
+fn has_failed(rt: &impl Abort, ran: &Outcome, packet: bool, file: u32, row: &Row, whole: &str) {
+    let fault = RunFault::Read {
+        packet,
+        file,
+        fault: ReadFault::Failed,
+    };
+    is_same(rt, &(ran.fault, ran.status), &(Some(fault), 6), &row.words);
+    let path = path_of(row.words, packet, file);
+    is_same(
+        rt,
+        &(path_in(&ran.line), path.is_some()),
+        &(path, true),
+        &row.words,
+    );
+    is_same(rt, &is_front(&ran.text, whole), &true, &row.words);
+}
+
+// The path in the line of a read fault.
+fn path_in(line: &[u8]) -> Option<&str> {
+    let line = std::str::from_utf8(line).ok()?;
+    line.strip_prefix("parv: read fault in ")?
+        .strip_suffix("\n")
+}
+
+// The length of the text that a run leaves where the read of a number fails, and whether it is the
+// part; none where the read is not made.
+fn left_in(
+    rt: &impl Abort,
+    ran: &Outcome,
+    row: &Row,
+    part: &str,
+    reads: Option<&[u64]>,
+    number: u64,
+) -> Result<Option<(usize, bool)>, &'static str> {
+    let Ends::Wrote(whole, _) = row.ends else {
+        return Err("a row with no text");
+    };
+    let file = file_read(reads.unwrap_or(&[u64::MAX]), number);
+    if ran.fault.is_none() {
+        has_ended(rt, ran, row.ends, row.words);
+        is_same(rt, &(reads.is_none() || file.is_none()), &true, &number);
+        return Ok(None);
+    }
+    let file = file.ok_or("more reads than bytes")?;
+    has_failed(rt, ran, reads.is_some(), file, row, whole);
+    Ok(Some((ran.text.len(), ran.text.as_slice() == part.as_bytes())))
+}
+
+// The same of a row that is run.
+fn left_by(
+    rt: &(impl Abort + AllocGlobal),
+    row: &Row,
+    part: &str,
+    reads: Option<&[u64]>,
+    piece: usize,
+    number: u64,
+) -> Result<Option<(usize, bool)>, Fail> {
+    let ran = ran_failing(rt, row, reads.is_some(), piece, number)?;
+    Ok(left_in(rt, &ran, row, part, reads, number)?)
+}
+
+// Each read failing in turn, of the packet files, where it is told how many each has, or else of
+// the one scanned file: the fault, and a beginning of the text in whole lines, until so many reads
+// are not made.
 fn reads_fail_in_turn(
     rt: &(impl Abort + AllocGlobal),
     row: &Row,
@@ -139,45 +221,22 @@ fn reads_fail_in_turn(
     reads: Option<&[u64]>,
     piece: usize,
 ) -> Result<(), Fail> {
-    let packets = packet_files(rt, row.packets)?;
-    let packet = reads.is_some();
-    let reads = reads.unwrap_or(&[u64::MAX]);
-    let Ends::Wrote(whole, status) = row.ends else {
-        return Err("a row with no text".into());
-    };
     let mut most = 0;
     let mut saw_part = part.is_empty();
     for number in 1..1000u64 {
-        let files = Files {
-            packets: packets.as_slice(),
-            scanned: row.scanned,
-            piece,
-            failing_packet: if packet { number } else { 0 },
-            failing_scanned: if packet { 0 } else { number },
-        };
-        let ran = ran_with(rt, row.words, files, ROOMY)?;
-        if ran.fault.is_none() {
-            assert_eq!(rt; std::str::from_utf8(&ran.text), Ok(whole));
-            assert_eq!(rt; ran.status, status);
-            assert!(rt; saw_part || packet);
-            assert!(rt; !packet || file_read(reads, number).is_none());
+        let Some((size, is_part)) = left_by(rt, row, part, reads, piece, number)? else {
+            is_same(rt, &(saw_part || reads.is_some()), &true, &part);
             return Ok(());
-        }
-        let file = file_read(reads, number).ok_or("more reads than bytes")?;
-        let fault = RunFault::Read {
-            packet,
-            file,
-            fault: ReadFault::Failed,
         };
-        assert_eq!(rt; ran.fault, Some(fault), "read {number}");
-        let path = path_of(row.words, packet, file).ok_or("path")?;
-        let line = format!(in rt.alloc(); "parv: read fault in {path}\n")?;
-        assert_eq!(rt; std::str::from_utf8(&ran.line), Ok(line.as_str()));
-        assert_eq!(rt; ran.status, 6);
-        assert!(rt; is_front(&ran.text, whole) && ran.text.len() >= most);
-        assert!(rt; ran.text.is_empty() || (!packet && number > 1 && !part.is_empty()));
-        most = ran.text.len();
-        saw_part = saw_part || ran.text.as_slice() == part.as_bytes();
+        let may_leave = reads.is_none() && number > 1 && !part.is_empty();
+        is_same(
+            rt,
+            &(size >= most, size == 0 || may_leave),
+            &(true, true),
+            &number,
+        );
+        most = size;
+        saw_part = saw_part || is_part;
     }
     Err("reads without end".into())
 }
@@ -189,7 +248,7 @@ fn is_front(text: &[u8], whole: &str) -> bool {
 
 #[test]
 fn each_read_failing_in_turn(rt: HostRuntime) -> Result<(), Fail> {
-    for (row, part, by_1, by_64) in &WHOLE {
+    for (row, part, by_1, by_64) in whole_rows() {
         reads_fail_in_turn(&rt, row, part, None, 1)?;
         // One read gives a whole scanned file then, so its failing leaves no text.
         reads_fail_in_turn(&rt, row, "", None, 64)?;
@@ -202,22 +261,35 @@ fn each_read_failing_in_turn(rt: HostRuntime) -> Result<(), Fail> {
 // A file with both slices of the set of g.bin, and one into which a slice fits at a single place.
 static TWO_FILES: [&[u8]; 2] = [b"XXabcdefgh", b"yyyy"];
 
+// The run of `find` over both files where the read of one number fails.
+fn found_in_both(rt: &(impl Abort + AllocGlobal), number: u64) -> Result<Outcome, Fail> {
+    let packets = packet_files(rt, &["g"])?;
+    let files = Files {
+        packets: packets.as_slice(),
+        scanned: &TWO_FILES,
+        piece: 64,
+        failing_packet: 0,
+        failing_scanned: number,
+    };
+    ran_with(rt, &["find", "v.par2", "x.bin", "y.bin"], files, ROOMY)
+}
+
+// Whether the second file failed; wants the lines of the first then.
+fn second_fails(rt: &impl Abort, ran: &Outcome) -> bool {
+    let fails = path_in(&ran.line) == Some("y.bin");
+    if fails {
+        let text = ran.text.strip_prefix(FIRST.as_bytes());
+        is_same(rt, &text, &Some(SECOND.as_bytes()), &"y.bin");
+    }
+    fails
+}
+
 #[test]
 fn lines_of_the_files_before_one_that_fails(rt: HostRuntime) -> Result<(), Fail> {
-    let packets = packet_files(&rt, &["g"])?;
     // The one read of the second file comes after all reads of the first.
     for number in 1..20u64 {
-        let files = Files {
-            packets: packets.as_slice(),
-            scanned: &TWO_FILES,
-            piece: 64,
-            failing_packet: 0,
-            failing_scanned: number,
-        };
-        let ran = ran_with(&rt, &["find", "v.par2", "x.bin", "y.bin"], files, ROOMY)?;
-        if ran.line.as_slice() == b"parv: read fault in y.bin\n".as_slice() {
-            let text = format!(in rt.alloc(); "{FIRST}{SECOND}")?;
-            assert_eq!(rt; std::str::from_utf8(&ran.text), Ok(text.as_str()));
+        let ran = found_in_both(&rt, number)?;
+        if second_fails(&rt, &ran) {
             return Ok(());
         }
     }

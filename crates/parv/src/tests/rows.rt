@@ -1,5 +1,5 @@
 // Worked command lines: rows of a table, and the one function that runs them.
-use crate::tests::fixtures::{Files, ROOMY, packet_files, ran_with};
+use crate::tests::fixtures::{Files, Outcome, ROOMY, is_same, is_text, packet_files, ran_with};
 use std::process::Abort;
 use std::test::Fail;
 
@@ -35,6 +35,14 @@ pub fn ends_so(rt: &(impl Abort + AllocGlobal), row: &Row, failing: u64) -> Resu
     runs_so(rt, row.words, files, row.ends)
 }
 
+/// Runs the command lines of rows, where no read fails; wants the ends that they have.
+pub fn all_end_so(rt: &(impl Abort + AllocGlobal), rows: &[Row]) -> Result<(), Fail> {
+    for row in rows {
+        ends_so(rt, row, 0)?;
+    }
+    Ok(())
+}
+
 /// Runs a command line over files; wants this end.
 pub fn runs_so(
     rt: &(impl Abort + AllocGlobal),
@@ -43,12 +51,17 @@ pub fn runs_so(
     ends: Ends,
 ) -> Result<(), Fail> {
     let ran = ran_with(rt, words, files, ROOMY)?;
+    has_ended(rt, &ran, ends, words);
+    Ok(())
+}
+
+/// Wants that the run of a command line ended so.
+pub fn has_ended(rt: &impl Abort, ran: &Outcome, ends: Ends, words: &[&str]) {
     let (text, line, status) = match ends {
         Ends::Wrote(text, status) => (text, "", status),
         Ends::Refused(line, status) => ("", line, status),
     };
-    assert_eq!(rt; std::str::from_utf8(&ran.text), Ok(text), "{words:?}");
-    assert_eq!(rt; std::str::from_utf8(&ran.line), Ok(line), "{words:?}");
-    assert_eq!(rt; ran.status, status, "{words:?}");
-    Ok(())
+    is_text(rt, &ran.text, text, &words);
+    is_text(rt, &ran.line, line, &words);
+    is_same(rt, &ran.status, &status, &words);
 }

@@ -1,4 +1,4 @@
-use crate::tests::rows::{Ends, Row, ends_so};
+use crate::tests::rows::{Ends, Row, all_end_so};
 use std::test::Fail;
 
 // What of a set is there.
@@ -179,8 +179,5 @@ static VERDICTS: [Row; 20] = [
 
 #[test]
 fn verdicts_on_files(rt: HostRuntime) -> Result<(), Fail> {
-    for row in &VERDICTS {
-        ends_so(&rt, row, 0)?;
-    }
-    Ok(())
+    all_end_so(&rt, &VERDICTS)
 }

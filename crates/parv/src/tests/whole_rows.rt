@@ -7,9 +7,16 @@ pub const FIRST: &str = "x.bin 2 e345eacbe656c0e6fd20ed63cb7b062c 0\n";
 /// What it has of it then.
 pub const SECOND: &str = "x.bin 6 e345eacbe656c0e6fd20ed63cb7b062c 1\n";
 
-/// Command lines; the text that one of the failing reads of the scanned file leaves, which each of
+/// A command line; the text that one of the failing reads of the scanned file leaves, which each of
 /// them leaves where it is empty; and how many reads of 1 byte and of 64 each packet file has.
-pub static WHOLE: [(Row, &str, &[u64], &[u64]); 5] = [
+pub type WholeRow = (Row, &'static str, &'static [u64], &'static [u64]);
+
+/// The command lines whose reads and writes fail in turn.
+pub fn whole_rows() -> &'static [WholeRow] {
+    &WHOLE
+}
+
+static WHOLE: [WholeRow; 5] = [
     (
         Row {
             words: &["packets", "v.par2"],

@@ -1,4 +1,4 @@
-use crate::tests::fixtures::words_of;
+use crate::tests::fixtures::{is_same, words_of};
 use parfield::Hash16;
 use parfind::Cursor;
 use parreport::{Command, Plan, PlanFault, plan};
@@ -124,14 +124,25 @@ fn plan_for(
     Ok(plan(rt.alloc(), &words))
 }
 
+// The command and the set of the plan of words, or why there is none.
+fn planned(
+    rt: &(impl Abort + AllocGlobal),
+    words: &[&str],
+) -> Result<Result<(Command, Option<Hash16>), PlanFault>, Fail> {
+    match plan_for(rt, words)? {
+        Ok(plan) => Ok(Ok((plan.command, plan.set))),
+        Err(fault) => Ok(Err(fault)),
+    }
+}
+
 // Wants that words are no plan, for this reason.
 fn is_refused(
     rt: &(impl Abort + AllocGlobal),
     words: &[&str],
     fault: PlanFault,
 ) -> Result<(), Fail> {
-    let found = plan_for(rt, words)?.err();
-    assert_eq!(rt; found, Some(fault), "{words:?}");
+    let found = planned(rt, words)?.err();
+    is_same(rt, &found, &Some(fault), &words);
     Ok(())
 }
 
@@ -141,8 +152,8 @@ fn is_command(
     words: &[&str],
     command: Command,
 ) -> Result<(), Fail> {
-    let plan = plan_for(rt, words)?.ok().ok_or("plan")?;
-    assert_eq!(rt; plan.command, command, "{words:?}");
+    let (found, _) = planned(rt, words)?.ok().ok_or("plan")?;
+    is_same(rt, &found, &command, &words);
     Ok(())
 }
 
@@ -225,16 +236,20 @@ static SETS: [(&str, Option<[u8; 16]>); 7] = [
     ("", None),
 ];
 
+// Wants that words are a plan with this set.
+fn has_set(rt: &(impl Abort + AllocGlobal), words: &[&str], set: Hash16) -> Result<(), Fail> {
+    let (_, found) = planned(rt, words)?.ok().ok_or("plan")?;
+    is_same(rt, &found, &Some(set), &words);
+    Ok(())
+}
+
 #[test]
 fn a_set_is_32_hexadecimal_digits(rt: HostRuntime) -> Result<(), Fail> {
     for (text, set) in &SETS {
         let words = ["packets", "--set", *text, "v.par2"];
         match *set {
             None => is_refused(&rt, &words, PlanFault::Value)?,
-            Some(set) => {
-                let plan = plan_for(&rt, &words)?.ok().ok_or("plan")?;
-                assert_eq!(rt; plan.set, Some(Hash16(set)));
-            }
+            Some(set) => has_set(&rt, &words, Hash16(set))?,
         }
     }
     Ok(())
@@ -314,28 +329,48 @@ fn files_of(alloc: Global, plan: &Plan) -> Result<String, AllocError> {
     Ok(text)
 }
 
+// The files of the plan of words.
+fn files_for(rt: &(impl Abort + AllocGlobal), words: &[&str]) -> Result<String, Fail> {
+    match plan_for(rt, words)? {
+        Ok(plan) => Ok(files_of(rt.alloc(), &plan)?),
+        Err(_) => Err("plan".into()),
+    }
+}
+
+// Wants that the plan of words has these files.
+fn has_files(rt: &(impl Abort + AllocGlobal), words: &[&str], wanted: &str) -> Result<(), Fail> {
+    let files = files_for(rt, words)?;
+    are_files(rt, files.as_str(), wanted, words);
+    Ok(())
+}
+
+// The files of the plan of words are these, each with a bar behind it.
+fn are_files(rt: &impl Abort, files: &str, wanted: &str, words: &[&str]) {
+    is_same(rt, &files.strip_suffix("|"), &Some(wanted), &words);
+}
+
 #[test]
 fn files_by_their_ending_and_names_under_the_base(rt: HostRuntime) -> Result<(), Fail> {
     for (words, wanted) in &FILES {
-        let plan = plan_for(&rt, words)?.ok().ok_or("plan")?;
-        let files = files_of(rt.alloc(), &plan)?;
-        assert_eq!(rt;
-            files.as_str().strip_suffix("|"),
-            Some(*wanted),
-            "{words:?}"
-        );
+        has_files(&rt, words, wanted)?;
     }
     Ok(())
 }
 
+// Why there is no plan over one packet file and so many other files.
+fn fault_over(alloc: Global, others: u32) -> Result<Option<PlanFault>, AllocError> {
+    let mut words = words_of(alloc, &["packets", "a.par2"])?;
+    for _ in 0..others {
+        words.push(String::from_str(alloc, "x")?)?;
+    }
+    Ok(plan(alloc, &words).err())
+}
+
 #[test]
 fn at_most_65535_files(rt: HostRuntime) -> Result<(), Fail> {
-    let mut words = words_of(rt.alloc(), &["packets", "a.par2"])?;
-    for _ in 0..65_534 {
-        words.push(String::from_str(rt.alloc(), "x")?)?;
-    }
-    assert!(rt; plan(rt.alloc(), &words).is_ok());
-    words.push(String::from_str(rt.alloc(), "x")?)?;
-    assert_eq!(rt; plan(rt.alloc(), &words).err(), Some(PlanFault::Value));
+    let fault = fault_over(rt.alloc(), 65_534)?;
+    is_same(&rt, &fault, &None, &65_535);
+    let fault = fault_over(rt.alloc(), 65_535)?;
+    is_same(&rt, &fault, &Some(PlanFault::Value), &65_536);
     Ok(())
 }

@@ -1,6 +1,6 @@
-use crate::tests::fixtures::{Files, Room, packet_files, ran_with};
+use crate::tests::fixtures::{Files, Outcome, Room, is_same, is_text, packet_files, ran_with};
 use crate::tests::rows::{Ends, Row};
-use crate::tests::whole_rows::WHOLE;
+use crate::tests::whole_rows::whole_rows;
 use parreport::RunFault;
 use std::process::Abort;
 use std::test::Fail;
@@ -19,18 +19,21 @@ fn written(rt: &(impl Abort + AllocGlobal), row: &Row, room: Room) -> Result<(),
     let Ends::Wrote(whole, status) = row.ends else {
         return Err("a row with no text".into());
     };
-    let size = room.bytes.min(whole.len());
-    assert_eq!(rt; ran.text.as_slice(), &whole.as_bytes()[..size]);
-    if size == whole.len() {
-        assert_eq!(rt; ran.fault, None);
-        assert_eq!(rt; ran.status, status);
-        assert!(rt; ran.line.is_empty());
-    } else {
-        assert_eq!(rt; ran.fault, Some(RunFault::Write));
-        assert_eq!(rt; ran.status, 6);
-        assert!(rt; ran.line.as_slice() == b"parv: write fault\n".as_slice());
-    }
+    is_written(rt, &ran, whole, status, room.bytes);
     Ok(())
+}
+
+// A run with this whole text and exit status, in room for so many bytes.
+fn is_written(rt: &impl Abort, ran: &Outcome, whole: &str, status: u8, bytes: usize) {
+    let size = bytes.min(whole.len());
+    let (fault, status, line) = if size == whole.len() {
+        (None, status, "")
+    } else {
+        (Some(RunFault::Write), 6, "parv: write fault\n")
+    };
+    is_same(rt, &ran.text.get(..), &whole.as_bytes().get(..size), &bytes);
+    is_same(rt, &(ran.fault, ran.status), &(fault, status), &bytes);
+    is_text(rt, &ran.line, line, &bytes);
 }
 
 // Room for so many bytes, which are taken in pieces; then no byte is taken, or the writer fails.
@@ -64,7 +67,7 @@ static ROOMS: [Room; 5] = [
 
 #[test]
 fn writers_with_some_room(rt: HostRuntime) -> Result<(), Fail> {
-    for (row, _, _, _) in &WHOLE {
+    for (row, _, _, _) in whole_rows() {
         for room in &ROOMS {
             written(&rt, row, *room)?;
         }
@@ -74,7 +77,7 @@ fn writers_with_some_room(rt: HostRuntime) -> Result<(), Fail> {
 
 #[test]
 fn writers_with_room_for_each_number_of_bytes(rt: HostRuntime) -> Result<(), Fail> {
-    for (row, _, _, _) in &WHOLE {
+    for (row, _, _, _) in whole_rows() {
         for bytes in 0..300 {
             let takes_zero = bytes % 2 == 0;
             written(
