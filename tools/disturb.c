@@ -1,8 +1,10 @@
-/* Preloaded into a program: refuses the allocation whose number stands in REFUSE, fails the read whose
+/* Preloaded into a program: refuses the allocation whose number stands in REFUSE, or that in REFUSE_LATER
+   and all later ones, fails the read whose
    number stands in FAIL_READ, lets the file end at the one in CUT_READ, and fails the write to standard
    output whose number stands in FAIL_WRITE, each counted from 1.
-   As the program ends, the file that REPORT names gets one line of three numbers: 1 where any of that was
-   done, or 0; the allocations that were not given back; and the files that were not closed. */
+   As the program ends, the file that REPORT names gets one line of four numbers: 1 where any of that was
+   done, or 0; the allocations that were not given back; the files that were not closed; and how many
+   allocations there were. */
 #define _GNU_SOURCE
 #include <dlfcn.h>
 #include <errno.h>
@@ -12,7 +14,7 @@
 #include <stdlib.h>
 #include <unistd.h>
 
-static long refused, failing, cut, full;        /* the numbers asked for; 0: none */
+static long refused, later, failing, cut, full; /* the numbers asked for; 0: none */
 static long allocations, reads, writes, done;   /* how many there were, and whether one was met */
 static long live, opened;                       /* what is taken and not yet given back */
 static char early[4096];                        /* dlsym itself asks for a little */
@@ -24,7 +26,7 @@ static void *next_of(const char *name)
 
 static int is_refused(void)
 {
-    int is_met = ++allocations == refused;
+    int is_met = ++allocations == refused || (later && allocations >= later);
     if (is_met) {
         done = 1;
         errno = ENOMEM;
@@ -180,6 +182,7 @@ static long number_in(const char *name)
 __attribute__((constructor)) static void start(void)
 {
     refused = number_in("REFUSE");
+    later = number_in("REFUSE_LATER");
     failing = number_in("FAIL_READ");
     cut = number_in("CUT_READ");
     full = number_in("FAIL_WRITE");
@@ -188,12 +191,12 @@ __attribute__((constructor)) static void start(void)
 
 __attribute__((destructor)) static void end(void)
 {
-    long left = live, unclosed = opened;
+    long left = live, unclosed = opened, taken = allocations;
     const char *name = getenv("REPORT");
     FILE *file;
-    refused = 0;
+    refused = later = 0;
     if (name && (file = fopen(name, "w"))) {
-        fprintf(file, "%ld %ld %ld\n", done, left, unclosed);
+        fprintf(file, "%ld %ld %ld %ld\n", done, left, unclosed, taken);
         fclose(file);
     }
 }

@@ -26,7 +26,7 @@ run() {
         > "$work/text" 2> "$work/err" < /dev/null
     status=$?
     [ -e "$work/report" ] || fail "status $status, and no report"
-    read -r met live opened < "$work/report"
+    read -r met live opened _ < "$work/report"
     [ "$live $opened" = "0 0" ] || fail "$live allocations not given back, $opened files not closed, status $status"
 }
 

@@ -16,7 +16,7 @@ use parshelf::{Shelf, fill};
 use std::alloc::Global;
 
 /// How many bytes of a file are searched at a time.
-pub const PIECE: usize = 65_536;
+const PIECE: usize = 65_536;
 
 // Notes the packets that begin in a piece of a file, but for its last seven places.
 fn search_piece<H: Shelf>(

@@ -28,7 +28,10 @@ fn packets_list(alloc: Global) -> Result<String, AllocError> {
     let mut text = String::new(alloc);
     for i in 0..PACKETS {
         let at = 68 * i;
-        writeln!(text, "v.par2 {at} 68 creator 617cdc72ba53d94fe713fea2ae18f776")?;
+        writeln!(
+            text,
+            "v.par2 {at} 68 creator 617cdc72ba53d94fe713fea2ae18f776"
+        )?;
     }
     writeln!(text, "packets {PACKETS}")?;
     Ok(text)
@@ -52,7 +55,11 @@ fn set_list(alloc: Global, length: u64) -> Result<String, AllocError> {
 fn shows(rt: &impl Abort, ran: &Outcome, list: &[u8], room: usize) {
     let size = room.min(list.len());
     assert!(rt; ran.text.as_slice() == &list[..size]);
-    let fault = if size < list.len() { Some(RunFault::Write) } else { None };
+    let fault = if size < list.len() {
+        Some(RunFault::Write)
+    } else {
+        None
+    };
     assert_eq!(rt; ran.fault, fault);
 }
 

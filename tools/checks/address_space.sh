@@ -1,0 +1,58 @@
+#!/usr/bin/env bash
+# The system's own limit on memory, in steps: from the least at which the program ends by itself on no
+# words, each command ends with 8, its line and a beginning of the text, or as it does without a limit.
+. "$(dirname "$0")/wants.sh"
+cd "$work" || exit 1
+cp "$top"/demo/*.par2 "$top"/demo/*.raw . 2> "$work/none"
+cp "$top/crates/parv/data/v.par2" v.par2
+printf 'XXabcdefgh' > x.bin
+"$tools/many_packets.py" 400 many.par2
+
+# The exit status under a limit of so many KiB, or without one.
+limited() {
+    local limit=$1
+    shift
+    (ulimit -v "$limit" && exec "$parv" "$@") > "$work/text" 2> "$work/err" < /dev/null
+}
+
+least=1000
+until limited $least; [ $? -eq 3 ]; do
+    least=$((least + 16))
+    [ $least -lt 100000 ] || { fails "the program ends with 3 under no limit"; exit 1; }
+done
+
+# Under each limit from the least on, until the run is the undisturbed one at each of a hundred steps.
+steps() {
+    local limit status refused=0 whole
+    "$parv" "$@" > "$work/whole" 2> "$work/whole.err" < /dev/null
+    whole=$?
+    local same=0
+    for ((limit = least; same < 100; limit += 16)); do
+        limited $limit "$@"
+        status=$?
+        if [ $status -eq $whole ] && cmp -s "$work/text" "$work/whole" && cmp -s "$work/err" "$work/whole.err"; then
+            same=$((same + 1))
+        elif [ $status -eq 8 ] && [ "$(cat "$work/err")" = "parv: out of memory" ] \
+            && cmp -s <(head -c "$(stat -c %s "$work/text")" "$work/whole") "$work/text"; then
+            same=0
+            refused=$((refused + 1))
+        else
+            fails "$limit KiB: status $status, $(head -c 200 "$work/err"): parv $*"
+            return
+        fi
+    done
+    if [ $refused -gt 0 ]; then
+        echo "ok: $refused limits from $least KiB on refuse memory, and then none: parv $*"
+    else
+        fails "no limit refused memory: parv $*"
+    fi
+}
+
+steps packets many.par2
+steps set many.par2 v.par2
+steps set v.par2
+steps find v.par2 x.bin
+steps find --limit 1 --cursor 617cdc72ba53d94fe713fea2ae18f776:0:2:1 v.par2 x.bin
+steps verify v.par2 x.bin
+steps verify -q v.par2 x.bin
+exit $failed

@@ -1,0 +1,80 @@
+#!/usr/bin/env python3
+"""Refuses each allocation of each test of some crates in turn, or each and all that come later.
+
+usage: refuse_tests.py LIBRARY one|later PROGRAM [WORD]
+
+LIBRARY is disturb.c, built; PROGRAM is what `rt test` and `rt ci` leave at crates/NAME/out/NAME_tests.
+Of the tests whose names have WORD, each run must pass, or fail and name want of memory: a test that fails
+in any other way saw another answer in its place. What was taken is given back, and past the last allocation
+the test passes. A test that takes more than a thousand times memory is refused each one hundredth.
+"""
+
+import os
+import subprocess
+import sys
+import tempfile
+from concurrent.futures import ThreadPoolExecutor
+
+WANT = ("error: AllocError", "error: AllocFailed", "OutOfMemory", "Memory")
+
+
+def run(library, program, test, variable, number, folder):
+    """The exit status, what was said, and the report: whether it was refused, what was not given back, taken."""
+    report = os.path.join(folder, f"{test}-{number}")
+    env = {"LD_PRELOAD": library, variable: str(number), "REPORT": report}
+    ran = subprocess.run([program, test], env=env, cwd=folder, capture_output=True, timeout=120)
+    try:
+        with open(report) as file:
+            met, left, _, taken = map(int, file.read().split())
+        os.remove(report)
+    except OSError:
+        met, left, taken = 1, 0, 0
+    return ran.returncode, (ran.stderr + ran.stdout).decode(errors="replace"), met, left, taken
+
+
+def refuse(library, program, test, variable, folder):
+    """How many runs there were and how many ended early, or what was wrong."""
+    status, said, _, whole, taken = run(library, program, test, variable, 10**9, folder)
+    if status != 0:
+        return f"{test} fails undisturbed: {said[:200]}"
+    runs = ended = 0
+    step = max(1, taken // 100) if taken > 1000 else 1
+    for number in range(1, taken + 1, step):
+        status, said, met, left, _ = run(library, program, test, variable, number, folder)
+        runs += 1
+        if status == 0:
+            continue
+        ended += 1
+        if status not in (101, -6) or not any(want in said for want in WANT):
+            return f"{test}, allocation {number}: status {status}, {said[:300]}"
+        if not met or left > whole:
+            return f"{test}, allocation {number}: {left} allocations not given back"
+    return runs, ended
+
+
+def main():
+    if len(sys.argv) < 4 or sys.argv[2] not in ("one", "later"):
+        sys.exit(__doc__.split("\n\n")[1])
+    library, mode, program = os.path.abspath(sys.argv[1]), sys.argv[2], os.path.abspath(sys.argv[3])
+    word = sys.argv[4] if len(sys.argv) > 4 else ""
+    variable = {"one": "REFUSE", "later": "REFUSE_LATER"}[mode]
+    listed = subprocess.run([program, "--list"], capture_output=True, text=True, check=True).stdout
+    tests = [line.removesuffix(": test") for line in listed.splitlines() if line.endswith(": test") and word in line]
+    name = os.path.basename(program)
+    with tempfile.TemporaryDirectory() as folder, ThreadPoolExecutor(os.cpu_count()) as pool:
+        answers = list(pool.map(lambda test: refuse(library, program, test, variable, folder), tests))
+    wrong = [answer for answer in answers if isinstance(answer, str)]
+    for answer in wrong:
+        print(f"FAILED: {name}: {answer}")
+    if not tests:
+        print(f"FAILED: {name}: no test's name has {word}")
+    elif not wrong:
+        runs, ended = (sum(column) for column in zip(*answers))
+        what = "each allocation" if mode == "one" else "each allocation and all later ones"
+        print(f"ok: {name}: {what} refused in {runs} runs of {len(tests)} tests, {ended} ended with want of memory, "
+              "none in another way")
+    return 1 if wrong or not tests else 0
+
+
+if __name__ == "__main__":
+    sys.exit(main())
