@@ -3,7 +3,6 @@
 # words, each command ends with 8, its line and a beginning of the text, or as it does without a limit.
 . "$(dirname "$0")/wants.sh"
 cd "$work" || exit 1
-cp "$top"/demo/*.par2 "$top"/demo/*.raw . 2> "$work/none"
 cp "$top/crates/parv/data/v.par2" v.par2
 printf 'XXabcdefgh' > x.bin
 "$tools/many_packets.py" 400 many.par2
@@ -50,7 +49,6 @@ steps() {
 
 steps packets many.par2
 steps set many.par2 v.par2
-steps set v.par2
 steps find v.par2 x.bin
 steps find --limit 1 --cursor 617cdc72ba53d94fe713fea2ae18f776:0:2:1 v.par2 x.bin
 steps verify v.par2 x.bin

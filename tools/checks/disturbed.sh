@@ -20,6 +20,19 @@ disturb REFUSE find v.par2 x.bin
 disturb REFUSE find --limit 1 --cursor 617cdc72ba53d94fe713fea2ae18f776:0:2:1 -B d v.par2 x.bin
 disturb REFUSE verify v.par2 x.bin
 disturb REFUSE verify -q v.par2 y.bin
+# A recovery slice that stands twice, places with equal slices, a set of some hundred packets, and that of
+# the demonstration.
+"$tools/packet_files.py" sets > made
+printf 'abcd' > a.bin
+printf 'aaaaXaaaa' > e.bin
+"$tools/big_set.py" big 40 3
+disturb REFUSE verify sets/a_with_a_slice_twice.par2 a.bin
+disturb REFUSE find sets/a_and_b.par2 e.bin
+disturb REFUSE packets big/*.par2
+disturb REFUSE set big/*.par2
+mkdir demo
+cp "$top"/demo/* demo
+disturb REFUSE verify -B demo demo/*.par2 demo/*.raw
 # Ends at a fault of another kind.
 disturb REFUSE packets none.par2
 disturb REFUSE find v.par2 w.par2 x.bin none.bin
@@ -28,6 +41,7 @@ disturb REFUSE packets x.bin
 disturb REFUSE find --limit 0 v.par2 x.bin
 disturb REFUSE find --cursor 00000000000000000000000000000000:0:0:0 v.par2 x.bin
 disturb REFUSE --help
+disturb REFUSE packets
 # Reads that fail: each file that was being read is named, the packet files before those that are scanned.
 reads() {
     local named=$1 what line

@@ -44,9 +44,10 @@ fn set_list(alloc: Global, length: u64) -> Result<String, AllocError> {
         "set 617cdc72ba53d94fe713fea2ae18f776 size 4 slices 2\n\
          file e345eacbe656c0e6fd20ed63cb7b062c 8 2 yes g.bin\nothers 0\nhave 0\n",
     )?;
-    for i in 0..ASIDES {
-        let at = 340 + length * i;
+    let mut at = 340u64;
+    for _ in 0..ASIDES {
         writeln!(text, "aside v.par2 {at} 1")?;
+        at = at.saturating_add(length);
     }
     Ok(text)
 }
@@ -101,9 +102,9 @@ fn packets_writes_each_block_once(rt: HostRuntime) -> Result<(), Fail> {
 #[test]
 fn set_writes_each_block_once(rt: HostRuntime) -> Result<(), Fail> {
     let set = packet_file("g").ok_or("no such packet file")?;
-    assert!(&rt; set.len() > 340);
-    let mut packets = Vec::from_slice(rt.alloc(), &set[..340])?;
-    let aside = &set[340..];
+    let front = set.get(..340).ok_or("too short")?;
+    let aside = set.get(340..).ok_or("too short")?;
+    let mut packets = Vec::from_slice(rt.alloc(), front)?;
     packets.append(&mut repeated(rt.alloc(), aside, ASIDES)?)?;
     let list = set_list(rt.alloc(), aside.len() as u64)?;
     lists(&rt, "set", &packets, list.as_bytes())
