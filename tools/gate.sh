@@ -7,11 +7,11 @@ log=$(mktemp)
 trap 'rm -f "$log"' EXIT
 
 # A program of an earlier run would be taken for the one that was proved now.
-rm -f crates/parv/out/parv
+rm -f crates/parv/out/parv crates/*/out/*_tests
 # As many checks at once as there are processors: by its own reckoning of memory rt ci would let some wait.
 RT_JOBS=${RT_JOBS:-$(nproc)} rt ci | tee "$log"
 proved=$?
-tools/checks.sh | tee -a "$log"
+GATE=1 tools/checks.sh | tee -a "$log"
 checked=$?
 
 counted=$(grep -E '^[0-9]+ passed, [0-9]+ failed$' "$log" | tail -n 1)

@@ -28,26 +28,27 @@ def run(library, program, test, variable, number, folder):
             met, left, _, taken = map(int, file.read().split())
         os.remove(report)
     except OSError:
-        met, left, taken = 1, 0, 0
+        met, left, taken = 1, None, 0
     return ran.returncode, (ran.stderr + ran.stdout).decode(errors="replace"), met, left, taken
 
 
 def refuse(library, program, test, variable, folder):
     """How many runs there were and how many ended early, or what was wrong."""
     status, said, _, whole, taken = run(library, program, test, variable, 10**9, folder)
-    if status != 0:
-        return f"{test} fails undisturbed: {said[:200]}"
+    if status != 0 or whole is None:
+        return f"{test} fails undisturbed, or leaves no report: {said[:200]}"
     runs = ended = 0
     step = max(1, taken // 100) if taken > 1000 else 1
     for number in range(1, taken + 1, step):
         status, said, met, left, _ = run(library, program, test, variable, number, folder)
         runs += 1
-        if status == 0:
-            continue
-        ended += 1
-        if status not in (101, -6) or not any(want in said for want in WANT):
+        ended += status != 0
+        if status != 0 and (status not in (101, -6) or not any(want in said for want in WANT)):
             return f"{test}, allocation {number}: status {status}, {said[:300]}"
-        if not met or left > whole:
+        if not met:
+            return f"{test}, allocation {number}: it was not refused"
+        # A failed assert ends a test with no report.
+        if status != -6 and (left is None or left > whole):
             return f"{test}, allocation {number}: {left} allocations not given back"
     return runs, ended
 
@@ -70,9 +71,12 @@ def main():
         print(f"FAILED: {name}: no test's name has {word}")
     elif not wrong:
         runs, ended = (sum(column) for column in zip(*answers))
-        what = "each allocation" if mode == "one" else "each allocation and all later ones"
-        print(f"ok: {name}: {what} refused in {runs} runs of {len(tests)} tests, {ended} ended with want of memory, "
-              "none in another way")
+        if not ended:
+            print(f"FAILED: {name}: no run was refused memory")
+            return 1
+        what = "an allocation" if mode == "one" else "an allocation and all later ones"
+        print(f"ok: {name}: {what} refused in each of {runs} runs of {len(tests)} tests, {ended} ended with want of "
+              "memory, none in another way")
     return 1 if wrong or not tests else 0
 
 

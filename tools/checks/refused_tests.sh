@@ -1,12 +1,15 @@
 #!/usr/bin/env bash
 # Each allocation of each test of the crates below the program is refused in turn: a test passes, or it
-# fails by want of memory. The gate leaves the tests' programs; where there are none, nothing is run.
+# fails by want of memory. The gate leaves the tests' programs; elsewhere there may be none, and then
+# nothing is run.
 . "$(dirname "$0")/wants.sh"
 gcc -shared -fPIC -O1 -o "$work/disturb.so" "$tools/disturb.c" -ldl || fails "no compiler"
 for crate in parshelf parsalvage parwindow parfind; do
     tests=$top/crates/$crate/out/${crate}_tests
     if [ -x "$tests" ]; then
         "$tools/refuse_tests.py" "$work/disturb.so" one "$tests" || failed=1
+    elif [ -n "${GATE:-}" ]; then
+        fails "there is no $tests"
     else
         echo "not run: there is no $tests, which the gate leaves"
     fi
