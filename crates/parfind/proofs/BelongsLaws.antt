@@ -7,7 +7,7 @@ use Rattle.parshelf.specs.declared.reading.ReadFault.TheVariants.{Failed, Ended}
 use Rattle.parwindow.specs.Crc32.{crc_of}
 use Rattle.parwindow.specs.Index.{SliceSet, has_crc_in}
 use Rattle.parwindow.specs.Window.{WindowState}
-use Rattle.parfind.specs.declared.cursor.Cursor.{Cursor}
+use Rattle.parcursor.specs.declared.cursor.Cursor.{Cursor}
 use Rattle.parfind.specs.declared.track.Track.{Track}
 use Rattle.parfind.specs.Finders.{FinderState, BelongsTo, search_of}
 use Rattle.parfind.specs.Marks.{marked_between, marks}
@@ -18,7 +18,7 @@ use Rattle.parfind.specs.Steps.{scan_of, lengths_of}
 use Rattle.parfind.specs.Tracks.{IsTied, Looks, StandsAt, Remembers, SameTrack, remembered, hashed_of, fetched_of}
 use Rattle.parfind.proofs.LookLaws.{window_there}
 use Rattle.parfind.proofs.MarkLaws.{From-further, counted_look, marked_rises, remembered-most}
-use Rattle.parfind.proofs.OrderLaws.{From, From-by_test, From-trans, is_from-true}
+use Rattle.parcursor.proofs.OrderLaws.{From, From-by_test, From-trans, is_from-true}
 use Rattle.parfind.proofs.VisitLaws.{same_lengths}
 
 -- a finder whose window and track are others, at another cursor

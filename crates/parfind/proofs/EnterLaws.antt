@@ -4,14 +4,14 @@ use Rattle.std.proofs.lemmas.Bool.{cases_eq}
 use Rattle.parshelf.specs.Shelf.{ShelfState, IsShelf, file_of}
 use Rattle.parwindow.specs.Index.{SliceSet}
 use Rattle.parwindow.specs.Window.{WindowState}
-use Rattle.parfind.specs.declared.cursor.Cursor.{Cursor}
+use Rattle.parcursor.specs.declared.cursor.Cursor.{Cursor}
 use Rattle.parfind.specs.declared.track.Track.{Track}
 use Rattle.parfind.specs.Finders.{FinderState, BelongsTo}
 use Rattle.parfind.specs.Looking.{HasFit, IsNextPlace}
 use Rattle.parfind.specs.Places.{Place}
 use Rattle.parfind.specs.Reach.{HandsUpTo, ReadsUpTo}
 use Rattle.parfind.specs.Tracks.{IsTied, IsUnread, StandsAt, fetched_of, hashed_of}
-use Rattle.parfind.proofs.OrderLaws.{From, From-by_test, From-refl, is_from-true}
+use Rattle.parcursor.proofs.OrderLaws.{From, From-by_test, From-refl, is_from-true}
 use Rattle.parfind.proofs.ReachLaws.{hands_none, hands_enter}
 use Rattle.parfind.proofs.TrackLaws.{no_bytes}
 

@@ -1,4 +1,3 @@
-pub mod OrderLaws
 pub mod ListLaws
 pub mod RisingLaws
 pub mod SightingLaws
@@ -23,6 +22,3 @@ pub mod SightedLaws
 pub mod SurveyLaws
 pub mod SweepLaws
 pub mod HandingLaws
-pub mod NumberLaws
-pub mod IdLaws
-pub mod CursorTextLaws

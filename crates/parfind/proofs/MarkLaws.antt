@@ -5,14 +5,14 @@ use Rattle.parfield.specs.declared.hash16.Hash16.{Hash16}
 use Rattle.parfind.specs.declared.track.Track.{Track}
 use Rattle.parfind.specs.Tracks.{remembered, hashed_of}
 use Rattle.std.proofs.lemmas.List.Elements.{filter-append}
-use Rattle.parfind.specs.declared.cursor.Cursor.{Cursor}
+use Rattle.parcursor.specs.declared.cursor.Cursor.{Cursor}
 use Rattle.parfind.specs.Looking.{IsAtPlace}
 use Rattle.parfind.specs.Marks.{is_marked, marked_between}
-use Rattle.parfind.specs.Order.{is_before, is_from}
+use Rattle.parcursor.specs.Order.{is_before, is_from}
 use Rattle.parfind.specs.Places.{Place, cursor_at, cursor_past, place_at, start_of, places_of, places_ahead, places_between}
 use Rattle.parfind.specs.Sightings.{Scan}
 use Rattle.parfind.specs.Steps.{lengths_of}
-use Rattle.parfind.proofs.OrderLaws.{From}
+use Rattle.parcursor.proofs.OrderLaws.{From}
 use Rattle.parfind.proofs.MoveLaws.{places_then_between}
 use Rattle.parfind.proofs.PlaceLaws.{only_here, From-past}
 

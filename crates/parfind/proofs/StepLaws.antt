@@ -11,17 +11,17 @@ use Rattle.parshelf.specs.declared.reading.ReadFault.{ReadFault}
 use Rattle.parshelf.specs.declared.reading.ReadFault.TheVariants.{Failed, Ended}
 use Rattle.parshelf.proofs.ReadLaws.{ReadsOnly_more}
 use Rattle.parwindow.specs.Index.{SliceSet}
-use Rattle.parfind.specs.declared.cursor.Cursor.{Cursor}
-use Rattle.parfind.specs.declared.sighting.Sighting.{Sighting}
+use Rattle.parcursor.specs.declared.cursor.Cursor.{Cursor}
+use Rattle.parcursor.specs.declared.sighting.Sighting.{Sighting}
 use Rattle.parfind.specs.declared.finder.Step.{Step}
 use Rattle.parfind.specs.declared.finder.Step.TheVariants.{Hit, Spent, Done}
-use Rattle.parfind.specs.Order.{is_before, is_from, cursor_of}
+use Rattle.parcursor.specs.Order.{is_before, is_from, cursor_of}
 use Rattle.parfind.specs.Places.{Place, cursor_at, place_of, start_of, places_ahead, places_between}
 use Rattle.parfind.specs.Sightings.{Scan, sightings_of, sightings_from, sightings_between}
 use Rattle.parfind.specs.Moves.{IsWithin, PassesAll, StepMoves, steps_left, Advances}
 use Rattle.parfind.specs.Steps.{scan_of, lengths_of, HitsNext, SpendsAll, IsDone, GoesOn, StepGives}
 use Rattle.parfind.specs.Visits.{StepSees}
-use Rattle.parfind.proofs.OrderLaws.{From, Before-by_test, From-by_test, not_both}
+use Rattle.parcursor.proofs.OrderLaws.{From, Before-by_test, From-by_test, not_both}
 use Rattle.parfind.proofs.ListLaws.{Each-weaker, Each-passes, All-from}
 use Rattle.parfind.proofs.MoveLaws.{PassedTo, passes_onward, passes_front, moves_onward, passed_by, passed_more, more_moves, more_spent}
 use Rattle.parfind.proofs.WalkLaws.{same_left, more_sees}

@@ -8,12 +8,12 @@ use Rattle.parshelf.proofs.ShelfLaws.{length-file_of}
 use Rattle.parwindow.specs.Crc32.{crc_of}
 use Rattle.parwindow.specs.Index.{SliceSet, slice_passes, sums_of, has_fit_in}
 use Rattle.parwindow.specs.Window.{WindowState, window_at}
-use Rattle.parfind.specs.declared.cursor.Cursor.{Cursor}
+use Rattle.parcursor.specs.declared.cursor.Cursor.{Cursor}
 use Rattle.parfind.specs.declared.track.Track.{Track}
 use Rattle.parfind.specs.Looking.{is_fit}
 use Rattle.parfind.specs.Marking.{MarksMore, TakesDigest}
 use Rattle.parfind.specs.Marks.{is_missing_crc}
-use Rattle.parfind.specs.Order.{cursor_of}
+use Rattle.parcursor.specs.Order.{cursor_of}
 use Rattle.parfind.specs.Reach.{ReadsUpTo}
 use Rattle.parfind.specs.Sightings.{is_seen_in, sightings_of, sightings_between}
 use Rattle.parfind.specs.Steps.{scan_of}
@@ -22,7 +22,7 @@ use Rattle.parfind.specs.Surveys.{mark_of}
 use Rattle.parfind.specs.Tracks.{IsTied, SameTrack, IsUnread, HasNoCrc, fetched_of}
 use Rattle.parfind.proofs.FitLaws.{fits_more, seen_fits}
 use Rattle.parfind.proofs.MarkingLaws.{missing_was}
-use Rattle.parfind.proofs.OrderLaws.{From-refl}
+use Rattle.parcursor.proofs.OrderLaws.{From-refl}
 use Rattle.parfind.proofs.PassLaws.{cursor_on, on_unseen, From-on}
 use Rattle.parfind.proofs.PlaceLaws.{sighting_seen}
 use Rattle.parfind.proofs.ReachLaws.{hands_enter}

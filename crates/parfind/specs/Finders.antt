@@ -3,11 +3,11 @@ use Rattle.std.specs.Prelude.{◌≡◌, ◌≤◌, ℕ, IsTrue}
 use Rattle.parshelf.specs.Shelf.{ShelfState}
 use Rattle.parwindow.specs.Index.{SliceSet}
 use Rattle.parwindow.specs.Window.{WindowState}
-use Rattle.parfind.specs.declared.cursor.Cursor.{Cursor}
+use Rattle.parcursor.specs.declared.cursor.Cursor.{Cursor}
 use Rattle.parfind.specs.declared.track.Track.{Track}
 use Rattle.parfind.specs.Looking.{HasFit}
 use Rattle.parfind.specs.Marks.{marked_between}
-use Rattle.parfind.specs.Order.{is_from}
+use Rattle.parcursor.specs.Order.{is_from}
 use Rattle.parfind.specs.Places.{Place, start_of}
 use Rattle.parfind.specs.Reach.{SearchState}
 use Rattle.parfind.specs.Steps.{scan_of}

@@ -1,4 +1,3 @@
-pub mod Order
 pub mod Places
 pub mod Sightings
 pub mod Moves
@@ -14,7 +13,6 @@ pub mod Surveys
 pub mod Marking
 pub mod Surveying
 pub mod Worked
-pub mod CursorText
 pub use Rattle.parshelf.specs.Reads
 pub use Rattle.parshelf.specs.Shelf
 pub use Rattle.parwindow.specs.Index

@@ -3,8 +3,8 @@ use Rattle.std.specs.Prelude.{ℕ, ◌-◌, ◌<◌, ◌&&◌, nat_le, Bool, Lis
 use Rattle.parfield.specs.declared.hash16.Hash16.{Hash16}
 use Rattle.parset.specs.declared.recovery_set.SetSlice.{SetSlice}
 use Rattle.parwindow.specs.Index.{SliceSet, has_sums, has_fit_in}
-use Rattle.parfind.specs.declared.cursor.Cursor.{Cursor}
-use Rattle.parfind.specs.Order.{is_from}
+use Rattle.parcursor.specs.declared.cursor.Cursor.{Cursor}
+use Rattle.parcursor.specs.Order.{is_from}
 
 -- the cursor stands at a place
 abbrev pub IsAtPlace : List ℕ → Cursor → Type 0

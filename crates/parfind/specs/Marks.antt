@@ -4,7 +4,7 @@ use Rattle.std.specs.List.{list_any, range_with_len}
 use Rattle.parwindow.specs.Crc32.{crc_of}
 use Rattle.parwindow.specs.Index.{SliceSet, slice_passes, has_crc_of, has_crc_in}
 use Rattle.parwindow.specs.Window.{window_at}
-use Rattle.parfind.specs.declared.cursor.Cursor.{Cursor}
+use Rattle.parcursor.specs.declared.cursor.Cursor.{Cursor}
 use Rattle.parfind.specs.Places.{Place, cursor_past, place_at, places_of, places_between}
 use Rattle.parfind.specs.Sightings.{Scan, content_of}
 use Rattle.parfind.specs.Surveys.{mark_of}

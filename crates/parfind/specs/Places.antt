@@ -1,9 +1,9 @@
 -- The places at which slices are looked for: each offset of each file.
 use Rattle.std.specs.Prelude.{ℕ, ◌+◌, List, length, map, slice_index, filter}
 use Rattle.std.specs.List.{flat_map, range_with_len}
-use Rattle.parfind.specs.declared.cursor.Cursor.{Cursor}
-use Rattle.parfind.specs.declared.sighting.Sighting.{Sighting}
-use Rattle.parfind.specs.Order.{is_before, is_from}
+use Rattle.parcursor.specs.declared.cursor.Cursor.{Cursor}
+use Rattle.parcursor.specs.declared.sighting.Sighting.{Sighting}
+use Rattle.parcursor.specs.Order.{is_before, is_from}
 
 -- an offset of a file
 pub record Place : Type 0 where

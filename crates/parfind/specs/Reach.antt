@@ -1,7 +1,7 @@
 -- How far files are read, and how many of their bytes are handed over.
 use Rattle.std.specs.Prelude.{◌≡◌, ℕ, ◌+◌, ◌-◌, ◌<◌, ◌≤◌, ◌==◌, nat_lt, min, List, [], ◌∷◌, slice_index, if◌then◌else◌}
 use Rattle.parshelf.specs.Shelf.{ShelfState}
-use Rattle.parfind.specs.declared.cursor.Cursor.{Cursor}
+use Rattle.parcursor.specs.declared.cursor.Cursor.{Cursor}
 use Rattle.parfind.specs.Places.{Place, place_at}
 
 -- how many bytes of a file lie before a place: all of an earlier file, none of a later one

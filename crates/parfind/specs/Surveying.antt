@@ -4,11 +4,11 @@ use Rattle.parshelf.specs.Shelf.{ShelfState}
 use Rattle.parshelf.specs.declared.reading.ReadFault.{ReadFault}
 use Rattle.parwindow.specs.Index.{SliceSet}
 use Rattle.parwindow.specs.Window.{WindowState}
-use Rattle.parfind.specs.declared.cursor.Cursor.{Cursor}
+use Rattle.parcursor.specs.declared.cursor.Cursor.{Cursor}
 use Rattle.parfind.specs.declared.track.Track.{Track}
 use Rattle.parfind.specs.Handed.{SkipsUnfit}
 use Rattle.parfind.specs.Marks.{is_missing_at}
-use Rattle.parfind.specs.Order.{origin}
+use Rattle.parcursor.specs.Order.{origin}
 use Rattle.parfind.specs.Places.{Place, cursor_at, places_between}
 use Rattle.parfind.specs.Reach.{ReadsUpTo, IsNear}
 use Rattle.parfind.specs.Sightings.{Scan}

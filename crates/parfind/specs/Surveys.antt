@@ -4,10 +4,10 @@ use Rattle.std.specs.List.{list_any}
 use Rattle.parshelf.specs.Shelf.{ShelfState}
 use Rattle.parshelf.specs.Reads.{FaultsIn}
 use Rattle.parwindow.specs.Index.{SliceSet}
-use Rattle.parfind.specs.declared.cursor.Cursor.{Cursor}
+use Rattle.parcursor.specs.declared.cursor.Cursor.{Cursor}
 use Rattle.parfind.specs.declared.scanning.SurveyFault.{SurveyFault}
 use Rattle.parfind.specs.declared.scanning.SurveyFault.TheVariants.{Read, Memory}
-use Rattle.parfind.specs.Order.{is_before, cursor_of}
+use Rattle.parcursor.specs.Order.{is_before, cursor_of}
 use Rattle.parfind.specs.Places.{Place, cursor_at, cursor_past}
 use Rattle.parfind.specs.Handed.{HandsAround}
 use Rattle.parfind.specs.Sightings.{Scan, sightings_of}

@@ -6,7 +6,7 @@ use Rattle.parwindow.specs.Crc32.{crc_of}
 use Rattle.parwindow.specs.Index.{SliceSet, has_crc_in}
 use Rattle.parwindow.specs.Window.{WindowState, window_at}
 use Rattle.parfield.specs.declared.hash16.Hash16.{Hash16}
-use Rattle.parfind.specs.declared.cursor.Cursor.{Cursor}
+use Rattle.parcursor.specs.declared.cursor.Cursor.{Cursor}
 use Rattle.parfind.specs.declared.track.Track.{Track}
 use Rattle.parfind.specs.Places.{Place}
 

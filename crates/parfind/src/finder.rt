@@ -11,10 +11,9 @@ ghost use Rattle.parfind.specs.Steps.{StepGives, scan_of};
 ghost use Rattle.parfind.specs.Tracks.{StandsAt};
 ghost use Rattle.parfind.specs.Visits.{StepSees, step_of, count_of};
 
-use crate::cursor::Cursor;
 use crate::places::{next_place, rest_of};
-use crate::sighting::Sighting;
 use crate::track::Track;
+use parcursor::{Cursor, Sighting};
 use parshelf::{ReadFault, Shelf};
 use parwindow::{Index, Window};
 use std::alloc::{AllocError, Global};

@@ -1,7 +1,7 @@
 ghost use Rattle.std.specs.Prelude.{◌≡◌, ◌<◌, length, IfSome, IfNone};
 ghost use Rattle.parfind.specs.Looking.{IsAtPlace, IsNextPlace, NoPlaceFrom, rest_of};
 
-use crate::cursor::Cursor;
+use parcursor::Cursor;
 use parshelf::Shelf;
 
 // The first place from a cursor on. Where the cursor stands at a place, it keeps its slice.

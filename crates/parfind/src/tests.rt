@@ -3,7 +3,7 @@ ghost use Rattle.parshelf.specs.Memory.{shelf_state_of};
 ghost use Rattle.parfind.specs.Finders.{BelongsTo};
 ghost use Rattle.parfind.specs.Marks.{marks};
 ghost use Rattle.parfind.specs.Moves.{end_of};
-ghost use Rattle.parfind.specs.Order.{origin};
+ghost use Rattle.parcursor.specs.Order.{origin};
 ghost use Rattle.parfind.specs.Worked.{two_slices, equal_slices};
 
 use super::*;

@@ -1,7 +1,8 @@
 -- What is known of a command.
-use Rattle.std.specs.Prelude.{◌≢◌, Bool, true, false, Some, ⊤}
+use Rattle.std.specs.Prelude.{◌≢◌, ℕ, Bool, true, false, List, [], map, Some, ⊤, if◌then◌else◌}
 use Rattle.parplan.specs.declared.command.Command.{Command}
 use Rattle.parplan.specs.declared.command.Command.TheVariants as command
+use Rattle.parplan.specs.declared.command.Plan.{Plan}
 
 -- the scanned files are asked for
 abbrev pub reads_scanned : Command → Bool
@@ -23,3 +24,8 @@ is_find command.Packets = false
 is_find command.Set = false
 is_find (command.Find limit cursor) = true
 is_find (command.Verify quiet) = false
+
+-- the paths of the files that are scanned
+abbrev pub scanned_paths_of : Plan → List (List ℕ)
+scanned_paths_of plan =
+    if reads_scanned plan.command then map (λ file. file.path) plan.scanned else []

@@ -1,7 +1,1 @@
 pub mod Commands
-pub mod FileWords
-pub mod Grammar
-pub mod Limit
-pub mod Matches
-pub mod Options
-pub mod Plans

@@ -1,14 +1,8 @@
-//! Plans of the words of a command line.
+//! What the program is asked for.
 #![tactic(auto)]
 
 mod command;
-mod files;
-mod grammar;
-mod limit;
-mod matches;
-mod options;
-mod words;
+mod paths;
 
 pub use crate::command::{Command, Plan, PlanFault, Scanned, reads_scanned};
-pub use crate::files::scanned_paths;
-pub use crate::words::plan;
+pub use crate::paths::scanned_paths;

@@ -15,11 +15,11 @@ use Rattle.parfind.specs.Moves.{IsBelow}
 use Rattle.parfind.specs.Steps.{StepGives}
 use Rattle.parfind.specs.declared.finder.Step.{Step}
 use Rattle.parfind.proofs.StepLaws.{gives_before, still_steady}
-use Rattle.parfind.specs.declared.cursor.Cursor.{Cursor}
-use Rattle.parfind.specs.declared.sighting.Sighting.{Sighting}
-use Rattle.parfind.specs.Order.{is_from, cursor_of, cursor_after}
+use Rattle.parcursor.specs.declared.cursor.Cursor.{Cursor}
+use Rattle.parcursor.specs.declared.sighting.Sighting.{Sighting}
+use Rattle.parcursor.specs.Order.{is_from, cursor_of, cursor_after}
 use Rattle.parfind.specs.Sightings.{Scan, sightings_of, sightings_from, sightings_between}
-use Rattle.parfind.proofs.OrderLaws.{From-by_test}
+use Rattle.parcursor.proofs.OrderLaws.{From-by_test}
 use Rattle.parfind.proofs.ListLaws.{Each-weaker, Each-passes, All-from}
 use Rattle.parfind.proofs.RisingLaws.{between_and_from}
 use Rattle.parfind.proofs.SightingLaws.{Rises-sightings_of}

@@ -4,7 +4,7 @@ use Rattle.parfield.specs.Hex.{encode_lower}
 use Rattle.parfield.specs.Shown.{shown}
 use Rattle.parshelf.specs.declared.disk.OpenFault.{OpenFault}
 use Rattle.parshelf.specs.declared.disk.OpenFault.TheVariants.{CannotOpen, Memory}
-use Rattle.parplan.specs.FileWords.{scanned_paths_of}
+use Rattle.parplan.specs.Commands.{scanned_paths_of}
 use Rattle.parplan.specs.declared.command.Plan.{Plan}
 use Rattle.parplan.specs.declared.command.PlanFault.TheVariants as plan_fault
 use Rattle.parreport.specs.declared.faults.RunFault.{RunFault}

@@ -5,11 +5,11 @@ use Rattle.parfield.specs.declared.hash16.Hash16.{Hash16}
 use Rattle.parset.specs.RecoverySet.{SetView}
 use Rattle.parset.specs.declared.recovery_set.SetSlice.{SetSlice}
 use Rattle.parwindow.specs.Index.{slice_set_of}
-use Rattle.parfind.specs.Order.{cursor_after}
+use Rattle.parcursor.specs.Order.{cursor_after}
 use Rattle.parfind.specs.Sightings.{Scan, sightings_from}
 use Rattle.parfind.specs.Moves.{IsBelow}
-use Rattle.parfind.specs.declared.cursor.Cursor.{Cursor}
-use Rattle.parfind.specs.declared.sighting.Sighting.{Sighting}
+use Rattle.parcursor.specs.declared.cursor.Cursor.{Cursor}
+use Rattle.parcursor.specs.declared.sighting.Sighting.{Sighting}
 use Rattle.parreport.specs.Lines.{sighting_line, end_line, cursor_line}
 use Rattle.parshelf.specs.SinkState.{SinkState, appended, RefusesFront}
 use Rattle.parreport.specs.declared.faults.FindFault.{FindFault}

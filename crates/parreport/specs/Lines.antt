@@ -13,8 +13,8 @@ use Rattle.parset.specs.declared.recovery_set.SetAside.{SetAside}
 use Rattle.parset.specs.declared.recovery_set.SetFile.{SetFile}
 use Rattle.parset.specs.declared.recovery_set.SetSlice.{SetSlice}
 use Rattle.parfield.specs.declared.hash16.Hash16.{Hash16}
-use Rattle.parfind.specs.CursorText.{cursor_text}
-use Rattle.parfind.specs.declared.cursor.Cursor.{Cursor}
+use Rattle.parcursor.specs.CursorText.{cursor_text}
+use Rattle.parcursor.specs.declared.cursor.Cursor.{Cursor}
 
 -- the word of a kind
 abbrev pub kind_word : Kind → List ℕ

@@ -6,7 +6,7 @@ use Rattle.parshelf.specs.Reads.{ReadsOnly, FaultsIn}
 use Rattle.parsalvage.specs.declared.kept.Kept.{Kept}
 use Rattle.parset.specs.RecoverySet.{SetView, set_of}
 use Rattle.parset.specs.declared.recovery_set.SetFault.{SetFault}
-use Rattle.parfind.specs.declared.cursor.Cursor.{Cursor}
+use Rattle.parcursor.specs.declared.cursor.Cursor.{Cursor}
 use Rattle.parreport.specs.FindText.{names_of, WritesLinesBefore}
 use Rattle.parplan.specs.Commands.{is_find, reads_scanned}
 use Rattle.parreport.specs.Report.{Report, report_with_set, start_in}

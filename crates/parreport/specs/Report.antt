@@ -2,9 +2,9 @@
 use Rattle.std.specs.Prelude.{ℕ, List, [], Option, None, Some, Result, Ok, Err, if◌then◌else◌}
 use Rattle.std.specs.Str.{bytes_eq}
 use Rattle.parfield.specs.declared.hash16.Hash16.{Hash16}
-use Rattle.parfind.specs.Order.{origin}
+use Rattle.parcursor.specs.Order.{origin}
 use Rattle.parfind.specs.Sightings.{sightings_from}
-use Rattle.parfind.specs.declared.cursor.Cursor.{Cursor}
+use Rattle.parcursor.specs.declared.cursor.Cursor.{Cursor}
 use Rattle.parreport.specs.Faults.{cause_of}
 use Rattle.parreport.specs.FindText.{find_text, names_of, scan_in}
 use Rattle.parsalvage.specs.Kept.{kept_in_files}

@@ -1,6 +1,6 @@
 ghost use Rattle.std.specs.Prelude.{◌≡◌, option_map, slice_get};
 ghost use Rattle.parreport.specs.Ends.{argument_in, run_end_of, open_end_of};
-ghost use Rattle.parplan.specs.FileWords.{scanned_paths_of};
+ghost use Rattle.parplan.specs.Commands.{scanned_paths_of};
 
 use crate::faults::RunFault;
 use parfield::Text;

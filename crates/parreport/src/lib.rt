@@ -18,5 +18,5 @@ pub use crate::faults::{Cause, RunFault};
 pub use crate::messages::ending;
 pub use crate::opened_files::run_opened;
 pub use crate::report::run;
-pub use parplan::{Command, Plan, PlanFault, Scanned, plan, reads_scanned, scanned_paths};
+pub use parplan::{Command, Plan, PlanFault, Scanned, reads_scanned, scanned_paths};
 pub use parshelf::{MemSink, Sink, WriteSink};

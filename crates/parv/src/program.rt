@@ -1,7 +1,8 @@
 ghost use Rattle.std.specs.Prelude.{◌≡◌, drop};
 
-use parreport::{End, PlanFault, WriteSink, ending, plan, run_opened, scanned_paths};
+use parreport::{End, PlanFault, WriteSink, ending, run_opened, scanned_paths};
 use parshelf::DiskShelf;
+use parwords::plan;
 use std::alloc::AllocError;
 use std::{env, io};
 

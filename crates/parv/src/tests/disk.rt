@@ -1,7 +1,8 @@
 use crate::tests::ending::ends_with;
 use crate::tests::fixtures::{is_same, is_text, packet_file, shelf_of, words_of};
-use parreport::{Command, End, MemSink, Plan, Status, plan, run};
+use parreport::{Command, End, MemSink, Plan, Status, run};
 use parshelf::{DiskShelf, OpenFault, Shelf};
+use parwords::plan;
 use std::alloc::{AllocError, Global};
 use std::test::Fail;
 use std::{fs, process};

@@ -5,8 +5,9 @@ ghost use Rattle.parplan.specs.Commands.{HasLimit};
 
 use crate::tests::packet_files::PACKET_FILES;
 use crate::tests::packet_sets::PACKET_SETS;
-use parreport::{End, MemSink, Plan, RunFault, Status, ending, plan, reads_scanned, run, run_end};
+use parreport::{End, MemSink, Plan, RunFault, Status, ending, reads_scanned, run, run_end};
 use parshelf::{MemShelf, Shelf};
+use parwords::plan;
 use std::alloc::{AllocError, Global};
 use std::fmt::Debug;
 use std::process::Abort;

@@ -1,7 +1,8 @@
 use crate::tests::fixtures::{is_same, words_of};
+use parcursor::Cursor;
 use parfield::Hash16;
-use parfind::Cursor;
-use parreport::{Command, Plan, PlanFault, plan};
+use parreport::{Command, Plan, PlanFault};
+use parwords::plan;
 use std::alloc::{AllocError, Global};
 use std::process::Abort;
 use std::test::Fail;

@@ -1,7 +1,7 @@
 use Rattle.std.proofs.Common.{◌-◌, length}
-use Rattle.parfind.specs.declared.cursor.Cursor.{Cursor}
+use Rattle.parcursor.specs.declared.cursor.Cursor.{Cursor}
 use Rattle.parfind.specs.Looking.{IsAtPlace}
-use Rattle.parfind.proofs.OrderLaws.{From}
+use Rattle.parcursor.proofs.OrderLaws.{From}
 use Rattle.parfind.proofs.places.next_place.Given as goal
 
 abbrev pub invariant-loop-at : goal.invariant-loop-at

@@ -3,7 +3,7 @@ use Rattle.std.proofs.lemmas.Result.{err_from_is_err_and}
 use Rattle.parset.specs.RecoverySet.{SetView}
 use Rattle.parshelf.specs.Shelf.{ShelfState}
 use Rattle.parshelf.proofs.ReadLaws.{ReadsOnly_more}
-use Rattle.parfind.specs.declared.cursor.Cursor.{Cursor}
+use Rattle.parcursor.specs.declared.cursor.Cursor.{Cursor}
 use Rattle.parfind.specs.declared.finder.Step.TheVariants.{Hit, Done}
 use Rattle.parreport.specs.FindText.{names_of}
 use Rattle.parshelf.specs.SinkState.{SinkState}

@@ -1,0 +1,4 @@
+pub mod OrderLaws
+pub mod NumberLaws
+pub mod IdLaws
+pub mod CursorTextLaws

@@ -1,0 +1,2 @@
+pub mod CursorText
+pub mod Order

@@ -1,0 +1,32 @@
+-- The files that words name: packet files by their ending; all others are scanned.
+use Rattle.std.specs.Prelude.{ℕ, ◌-◌, Bool, not, List, [], ◌++◌, length, drop, map, Option, Some, None, if◌then◌else◌, nat_eq, codes}
+use Rattle.std.specs.List.{starts_with, ends_with}
+use Rattle.std.specs.Str.{bytes_eq}
+use Rattle.std.specs.Char.{to_ascii_lowercase}
+use Rattle.parplan.specs.declared.command.Scanned.{Scanned}
+
+-- the last five bytes are `.par2`, in letters of either case
+unfoldable pub is_packet_file : List ℕ → Bool
+is_packet_file word =
+    bytes_eq (map to_ascii_lowercase (drop (length word - 5) word)) (codes ".par2")
+
+-- any other word names a file to be scanned
+abbrev pub is_scanned_file : List ℕ → Bool
+is_scanned_file word = not (is_packet_file word)
+
+-- DIR with a `/` at its end
+unfoldable pub folder_of : List ℕ → List ℕ
+folder_of dir = if ends_with nat_eq dir (codes "/") then dir else dir ++ codes "/"
+
+-- the front that names lose, which is empty without DIR
+abbrev pub front_under : Option (List ℕ) → List ℕ
+front_under None = []
+front_under (Some dir) = folder_of dir
+
+-- the word without the front, where it begins so
+unfoldable pub without_front : List ℕ → List ℕ → List ℕ
+without_front front word = if starts_with nat_eq word front then drop (length front) word else word
+
+-- a scanned file, whose name is its word without the front
+abbrev pub scanned_as : List ℕ → List ℕ → Scanned
+scanned_as front word = record { path = word; name = without_front front word }
