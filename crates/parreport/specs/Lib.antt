@@ -1,14 +1,3 @@
-pub mod Contents
 pub mod Ends
-pub mod Faults
-pub mod FindText
-pub mod Lines
-pub mod Listing
 pub mod OpenedFiles
-pub mod Outcomes
-pub mod PacketsText
-pub mod Report
-pub mod SetText
-pub mod States
 pub mod Unchanged
-pub mod VerifyText

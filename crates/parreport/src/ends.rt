@@ -2,23 +2,10 @@ ghost use Rattle.std.specs.Prelude.{◌≡◌, option_map, slice_get};
 ghost use Rattle.parreport.specs.Ends.{argument_in, run_end_of, open_end_of};
 ghost use Rattle.parplan.specs.Commands.{scanned_paths_of};
 
-use crate::faults::RunFault;
 use parfield::Text;
 use parplan::{Plan, PlanFault, reads_scanned};
 use parshelf::OpenFault;
-
-/// What a run found.
-#[derive(Clone, Copy, Debug, PartialEq, Eq)]
-pub enum Status {
-    /// The list, the set or the sightings were written.
-    Listed,
-    /// Every file of the set is complete.
-    Complete,
-    /// No more slices are needed than there are recovery slices.
-    Possible,
-    /// More are needed.
-    Impossible,
-}
+use partext::{RunFault, Status};
 
 /// How the program ends.
 #[derive(Clone, Copy, Debug, PartialEq, Eq)]

@@ -2,19 +2,14 @@ ghost use Rattle.std.specs.Prelude.{◌≡◌, length, IsTrue, false, IfErr};
 ghost use Rattle.parsalvage.specs.Kept.{kept_in_files};
 ghost use Rattle.parplan.specs.Commands.{reads_scanned, HasLimit};
 ghost use Rattle.parreport.specs.Unchanged.{IsSteadyFor, AreSteadyFor};
-ghost use Rattle.parreport.specs.Outcomes.{is_packet_read, written, follows_text, Answers, KeepsText, EndsPackets, EndsScanned, EndsSink};
-ghost use Rattle.parreport.specs.Report.{report_of, report_by};
+ghost use Rattle.partext.specs.Outcomes.{is_packet_read, written, follows_text, Answers, KeepsText, EndsPackets, EndsScanned, EndsSink};
+ghost use Rattle.partext.specs.Report.{report_of, report_by};
 
-use crate::ends::Status;
-use crate::faults::{RunFault, packet_fault};
-use crate::find::find;
-use crate::packets::salvage::salvage_files;
-use crate::packets::write_packets;
-use crate::set::write_set;
-use crate::verify::verify;
+use crate::salvage::salvage_files;
 use parplan::{Command, Plan};
 use parsalvage::Kept;
 use parshelf::{Shelf, Sink};
+use partext::{RunFault, Status, packet_fault, write_find, write_packets, write_set, write_verify};
 use std::alloc::Global;
 
 /// Writes what the plan asks for of its packet files and its scanned files. On a fault a beginning
@@ -86,7 +81,9 @@ fn run_over<Q: Shelf, W: Sink>(
     match plan.command {
         Command::Packets => write_packets(alloc, plan, kept, out),
         Command::Set => write_set(alloc, plan, kept, out),
-        Command::Find { limit, cursor } => { find(alloc, plan, limit, cursor, kept, scanned, out) }
-        Command::Verify { quiet } => verify(alloc, plan, quiet, kept, scanned, out),
+        Command::Find { limit, cursor } => {
+            write_find(alloc, plan, limit, cursor, kept, scanned, out)
+        }
+        Command::Verify { quiet } => write_verify(alloc, plan, quiet, kept, scanned, out),
     }
 }

@@ -1,0 +1,18 @@
+use Rattle.std.proofs.Common.{arith}
+use Rattle.parshelf.specs.Shelf.{ShelfState}
+use Rattle.parshelf.proofs.ReadLaws.{ReadsOnly_more}
+use Rattle.parreport.proofs.SalvageLaws.{kept_in_files-more, kept_in_files-all}
+use Rattle.parreport.proofs.salvage.salvage_files.Goals as goal
+
+pub loop-file-preserved : goal.loop-file-preserved
+loop-file-preserved g c =
+    let start : ShelfState = g.H.Shelf.state c.args.shelf.now in
+    let now : ShelfState = g.H.Shelf.state c.loop-file.shelf in record {
+      reads = ReadsOnly_more start now (g.H.Shelf.state c.salvage_file.new.shelf) c.loop-file.invariant.reads c.in-Ok.ensures.ok;
+      kept = rw c.in_ok-append-in-Ok.ensures.items (kept_in_files-more start now c.loop-file.file _ _ (g.met.H.Shelf.in_order c.args.shelf.now) (omega arith)
+          c.loop-file.invariant.reads c.loop-file.invariant.kept c.in-Ok.ensures.kept);
+    }
+
+pub returns-clause-kept : goal.returns-clause-kept
+returns-clause-kept g c =
+    kept_in_files-all (g.H.Shelf.state c.args.shelf.now) _ _ (g.met.H.Shelf.in_order c.args.shelf.now) (omega arith) c.loop-file.invariant.kept

@@ -1,0 +1,4 @@
+pub mod ContentLaws
+pub mod CountLaws
+pub mod LengthLaws
+pub mod StateLaws

@@ -1,0 +1,33 @@
+use Rattle.std.proofs.Common.{◌≡◌, ◌∙◌, ◌&&◌, IsTrue, ap, map, sym}
+use Rattle.std.specs.BTreeSet.{contains}
+use Rattle.std.specs.List.{list_any}
+use Rattle.std.specs.Str.{bytes_eq}
+use Rattle.parfield.specs.HashOrder.{id_cmp}
+use Rattle.parset.specs.declared.recovery_set.SetFile.{SetFile}
+use Rattle.parset.specs.declared.recovery_set.SetSlice.{SetSlice}
+use Rattle.parshelf.specs.Shelf.{ShelfState}
+use Rattle.parstates.specs.States.{named_files, asked_of, is_whole, state_of}
+use Rattle.parstates.proofs.StateLaws.{contents_sized, findings_made, found_read, states_read}
+use Rattle.parstates.proofs.findings.findings_on.Goals as goal
+
+pub returns-clause-findings : goal.returns-clause-findings
+returns-clause-findings g c = λ steady.
+    let set = c.args.set.now in let files = c.args.files.now in
+    let old : ShelfState = g.Q.Shelf.state c.args.shelf.now in
+    let now : ShelfState = g.Q.Shelf.state c.contents.new.shelf in
+    let state = state_of (named_files files old.files) in
+    let reads = c.in_ok-contents.ensures.ok in
+    let sized = contents_sized old files (g.met.Q.Shelf.in_order c.args.shelf.now) c.requires steady in
+    let same = c.files-set_files.ensures.field in
+    let states = states_read files old.files c.deref.result.now c.files-set_files.result.now set.files c.in_ok-states.states.items sized
+    c.in_ok-states.ensures
+    (c.deref.ensures.value ∙ (c.in_ok-contents.ensures.contents steady ∙ ap (λ own. map (asked_of own) old.files) same)) same in
+    let asked : c.as_slice.result.now ≡ map state c.files-set_files.result.now
+    = c.as_slice.ensures.value ∙ (states ∙ ap (map state) (sym c.files-set_files.ensures.field)) in
+    let still : IsTrue now.is_steady = ap (λ (s : ShelfState). s.is_steady) reads ∙ steady in
+    findings_made set files old c.from_vec.result c.from_vec-2.result c.in_ok-whole.whole sized
+    (c.from_vec.ensures ∙ states)
+    (λ id. c.in_ok-whole.ensures state asked id
+    ∙ ap (list_any (λ (file : SetFile). bytes_eq file.id.0 id.0 && is_whole (state file))) c.files-set_files.ensures.field)
+    (c.from_vec-2.ensures ∙ found_read set old now (λ (slice : SetSlice). contains id_cmp c.in_ok-whole.whole slice.id) c.in_ok-found.found.items reads
+    (c.in_ok-found.ensures.found still))

@@ -1,0 +1,4 @@
+pub mod Contents
+pub mod Files
+pub mod Findings
+pub mod States

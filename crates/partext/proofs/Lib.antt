@@ -1,0 +1,3 @@
+pub mod FindLaws
+pub mod ListingLaws
+pub mod RunLaws

@@ -1,0 +1,122 @@
+-- Lists that are written in blocks, part after part.
+use Rattle.std.proofs.Common.{◌≡◌, ◌<◌, ◌+◌, ◌∙◌, ℕ, Bool, true, false, List, [], ◌∷◌, ◌++◌, length, drop, filter, get_or, Result, Ok, Err, OnOk, IfErr, ap, sym, subst, append_assoc, append-nil, if◌then◌else◌}
+use Rattle.std.proofs.lemmas.List.{drop_more}
+use Rattle.std.specs.List.{flat_map}
+use Rattle.parshelf.proofs.BlockLaws.{Waits_all, Waits_ends, Waits_pushed, Waits_more, Waits_refused, Begins_front}
+use Rattle.parshelf.specs.Blocks.{Waits, Begins}
+use Rattle.parshelf.specs.SinkState.{SinkState, RefusesFront}
+use Rattle.partext.specs.Listing.{Breaks}
+use Rattle.partext.specs.Outcomes.{Answers}
+use Rattle.partext.specs.Report.{listed}
+use Rattle.partext.specs.declared.status.Status.{Status}
+use Rattle.partext.specs.declared.faults.RunFault.{RunFault}
+use Rattle.partext.specs.declared.faults.RunFault.TheVariants as fault
+
+-- a part broke that follows what was taken on before
+pub Breaks_later : (why : RunFault) (a b c : SinkState) (text waiting part rest : List ℕ) → Waits a b text (waiting ++ (part ++ rest))
+    → Breaks why b c (waiting ++ part) → Breaks why a c text
+Breaks_later fault.Write a b c text waiting part rest before breaks = Waits_refused a b c text waiting part rest before breaks
+Breaks_later fault.Memory a b c text waiting part rest before breaks = record {
+  waiting = breaks.waiting ++ rest;
+  waits = Waits_more a b c text waiting part rest breaks.waiting before breaks.waits;
+}
+Breaks_later (fault.Read packet file cause) a b c text waiting part rest before breaks = absurd breaks
+Breaks_later (fault.Set cause) a b c text waiting part rest before breaks = absurd breaks
+Breaks_later fault.OtherSet a b c text waiting part rest before breaks = absurd breaks
+
+-- a list that broke is answered so
+pub breaks_answer : (why : RunFault) (a c : SinkState) (text : List ℕ) → Breaks why a c text → Answers (listed text) (Err why) a c
+breaks_answer fault.Write a c text breaks = breaks
+breaks_answer fault.Memory a c text breaks = Begins_front a c text breaks
+breaks_answer (fault.Read packet file cause) a c text breaks = absurd breaks
+breaks_answer (fault.Set cause) a c text breaks = absurd breaks
+breaks_answer fault.OtherSet a c text breaks = absurd breaks
+
+-- all that waited was written, or the sink failed in it
+pub listed_ends : (result : Result Status RunFault) (a b c : SinkState) (text waiting : List ℕ) → Waits a b text waiting
+    → Answers (listed waiting) result b c → IfErr result (λ why. why ≡ fault.Write) → Answers (listed text) result a c
+listed_ends (Ok status) a b c text waiting before (is, all) write = (is, Waits_ends a b c text waiting before all)
+listed_ends (Err why) a b c text waiting before after write =
+    let refuses : RefusesFront b c waiting = subst (λ w. Answers (listed waiting) (Err w) b c) write after in
+    subst (λ w. Answers (listed text) (Err w) a c) (sym write)
+    (Waits_refused a b c text waiting [] [] (subst (λ ys. Waits a b text ys) (sym (append-nil waiting)) before)
+    (subst (λ ys. RefusesFront b c ys) (sym (append-nil waiting)) refuses))
+
+-- the lines, and a last one behind them
+module _ (lines last : List ℕ) (start mid : SinkState) where
+  all_waits : Waits start start (lines ++ last) (lines ++ last)
+  all_waits = Waits_all start (lines ++ last)
+
+  pub lines_break : (why : RunFault) → Breaks why start mid lines → Breaks why start mid (lines ++ last)
+  lines_break why breaks = Breaks_later why start start mid (lines ++ last) [] lines last all_waits breaks
+
+  pub last_waits : (waiting : List ℕ) → Waits start mid lines waiting → Waits start mid (lines ++ last) (waiting ++ last)
+  last_waits waiting before = Waits_more start start mid (lines ++ last) [] lines last waiting all_waits before
+
+-- ---- lines, one after the other
+pub rest_more : {X : Type 0} (xs : List X) (i : ℕ) (x : X) → i < length xs → x ≡ get_or xs i x → drop i xs ≡ x ∷ drop (i + 1) xs
+rest_more xs i x below item = drop_more xs i x below ∙ ap (λ y. y ∷ drop (i + 1) xs) (sym item)
+
+chosen_more : {X : Type 0} (p : X → Bool) (xs : List X) (i : ℕ) (x : X) → i < length xs → x ≡ get_or xs i x
+    → filter p (drop i xs) ≡ (if p x then x ∷ filter p (drop (i + 1) xs) else filter p (drop (i + 1) xs))
+chosen_more p xs i x below item = ap (filter p) (rest_more xs i x below item)
+
+pub takes_chosen : {X : Type 0} (p : X → Bool) (xs : List X) (i : ℕ) (x : X) → i < length xs → x ≡ get_or xs i x → p x ≡ true
+    → filter p (drop i xs) ≡ x ∷ filter p (drop (i + 1) xs)
+takes_chosen p xs i x below item is =
+    chosen_more p xs i x below item ∙ ap (λ b. if b then x ∷ filter p (drop (i + 1) xs) else filter p (drop (i + 1) xs)) is
+
+pub leaves_other : {X : Type 0} (p : X → Bool) (xs : List X) (i : ℕ) (x : X) → i < length xs → x ≡ get_or xs i x → p x ≡ false
+    → filter p (drop i xs) ≡ filter p (drop (i + 1) xs)
+leaves_other p xs i x below item is =
+    chosen_more p xs i x below item ∙ ap (λ b. if b then x ∷ filter p (drop (i + 1) xs) else filter p (drop (i + 1) xs)) is
+
+-- the line of the first one waited with what waits before, and the others wait behind it
+module _ {X : Type 0} (line : X → List ℕ) (left : List X) (x : X) (others : List X) (first : left ≡ x ∷ others)
+    (a b c : SinkState) (text waiting : List ℕ) (before : Waits a b text (waiting ++ flat_map line left)) where
+  waits_line : Waits a b text (waiting ++ (line x ++ flat_map line others))
+  waits_line = subst (λ xs. Waits a b text (waiting ++ flat_map line xs)) first before
+
+  pub line_more : (next : List ℕ) → Waits b c (waiting ++ line x) next → Waits a c text (next ++ flat_map line others)
+  line_more next taken = Waits_more a b c text waiting (line x) (flat_map line others) next waits_line taken
+
+  pub line_breaks : (why : RunFault) → Breaks why b c (waiting ++ line x) → Breaks why a c text
+  line_breaks why breaks = Breaks_later why a b c text waiting (line x) (flat_map line others) waits_line breaks
+
+-- ---- the text of `set`, part after part: its own line, its files, the counts, what is put aside
+pub in_ok : {A E : Type 0} {P Q : Type 0} (result : Result A E) → (P → Q) → OnOk result P → OnOk result Q
+in_ok (Ok x) f h = f h
+in_ok (Err e) f h = tt
+
+module _ (own files others have creator asides w0 w1 : List ℕ) (start : SinkState) (first : w1 ≡ w0 ++ own) where
+  abbrev pub whole_of : List ℕ
+  whole_of = w0 ++ (own ++ (files ++ (others ++ (have ++ (creator ++ asides)))))
+
+  own_waits : Waits start start whole_of (w1 ++ (files ++ (others ++ (have ++ (creator ++ asides)))))
+  own_waits = Waits_pushed start start whole_of w0 own (files ++ (others ++ (have ++ (creator ++ asides)))) w1 (Waits_all start whole_of) first
+
+  pub files_break : (why : RunFault) (mid : SinkState) → Breaks why start mid (w1 ++ files) → Breaks why start mid whole_of
+  files_break why mid breaks = Breaks_later why start start mid whole_of w1 files (others ++ (have ++ (creator ++ asides))) own_waits breaks
+
+  module _ (mid : SinkState) (w2 : List ℕ) (second : Waits start mid (w1 ++ files) w2) where
+    files_wait : Waits start mid whole_of (w2 ++ (others ++ (have ++ (creator ++ asides))))
+    files_wait = Waits_more start start mid whole_of w1 files (others ++ (have ++ (creator ++ asides))) w2 own_waits second
+
+    pub counts_break : Begins start mid whole_of
+    counts_break = record { waiting = w2 ++ (others ++ (have ++ (creator ++ asides))); waits = files_wait }
+
+    module _ (w3 : List ℕ) (third : w3 ≡ w2 ++ (others ++ (have ++ creator))) where
+      counts_wait : Waits start mid whole_of (w3 ++ (asides ++ []))
+      counts_wait =
+          let joined : others ++ (have ++ (creator ++ asides)) ≡ (others ++ (have ++ creator)) ++ asides
+          = ap (λ ys. others ++ ys) (sym (append_assoc have creator asides)) ∙ sym (append_assoc others (have ++ creator) asides) in
+          subst (λ ys. Waits start mid whole_of (w3 ++ ys)) (sym (append-nil asides))
+          (Waits_pushed start mid whole_of w2 (others ++ (have ++ creator)) asides w3
+          (subst (λ ys. Waits start mid whole_of (w2 ++ ys)) joined files_wait) third)
+
+      pub asides_break : (why : RunFault) (new : SinkState) → Breaks why mid new (w3 ++ asides) → Breaks why start new whole_of
+      asides_break why new breaks = Breaks_later why start mid new whole_of w3 asides [] counts_wait breaks
+
+      pub asides_wait : (new : SinkState) (w4 : List ℕ) → Waits mid new (w3 ++ asides) w4 → Waits start new whole_of w4
+      asides_wait new w4 fourth =
+          subst (λ ys. Waits start new whole_of ys) (append-nil w4) (Waits_more start mid new whole_of w3 asides [] w4 counts_wait fourth)

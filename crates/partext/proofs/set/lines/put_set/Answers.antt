@@ -1,0 +1,70 @@
+use Rattle.std.proofs.Common.{string_bytes}
+use Rattle.std.proofs.lemmas.Result.{err_from_is_err_and, IfErr-weaker}
+use Rattle.std.specs.List.{flat_map}
+use Rattle.parshelf.proofs.BlockLaws.{Begins_all}
+use Rattle.partext.specs.Lines.{set_line, file_line, others_line, have_line}
+use Rattle.partext.specs.SetText.{set_text, creator_lines, aside_among}
+use Rattle.partext.proofs.ListingLaws.{files_break, counts_break, asides_break, asides_wait, in_ok}
+use Rattle.partext.proofs.set.lines.put_set.Goals as goal
+
+pub returns-in_err-push_set-clause-fault : goal.returns-in_err-push_set-clause-fault
+returns-in_err-push_set-clause-fault g c =
+    let failed = err_from_is_err_and c.from_residual.result c.from_residual.ensures.1 in
+    rw (failed.1, failed.2) (Begins_all _ _)
+
+pub returns-in_err-put_files-clause-fault : goal.returns-in_err-put_files-clause-fault
+unfolding set_text
+returns-in_err-put_files-clause-fault g c =
+    let set = c.args.set.now in let names = c.args.names.now in
+    let own = set_line set in let files = flat_map (file_line set.size) set.files in let others = others_line set.others in
+    let have = have_line set.have in let creator = creator_lines set.creator in let asides = flat_map (aside_among names) set.aside in
+    let w0 = string_bytes c.args.waiting.now in let w1 = string_bytes c.push_set.new.text in
+    let start = g.W.Sink.state c.args.out.now in
+    let breaks = rw (c.size.ensures.field, c.files.ensures.field) at c.in_err-put_files.ensures.fault in
+    let failed = err_from_is_err_and c.from_residual-in_err-put_files.result c.from_residual-in_err-put_files.ensures.1 in
+    rw (failed.1, failed.2)
+    (files_break own files others have creator asides w0 w1 start c.in_ok-push_set.ensures _ (g.W.Sink.state c.put_files.new.out) breaks)
+
+pub returns-in_err-push_counts-clause-fault : goal.returns-in_err-push_counts-clause-fault
+unfolding set_text
+returns-in_err-push_counts-clause-fault g c =
+    let set = c.args.set.now in let names = c.args.names.now in
+    let own = set_line set in let files = flat_map (file_line set.size) set.files in let others = others_line set.others in
+    let have = have_line set.have in let creator = creator_lines set.creator in let asides = flat_map (aside_among names) set.aside in
+    let w0 = string_bytes c.args.waiting.now in let w1 = string_bytes c.push_set.new.text in
+    let start = g.W.Sink.state c.args.out.now in
+    let mid = g.W.Sink.state c.put_files.new.out in
+    let second = rw (c.size.ensures.field, c.files.ensures.field) at c.in_ok-put_files.ensures.lines in
+    let failed = err_from_is_err_and c.from_residual-in_err-push_counts.result c.from_residual-in_err-push_counts.ensures.1 in
+    rw (failed.1, failed.2)
+    (counts_break own files others have creator asides w0 w1 start c.in_ok-push_set.ensures mid (string_bytes c.put_files.new.waiting) second)
+
+pub returns-clause-text : goal.returns-clause-text
+unfolding set_text
+returns-clause-text g c =
+    let set = c.args.set.now in let names = c.args.names.now in
+    let own = set_line set in let files = flat_map (file_line set.size) set.files in let others = others_line set.others in
+    let have = have_line set.have in let creator = creator_lines set.creator in let asides = flat_map (aside_among names) set.aside in
+    let w0 = string_bytes c.args.waiting.now in let w1 = string_bytes c.push_set.new.text in
+    let start = g.W.Sink.state c.args.out.now in
+    let mid = g.W.Sink.state c.put_files.new.out in let new = g.W.Sink.state c.put_asides.new.out in
+    let second = rw (c.size.ensures.field, c.files.ensures.field) at c.in_ok-put_files.ensures.lines in
+    let last = rw c.aside.ensures at c.put_asides.ensures.lines in
+    in_ok c.put_asides.result
+    (asides_wait own files others have creator asides w0 w1 start c.in_ok-push_set.ensures mid (string_bytes c.put_files.new.waiting) second
+    (string_bytes c.push_counts.new.text) c.in_ok-push_counts.ensures new (string_bytes c.put_asides.new.waiting)) last
+
+pub returns-clause-fault : goal.returns-clause-fault
+unfolding set_text
+returns-clause-fault g c =
+    let set = c.args.set.now in let names = c.args.names.now in
+    let own = set_line set in let files = flat_map (file_line set.size) set.files in let others = others_line set.others in
+    let have = have_line set.have in let creator = creator_lines set.creator in let asides = flat_map (aside_among names) set.aside in
+    let w0 = string_bytes c.args.waiting.now in let w1 = string_bytes c.push_set.new.text in
+    let start = g.W.Sink.state c.args.out.now in
+    let mid = g.W.Sink.state c.put_files.new.out in let new = g.W.Sink.state c.put_asides.new.out in
+    let second = rw (c.size.ensures.field, c.files.ensures.field) at c.in_ok-put_files.ensures.lines in
+    let last = rw c.aside.ensures at c.put_asides.ensures.fault in
+    IfErr-weaker c.put_asides.result _ _
+    (λ why. asides_break own files others have creator asides w0 w1 start c.in_ok-push_set.ensures mid (string_bytes c.put_files.new.waiting) second
+    (string_bytes c.push_counts.new.text) c.in_ok-push_counts.ensures why new) last
