@@ -12,7 +12,6 @@ pub mod Visits
 pub mod Surveys
 pub mod Marking
 pub mod Surveying
-pub mod Worked
 pub use Rattle.parshelf.specs.Reads
 pub use Rattle.parshelf.specs.Shelf
 pub use Rattle.parwindow.specs.Index

@@ -9,10 +9,6 @@ mod marking;
 mod places;
 mod scanning;
 mod sliding;
-#[cfg(test)]
-mod survey_tests;
-#[cfg(test)]
-mod tests;
 mod track;
 
 pub use crate::finder::{Finder, Step};

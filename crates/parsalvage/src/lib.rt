@@ -12,8 +12,6 @@ mod noting;
 mod part;
 mod piece;
 mod searching;
-#[cfg(test)]
-mod tests;
 
 pub use crate::bytes::salvage;
 pub use crate::files::{SalvageFault, salvage_file};

@@ -16,8 +16,6 @@ mod reading;
 mod recovery_set;
 mod recovery_slice;
 mod slicing;
-#[cfg(test)]
-mod tests;
 
 pub use crate::aside::{Aside, BodyFault};
 pub use crate::building::build;

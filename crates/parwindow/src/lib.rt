@@ -13,8 +13,6 @@ mod slid;
 mod sliding;
 mod table;
 mod tables;
-#[cfg(test)]
-mod tests;
 mod window;
 mod zero_run;
 

@@ -1,8 +1,8 @@
 mod sets;
 
-use super::*;
 use md5::{Digest, Md5};
 use parfield::Hash16;
+use parset::*;
 use std::alloc::{AllocError, Global};
 use std::process::Abort;
 use std::test::Fail;

@@ -1,5 +1,5 @@
 use Rattle.std.proofs.Common.{◌≡◌, ◌<◌, ◌^◌, All, length}
-use Rattle.parfind.proofs.tests.shelf_of.Given as goal
+use Rattle.parfind_tests.proofs.tests.shelf_of.Given as goal
 
 -- a file for each so far
 abbrev pub invariant-loop-n : goal.invariant-loop-n

@@ -1,9 +1,9 @@
 ghost use Rattle.std.specs.Prelude.{◌≡◌, ◌∷◌, [], true, false};
 ghost use Rattle.parfind.specs.Marks.{missing_places};
-ghost use Rattle.parfind.specs.Worked.{two_slices, equal_slices};
+ghost use Rattle.parfind_tests.specs.Worked.{two_slices, equal_slices};
 
 use crate::tests::{has_handed, has_handed_at_most, index_of, shelf_of};
-use crate::{SurveyFault, survey, survey_in};
+use parfind::{SurveyFault, survey, survey_in};
 use parshelf::{MemShelf, ReadFault};
 use parwindow::Window;
 use std::alloc::{AllocError, Global};

@@ -1,7 +1,7 @@
 use Rattle.std.proofs.Common.{refl}
 use Rattle.parwindow.specs.Crc32.{crc_of, register_of, register_after, crc_steps, crc_step}
 use Rattle.parfind.specs.Places.{places_of}
-use Rattle.parfind.proofs.tests.marks_law.Goals as goal
+use Rattle.parfind_tests.proofs.tests.marks_law.Goals as goal
 
 pub returns-clause-two : goal.returns-clause-two
 unfolding crc_of register_of register_after crc_steps crc_step places_of

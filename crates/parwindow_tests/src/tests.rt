@@ -1,6 +1,6 @@
 mod slices;
 
-use super::*;
+use parwindow::*;
 use std::alloc::{AllocError, Global};
 use std::process::Abort;
 use std::test::Fail;

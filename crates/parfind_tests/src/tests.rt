@@ -4,10 +4,10 @@ ghost use Rattle.parfind.specs.Finders.{BelongsTo};
 ghost use Rattle.parfind.specs.Marks.{marks};
 ghost use Rattle.parfind.specs.Moves.{end_of};
 ghost use Rattle.parcursor.specs.Order.{origin};
-ghost use Rattle.parfind.specs.Worked.{two_slices, equal_slices};
+ghost use Rattle.parfind_tests.specs.Worked.{two_slices, equal_slices};
 
-use super::*;
 use parfield::{Hash16, Kind};
+use parfind::*;
 use parsalvage::{Kept, KeptBody, Part};
 use parset::{RecoverySet, build};
 use parshelf::{MemShelf, ReadFault};

@@ -1,0 +1,8 @@
+//! Tests of `parfind`. A check of tests proves their crate anew, so they stand in a crate of their
+//! own.
+#![tactic(auto)]
+
+#[cfg(test)]
+mod survey_tests;
+#[cfg(test)]
+mod tests;
