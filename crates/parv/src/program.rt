@@ -1,8 +1,6 @@
-ghost use Rattle.std.specs.Prelude.{◌≡◌, drop};
-
 use parreport::{End, PlanFault, WriteSink, ending, run_opened, scanned_paths};
 use parshelf::DiskShelf;
-use parwords::plan;
+use parwords::{plan, words_behind};
 use std::alloc::AllocError;
 use std::{env, io};
 
@@ -24,14 +22,4 @@ pub fn perform(rt: &HostRuntime) -> Result<(u8, Vec<u8>), AllocError> {
     let mut scanned = DiskShelf::open(rt, alloc, &paths);
     let mut out = WriteSink::new(rt.stdout());
     run_opened(alloc, &plan, &mut packets, &mut scanned, &mut out)
-}
-
-// The words behind the program's name, which is the first.
-fn words_behind(args: &[String]) -> &[String]
-    ensures { result.now ≡ drop 1 args.now }
-{
-    match args {
-        [_program, words @ ..] => words,
-        [] => args,
-    }
 }

@@ -8,5 +8,5 @@ mod matches;
 mod options;
 mod words;
 
-pub use crate::words::plan;
+pub use crate::words::{plan, words_behind};
 pub use parplan::{Command, Plan, PlanFault, Scanned, reads_scanned, scanned_paths};

@@ -1,4 +1,4 @@
-ghost use Rattle.std.specs.Prelude.{◌≡◌, ◌≤◌, ◌<◌, map, length, string_bytes, IfOk, IfErr, Ok, Err};
+ghost use Rattle.std.specs.Prelude.{◌≡◌, ◌≤◌, ◌<◌, drop, map, length, string_bytes, IfOk, IfErr, Ok, Err};
 ghost use Rattle.clap.specs.Words.{found_of, rows_of};
 ghost use Rattle.parplan.specs.Commands.{HasLimit};
 ghost use Rattle.parwords.specs.Plans.{plan_of, verb_of, verb_in, files_of, AnswersPlan, TellsTaken};
@@ -11,7 +11,17 @@ use clap::ArgMatches;
 use parplan::{Plan, PlanFault};
 use std::alloc::Global;
 
-/// The plan of the words after the program's name.
+/// The words behind the program's name, which is the first of its arguments.
+pub fn words_behind(args: &[String]) -> &[String]
+    ensures { result.now ≡ drop 1 args.now }
+{
+    match args {
+        [_program, words @ ..] => words,
+        [] => args,
+    }
+}
+
+/// The plan of the words behind the program's name.
 pub fn plan(alloc: Global, words: &[String]) -> Result<Plan, PlanFault>
     ensures plan { AnswersPlan (plan_of (map string_bytes words.now)) result }
 
