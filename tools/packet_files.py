@@ -1,5 +1,5 @@
 #!/usr/bin/env python3
-"""Writes the packet files that the tests of parreport run on, as a Rattle source file.
+"""Writes the packet files that the tests of parv run on, as a Rattle source file.
 
 usage: packet_files.py FOLDER
 

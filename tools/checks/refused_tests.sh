@@ -1,7 +1,7 @@
 #!/usr/bin/env bash
-# Each allocation of each test of three crates, and of the tests of parsalvage over bytes, is refused in
-# turn: a test passes, or it fails by want of memory. The gate leaves the tests' programs; elsewhere there
-# may be none, and then nothing is run.
+# Each allocation of each test of four libraries, and of the tests of parsalvage over bytes, is refused in
+# turn: a test passes, or it fails by want of memory. A crate of tests has its own name before the _tests of
+# its program. The gate leaves these programs; elsewhere there may be none, and then nothing is run.
 . "$(dirname "$0")/wants.sh"
 gcc -shared -fPIC -O1 -o "$work/disturb.so" "$tools/disturb.c" -ldl || fails "no compiler"
 while read -r crate word; do
@@ -14,11 +14,12 @@ while read -r crate word; do
         echo "not run: there is no $tests, which the gate leaves"
     fi
 done << 'END'
-parshelf
-parsalvage packet_inside
-parsalvage many_bytes
-parsalvage bodies_at
-parwindow
-parfind
+parshelf_tests
+parsalvage_tests packet_inside
+parsalvage_tests many_bytes
+parsalvage_tests bodies_at
+parwindow_tests
+parcursor
+parfind_tests
 END
 exit $failed

@@ -2,7 +2,7 @@
 use Rattle.std.specs.Prelude.{◌≡◌, ℕ, ◌<◌, List, [], ◌++◌, length}
 use Rattle.parshelf.specs.SinkState.{SinkState, appended}
 
--- at least so many bytes are written at once
+-- nothing is written before so many bytes wait
 abbrev pub block : ℕ
 block = 65_536
 
