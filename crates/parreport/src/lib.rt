@@ -1,4 +1,4 @@
-//! The report that a plan asks for, and how a run ends. Plans and sinks are passed on.
+//! The report that a plan asks for, and how a run ends. Plans, sinks and faults are passed on.
 #![tactic(auto)]
 
 mod ends;
