@@ -1,10 +1,11 @@
 /* Preloaded into a program: refuses the allocation whose number stands in REFUSE, or that in REFUSE_LATER
-   and all later ones, fails the read whose
-   number stands in FAIL_READ, lets the file end at the one in CUT_READ, and fails the write to standard
-   output whose number stands in FAIL_WRITE, each counted from 1.
-   As the program ends, the file that REPORT names gets one line of four numbers: 1 where any of that was
-   done, or 0; the allocations that were not given back; the files that were not closed; and how many
-   allocations there were. */
+   and all later ones, fails the read whose number stands in FAIL_READ, lets the file end at the one in
+   CUT_READ, and of the writes to standard output fails the one in FAIL_WRITE and takes nothing at the one
+   in EMPTY_WRITE, each counted from 1. Where SHORT is a number, no read and no such write moves more bytes.
+   As the program ends, the file that REPORT names gets one line of six numbers: 1 where any of that was
+   done, or 0; the allocations that were not given back; the files that were not closed; how many
+   allocations there were; the reads behind the one that failed or ended; and the writes to standard
+   output. */
 #define _GNU_SOURCE
 #include <dlfcn.h>
 #include <errno.h>
@@ -14,7 +15,7 @@
 #include <stdlib.h>
 #include <unistd.h>
 
-static long refused, later, failing, cut, full; /* the numbers asked for; 0: none */
+static long refused, later, failing, cut, full, empty, most; /* the numbers asked for; 0: none */
 static long allocations, reads, writes, done;   /* how many there were, and whether one was met */
 static long live, opened;                       /* what is taken and not yet given back */
 static char early[4096];                        /* dlsym itself asks for a little */
@@ -143,6 +144,10 @@ ssize_t pread(int file, void *place, size_t size, off_t offset)
     if (!next)
         next = next_of("pread");
     reads++;
+    if (most && size > (size_t)most) {
+        done = 1;
+        size = most;
+    }
     if (reads == failing) {
         done = 1;
         errno = EIO;
@@ -160,10 +165,21 @@ ssize_t write(int file, const void *place, size_t size)
     static ssize_t (*next)(int, const void *, size_t);
     if (!next)
         next = next_of("write");
-    if (file == 1 && ++writes == full) {
-        done = 1;
-        errno = EIO;
-        return -1;
+    if (file == 1) {
+        writes++;
+        if (writes == full) {
+            done = 1;
+            errno = EIO;
+            return -1;
+        }
+        if (writes == empty) {
+            done = 1;
+            return 0;
+        }
+        if (most && size > (size_t)most) {
+            done = 1;
+            size = most;
+        }
     }
     return next(file, place, size);
 }
@@ -186,17 +202,20 @@ __attribute__((constructor)) static void start(void)
     failing = number_in("FAIL_READ");
     cut = number_in("CUT_READ");
     full = number_in("FAIL_WRITE");
+    empty = number_in("EMPTY_WRITE");
+    most = number_in("SHORT");
     allocations = reads = writes = done = live = opened = 0;
 }
 
 __attribute__((destructor)) static void end(void)
 {
-    long left = live, unclosed = opened, taken = allocations;
+    long left = live, unclosed = opened, taken = allocations, disturbed = failing ? failing : cut;
+    long behind = disturbed && reads > disturbed ? reads - disturbed : 0;
     const char *name = getenv("REPORT");
     FILE *file;
     refused = later = 0;
     if (name && (file = fopen(name, "w"))) {
-        fprintf(file, "%ld %ld %ld %ld\n", done, left, unclosed, taken);
+        fprintf(file, "%ld %ld %ld %ld %ld %ld\n", done, left, unclosed, taken, behind, writes);
         fclose(file);
     }
 }

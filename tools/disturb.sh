@@ -1,11 +1,15 @@
 #!/usr/bin/env bash
 # Disturbs a run of the built program once at each place in turn: REFUSE refuses an allocation, FAIL_READ
-# fails a read, CUT_READ ends the file at one, FAIL_WRITE fails a write. The run must end with 8, or with 6
-# and its line, and what it wrote must be a beginning of the undisturbed text; after a refusal it may also
-# be the undisturbed run, where room was only asked for ahead and then had one by one. Past the last place
-# it is the undisturbed run. Each run gives back every allocation and closes every file. The last line has
-# the lines of read faults, each once, in the order in which they came.
-# Usage: disturb.sh REFUSE|FAIL_READ|CUT_READ|FAIL_WRITE ARGUMENTS, in the folder of the files.
+# fails a read, CUT_READ ends the file at one, FAIL_WRITE fails a write and EMPTY_WRITE takes nothing at one.
+# The run must end with 8, or with 6 and its line, and what it wrote must be a beginning of the undisturbed
+# text; after a refusal it may also be the undisturbed run, where room was only asked for ahead and then had
+# one by one. Past the last place it is the undisturbed run. Each run gives back every allocation and closes
+# every file, and reads nothing more behind a read that failed or ended. The last line has the lines of read
+# faults, each once, in the order in which they came.
+# SHORT lets every read and every write of a run move at most 1, then 3, then 64 bytes: each is the
+# undisturbed run.
+# Usage: disturb.sh REFUSE|FAIL_READ|CUT_READ|FAIL_WRITE|EMPTY_WRITE|SHORT ARGUMENTS, in the folder of the
+# files.
 set -uo pipefail
 tools=$(cd "$(dirname "$0")" && pwd)
 parv=${PARV:-$tools/../crates/parv/out/parv}
@@ -26,7 +30,8 @@ run() {
         > "$work/text" 2> "$work/err" < /dev/null
     status=$?
     [ -e "$work/report" ] || fail "status $status, and no report"
-    read -r met live opened _ < "$work/report"
+    read -r met live opened _ behind _ < "$work/report"
+    [ "$behind" = 0 ] || fail "$behind reads behind the one that was disturbed"
     [ "$live $opened" = "0 0" ] || fail "$live allocations not given back, $opened files not closed, status $status"
 }
 
@@ -36,7 +41,7 @@ ends_so() {
     line=$(cat "$work/err")
     case $what in
     REFUSE) [ $status -eq 8 ] && [ "$line" = "parv: out of memory" ] ;;
-    FAIL_WRITE) [ $status -eq 6 ] && [ "$line" = "parv: write fault" ] ;;
+    FAIL_WRITE | EMPTY_WRITE) [ $status -eq 6 ] && [ "$line" = "parv: write fault" ] ;;
     *) [ $status -eq 6 ] && [[ $line == "parv: read fault in "?* ]] ;;
     esac && cmp -s <(head -c "$(stat -c %s "$work/text")" "$work/whole") "$work/text"
 }
@@ -52,6 +57,15 @@ run "$@"
 whole=$status
 mv "$work/text" "$work/whole"
 mv "$work/err" "$work/whole.err"
+if [ "$what" = SHORT ]; then
+    for n in 1 3 64; do
+        run "$@"
+        [ "$met" = 1 ] || [ $n -gt 1 ] || fail "nothing was cut short"
+        is_undisturbed || fail "another run"
+    done
+    echo "ok: SHORT reads and writes of 1, 3 and 64 bytes change nothing: parv $words"
+    exit 0
+fi
 ended=0
 named=
 for ((n = 1; n <= 100000; n++)); do

@@ -25,7 +25,7 @@ def run(library, program, test, variable, number, folder):
     ran = subprocess.run([program, test], env=env, cwd=folder, capture_output=True, timeout=120)
     try:
         with open(report) as file:
-            met, left, _, taken = map(int, file.read().split())
+            met, left, _, taken = map(int, file.read().split()[:4])
         os.remove(report)
     except OSError:
         met, left, taken = 1, None, 0

@@ -69,5 +69,9 @@ reads "$(about v.par2 z.bin x.bin)" verify z.bin x.bin v.par2
 for words in "packets v.par2 w.par2" "set v.par2 w.par2" "find v.par2 x.bin y.bin" "verify v.par2 x.bin y.bin"; do
     # shellcheck disable=SC2086
     disturb FAIL_WRITE $words
+    # shellcheck disable=SC2086
+    disturb EMPTY_WRITE $words
+    # shellcheck disable=SC2086
+    disturb SHORT $words
 done
 exit $failed
