@@ -22,10 +22,10 @@ disturb REFUSE verify v.par2 x.bin
 disturb REFUSE verify -q v.par2 y.bin
 # A recovery slice that stands twice, places with equal slices, a set of some hundred packets, and that of
 # the demonstration.
-"$tools/packet_files.py" sets > made
+"$tools/packet_files.py" sets > made || exit 1
 printf 'abcd' > a.bin
 printf 'aaaaXaaaa' > e.bin
-"$tools/big_set.py" big 40 3
+"$tools/big_set.py" big 40 3 || exit 1
 disturb REFUSE verify sets/a_with_a_slice_twice.par2 a.bin
 disturb REFUSE find sets/a_and_b.par2 e.bin
 disturb REFUSE packets big/*.par2
