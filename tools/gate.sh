@@ -8,8 +8,7 @@ trap 'rm -f "$log"' EXIT
 
 # A program of an earlier run would be taken for the one that was proved now.
 rm -f crates/parv/out/parv crates/*/out/*_tests
-# As many checks at once as there are processors: by its own reckoning of memory rt ci would let some wait.
-RT_JOBS=${RT_JOBS:-$(nproc)} rt ci | tee "$log"
+rt ci | tee "$log"
 proved=$?
 GATE=1 tools/checks.sh | tee -a "$log"
 checked=$?

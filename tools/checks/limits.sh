@@ -22,6 +22,23 @@ gives "the packets of a hundred files" 0 wanted "" "$parv" packets "${files[@]}"
 "$tools/big_set.py" big 3000 2
 "$tools/describe_set.py" big/*.par2 > set
 gives "a set of 3,000 files" 0 set "" "$parv" set big/*.par2
+
+# Lists are written in blocks of 65,536 bytes as they are made, and a block ends with a line.
+gcc -shared -fPIC -O1 -o disturb.so "$tools/disturb.c" -ldl || exit 1
+in_blocks() {
+    local size writes
+    REPORT=report LD_PRELOAD=$PWD/disturb.so "$parv" "$@" > text
+    size=$(stat -c %s text)
+    read -r _ _ _ _ _ writes < report
+    if [ "$size" -gt 150000 ] && [ "$writes" -ge $((size / 70000)) ] && [ "$writes" -le $((size / 65536 + 1)) ]; then
+        echo "ok: $1: $size bytes by $writes writes"
+    else
+        fails "$1: $size bytes by $writes writes"
+    fi
+}
+in_blocks packets long.par2
+in_blocks set big/*.par2
+
 scanned=()
 for i in $(seq 0 137 2700); do
     name=$(printf %07d "$i")
