@@ -36,6 +36,11 @@ fn is<T: Debug + PartialEq>(rt: &impl Abort, got: &T, wanted: &T) {
     assert_eq!(rt; got, wanted);
 }
 
+// The value is the one that is wanted in this row.
+fn is_in_row<R: Debug, T: Debug + PartialEq>(rt: &impl Abort, row: &R, got: &T, wanted: &T) {
+    assert_eq!(rt; got, wanted, "{row:?}");
+}
+
 // The values are those that are wanted.
 fn are<T: Debug + PartialEq>(rt: &impl Abort, got: &[T], wanted: &[T]) {
     assert_eq!(rt; got, wanted);
@@ -68,6 +73,22 @@ fn letters_and_zeros(
         bytes.push(0)?;
     }
     Ok(bytes)
+}
+
+// An ID that begins with these two bytes.
+fn id_of(low: u8, high: u8) -> [u8; 16] {
+    [low, high, 1, 1, 0, 0, 0, 0, 0, 0, 0, 0, 0, 0, 0, 0]
+}
+
+// A Main body with 1,100 IDs.
+fn main_of_1100(alloc: Global) -> Result<Vec<u8>, AllocError> {
+    let mut main = main_bytes(alloc, 4, 1_100, &[])?;
+    for high in 1..11_u8 {
+        for low in 1..111_u8 {
+            main.extend_from_slice(&id_of(low, high))?;
+        }
+    }
+    Ok(main)
 }
 
 // A Main body has this slice size, these recovery IDs and these others.
@@ -170,32 +191,30 @@ static SLICES: [([u8; 4], u64, u64, Result<u32, Aside>); 10] = [
     ([0xff, 0xff, 0, 0], 12, 4, Err(Aside::WrongLength)),
 ];
 
-// The answer of a recovery slice's body is the one that is wanted.
-fn answers(rt: &impl Abort, first: [u8; 4], len: u64, size: u64, wanted: Result<u32, Aside>) {
-    assert_eq!(rt;
-        slice_body(first, len, size),
-        wanted,
-        "{first:?} {len} {size}"
-    );
+fn slice_answer(first: [u8; 4], len: u64, size: u64) -> Result<u32, Aside> {
+    slice_body(first, len, size)
 }
 
 #[test]
 fn exponents_and_reasons_of_recovery_slices(rt: HostRuntime) {
-    for (first, len, size, wanted) in &SLICES {
-        answers(&rt, *first, *len, *size, *wanted);
+    for row in &SLICES {
+        let (first, len, size, wanted) = *row;
+        is_in_row(&rt, row, &slice_answer(first, len, size), &wanted);
     }
 }
 
+static NUMBERS: [(Aside, u8); 6] = [
+    (Aside::WrongLength, 1),
+    (Aside::SliceSize, 2),
+    (Aside::IdTwice, 3),
+    (Aside::SetId, 4),
+    (Aside::Name, 5),
+    (Aside::OverLimit, 7),
+];
+
 #[test]
 fn numbers_of_reasons(rt: HostRuntime) {
-    for (reason, number) in [
-        (Aside::WrongLength, 1),
-        (Aside::SliceSize, 2),
-        (Aside::IdTwice, 3),
-        (Aside::SetId, 4),
-        (Aside::Name, 5),
-        (Aside::OverLimit, 7),
-    ] {
-        assert_eq!(rt; reason.number(), number);
+    for (reason, number) in &NUMBERS {
+        is(&rt, &reason.number(), number);
     }
 }

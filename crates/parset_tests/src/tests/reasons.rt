@@ -1,10 +1,5 @@
 use super::*;
 
-// The number of the reason is the one that is wanted in this row.
-fn is_in_row<R: Debug>(rt: &impl Abort, row: &R, number: u8, wanted: u8) {
-    assert_eq!(rt; number, wanted, "{row:?}");
-}
-
 // The number of the reason; 0 where the body is usable, 255 for want of memory.
 fn number_of<T: Drop>(answer: Result<T, BodyFault>) -> u8 {
     match answer {
@@ -90,12 +85,16 @@ fn reasons_of_main_bodies(rt: HostRuntime) -> Result<(), Fail> {
     for row in &MAINS {
         let (size, count, ids, reason) = *row;
         let number = made_number(rt.alloc(), size, count, ids.as_bytes(), None)?;
-        is_in_row(&rt, row, number, reason);
+        is_in_row(&rt, row, &number, &reason);
     }
     is(&rt, &main_number_in(rt.alloc(), &MAIN, FILE), &4);
     let twice = made_number(rt.alloc(), 4, 1, b"aa", Some(FILE))?;
     is(&rt, &twice, &3);
     Ok(())
+}
+
+fn front(bytes: &[u8], length: usize) -> Result<&[u8], Fail> {
+    Ok(bytes.get(..length).ok_or("length")?)
 }
 
 // Lengths of fronts of a Main body of two IDs, and the reasons.
@@ -113,8 +112,8 @@ static MAIN_FRONTS: [(usize, u8); 8] = [
 fn reasons_of_main_fronts(rt: &(impl Abort + AllocGlobal)) -> Result<(), Fail> {
     let body = main_bytes(rt.alloc(), 4, 0, b"ab")?;
     for row in &MAIN_FRONTS {
-        let front = body.get(..row.0).ok_or("length")?;
-        is_in_row(rt, row, main_number(rt.alloc(), front), row.1);
+        let front = front(&body, row.0)?;
+        is_in_row(rt, row, &main_number(rt.alloc(), front), &row.1);
     }
     Ok(())
 }
@@ -125,7 +124,7 @@ static MAIN_COUNTS: [(u32, u8); 2] = [(32_768, 0), (32_769, 7)];
 fn reasons_of_long_mains(rt: &(impl Abort + AllocGlobal)) -> Result<(), AllocError> {
     for row in &MAIN_COUNTS {
         let body = long_main_bytes(rt.alloc(), row.0)?;
-        is_in_row(rt, row, main_number(rt.alloc(), &body), row.1);
+        is_in_row(rt, row, &main_number(rt.alloc(), &body), &row.1);
     }
     Ok(())
 }
@@ -136,7 +135,7 @@ static MAIN_ZEROS: [(usize, u8); 3] = [(12 + 16 * 32_769, 2), (1_048_576, 1), (1
 fn reasons_of_main_zeros(rt: &(impl Abort + AllocGlobal)) -> Result<(), AllocError> {
     for row in &MAIN_ZEROS {
         let body = zeros(rt.alloc(), row.0)?;
-        is_in_row(rt, row, main_number(rt.alloc(), &body), row.1);
+        is_in_row(rt, row, &main_number(rt.alloc(), &body), &row.1);
     }
     Ok(())
 }
@@ -161,7 +160,7 @@ static REPEATS: [(u32, u8); 2] = [(32_767, 3), (32_768, 7)];
 #[test]
 fn one_id_too_often(rt: HostRuntime) -> Result<(), Fail> {
     for row in &REPEATS {
-        is_in_row(&rt, row, number_with_one_again(rt.alloc(), row.0)?, row.1);
+        is_in_row(&rt, row, &number_with_one_again(rt.alloc(), row.0)?, &row.1);
     }
     let same = vec![in rt.alloc(); 7; 32_769]?;
     is(&rt, &made_number(rt.alloc(), 4, 0, &same, None)?, &7);
@@ -195,7 +194,7 @@ static DESCS: [(u64, &str, u8); 13] = [
 fn reasons_of_description_bodies(rt: HostRuntime) -> Result<(), Fail> {
     for row in &DESCS {
         let number = field_number(rt.alloc(), row.0, row.1.as_bytes())?;
-        is_in_row(&rt, row, number, row.2);
+        is_in_row(&rt, row, &number, &row.2);
     }
     Ok(())
 }
@@ -205,8 +204,8 @@ static DESC_FRONTS: [(usize, u8); 5] = [(0, 1), (52, 1), (55, 1), (56, 5), (60, 
 
 fn reasons_of_desc_fronts(rt: &(impl Abort + AllocGlobal)) -> Result<(), Fail> {
     for row in &DESC_FRONTS {
-        let front = DESC.get(..row.0).ok_or("length")?;
-        is_in_row(rt, row, desc_number(rt.alloc(), front), row.1);
+        let front = front(&DESC, row.0)?;
+        is_in_row(rt, row, &desc_number(rt.alloc(), front), &row.1);
     }
     Ok(())
 }
@@ -225,7 +224,7 @@ fn reasons_of_description_bodies_by_length(rt: HostRuntime) -> Result<(), Fail> 
     reasons_of_desc_fronts(&rt)?;
     for row in &LONG_NAMES {
         let field = letters_and_zeros(rt.alloc(), b'x', row.0, row.1)?;
-        is_in_row(&rt, row, field_number(rt.alloc(), 0, &field)?, row.2);
+        is_in_row(&rt, row, &field_number(rt.alloc(), 0, &field)?, &row.2);
     }
     Ok(())
 }
@@ -264,10 +263,10 @@ fn creator_number(alloc: Global, length: usize) -> Result<u8, AllocError> {
 #[test]
 fn reasons_of_checksum_and_creator_bodies(rt: HostRuntime) -> Result<(), Fail> {
     for row in &IFSC_ZEROS {
-        is_in_row(&rt, row, ifsc_number(rt.alloc(), row.0)?, row.1);
+        is_in_row(&rt, row, &ifsc_number(rt.alloc(), row.0)?, &row.1);
     }
     for row in &CREATOR_ZEROS {
-        is_in_row(&rt, row, creator_number(rt.alloc(), row.0)?, row.1);
+        is_in_row(&rt, row, &creator_number(rt.alloc(), row.0)?, &row.1);
     }
     Ok(())
 }

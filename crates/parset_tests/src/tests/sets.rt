@@ -20,10 +20,15 @@ fn kept(alloc: Global, set: Hash16, kind: Kind, body: &[u8]) -> Result<Kept, All
     Ok(kept_at(0, set, kind, KeptBody::Whole(body)))
 }
 
+// The Main packet with this body.
+fn main_packet(alloc: Global, main: &[u8]) -> Result<Kept, AllocError> {
+    kept(alloc, digest_of(main), Kind::Main, main)
+}
+
 // The Main packet of a recovery set of as many of these IDs as the count says.
 fn kept_main(alloc: Global, size: u64, count: u32, ids: &[u8]) -> Result<Kept, AllocError> {
     let body = main_bytes(alloc, size, count, ids)?;
-    kept(alloc, digest_of(&body), Kind::Main, &body)
+    main_packet(alloc, &body)
 }
 
 // The FileDesc packet of a file of this ID and name, of 6 bytes.
@@ -46,8 +51,12 @@ fn kept_sums(alloc: Global, set: Hash16, digests: &[u8]) -> Result<Kept, AllocEr
 }
 
 // The set of these packets.
-fn set_of(alloc: Global, packets: &[Kept], choice: Option<Hash16>) -> Result<RecoverySet, Fail> {
-    Ok(build(alloc, packets, choice).ok().ok_or("set")?)
+fn set_of(
+    alloc: Global,
+    packets: &[Kept],
+    choice: Option<Hash16>,
+) -> Result<RecoverySet, SetFault> {
+    build(alloc, packets, choice)
 }
 
 // Why these packets give no set.
@@ -55,18 +64,19 @@ fn fault_in(alloc: Global, packets: &[Kept], choice: Option<Hash16>) -> Option<S
     build(alloc, packets, choice).err()
 }
 
-// The packets of a set of files of these IDs, of which those with a name have a description.
+// The packets of a set of files of these IDs, of which those with a letter have a description
+// with that name.
 fn packets_named(
     alloc: Global,
     ids: &[u8; 4],
-    names: &[(u8, &[u8; 4])],
+    names: &[(u8, u8)],
 ) -> Result<Vec<Kept>, AllocError> {
     let main = kept_main(alloc, 4, 4, ids)?;
     let set = main.set;
     let mut packets = Vec::new(alloc);
     packets.push(main)?;
     for (id, name) in names {
-        packets.push(kept_desc(alloc, set, &[*id; 16], *name)?)?;
+        packets.push(kept_desc(alloc, set, &[*id; 16], &[*name, 0, 0, 0])?)?;
     }
     Ok(packets)
 }
@@ -75,7 +85,7 @@ fn packets_named(
 fn fault_of(
     alloc: Global,
     ids: &[u8; 4],
-    names: &[(u8, &[u8; 4])],
+    names: &[(u8, u8)],
 ) -> Result<Option<SetFault>, AllocError> {
     let packets = packets_named(alloc, ids, names)?;
     Ok(fault_in(alloc, &packets, None))
@@ -144,13 +154,20 @@ fn slices_take_the_first_sums_of_the_right_number(rt: HostRuntime) -> Result<(),
     Ok(())
 }
 
-// The slice sizes and the IDs of Main packets of sets without recovery IDs.
-static MAINS: [(u64, &[u8]); 3] = [(4, &[]), (8, &[1]), (4, &[])];
+// The Main packet of one of two sets that have no files.
+fn main_without_files(alloc: Global, other: bool) -> Result<Kept, AllocError> {
+    if other {
+        kept_main(alloc, 8, 0, &[1])
+    } else {
+        kept_main(alloc, 4, 0, &[])
+    }
+}
 
+// The Main packets of the one set, of the other, and of the first again.
 fn mains(alloc: Global) -> Result<Vec<Kept>, AllocError> {
     let mut packets = Vec::new(alloc);
-    for (size, ids) in &MAINS {
-        packets.push(kept_main(alloc, *size, 0, *ids)?)?;
+    for other in &[false, true, false] {
+        packets.push(main_without_files(alloc, *other)?)?;
     }
     Ok(packets)
 }
@@ -161,6 +178,14 @@ fn set_at(packets: &[Kept], place: usize) -> Result<Hash16, Fail> {
     Ok(packet.set)
 }
 
+fn id_and_size(built: &RecoverySet) -> (Hash16, u64) {
+    (built.id(), built.size())
+}
+
+fn file_count(built: &RecoverySet) -> usize {
+    built.files().len()
+}
+
 // The set of these packets has this ID and slice size, and no files.
 fn builds(
     rt: &(impl Abort + AllocGlobal),
@@ -168,10 +193,10 @@ fn builds(
     choice: Option<Hash16>,
     id: Hash16,
     size: u64,
-) -> Result<(), Fail> {
+) -> Result<(), SetFault> {
     let built = set_of(rt.alloc(), packets, choice)?;
-    is(rt, &(built.id(), built.size()), &(id, size));
-    is(rt, &built.files().len(), &0);
+    is(rt, &id_and_size(&built), &(id, size));
+    is(rt, &file_count(&built), &0);
     Ok(())
 }
 
@@ -201,7 +226,7 @@ fn first_main_counts_and_of_a_chosen_set_the_first_of_its_id(rt: HostRuntime) ->
 fn two_mains(alloc: Global) -> Result<Vec<Kept>, AllocError> {
     let mut packets = Vec::new(alloc);
     packets.push(kept_main(alloc, 4, 1, &[1])?)?;
-    packets.push(kept_main(alloc, 4, 0, &[])?)?;
+    packets.push(main_without_files(alloc, false)?)?;
     Ok(packets)
 }
 
@@ -209,70 +234,61 @@ fn two_mains(alloc: Global) -> Result<Vec<Kept>, AllocError> {
 fn first_main_counts_though_its_set_has_a_fault(rt: HostRuntime) -> Result<(), Fail> {
     let packets = two_mains(rt.alloc())?;
     let set = set_at(&packets, 1)?;
-    let built = set_of(rt.alloc(), &packets, Some(set))?;
-    is(&rt, &built.id(), &set);
+    builds(&rt, &packets, Some(set), set, 4)?;
     gives(&rt, &packets, None, SetFault::NoDesc(Hash16([1; 16])));
     Ok(())
 }
 
 #[test]
 fn least_id_without_a_description(rt: HostRuntime) -> Result<(), Fail> {
-    let fault = fault_of(
-        rt.alloc(),
-        &[4, 2, 1, 3],
-        &[(1, b"a\0\0\0"), (3, b"a\0\0\0")],
-    )?;
+    let fault = fault_of(rt.alloc(), &[4, 2, 1, 3], &[(1, b'a'), (3, b'a')])?;
     is(&rt, &fault, &Some(SetFault::NoDesc(Hash16([2; 16]))));
     Ok(())
 }
 
 #[test]
 fn least_id_whose_name_a_smaller_id_has(rt: HostRuntime) -> Result<(), Fail> {
-    let names = [
-        (4, b"a\0\0\0"),
-        (3, b"b\0\0\0"),
-        (1, b"a\0\0\0"),
-        (2, b"b\0\0\0"),
-    ];
+    let names = [(4, b'a'), (3, b'b'), (1, b'a'), (2, b'b')];
     let fault = fault_of(rt.alloc(), &[4, 2, 1, 3], &names)?;
     is(&rt, &fault, &Some(SetFault::NameTwice(Hash16([3; 16]))));
     Ok(())
 }
 
-// Offsets, kinds and lengths of bodies of which the first four bytes are held, in front of the
-// Main packet of their set.
-static LONG: [(u64, Kind, u64); 4] = [
-    (0, Kind::Main, 1_048_577),
-    (1, Kind::FileDesc, 1_048_577),
-    (2, Kind::Ifsc, 1_048_577),
-    (3, Kind::Creator, 1_048_577),
+// A packet at this offset, of which the first four bytes of the body are held and its length.
+fn front_at(at: u64, set: Hash16, kind: Kind, len: u64) -> Kept {
+    let first = [0; 4];
+    kept_at(at, set, kind, KeptBody::Front { first, len })
+}
+
+// Packets whose bodies are not held whole, by their offsets, and the Main packet of their set.
+static LONG: [Option<(u64, Kind, u64)>; 7] = [
+    Some((0, Kind::Main, 1_048_577)),
+    Some((1, Kind::FileDesc, 1_048_577)),
+    Some((2, Kind::Ifsc, 1_048_577)),
+    Some((3, Kind::Creator, 1_048_577)),
+    None,
+    Some((4, Kind::RecvSlic, 8)),
+    Some((5, Kind::Other([0; 16]), 1_048_577)),
 ];
 
-// And those behind it, that are not put aside.
-static LATER: [(u64, Kind, u64); 2] = [
-    (4, Kind::RecvSlic, 8),
-    (5, Kind::Other([0; 16]), 1_048_577),
-];
-
-fn push_fronts(
-    packets: &mut Vec<Kept>,
+// The packet of such a row.
+fn long_packet(
+    alloc: Global,
     set: Hash16,
-    fronts: &[(u64, Kind, u64)],
-) -> Result<(), AllocError> {
-    for (at, kind, len) in fronts {
-        let first = [0; 4];
-        packets.push(kept_at(*at, set, *kind, KeptBody::Front { first, len: *len }))?;
+    row: &Option<(u64, Kind, u64)>,
+) -> Result<Kept, AllocError> {
+    match *row {
+        Some((at, kind, len)) => Ok(front_at(at, set, kind, len)),
+        None => kept_main(alloc, 4, 0, &[]),
     }
-    Ok(())
 }
 
 fn long_packets(alloc: Global) -> Result<Vec<Kept>, AllocError> {
-    let main = kept_main(alloc, 4, 0, &[])?;
-    let set = main.set;
+    let set = kept_main(alloc, 4, 0, &[])?.set;
     let mut packets = Vec::new(alloc);
-    push_fronts(&mut packets, set, &LONG)?;
-    packets.push(main)?;
-    push_fronts(&mut packets, set, &LATER)?;
+    for row in &LONG {
+        packets.push(long_packet(alloc, set, row)?)?;
+    }
     Ok(packets)
 }
 
@@ -348,23 +364,6 @@ fn a_usable_set_puts_aside_a_packet_for_each_reason(rt: HostRuntime) -> Result<(
     Ok(())
 }
 
-// An ID that begins with these two bytes.
-fn push_id(body: &mut Vec<u8>, low: u8, high: u8) -> Result<(), AllocError> {
-    body.extend_from_slice(&[low, high, 1, 1])?;
-    body.extend_from_slice(&[0; 12])
-}
-
-// A Main body with 1,100 IDs.
-fn main_of_1100(alloc: Global) -> Result<Vec<u8>, AllocError> {
-    let mut main = main_bytes(alloc, 4, 1_100, &[])?;
-    for high in 1..11_u8 {
-        for low in 1..111_u8 {
-            push_id(&mut main, low, high)?;
-        }
-    }
-    Ok(main)
-}
-
 // The packets of the set of a Main body, with a description of each of its files.
 fn packets_of(alloc: Global, main: &[u8]) -> Result<Vec<Kept>, Fail> {
     let set = digest_of(main);
@@ -373,7 +372,7 @@ fn packets_of(alloc: Global, main: &[u8]) -> Result<Vec<Kept>, Fail> {
     for id in ids {
         packets.push(kept_desc(alloc, set, id, &id[..4])?)?;
     }
-    packets.push(kept(alloc, set, Kind::Main, main)?)?;
+    packets.push(main_packet(alloc, main)?)?;
     Ok(packets)
 }
 
