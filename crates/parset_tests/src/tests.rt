@@ -214,7 +214,7 @@ static NUMBERS: [(Aside, u8); 6] = [
 
 #[test]
 fn numbers_of_reasons(rt: HostRuntime) {
-    for (reason, number) in &NUMBERS {
-        is(&rt, &reason.number(), number);
+    for row in &NUMBERS {
+        is_in_row(&rt, row, &row.0.number(), &row.1);
     }
 }
