@@ -20,10 +20,15 @@ fn kept(alloc: Global, set: Hash16, kind: Kind, body: &[u8]) -> Result<Kept, All
     Ok(kept_at(0, set, kind, KeptBody::Whole(body)))
 }
 
+// The Main packet with this body.
+fn main_packet(alloc: Global, main: &[u8]) -> Result<Kept, AllocError> {
+    kept(alloc, digest_of(main), Kind::Main, main)
+}
+
 // The Main packet of a recovery set of as many of these IDs as the count says.
 fn kept_main(alloc: Global, size: u64, count: u32, ids: &[u8]) -> Result<Kept, AllocError> {
     let body = main_bytes(alloc, size, count, ids)?;
-    kept(alloc, Hash16(Md5::digest(&body)), Kind::Main, &body)
+    main_packet(alloc, &body)
 }
 
 // The FileDesc packet of a file of this ID and name, of 6 bytes.
@@ -45,32 +50,65 @@ fn kept_sums(alloc: Global, set: Hash16, digests: &[u8]) -> Result<Kept, AllocEr
     kept(alloc, set, Kind::Ifsc, &body)
 }
 
-// The fault of a set of files of these IDs, of which those with a name have a description.
-fn fault_of(
+// The set of these packets.
+fn set_of(
+    alloc: Global,
+    packets: &[Kept],
+    choice: Option<Hash16>,
+) -> Result<RecoverySet, SetFault> {
+    build(alloc, packets, choice)
+}
+
+// Why these packets give no set.
+fn fault_in(alloc: Global, packets: &[Kept], choice: Option<Hash16>) -> Option<SetFault> {
+    build(alloc, packets, choice).err()
+}
+
+// The packets of a set of files of these IDs, of which those with a letter have a description
+// with that name.
+fn packets_named(
     alloc: Global,
     ids: &[u8; 4],
-    names: &[(u8, &[u8; 4])],
-) -> Result<Option<SetFault>, AllocError> {
+    names: &[(u8, u8)],
+) -> Result<Vec<Kept>, AllocError> {
     let main = kept_main(alloc, 4, 4, ids)?;
     let set = main.set;
     let mut packets = Vec::new(alloc);
     packets.push(main)?;
     for (id, name) in names {
-        packets.push(kept_desc(alloc, set, &[*id; 16], *name)?)?;
+        packets.push(kept_desc(alloc, set, &[*id; 16], &[*name, 0, 0, 0])?)?;
     }
-    Ok(build(alloc, &packets, None).err())
+    Ok(packets)
 }
+
+// The fault of that set.
+fn fault_of(
+    alloc: Global,
+    ids: &[u8; 4],
+    names: &[(u8, u8)],
+) -> Result<Option<SetFault>, AllocError> {
+    let packets = packets_named(alloc, ids, names)?;
+    Ok(fault_in(alloc, &packets, None))
+}
+
+// IFSC packets in order: whether they are of the set, and the bytes of their MD5s.
+static DIGESTS: [(bool, &[u8]); 4] = [
+    (true, &[9]),
+    (false, &[8, 8]),
+    (true, &[3, 4]),
+    (true, &[5, 6]),
+];
 
 // The packets of a set of one file, among them the sums of too few slices and those of another set.
 fn packets_with_sums(alloc: Global) -> Result<Vec<Kept>, AllocError> {
-    let mut packets = Vec::new(alloc);
     let main = kept_main(alloc, 4, 1, &[1])?;
     let set = main.set;
+    let mut packets = Vec::new(alloc);
     packets.push(main)?;
-    packets.push(kept_sums(alloc, set, &[9])?)?;
-    packets.push(kept_sums(alloc, Hash16([8; 16]), &[8, 8])?)?;
-    packets.push(kept_sums(alloc, set, &[3, 4])?)?;
-    packets.push(kept_sums(alloc, set, &[5, 6])?)?;
+    for (own, digests) in &DIGESTS {
+        let id = if *own { set } else { Hash16([8; 16]) };
+        packets.push(kept_sums(alloc, id, *digests)?)?;
+    }
     packets.push(kept_desc(alloc, set, &[1; 16], b"name")?)?;
     Ok(packets)
 }
@@ -85,114 +123,191 @@ fn slice_with(number: u32, length: u64, digest: u8) -> SetSlice {
     }
 }
 
-// The set has nothing but one file of this name, whose sums are known, and these slices.
-fn has_one_file(rt: &impl Abort, built: &RecoverySet, name: &[u8], slices: &[SetSlice]) {
-    assert_eq!(rt; built.size(), 4);
-    assert_eq!(rt; built.slices(), slices);
-    assert!(rt; matches!(built.files(), [file] if file.known && file.name.as_slice() == name));
-    assert_eq!(rt;
-        (built.others(), built.have(), built.creator()),
-        (0, 0, None)
+// The set has these slices of 4 bytes or less.
+fn has_slices(rt: &impl Abort, built: &RecoverySet, slices: &[SetSlice]) {
+    is(rt, &built.size(), &4);
+    are(rt, built.slices(), slices);
+}
+
+// The set has one file, of this name, whose sums are known.
+fn has_one_file(rt: &impl Abort, files: &[SetFile], name: &[u8]) {
+    assert!(rt; matches!(files, [file] if file.known && file.name.as_slice() == name));
+}
+
+// The set has nothing but its files.
+fn has_no_more(rt: &impl Abort, built: &RecoverySet) {
+    is(
+        rt,
+        &(built.others(), built.have(), built.creator()),
+        &(0, 0, None),
     );
-    assert!(rt; built.aside().is_empty());
+    is(rt, &built.aside().len(), &0);
 }
 
 #[test]
 fn slices_take_the_first_sums_of_the_right_number(rt: HostRuntime) -> Result<(), Fail> {
     let packets = packets_with_sums(rt.alloc())?;
-    let built = build(rt.alloc(), &packets, None).ok().ok_or("set")?;
-    has_one_file(
-        &rt,
-        &built,
-        b"name",
-        &[slice_with(0, 4, 3), slice_with(1, 2, 4)],
-    );
+    let built = set_of(rt.alloc(), &packets, None)?;
+    has_slices(&rt, &built, &[slice_with(0, 4, 3), slice_with(1, 2, 4)]);
+    has_one_file(&rt, built.files(), b"name");
+    has_no_more(&rt, &built);
     Ok(())
+}
+
+// The Main packet of one of two sets that have no files.
+fn main_without_files(alloc: Global, other: bool) -> Result<Kept, AllocError> {
+    if other {
+        kept_main(alloc, 8, 0, &[1])
+    } else {
+        kept_main(alloc, 4, 0, &[])
+    }
+}
+
+// The Main packets of the one set, of the other, and of the first again.
+fn mains(alloc: Global) -> Result<Vec<Kept>, AllocError> {
+    let mut packets = Vec::new(alloc);
+    for other in &[false, true, false] {
+        packets.push(main_without_files(alloc, *other)?)?;
+    }
+    Ok(packets)
+}
+
+// The set ID of a packet.
+fn set_at(packets: &[Kept], place: usize) -> Result<Hash16, Fail> {
+    let packet = packets.get(place).ok_or("packet")?;
+    Ok(packet.set)
+}
+
+fn id_and_size(built: &RecoverySet) -> (Hash16, u64) {
+    (built.id(), built.size())
+}
+
+fn file_count(built: &RecoverySet) -> usize {
+    built.files().len()
+}
+
+// The set of these packets has this ID and slice size, and no files.
+fn builds(
+    rt: &(impl Abort + AllocGlobal),
+    packets: &[Kept],
+    choice: Option<Hash16>,
+    id: Hash16,
+    size: u64,
+) -> Result<(), SetFault> {
+    let built = set_of(rt.alloc(), packets, choice)?;
+    is(rt, &id_and_size(&built), &(id, size));
+    is(rt, &file_count(&built), &0);
+    Ok(())
+}
+
+// These packets give no set, for this reason.
+fn gives(
+    rt: &(impl Abort + AllocGlobal),
+    packets: &[Kept],
+    choice: Option<Hash16>,
+    fault: SetFault,
+) {
+    is(rt, &fault_in(rt.alloc(), packets, choice), &Some(fault));
 }
 
 #[test]
 fn first_main_counts_and_of_a_chosen_set_the_first_of_its_id(rt: HostRuntime) -> Result<(), Fail> {
-    let first = kept_main(rt.alloc(), 4, 0, &[])?;
-    let second = kept_main(rt.alloc(), 8, 0, &[1])?;
-    let (one, other) = (first.set, second.set);
-    let mut packets = Vec::new(rt.alloc());
-    packets.push(first)?;
-    packets.push(second)?;
-    packets.push(kept_main(rt.alloc(), 4, 0, &[])?)?;
-    for (choice, id, size) in [(None, one, 4), (Some(one), one, 4), (Some(other), other, 8)] {
-        let built = build(rt.alloc(), &packets, choice).ok().ok_or("set")?;
-        assert_eq!(rt; (built.id(), built.size()), (id, size));
-        assert_eq!(rt; built.files().len(), 0);
-    }
-    let none = build(rt.alloc(), &packets, Some(Hash16([1; 16]))).err();
-    assert_eq!(rt; none, Some(SetFault::NoMain));
+    let packets = mains(rt.alloc())?;
+    let one = set_at(&packets, 0)?;
+    let other = set_at(&packets, 1)?;
+    builds(&rt, &packets, None, one, 4)?;
+    builds(&rt, &packets, Some(one), one, 4)?;
+    builds(&rt, &packets, Some(other), other, 8)?;
+    gives(&rt, &packets, Some(Hash16([1; 16])), SetFault::NoMain);
     Ok(())
+}
+
+// Two Main packets, of which the first has a file without a description.
+fn two_mains(alloc: Global) -> Result<Vec<Kept>, AllocError> {
+    let mut packets = Vec::new(alloc);
+    packets.push(kept_main(alloc, 4, 1, &[1])?)?;
+    packets.push(main_without_files(alloc, false)?)?;
+    Ok(packets)
 }
 
 #[test]
 fn first_main_counts_though_its_set_has_a_fault(rt: HostRuntime) -> Result<(), Fail> {
-    let mut packets = Vec::new(rt.alloc());
-    packets.push(kept_main(rt.alloc(), 4, 1, &[1])?)?;
-    let second = kept_main(rt.alloc(), 4, 0, &[])?;
-    let set = second.set;
-    packets.push(second)?;
-    let built = build(rt.alloc(), &packets, Some(set)).ok().ok_or("set")?;
-    assert_eq!(rt; built.id(), set);
-    let first = build(rt.alloc(), &packets, None).err();
-    assert_eq!(rt; first, Some(SetFault::NoDesc(Hash16([1; 16]))));
+    let packets = two_mains(rt.alloc())?;
+    let set = set_at(&packets, 1)?;
+    builds(&rt, &packets, Some(set), set, 4)?;
+    gives(&rt, &packets, None, SetFault::NoDesc(Hash16([1; 16])));
     Ok(())
 }
 
 #[test]
 fn least_id_without_a_description(rt: HostRuntime) -> Result<(), Fail> {
-    let fault = fault_of(
-        rt.alloc(),
-        &[4, 2, 1, 3],
-        &[(1, b"a\0\0\0"), (3, b"a\0\0\0")],
-    )?;
-    assert_eq!(rt; fault, Some(SetFault::NoDesc(Hash16([2; 16]))));
+    let fault = fault_of(rt.alloc(), &[4, 2, 1, 3], &[(1, b'a'), (3, b'a')])?;
+    is(&rt, &fault, &Some(SetFault::NoDesc(Hash16([2; 16]))));
     Ok(())
 }
 
 #[test]
 fn least_id_whose_name_a_smaller_id_has(rt: HostRuntime) -> Result<(), Fail> {
-    let names = [
-        (4, b"a\0\0\0"),
-        (3, b"b\0\0\0"),
-        (1, b"a\0\0\0"),
-        (2, b"b\0\0\0"),
-    ];
+    let names = [(4, b'a'), (3, b'b'), (1, b'a'), (2, b'b')];
     let fault = fault_of(rt.alloc(), &[4, 2, 1, 3], &names)?;
-    assert_eq!(rt; fault, Some(SetFault::NameTwice(Hash16([3; 16]))));
+    is(&rt, &fault, &Some(SetFault::NameTwice(Hash16([3; 16]))));
     Ok(())
+}
+
+// A packet at this offset, of which the first four bytes of the body are held and its length.
+fn front_at(at: u64, set: Hash16, kind: Kind, len: u64) -> Kept {
+    let first = [0; 4];
+    kept_at(at, set, kind, KeptBody::Front { first, len })
+}
+
+// Packets whose bodies are not held whole, by their offsets, and the Main packet of their set.
+static LONG: [Option<(u64, Kind, u64)>; 7] = [
+    Some((0, Kind::Main, 1_048_577)),
+    Some((1, Kind::FileDesc, 1_048_577)),
+    Some((2, Kind::Ifsc, 1_048_577)),
+    Some((3, Kind::Creator, 1_048_577)),
+    None,
+    Some((4, Kind::RecvSlic, 8)),
+    Some((5, Kind::Other([0; 16]), 1_048_577)),
+];
+
+// The packet of such a row.
+fn long_packet(
+    alloc: Global,
+    set: Hash16,
+    row: &Option<(u64, Kind, u64)>,
+) -> Result<Kept, AllocError> {
+    match *row {
+        Some((at, kind, len)) => Ok(front_at(at, set, kind, len)),
+        None => kept_main(alloc, 4, 0, &[]),
+    }
+}
+
+fn long_packets(alloc: Global) -> Result<Vec<Kept>, AllocError> {
+    let set = kept_main(alloc, 4, 0, &[])?.set;
+    let mut packets = Vec::new(alloc);
+    for row in &LONG {
+        packets.push(long_packet(alloc, set, row)?)?;
+    }
+    Ok(packets)
+}
+
+// A packet at this offset that is put aside for this reason.
+fn aside(at: u64, reason: Aside) -> SetAside {
+    SetAside {
+        file: 0,
+        at,
+        reason,
+    }
 }
 
 #[test]
 fn bodies_that_are_too_long_to_be_held(rt: HostRuntime) -> Result<(), Fail> {
-    let main = kept_main(rt.alloc(), 4, 0, &[])?;
-    let set = main.set;
-    let front = |at, kind, len| {
-        let first = [0; 4];
-        kept_at(at, set, kind, KeptBody::Front { first, len })
-    };
-    let mut packets = Vec::new(rt.alloc());
-    packets.push(front(0, Kind::Main, 1_048_577))?;
-    packets.push(front(1, Kind::FileDesc, 1_048_577))?;
-    packets.push(front(2, Kind::Ifsc, 1_048_577))?;
-    packets.push(front(3, Kind::Creator, 1_048_577))?;
-    packets.push(main)?;
-    packets.push(front(4, Kind::RecvSlic, 8))?;
-    packets.push(front(5, Kind::Other([0; 16]), 1_048_577))?;
-    let built = build(rt.alloc(), &packets, None).ok().ok_or("set")?;
-    let reason = Aside::OverLimit;
-    let aside = |at| SetAside {
-        file: 0,
-        at,
-        reason,
-    };
-    let asides = [aside(0), aside(1), aside(2), aside(3)];
-    assert_eq!(rt; built.aside(), asides.as_slice());
-    assert_eq!(rt; (built.have(), built.creator()), (1, None));
+    let packets = long_packets(rt.alloc())?;
+    let built = set_of(rt.alloc(), &packets, None)?;
+    let asides = [0, 1, 2, 3].map(|at| aside(at, Aside::OverLimit));
+    are(&rt, built.aside(), asides.as_slice());
+    is(&rt, &(built.have(), built.creator()), &(1, None));
     Ok(())
 }
 
@@ -229,50 +344,35 @@ fn packets_aside(alloc: Global) -> Result<Vec<Kept>, AllocError> {
     Ok(packets)
 }
 
-// What is put aside is each of those packets, for its reason.
-fn puts_each_aside(rt: &impl Abort, aside: &[SetAside]) {
-    assert_eq!(rt; aside.len(), UNUSABLE.len());
-    for (one, (_, _, _, _, reason)) in aside.iter().zip(&UNUSABLE) {
-        assert_eq!(rt; (one.file, one.reason), (0, *reason));
+// What is put aside of those packets: each that is not usable, for its reason.
+fn asides_wanted(alloc: Global) -> Result<Vec<SetAside>, AllocError> {
+    let mut asides = Vec::new(alloc);
+    for (_, _, _, _, reason) in &UNUSABLE {
+        let at = asides.len() as u64;
+        asides.push(aside(at, *reason))?;
     }
-    assert!(rt;
-        aside
-            .iter()
-            .enumerate()
-            .all(|(at, one)| one.at == at as u64)
-    );
+    Ok(asides)
 }
 
 #[test]
 fn a_usable_set_puts_aside_a_packet_for_each_reason(rt: HostRuntime) -> Result<(), Fail> {
     let packets = packets_aside(rt.alloc())?;
-    let built = build(rt.alloc(), &packets, None).ok().ok_or("set")?;
-    puts_each_aside(&rt, built.aside());
-    assert_eq!(rt; built.files().len(), 1);
+    let asides = asides_wanted(rt.alloc())?;
+    let built = set_of(rt.alloc(), &packets, None)?;
+    are(&rt, built.aside(), asides.as_slice());
+    is(&rt, &built.files().len(), &1);
     Ok(())
-}
-
-// A Main body with 1,100 IDs.
-fn main_of_1100(alloc: Global) -> Result<Vec<u8>, AllocError> {
-    let mut main = main_bytes(alloc, 4, 1_100, &[])?;
-    for high in 1..11_u8 {
-        for low in 1..111_u8 {
-            main.extend_from_slice(&[low, high, 1, 1])?;
-            main.extend_from_slice(&[0; 12])?;
-        }
-    }
-    Ok(main)
 }
 
 // The packets of the set of a Main body, with a description of each of its files.
 fn packets_of(alloc: Global, main: &[u8]) -> Result<Vec<Kept>, Fail> {
-    let set = Hash16(Md5::digest(main));
+    let set = digest_of(main);
     let mut packets = Vec::new(alloc);
     let (ids, _) = main.get(12..).ok_or("ids")?.as_chunks::<16>();
     for id in ids {
         packets.push(kept_desc(alloc, set, id, &id[..4])?)?;
     }
-    packets.push(kept(alloc, set, Kind::Main, main)?)?;
+    packets.push(main_packet(alloc, main)?)?;
     Ok(packets)
 }
 
@@ -280,8 +380,12 @@ fn packets_of(alloc: Global, main: &[u8]) -> Result<Vec<Kept>, Fail> {
 fn a_set_of_more_than_1000_packets_is_built(rt: HostRuntime) -> Result<(), Fail> {
     let main = main_of_1100(rt.alloc())?;
     let packets = packets_of(rt.alloc(), &main)?;
-    let built = build(rt.alloc(), &packets, None).ok().ok_or("set")?;
-    assert_eq!(rt; (built.files().len(), built.slices().len()), (1_100, 2_200));
-    assert!(rt; built.aside().is_empty());
+    let built = set_of(rt.alloc(), &packets, None)?;
+    is(
+        &rt,
+        &(built.files().len(), built.slices().len()),
+        &(1_100, 2_200),
+    );
+    is(&rt, &built.aside().len(), &0);
     Ok(())
 }
