@@ -1,7 +1,7 @@
 use Rattle.std.proofs.Common.{refl}
 use Rattle.parwindow.specs.Crc32.{crc_of, register_of, register_after, crc_steps, crc_step}
 use Rattle.parfind.specs.Places.{places_of}
-use Rattle.parfind_tests.proofs.survey_tests.missing_law.Goals as goal
+use Rattle.parfind_tests.proofs.tests.surveying.missing_law.Goals as goal
 
 pub returns-clause-none : goal.returns-clause-none
 unfolding crc_of register_of register_after crc_steps crc_step places_of

@@ -1,0 +1,191 @@
+// Calls of a search of files in memory.
+ghost use Rattle.std.specs.Prelude.{◌<◌, IfOk};
+ghost use Rattle.parshelf.specs.Memory.{shelf_state_of};
+ghost use Rattle.parfind.specs.Finders.{BelongsTo};
+
+use crate::tests::fixtures::{Spot, cursor, handed, hit, index_of, shelf_of};
+use parfind::{Cursor, Finder, Step};
+use parshelf::{MemShelf, ReadFault};
+use parwindow::Index;
+use std::alloc::{AllocError, Global};
+use std::process::Abort;
+use std::test::Fail;
+
+/// A search from a cursor on.
+pub fn opened(
+    alloc: Global,
+    index: &Index,
+    shelf: &MemShelf,
+    at: Cursor,
+) -> Result<Finder, AllocError>
+    ensures { IfOk result (λ finder. BelongsTo finder index.now (shelf_state_of shelf.now)) }
+{
+    Finder::open(alloc, index, shelf, at)
+}
+
+/// The next answer of a search.
+pub fn next_of(finder: &mut Finder, index: &Index, shelf: &mut MemShelf) -> Result<Step, ReadFault>
+    requires { BelongsTo finder.old index.now (shelf_state_of shelf.old) }
+    ensures { BelongsTo finder.new index.now (shelf_state_of shelf.new) }
+{
+    finder.next(index, shelf)
+}
+
+/// The answer of a step of a search.
+fn step_of(
+    finder: &mut Finder,
+    index: &Index,
+    shelf: &mut MemShelf,
+    budget: u64,
+) -> Result<Step, ReadFault>
+    requires budget { 0 < budget }
+    requires belongs { BelongsTo finder.old index.now (shelf_state_of shelf.old) }
+    ensures { BelongsTo finder.new index.now (shelf_state_of shelf.new) }
+{
+    finder.step(index, shelf, budget)
+}
+
+/// Where a search stands.
+pub fn cursor_of(finder: &Finder) -> Cursor {
+    finder.cursor()
+}
+
+// Wants this cursor.
+fn is_cursor(rt: &impl Abort, at: Cursor, wanted: Cursor) {
+    assert_eq!(rt; at, wanted);
+}
+
+/// Wants this answer of a call.
+pub fn is_answer(
+    rt: &impl Abort,
+    answer: Result<Step, ReadFault>,
+    wanted: Result<Step, ReadFault>,
+) {
+    assert_eq!(rt; answer, wanted);
+}
+
+/// Calls `next`; wants these sightings in order, and `Done` behind them.
+pub fn gives(
+    rt: &impl Abort,
+    finder: &mut Finder,
+    index: &Index,
+    shelf: &mut MemShelf,
+    sightings: &[Spot],
+)
+    requires { BelongsTo finder.old index.now (shelf_state_of shelf.old) }
+{
+    for at in sightings {
+        is_answer(rt, next_of(finder, index, shelf), Ok(hit(*at)));
+    }
+    is_answer(rt, next_of(finder, index, shelf), Ok(Step::Done));
+}
+
+/// A search for the slices of a file of these bytes: the files, where it begins, the sightings that
+/// are wanted before `Done`, and where it ends.
+#[derive(Clone, Copy)]
+pub struct Search {
+    pub content: &'static [u8],
+    pub files: &'static [&'static [u8]],
+    pub at: Spot,
+    pub sightings: &'static [Spot],
+    pub end: Spot,
+}
+
+// Goes through a search; wants what it wants.
+fn searches(
+    rt: &(impl Abort + AllocGlobal),
+    index: &Index,
+    shelf: &mut MemShelf,
+    search: &Search,
+) -> Result<(), Fail> {
+    let mut finder = opened(rt.alloc(), index, &*shelf, cursor(search.at))?;
+    gives(rt, &mut finder, index, shelf, search.sightings);
+    is_cursor(rt, cursor_of(&finder), cursor(search.end));
+    Ok(())
+}
+
+/// The same in files that are read `piece` bytes at a time; the answer is how many bytes were
+/// handed over.
+pub fn handed_in(
+    rt: &(impl Abort + AllocGlobal),
+    search: &Search,
+    piece: usize,
+) -> Result<u64, Fail> {
+    let index = index_of(rt.alloc(), search.content)?;
+    let mut shelf = shelf_of(rt, search.files, piece, 0)?;
+    searches(rt, &index, &mut shelf, search)?;
+    Ok(handed(&shelf))
+}
+
+/// The answer of a step.
+#[derive(Clone, Copy)]
+pub enum Wanted {
+    Hit(Spot),
+    Spent,
+    Done,
+}
+
+// That answer.
+fn step_wanted(wanted: Wanted) -> Step {
+    match wanted {
+        Wanted::Hit(at) => hit(at),
+        Wanted::Spent => Step::Spent,
+        Wanted::Done => Step::Done,
+    }
+}
+
+/// Steps through files: the files, where a search begins, and for each step its budget, the answer
+/// that is wanted and the cursor then.
+#[derive(Clone, Copy)]
+pub struct Walk<'f> {
+    pub files: &'f [&'f [u8]],
+    pub at: Spot,
+    pub steps: &'static [(u64, Wanted, Spot)],
+}
+
+// Takes steps; wants these answers and cursors.
+fn steps_give(
+    rt: &impl Abort,
+    finder: &mut Finder,
+    index: &Index,
+    shelf: &mut MemShelf,
+    steps: &[(u64, Wanted, Spot)],
+)
+    requires { BelongsTo finder.old index.now (shelf_state_of shelf.old) }
+{
+    for (budget, step, end) in steps {
+        assert!(rt; *budget > 0);
+        is_answer(
+            rt,
+            step_of(finder, index, shelf, *budget),
+            Ok(step_wanted(*step)),
+        );
+        is_cursor(rt, cursor_of(finder), cursor(*end));
+    }
+}
+
+// Takes the steps of a walk.
+fn steps_through(
+    rt: &(impl Abort + AllocGlobal),
+    index: &Index,
+    shelf: &mut MemShelf,
+    walk: &Walk<'_>,
+) -> Result<(), Fail> {
+    let mut finder = opened(rt.alloc(), index, &*shelf, cursor(walk.at))?;
+    steps_give(rt, &mut finder, index, shelf, walk.steps);
+    Ok(())
+}
+
+/// The same in files that are read `piece` bytes at a time, where the read of one number fails, or
+/// none of number 0; the answer is how many bytes were handed over.
+pub fn handed_along(
+    rt: &(impl Abort + AllocGlobal),
+    index: &Index,
+    walk: &Walk<'_>,
+    piece: usize,
+    failing: u64,
+) -> Result<u64, Fail> {
+    let mut shelf = shelf_of(rt, walk.files, piece, failing)?;
+    steps_through(rt, index, &mut shelf, walk)?;
+    Ok(handed(&shelf))
+}

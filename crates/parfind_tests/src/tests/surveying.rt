@@ -1,0 +1,365 @@
+// Marks of the slices that a survey finds.
+ghost use Rattle.std.specs.Prelude.{◌≡◌, ◌∷◌, [], true, false};
+ghost use Rattle.parfind.specs.Marks.{missing_places};
+ghost use Rattle.parfind_tests.specs.Worked.{two_slices, equal_slices};
+
+use crate::tests::fixtures::{handed, index_of, shelf_of};
+use crate::tests::reading::{is_handed, is_handed_at_most};
+use parfind::{SurveyFault, survey, survey_in};
+use parshelf::{MemShelf, ReadFault};
+use parwindow::{Index, Window};
+use std::alloc::{AllocError, Global};
+use std::process::Abort;
+use std::test::Fail;
+
+type Answer = Result<(), (u32, ReadFault)>;
+
+// The answer of a survey in a window that was used before.
+fn surveyed_in(
+    rt: &(impl Abort + AllocGlobal),
+    index: &Index,
+    shelf: &mut MemShelf,
+    found: &mut [bool],
+) -> Result<Answer, AllocError> {
+    assert_eq!(rt; index.slices() as usize, found.len());
+    let mut window = Window::new(rt.alloc(), index.size() as usize)?;
+    let _ = window.push(b'a');
+    Ok(survey_in(index, shelf, &mut window, found))
+}
+
+// Wants these marks.
+fn are_marks(rt: &impl Abort, found: &[bool], wanted: &[bool]) {
+    assert_eq!(rt; *found, *wanted);
+}
+
+// Wants this answer of a survey in a window of the caller's.
+fn is_answer(rt: &impl Abort, answer: Answer, wanted: Answer) {
+    assert_eq!(rt; answer, wanted);
+}
+
+// Surveys files for the slices of these bytes, in a window that was used before; wants this answer
+// and these marks.
+fn surveys(
+    rt: &(impl Abort + AllocGlobal),
+    content: &[u8],
+    shelf: &mut MemShelf,
+    found: &mut [bool],
+    answer: Answer,
+    wanted: &[bool],
+) -> Result<(), Fail> {
+    let index = index_of(rt.alloc(), content)?;
+    is_answer(rt, surveyed_in(rt, &index, shelf, found)?, answer);
+    are_marks(rt, found, wanted);
+    Ok(())
+}
+
+// Files, the slices of these bytes that are found in them by a survey without a fault, from no mark
+// on, and how many bytes it hands over at most.
+#[derive(Clone, Copy)]
+struct Marks<'f> {
+    content: &'static [u8],
+    files: &'f [&'f [u8]],
+    wanted: &'static [bool],
+    most: u64,
+}
+
+// Surveys files that are read `piece` bytes at a time.
+fn mark_by(rt: &(impl Abort + AllocGlobal), marks: &Marks<'_>, piece: usize) -> Result<(), Fail> {
+    let mut found = vec![in rt.alloc(); false; marks.wanted.len()]?;
+    let mut shelf = shelf_of(rt, marks.files, piece, 0)?;
+    surveys(
+        rt,
+        marks.content,
+        &mut shelf,
+        found.as_mut_slice(),
+        Ok(()),
+        marks.wanted,
+    )?;
+    is_handed_at_most(rt, handed(&shelf), marks.most);
+    Ok(())
+}
+
+// Surveys files that are read in pieces of 1 and of 64 bytes.
+fn mark(rt: &(impl Abort + AllocGlobal), marks: &Marks<'_>) -> Result<(), Fail> {
+    mark_by(rt, marks, 1)?;
+    mark_by(rt, marks, 64)
+}
+
+// The same of each.
+fn mark_each(rt: &(impl Abort + AllocGlobal), rows: &[Marks<'static>]) -> Result<(), Fail> {
+    for marks in rows {
+        mark(rt, marks)?;
+    }
+    Ok(())
+}
+
+static SEEN: [Marks<'static>; 4] = [
+    Marks {
+        content: b"abcdefghijkl",
+        files: &[b"ab", b"XXabcdefgh"],
+        wanted: &[true, true, false],
+        most: 10,
+    },
+    Marks {
+        content: b"abcdefgh",
+        files: &[b"abcXabcdef"],
+        wanted: &[true, false],
+        most: 10,
+    },
+    Marks {
+        content: b"abcdefgh",
+        files: &[b"", b"ab", b"abcd"],
+        wanted: &[true, false],
+        most: 4,
+    },
+    Marks {
+        content: b"abcdefgh",
+        files: &[],
+        wanted: &[false, false],
+        most: 0,
+    },
+];
+
+#[test]
+fn each_slice_that_is_seen_is_marked(rt: HostRuntime) -> Result<(), Fail> {
+    mark_each(&rt, &SEEN)
+}
+
+static EQUAL: [Marks<'static>; 3] = [
+    Marks {
+        content: b"\0\0\0\0\0\0\0\0",
+        files: &[b"\0\0\0\0\0\0"],
+        wanted: &[true, true],
+        most: 6,
+    },
+    Marks {
+        content: b"\0\0\0\0\0\0\0\0\0\0\0\0",
+        files: &[b"XX\0\0\0\0"],
+        wanted: &[true, true, true],
+        most: 6,
+    },
+    Marks {
+        content: b"\0\0\0\0\0\0\0\0abcdefgh",
+        files: &[b"\0\0\0\0\0\0\0\0abcd\0\0\0\0"],
+        wanted: &[true, true, true, false],
+        most: 16,
+    },
+];
+
+#[test]
+fn equal_slices_are_marked_together(rt: HostRuntime) -> Result<(), Fail> {
+    mark_each(&rt, &EQUAL)
+}
+
+static SHORT: [Marks<'static>; 4] = [
+    Marks {
+        content: b"ij",
+        files: &[b"ij"],
+        wanted: &[true],
+        most: 2,
+    },
+    Marks {
+        content: b"ij",
+        files: &[b"XXij\0"],
+        wanted: &[true],
+        most: 5,
+    },
+    Marks {
+        content: b"ij",
+        files: &[b"ijk"],
+        wanted: &[false],
+        most: 3,
+    },
+    Marks {
+        content: b"i\0",
+        files: &[b"i"],
+        wanted: &[false],
+        most: 0,
+    },
+];
+
+#[test]
+fn a_short_slice_is_marked_where_the_file_ends_or_goes_on_with_zeros(
+    rt: HostRuntime,
+) -> Result<(), Fail> {
+    mark_each(&rt, &SHORT)
+}
+
+static NO_FIT: [Marks<'static>; 1] = [Marks {
+    content: b"abcdefgh",
+    files: &[b"", b"a", b"ab", b"abc"],
+    wanted: &[false, false],
+    most: 0,
+}];
+
+#[test]
+fn files_into_which_no_slice_fits_are_not_read(rt: HostRuntime) -> Result<(), Fail> {
+    mark_each(&rt, &NO_FIT)
+}
+
+// Surveys files for two slices, of which those with these marks are found before; wants both
+// found. The answer is how many bytes were handed over.
+fn handed_for(
+    rt: &(impl Abort + AllocGlobal),
+    files: &[&[u8]],
+    failing: u64,
+    marks: [bool; 2],
+) -> Result<u64, Fail> {
+    let mut found = marks;
+    let mut shelf = shelf_of(rt, files, 64, failing)?;
+    surveys(
+        rt,
+        b"abcdefgh",
+        &mut shelf,
+        &mut found,
+        Ok(()),
+        &[true, true],
+    )?;
+    Ok(handed(&shelf))
+}
+
+#[test]
+fn nothing_is_read_where_each_slice_has_its_mark(rt: HostRuntime) -> Result<(), Fail> {
+    is_handed(&rt, handed_for(&rt, &[b"abcdefgh"], 1, [true, true])?, 0);
+    Ok(())
+}
+
+// A file with two slices near its beginning, and much behind them.
+fn long_file(alloc: Global) -> Result<Vec<u8>, AllocError> {
+    let mut file = Vec::from_slice(alloc, b"XXabcdefgh")?;
+    file.extend_from_slice(&[b'x'; 20_000])?;
+    Ok(file)
+}
+
+// Surveys that file, and one behind it that has both slices.
+fn mark_long(rt: &(impl Abort + AllocGlobal), long: &[u8]) -> Result<(), Fail> {
+    let marks = Marks {
+        content: b"abcdefgh",
+        files: &[long, b"abcdefgh"],
+        wanted: &[true, true],
+        most: 6 + 4 + 4_096,
+    };
+    mark(rt, &marks)
+}
+
+#[test]
+fn reading_stops_once_each_slice_is_found(rt: HostRuntime) -> Result<(), Fail> {
+    let long = long_file(rt.alloc())?;
+    mark_long(&rt, long.as_slice())
+}
+
+// The same where the second slice has its mark.
+fn mark_first(rt: &(impl Abort + AllocGlobal), long: &[u8]) -> Result<(), Fail> {
+    let bytes = handed_for(rt, &[long, b"abcdefgh"], 0, [false, true])?;
+    is_handed_at_most(rt, bytes, 2 + 4 + 4_096);
+    Ok(())
+}
+
+#[test]
+fn reading_stops_once_the_slice_without_a_mark_is_found(rt: HostRuntime) -> Result<(), Fail> {
+    let long = long_file(rt.alloc())?;
+    mark_first(&rt, long.as_slice())
+}
+
+// Surveys two files, of which the read of one number fails.
+fn fails(
+    rt: &(impl Abort + AllocGlobal),
+    piece: usize,
+    failing: u64,
+    answer: Answer,
+    wanted: &[bool],
+) -> Result<(), Fail> {
+    let mut found = [false, false, false];
+    let mut shelf = shelf_of(rt, &[b"abcd", b"XXefghijkl"], piece, failing)?;
+    surveys(rt, b"abcdefghijkl", &mut shelf, &mut found, answer, wanted)
+}
+
+// How many bytes a read gives at most, the numbers of the first and the last read of which each
+// fails in turn, the answer, and the marks.
+static FAILURES: [(usize, u64, u64, Answer, [bool; 3]); 7] = [
+    (1, 1, 4, Err((0, ReadFault::Failed)), [false, false, false]),
+    (1, 5, 10, Err((1, ReadFault::Failed)), [true, false, false]),
+    (1, 11, 14, Err((1, ReadFault::Failed)), [true, true, false]),
+    (1, 15, 15, Ok(()), [true, true, true]),
+    (64, 1, 1, Err((0, ReadFault::Failed)), [false, false, false]),
+    (64, 2, 2, Err((1, ReadFault::Failed)), [true, false, false]),
+    (64, 3, 3, Ok(()), [true, true, true]),
+];
+
+#[test]
+fn after_a_failed_read_the_marks_before_it_stand(rt: HostRuntime) -> Result<(), Fail> {
+    for (piece, first, last, answer, wanted) in &FAILURES {
+        for failing in *first..=*last {
+            fails(&rt, *piece, failing, *answer, wanted)?;
+        }
+    }
+    Ok(())
+}
+
+// The answer of a survey for three slices, in a window of its own.
+fn surveyed(
+    rt: &(impl Abort + AllocGlobal),
+    index: &Index,
+    shelf: &mut MemShelf,
+    found: &mut [bool],
+) -> Result<(), SurveyFault> {
+    assert_eq!(rt; (index.slices(), found.len()), (3, 3));
+    survey(rt.alloc(), index, shelf, found)
+}
+
+// Wants this answer of a survey in a window of its own.
+fn is_own_answer(
+    rt: &impl Abort,
+    answer: Result<(), SurveyFault>,
+    wanted: Result<(), SurveyFault>,
+) {
+    assert_eq!(rt; answer, wanted);
+}
+
+// Surveys files for three slices, the third of which has its mark; wants this answer and these
+// marks.
+fn surveys_three(
+    rt: &(impl Abort + AllocGlobal),
+    index: &Index,
+    shelf: &mut MemShelf,
+    answer: Result<(), SurveyFault>,
+    wanted: &[bool],
+) {
+    let mut found = [false, false, true];
+    is_own_answer(rt, surveyed(rt, index, shelf, &mut found), answer);
+    are_marks(rt, &found, wanted);
+}
+
+// Surveys files of which the first read fails, and others.
+fn surveys_both(
+    rt: &(impl Abort + AllocGlobal),
+    failing: &mut MemShelf,
+    shelf: &mut MemShelf,
+) -> Result<(), Fail> {
+    let index = index_of(rt.alloc(), b"abcdefghijkl")?;
+    let fault = Err(SurveyFault::Read(1, ReadFault::Failed));
+    surveys_three(rt, &index, failing, fault, &[false, false, true]);
+    surveys_three(rt, &index, shelf, Ok(()), &[true, false, true]);
+    Ok(())
+}
+
+#[test]
+fn a_survey_marks_what_a_search_finds(rt: HostRuntime) -> Result<(), Fail> {
+    let mut failing = shelf_of(&rt, &[b"ab", b"XXabcdefgh"], 64, 1)?;
+    let mut shelf = shelf_of(&rt, &[b"XXabcd"], 64, 0)?;
+    surveys_both(&rt, &mut failing, &mut shelf)
+}
+
+// What the word counts that bounds the digests of a survey. Does nothing.
+fn missing_law()
+    ensures none { missing_places two_slices (false ∷ false ∷ []) ≡ 2 }
+    ensures one { missing_places two_slices (true ∷ false ∷ []) ≡ 1 }
+    ensures all { missing_places two_slices (true ∷ true ∷ []) ≡ 0 }
+    ensures equal { missing_places equal_slices (true ∷ false ∷ []) ≡ 6 }
+    ensures both { missing_places equal_slices (true ∷ true ∷ []) ≡ 0 }
+{}
+
+#[test]
+fn digests_are_counted_where_a_slice_has_no_mark(_rt: HostRuntime) {
+    missing_law();
+}
