@@ -1,5 +1,5 @@
 // Lists of more than a block of 65,536 bytes.
-use crate::tests::fixtures::{Files, Outcome, Room, packet_file, ran_with};
+use crate::tests::fixtures::{Files, Outcome, Room, joined, packet_file, ran_with, repeated};
 use parreport::RunFault;
 use std::alloc::{AllocError, Global};
 use std::process::Abort;
@@ -13,15 +13,6 @@ const ASIDES: u64 = 3200;
 
 // So many bytes of a list are taken, and then the sink fails.
 static ROOMS: [usize; 7] = [0, 1, 65_535, 65_536, 65_600, 66_500, 1_000_000];
-
-// The bytes, so many times.
-fn repeated(alloc: Global, bytes: &[u8], times: u64) -> Result<Vec<u8>, AllocError> {
-    let mut all = Vec::new(alloc);
-    for _ in 0..times {
-        all.extend_from_slice(bytes)?;
-    }
-    Ok(all)
-}
 
 // The list of so many Creator packets of 68 bytes.
 fn packets_list(alloc: Global) -> Result<String, AllocError> {
@@ -93,19 +84,30 @@ fn lists(
 
 #[test]
 fn packets_writes_each_block_once(rt: HostRuntime) -> Result<(), Fail> {
-    let creator = packet_file("creator_of_g").ok_or("no such packet file")?;
+    let creator = packet_file("creator_of_g")?;
     let packets = repeated(rt.alloc(), creator, PACKETS)?;
     let list = packets_list(rt.alloc())?;
     lists(&rt, "packets", &packets, list.as_bytes())
 }
 
+// The packets of the set of g, and the one behind them that is put aside.
+fn parted(set: &'static [u8]) -> Result<(&'static [u8], &'static [u8]), &'static str> {
+    match (set.get(..340), set.get(340..)) {
+        (Some(front), Some(aside)) => Ok((front, aside)),
+        _ => Err("too short"),
+    }
+}
+
+// Packets, and so many that are put aside behind them.
+fn with_asides(alloc: Global, front: &[u8], aside: &[u8]) -> Result<Vec<u8>, AllocError> {
+    let asides = repeated(alloc, aside, ASIDES)?;
+    joined(alloc, front, &asides)
+}
+
 #[test]
 fn set_writes_each_block_once(rt: HostRuntime) -> Result<(), Fail> {
-    let set = packet_file("g").ok_or("no such packet file")?;
-    let front = set.get(..340).ok_or("too short")?;
-    let aside = set.get(340..).ok_or("too short")?;
-    let mut packets = Vec::from_slice(rt.alloc(), front)?;
-    packets.append(&mut repeated(rt.alloc(), aside, ASIDES)?)?;
+    let (front, aside) = parted(packet_file("g")?)?;
+    let packets = with_asides(rt.alloc(), front, aside)?;
     let list = set_list(rt.alloc(), aside.len() as u64)?;
     lists(&rt, "set", &packets, list.as_bytes())
 }

@@ -1,7 +1,7 @@
 use crate::tests::ending::ends_with;
-use crate::tests::fixtures::{is_same, is_text, packet_file, shelf_of, words_of};
+use crate::tests::fixtures::{is_same, is_text, joined, packet_file, put, shelf_of, words_of};
 use parreport::{Command, End, MemSink, Plan, Status, run};
-use parshelf::{DiskShelf, OpenFault, Shelf};
+use parshelf::{DiskShelf, MemShelf, OpenFault, Shelf};
 use parwords::plan;
 use std::alloc::{AllocError, Global};
 use std::test::Fail;
@@ -40,25 +40,46 @@ fn path_for(rt: &HostRuntime, name: &str) -> Result<String, AllocError> {
     format!(in rt.alloc(); "/tmp/parv_{number}_{name}.par2")
 }
 
+// The plan of words.
+fn plan_for(alloc: Global, words: &[String]) -> Result<Plan, &'static str> {
+    plan(alloc, words).ok().ok_or("plan")
+}
+
 // The plan of `packets` over one file.
 fn plan_over(rt: &HostRuntime, path: &str) -> Result<Plan, Fail> {
     let words = words_of(rt.alloc(), &["packets", path])?;
-    let plan = plan(rt.alloc(), &words).ok().ok_or("plan")?;
+    let plan = plan_for(rt.alloc(), &words)?;
     Ok(plan)
+}
+
+// No files in memory.
+fn no_files(alloc: Global) -> Result<MemShelf, AllocError> {
+    shelf_of(alloc, &[], 1, 0)
+}
+
+// Writes the packets of one file into a sink.
+fn list_into(
+    alloc: Global,
+    plan: &Plan,
+    shelf: &mut DiskShelf,
+    scanned: &mut MemShelf,
+    out: &mut MemSink,
+) -> Result<(), &'static str> {
+    if shelf.count() as usize != plan.packets.len() || plan.command != Command::Packets {
+        return Err("another plan");
+    }
+    match run(alloc, plan, shelf, scanned, out) {
+        Ok(Status::Listed) => Ok(()),
+        _ => Err("no list"),
+    }
 }
 
 // What the plan of `packets` over one file writes.
 fn listed(rt: &HostRuntime, plan: &Plan, shelf: &mut DiskShelf) -> Result<Vec<u8>, Fail> {
-    if shelf.count() as usize != plan.packets.len() || plan.command != Command::Packets {
-        return Err("another plan".into());
-    }
-    let alloc = rt.alloc();
-    let mut scanned = shelf_of(alloc, &[], 1, 0)?;
-    let mut out = MemSink::new(alloc, 4096, 4096, false)?;
-    match run(alloc, plan, shelf, &mut scanned, &mut out) {
-        Ok(Status::Listed) => Ok(Vec::from_slice(alloc, out.text())?),
-        _ => Err("no list".into()),
-    }
+    let mut scanned = no_files(rt.alloc())?;
+    let mut out = MemSink::new(rt.alloc(), 4096, 4096, false)?;
+    list_into(rt.alloc(), plan, shelf, &mut scanned, &mut out)?;
+    Ok(joined(rt.alloc(), out.text(), b"")?)
 }
 
 // The files on disk of the plan of `packets` over one file.
@@ -93,10 +114,9 @@ fn listed_from(rt: &HostRuntime, path: &str, bytes: &[u8]) -> Result<Vec<u8>, Fa
 fn text_of(alloc: Global, path: &str, lines: &[&str], last: &str) -> Result<String, AllocError> {
     let mut text = String::new(alloc);
     for line in lines {
-        text.push_str(path)?;
-        text.push_str(line)?;
+        put(&mut text, path, line)?;
     }
-    text.push_str(last)?;
+    put(&mut text, last, "")?;
     Ok(text)
 }
 
@@ -107,7 +127,7 @@ fn listed_and_wanted(
     lines: &[&str],
     last: &str,
 ) -> Result<(Vec<u8>, String), Fail> {
-    let bytes = packet_file(name).ok_or("no such packet file")?;
+    let bytes = packet_file(name)?;
     let path = path_for(rt, name)?;
     let listed = listed_from(rt, path.as_str(), bytes)?;
     let text = text_of(rt.alloc(), path.as_str(), lines, last)?;

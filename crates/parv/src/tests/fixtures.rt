@@ -13,22 +13,36 @@ use std::fmt::Debug;
 use std::process::Abort;
 use std::test::Fail;
 
+// A name, and the bytes of the packet file that goes by it.
+type Named = (&'static str, &'static [u8]);
+
+// Whether a packet file goes by this name.
+fn goes_by(file: &'static Named, name: &str) -> bool {
+    file.0.as_bytes() == name.as_bytes()
+}
+
 // The bytes of the file that goes by this name among some.
-fn named(files: &'static [(&'static str, &'static [u8])], name: &str) -> Option<&'static [u8]> {
-    for (known, bytes) in files {
-        if *known == name {
-            return Some(*bytes);
+fn named(files: &'static [Named], name: &str) -> Option<&'static [u8]> {
+    for file in files {
+        if goes_by(file, name) {
+            return Some(file.1);
         }
     }
     None
 }
 
 /// The bytes of the packet file that goes by this name.
-pub fn packet_file(name: &str) -> Option<&'static [u8]> {
+pub fn packet_file(name: &str) -> Result<&'static [u8], &'static str> {
     match named(&PACKET_FILES, name) {
-        Some(bytes) => Some(bytes),
-        None => named(&PACKET_SETS, name),
+        Some(bytes) => Ok(bytes),
+        None => named(&PACKET_SETS, name).ok_or("no such packet file"),
     }
+}
+
+// Puts a packet file behind others.
+fn put_file(files: &mut Vec<&'static [u8]>, file: &'static [u8]) -> Result<(), AllocError> {
+    files.push(file)?;
+    Ok(())
 }
 
 /// The bytes of the packet files that go by these names.
@@ -38,17 +52,46 @@ pub fn packet_files(
 ) -> Result<Vec<&'static [u8]>, Fail> {
     let mut files = Vec::new(rt.alloc());
     for name in names {
-        files.push(packet_file(name).ok_or("no such packet file")?)?;
+        put_file(&mut files, packet_file(name)?)?;
     }
     Ok(files)
+}
+
+/// Puts a word behind others.
+pub fn put_word(alloc: Global, all: &mut Vec<String>, word: &str) -> Result<(), AllocError> {
+    let word = String::from_str(alloc, word)?;
+    all.push(word)?;
+    Ok(())
 }
 
 /// The words of a command line.
 pub fn words_of(alloc: Global, words: &[&str]) -> Result<Vec<String>, AllocError> {
     let mut all = Vec::new(alloc);
     for word in words {
-        all.push(String::from_str(alloc, word)?)?;
+        put_word(alloc, &mut all, word)?;
     }
+    Ok(all)
+}
+
+/// Puts two parts behind a text.
+pub fn put(text: &mut String, first: &str, last: &str) -> Result<(), AllocError> {
+    text.push_str(first)?;
+    text.push_str(last)
+}
+
+/// The bytes, so many times.
+pub fn repeated(alloc: Global, bytes: &[u8], times: u64) -> Result<Vec<u8>, AllocError> {
+    let mut all = Vec::new(alloc);
+    for _ in 0..times {
+        all.extend_from_slice(bytes)?;
+    }
+    Ok(all)
+}
+
+/// Bytes, and others behind them.
+pub fn joined(alloc: Global, first: &[u8], last: &[u8]) -> Result<Vec<u8>, AllocError> {
+    let mut all = Vec::from_slice(alloc, first)?;
+    all.extend_from_slice(last)?;
     Ok(all)
 }
 
@@ -149,6 +192,13 @@ fn sink_with(rt: &(impl Abort + AllocGlobal), room: Room) -> Result<MemSink, All
     MemSink::new(rt.alloc(), room.bytes, room.piece, room.takes_zero)
 }
 
+// Wants that so many files are in memory.
+fn has_count(rt: &impl Abort, shelf: &MemShelf, count: usize)
+    ensures { length (shelf_state_of shelf.now).lengths ≡ count }
+{
+    assert_eq!(rt; shelf.count() as usize, count);
+}
+
 // Runs a plan over as many files as it has.
 fn run_over(
     rt: &(impl Abort + AllocGlobal),
@@ -159,9 +209,9 @@ fn run_over(
 ) -> Result<Status, RunFault>
     requires { HasLimit plan.now.command }
 {
-    assert_eq!(rt; packets.count() as usize, plan.packets.len());
+    has_count(rt, packets, plan.packets.len());
     if reads_scanned(plan.command) {
-        assert_eq!(rt; scanned.count() as usize, plan.scanned.len());
+        has_count(rt, scanned, plan.scanned.len());
     }
     run(rt.alloc(), plan, packets, scanned, out)
 }
@@ -205,7 +255,7 @@ fn ran_plan(
 
 /// Wants that a value is this one, and else names what it is of.
 pub fn is_same<T: PartialEq + Debug>(rt: &impl Abort, found: &T, wanted: &T, of: &impl Debug) {
-    assert_eq!(rt; found, wanted, "{of:?}");
+    assert_eq!(rt; *found, *wanted, "{of:?}");
 }
 
 /// Wants that bytes are this text, and else names what they are of.

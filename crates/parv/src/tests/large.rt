@@ -1,4 +1,4 @@
-use crate::tests::fixtures::{Files, packet_file};
+use crate::tests::fixtures::{Files, joined, packet_file, repeated};
 use crate::tests::rows::{Ends, runs_so};
 use std::alloc::{AllocError, Global};
 use std::process::Abort;
@@ -17,18 +17,17 @@ fn over<'p>(packets: &'p [&'p [u8]]) -> Files<'p, 'static> {
     }
 }
 
-// A front with so many zeros behind it.
-fn with_zeros(alloc: Global, front: &[u8], zeros: usize) -> Result<Vec<u8>, AllocError> {
-    let mut bytes = Vec::from_slice(alloc, front)?;
-    bytes.append(&mut vec![in alloc; 0; zeros]?)?;
-    Ok(bytes)
+// A front with 1,048,580 zeros behind it.
+fn with_zeros(alloc: Global, front: &[u8]) -> Result<Vec<u8>, AllocError> {
+    let zeros = repeated(alloc, &[0; 20], 52_429)?;
+    joined(alloc, front, &zeros)
 }
 
 #[test]
 fn creator_packet_above_the_limit_is_put_aside(rt: HostRuntime) -> Result<(), Fail> {
-    let set = packet_file("g").ok_or("no such packet file")?;
-    let front = packet_file("large_creator_front").ok_or("no such packet file")?;
-    let large = with_zeros(rt.alloc(), front, 1_048_580)?;
+    let set = packet_file("g")?;
+    let front = packet_file("large_creator_front")?;
+    let large = with_zeros(rt.alloc(), front)?;
     runs_so(
         &rt,
         &["set", "g.par2", "c.par2"],
@@ -70,12 +69,8 @@ static BEHIND: [(&[&str], &str, u8); 3] = [
 
 // The last bytes behind 1,001 times the first.
 fn behind_many(alloc: Global, first: &[u8], last: &[u8]) -> Result<Vec<u8>, AllocError> {
-    let mut many = Vec::new(alloc);
-    for _ in 0..1001 {
-        many.extend_from_slice(first)?;
-    }
-    many.extend_from_slice(last)?;
-    Ok(many)
+    let many = repeated(alloc, first, 1001)?;
+    joined(alloc, &many, last)
 }
 
 // Wants that each command line over a packet file ends so.
@@ -88,8 +83,8 @@ fn all_end_so(rt: &(impl Abort + AllocGlobal), packets: &[u8]) -> Result<(), Fai
 
 #[test]
 fn set_behind_more_than_a_thousand_packets(rt: HostRuntime) -> Result<(), Fail> {
-    let creator = packet_file("creator_of_g").ok_or("no such packet file")?;
-    let set = packet_file("g").ok_or("no such packet file")?;
+    let creator = packet_file("creator_of_g")?;
+    let set = packet_file("g")?;
     let many = behind_many(rt.alloc(), creator, set)?;
     all_end_so(&rt, &many)
 }

@@ -115,11 +115,17 @@ fn file_read(reads: &[u64], number: u64) -> Option<u32> {
     None
 }
 
+// Whether a word names a packet file, or else a scanned file.
+fn is_path(word: &str, packet: bool) -> bool {
+    word.ends_with(".par2") == packet
+}
+
 // The packet file, or else the scanned file, of a number, as the words name it.
 fn path_of(words: &'static [&'static str], packet: bool, file: u32) -> Option<&'static str> {
+    let (_, paths) = words.split_first()?;
     let mut left = file;
-    for word in words.iter().skip(1) {
-        if word.ends_with(".par2") == packet {
+    for word in paths {
+        if is_path(word, packet) {
             if left == 0 {
                 return Some(*word);
             }
@@ -127,6 +133,11 @@ fn path_of(words: &'static [&'static str], packet: bool, file: u32) -> Option<&'
         }
     }
     None
+}
+
+// The numbers of the reads of packet files and of scanned files where this one fails.
+fn failing(packet: bool, number: u64) -> (u64, u64) {
+    if packet { (number, 0) } else { (0, number) }
 }
 
 // The run of a row where one read fails, of the packet files or else of the scanned file.
@@ -138,12 +149,13 @@ fn ran_failing(
     number: u64,
 ) -> Result<Outcome, Fail> {
     let packets = packet_files(rt, row.packets)?;
+    let (failing_packet, failing_scanned) = failing(packet, number);
     let files = Files {
         packets: packets.as_slice(),
         scanned: row.scanned,
         piece,
-        failing_packet: if packet { number } else { 0 },
-        failing_scanned: if packet { 0 } else { number },
+        failing_packet,
+        failing_scanned,
     };
     ran_with(rt, row.words, files, ROOMY)
 }
@@ -274,12 +286,22 @@ fn found_in_both(rt: &(impl Abort + AllocGlobal), number: u64) -> Result<Outcome
     ran_with(rt, &["find", "v.par2", "x.bin", "y.bin"], files, ROOMY)
 }
 
+// Whether the line of a read fault names this file.
+fn names(line: &[u8], path: &str) -> bool {
+    path_in(line) == Some(path)
+}
+
+// Wants that a text is what x.bin has of the set.
+fn has_both(rt: &impl Abort, text: &[u8]) {
+    let second = text.strip_prefix(FIRST.as_bytes());
+    is_same(rt, &second, &Some(SECOND.as_bytes()), &"y.bin");
+}
+
 // Whether the second file failed; wants the lines of the first then.
 fn second_fails(rt: &impl Abort, ran: &Outcome) -> bool {
-    let fails = path_in(&ran.line) == Some("y.bin");
+    let fails = names(&ran.line, "y.bin");
     if fails {
-        let text = ran.text.strip_prefix(FIRST.as_bytes());
-        is_same(rt, &text, &Some(SECOND.as_bytes()), &"y.bin");
+        has_both(rt, &ran.text);
     }
     fails
 }

@@ -1,4 +1,4 @@
-use crate::tests::fixtures::{is_same, words_of};
+use crate::tests::fixtures::{is_same, put, put_word, words_of};
 use parcursor::Cursor;
 use parfield::Hash16;
 use parreport::{Command, Plan, PlanFault};
@@ -181,13 +181,18 @@ static VERBS: [(&str, Command); 4] = [
     ("verify", Command::Verify { quiet: 0 }),
 ];
 
+// Wants that a word before a packet file is this command.
+fn is_verb(rt: &(impl Abort + AllocGlobal), word: &str, command: Command) -> Result<(), Fail> {
+    is_command(rt, &[word, "v.par2"], command)?;
+    is_command(rt, &[word, "--", "v.par2"], command)?;
+    is_command(rt, &[word, "v.par2", "-"], command)
+}
+
 #[test]
 fn the_first_word_is_the_command(rt: HostRuntime) -> Result<(), Fail> {
     for (word, command) in &VERBS {
-        is_command(&rt, &[*word, "v.par2"], *command)?;
+        is_verb(&rt, word, *command)?;
         is_refused(&rt, &["v.par2", *word], PlanFault::Usage)?;
-        is_command(&rt, &[*word, "--", "v.par2"], *command)?;
-        is_command(&rt, &[*word, "v.par2", "-"], *command)?;
     }
     Ok(())
 }
@@ -314,19 +319,28 @@ static FILES: [(&[&str], &str); 14] = [
     ),
 ];
 
+// Puts the packet files of a plan behind a text.
+fn put_packets(text: &mut String, plan: &Plan) -> Result<(), AllocError> {
+    for file in plan.packets.as_slice() {
+        put(text, file.as_str(), "|")?;
+    }
+    Ok(())
+}
+
+// Puts the scanned files of a plan behind a text.
+fn put_scanned(text: &mut String, plan: &Plan) -> Result<(), AllocError> {
+    for file in plan.scanned.as_slice() {
+        put(text, file.path.as_str(), " as ")?;
+        put(text, file.name.as_str(), "|")?;
+    }
+    Ok(())
+}
+
 // The files of a plan.
 fn files_of(alloc: Global, plan: &Plan) -> Result<String, AllocError> {
     let mut text = String::new(alloc);
-    for file in plan.packets.as_slice() {
-        text.push_str(file.as_str())?;
-        text.push_str("|")?;
-    }
-    for file in plan.scanned.as_slice() {
-        text.push_str(file.path.as_str())?;
-        text.push_str(" as ")?;
-        text.push_str(file.name.as_str())?;
-        text.push_str("|")?;
-    }
+    put_packets(&mut text, plan)?;
+    put_scanned(&mut text, plan)?;
     Ok(text)
 }
 
@@ -362,7 +376,7 @@ fn files_by_their_ending_and_names_under_the_base(rt: HostRuntime) -> Result<(),
 fn fault_over(alloc: Global, others: u32) -> Result<Option<PlanFault>, AllocError> {
     let mut words = words_of(alloc, &["packets", "a.par2"])?;
     for _ in 0..others {
-        words.push(String::from_str(alloc, "x")?)?;
+        put_word(alloc, &mut words, "x")?;
     }
     Ok(plan(alloc, &words).err())
 }
