@@ -6,6 +6,7 @@ use Rattle.std.proofs.lemmas.Grind.{flat_map-append}
 use Rattle.std.proofs.lemmas.Option.{slice_get_past, slice_get-get_or, none-some, same_Some}
 use Rattle.parfield.specs.declared.hash16.Hash16.{Hash16}
 use Rattle.parset.specs.RecoverySet.{SetView}
+use Rattle.parshelf.proofs.BlockLaws.{appended_twice}
 use Rattle.parshelf.specs.Shelf.{ShelfState}
 use Rattle.parshelf.specs.Reads.{ReadsOnly}
 use Rattle.parshelf.specs.declared.reading.ReadFault.{ReadFault}
@@ -57,10 +58,6 @@ slice_get-front : (xs ys : List Sighting) (n : ℕ) → n < length xs → slice_
 slice_get-front [] ys n within = absurd (omega arith)
 slice_get-front (x ∷ xs) ys zero within = refl
 slice_get-front (x ∷ xs) ys (suc n) within = slice_get-front xs ys n (omega arith)
-
-appended_twice : (s t u : SinkState) (a b : List ℕ) → t ≡ appended s a → u ≡ appended t b → u ≡ appended s (a ++ b)
-appended_twice s t u a b first second =
-    second ∙ (ap (λ (v : SinkState). appended v b) first ∙ ap (λ (ys : List ℕ). record s { bytes = ys }) (append_assoc s.bytes a b))
 
 -- a beginning of a part that follows what was written, and then a failure
 RefusesFront_later : (s t u : SinkState) (a part more text : List ℕ) → t ≡ appended s a → text ≡ a ++ (part ++ more)

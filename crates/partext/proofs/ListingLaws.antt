@@ -3,7 +3,7 @@ use Rattle.std.proofs.Common.{◌≡◌, ◌<◌, ◌+◌, ◌∙◌, ℕ, Bool,
 use Rattle.std.proofs.lemmas.List.{drop_more}
 use Rattle.std.specs.List.{flat_map}
 use Rattle.parshelf.proofs.BlockLaws.{Waits_all, Waits_ends, Waits_pushed, Waits_more, Waits_refused, Begins_front}
-use Rattle.parshelf.specs.Blocks.{Waits, Begins}
+use Rattle.parshelf.specs.Blocks.{Waits}
 use Rattle.parshelf.specs.SinkState.{SinkState, RefusesFront}
 use Rattle.partext.specs.Listing.{Breaks}
 use Rattle.partext.specs.Outcomes.{Answers}
@@ -99,24 +99,26 @@ module _ (own files others have creator asides w0 w1 : List ℕ) (start : SinkSt
   files_break why mid breaks = Breaks_later why start start mid whole_of w1 files (others ++ (have ++ (creator ++ asides))) own_waits breaks
 
   module _ (mid : SinkState) (w2 : List ℕ) (second : Waits start mid (w1 ++ files) w2) where
-    files_wait : Waits start mid whole_of (w2 ++ (others ++ (have ++ (creator ++ asides))))
-    files_wait = Waits_more start start mid whole_of w1 files (others ++ (have ++ (creator ++ asides))) w2 own_waits second
+    files_wait : Waits start mid whole_of (w2 ++ ((others ++ (have ++ creator)) ++ asides))
+    files_wait =
+        let joined : others ++ (have ++ (creator ++ asides)) ≡ (others ++ (have ++ creator)) ++ asides
+        = ap (λ ys. others ++ ys) (sym (append_assoc have creator asides)) ∙ sym (append_assoc others (have ++ creator) asides) in
+        subst (λ ys. Waits start mid whole_of (w2 ++ ys)) joined
+        (Waits_more start start mid whole_of w1 files (others ++ (have ++ (creator ++ asides))) w2 own_waits second)
 
-    pub counts_break : Begins start mid whole_of
-    counts_break = record { waiting = w2 ++ (others ++ (have ++ (creator ++ asides))); waits = files_wait }
+    pub counts_break : (why : RunFault) (next : SinkState) → Breaks why mid next (w2 ++ (others ++ (have ++ creator)))
+        → Breaks why start next whole_of
+    counts_break why next breaks = Breaks_later why start mid next whole_of w2 (others ++ (have ++ creator)) asides files_wait breaks
 
-    module _ (w3 : List ℕ) (third : w3 ≡ w2 ++ (others ++ (have ++ creator))) where
-      counts_wait : Waits start mid whole_of (w3 ++ (asides ++ []))
+    module _ (next : SinkState) (w3 : List ℕ) (third : Waits mid next (w2 ++ (others ++ (have ++ creator))) w3) where
+      counts_wait : Waits start next whole_of (w3 ++ (asides ++ []))
       counts_wait =
-          let joined : others ++ (have ++ (creator ++ asides)) ≡ (others ++ (have ++ creator)) ++ asides
-          = ap (λ ys. others ++ ys) (sym (append_assoc have creator asides)) ∙ sym (append_assoc others (have ++ creator) asides) in
-          subst (λ ys. Waits start mid whole_of (w3 ++ ys)) (sym (append-nil asides))
-          (Waits_pushed start mid whole_of w2 (others ++ (have ++ creator)) asides w3
-          (subst (λ ys. Waits start mid whole_of (w2 ++ ys)) joined files_wait) third)
+          subst (λ ys. Waits start next whole_of (w3 ++ ys)) (sym (append-nil asides))
+          (Waits_more start mid next whole_of w2 (others ++ (have ++ creator)) asides w3 files_wait third)
 
-      pub asides_break : (why : RunFault) (new : SinkState) → Breaks why mid new (w3 ++ asides) → Breaks why start new whole_of
-      asides_break why new breaks = Breaks_later why start mid new whole_of w3 asides [] counts_wait breaks
+      pub asides_break : (why : RunFault) (new : SinkState) → Breaks why next new (w3 ++ asides) → Breaks why start new whole_of
+      asides_break why new breaks = Breaks_later why start next new whole_of w3 asides [] counts_wait breaks
 
-      pub asides_wait : (new : SinkState) (w4 : List ℕ) → Waits mid new (w3 ++ asides) w4 → Waits start new whole_of w4
+      pub asides_wait : (new : SinkState) (w4 : List ℕ) → Waits next new (w3 ++ asides) w4 → Waits start new whole_of w4
       asides_wait new w4 fourth =
-          subst (λ ys. Waits start new whole_of ys) (append-nil w4) (Waits_more start mid new whole_of w3 asides [] w4 counts_wait fourth)
+          subst (λ ys. Waits start new whole_of ys) (append-nil w4) (Waits_more start next new whole_of w3 asides [] w4 counts_wait fourth)

@@ -10,6 +10,11 @@ abbrev pub creator_lines : Option (List ℕ) → List ℕ
 creator_lines None = []
 creator_lines (Some text) = creator_line text
 
+-- the lines between those of the files and those of what is put aside
+abbrev pub counts_lines : SetView → List ℕ
+counts_lines set =
+    others_line set.others ++ (have_line set.have ++ creator_lines set.creator)
+
 -- the line of a packet that is put aside, among files of these names
 abbrev pub aside_among : List (List ℕ) → SetAside → List ℕ
 aside_among names put_aside = aside_line (slice_index_or names put_aside.file []) put_aside

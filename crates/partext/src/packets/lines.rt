@@ -1,6 +1,6 @@
-ghost use Rattle.std.specs.Prelude.{◌≡◌, ◌++◌, length, IfOk, OnOk, IfErr, string_bytes};
+ghost use Rattle.std.specs.Prelude.{◌≡◌, ◌++◌, ◌<◌, length, IfOk, OnOk, IfErr, string_bytes};
 ghost use Rattle.std.specs.List.{flat_map};
-ghost use Rattle.parshelf.specs.Blocks.{Waits};
+ghost use Rattle.parshelf.specs.Blocks.{block, Waits};
 ghost use Rattle.partext.specs.Lines.{packet_line, count_line, kind_word};
 ghost use Rattle.partext.specs.Listing.{Breaks};
 ghost use Rattle.partext.specs.PacketsText.{chosen_of, line_among};
@@ -29,6 +29,8 @@ pub fn put_packets<W: Sink>(
     ensures fault { IfErr result (λ fault. Breaks fault (W.state out.old) (W.state out.new)
         (string_bytes waiting.old
         ++ flat_map (line_among names.now) (chosen_of choice packets.now))) }
+    ensures less { OnOk result (length (string_bytes waiting.old) < block
+        → length (string_bytes waiting.new) < block) }
 {
     let mut count = 0u64;
     for packet in packets {
@@ -51,6 +53,7 @@ fn put_packet<W: Sink>(
         (string_bytes waiting.old ++ packet_line name.now packet.now) (string_bytes waiting.new)) }
     ensures fault { IfErr result (λ fault. Breaks fault (W.state out.old) (W.state out.new)
         (string_bytes waiting.old ++ packet_line name.now packet.now)) }
+    ensures less { OnOk result (length (string_bytes waiting.new) < block) }
 {
     push_packet(waiting, name, packet)?;
     Ok(write_block(out, waiting)?)

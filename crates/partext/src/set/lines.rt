@@ -1,9 +1,9 @@
-ghost use Rattle.std.specs.Prelude.{◌≡◌, ◌++◌, ◌<◌, OnOk, IfErr, string_bytes, option_map};
+ghost use Rattle.std.specs.Prelude.{◌≡◌, ◌++◌, ◌<◌, length, OnOk, IfErr, string_bytes, option_map};
 ghost use Rattle.std.specs.List.{flat_map};
-ghost use Rattle.parshelf.specs.Blocks.{Waits};
+ghost use Rattle.parshelf.specs.Blocks.{block, Waits};
 ghost use Rattle.partext.specs.Lines.{set_line, file_line, others_line, have_line, creator_line, aside_line, yes_or_no};
 ghost use Rattle.partext.specs.Listing.{Breaks};
-ghost use Rattle.partext.specs.SetText.{set_text, creator_lines, aside_among};
+ghost use Rattle.partext.specs.SetText.{set_text, counts_lines, creator_lines, aside_among};
 
 use crate::faults::RunFault;
 use crate::names::packet_name;
@@ -24,10 +24,11 @@ pub fn put_set<W: Sink>(
         (string_bytes waiting.old ++ set_text names.now set.now) (string_bytes waiting.new)) }
     ensures fault { IfErr result (λ fault. Breaks fault (W.state out.old) (W.state out.new)
         (string_bytes waiting.old ++ set_text names.now set.now)) }
+    ensures less { OnOk result (length (string_bytes waiting.new) < block) }
 {
     push_set(waiting, set)?;
     put_files(set.size(), set.files(), waiting, out)?;
-    push_counts(waiting, set)?;
+    put_counts(set, waiting, out)?;
     put_asides(names, set.aside(), waiting, out)
 }
 
@@ -55,6 +56,8 @@ fn put_files<W: Sink>(
         (string_bytes waiting.new)) }
     ensures fault { IfErr result (λ fault. Breaks fault (W.state out.old) (W.state out.new)
         (string_bytes waiting.old ++ flat_map (file_line size) files.now)) }
+    ensures less { OnOk result (length (string_bytes waiting.old) < block
+        → length (string_bytes waiting.new) < block) }
 {
     for file in files {
         put_file(size, file, waiting, out)?;
@@ -74,6 +77,7 @@ fn put_file<W: Sink>(
         (string_bytes waiting.old ++ file_line size file.now) (string_bytes waiting.new)) }
     ensures fault { IfErr result (λ fault. Breaks fault (W.state out.old) (W.state out.new)
         (string_bytes waiting.old ++ file_line size file.now)) }
+    ensures less { OnOk result (length (string_bytes waiting.new) < block) }
 {
     push_file(waiting, size, file)?;
     Ok(write_block(out, waiting)?)
@@ -100,11 +104,23 @@ fn yes_if(known: bool) -> &'static str
     if known { "yes" } else { "no" }
 }
 
+// Puts the lines between those of the files and those of the packets that are put aside behind
+// what waits, and writes that once it is a block.
+fn put_counts<W: Sink>(set: &RecoverySet, waiting: &mut String, out: &mut W) -> Result<(), RunFault>
+    ensures lines { OnOk result (Waits (W.state out.old) (W.state out.new)
+        (string_bytes waiting.old ++ counts_lines set.now) (string_bytes waiting.new)) }
+    ensures fault { IfErr result (λ fault. Breaks fault (W.state out.old) (W.state out.new)
+        (string_bytes waiting.old ++ counts_lines set.now)) }
+    ensures less { OnOk result (length (string_bytes waiting.new) < block) }
+{
+    push_counts(waiting, set)?;
+    Ok(write_block(out, waiting)?)
+}
+
 // Appends the lines between those of the files and those of the packets that are put aside.
 fn push_counts(text: &mut String, set: &RecoverySet) -> Result<(), AllocError>
-    ensures { OnOk result (string_bytes text.new ≡ string_bytes text.old
-        ++ (others_line set.now.others ++ (have_line set.now.have
-        ++ creator_lines set.now.creator))) }
+    ensures { OnOk result (string_bytes text.new
+        ≡ string_bytes text.old ++ counts_lines set.now) }
 {
     push_others(text, set.others())?;
     push_have(text, set.have())?;
@@ -151,6 +167,8 @@ fn put_asides<W: Sink>(
         (string_bytes waiting.new)) }
     ensures fault { IfErr result (λ fault. Breaks fault (W.state out.old) (W.state out.new)
         (string_bytes waiting.old ++ flat_map (aside_among names.now) asides.now)) }
+    ensures less { OnOk result (length (string_bytes waiting.old) < block
+        → length (string_bytes waiting.new) < block) }
 {
     for aside in asides {
         put_aside(names, aside, waiting, out)?;
@@ -170,6 +188,7 @@ fn put_aside<W: Sink>(
         (string_bytes waiting.old ++ aside_among names.now aside.now) (string_bytes waiting.new)) }
     ensures fault { IfErr result (λ fault. Breaks fault (W.state out.old) (W.state out.new)
         (string_bytes waiting.old ++ aside_among names.now aside.now)) }
+    ensures less { OnOk result (length (string_bytes waiting.new) < block) }
 {
     push_aside(waiting, packet_name(names, aside.file), aside)?;
     Ok(write_block(out, waiting)?)

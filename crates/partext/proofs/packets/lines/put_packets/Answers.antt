@@ -37,6 +37,7 @@ loop-packet-preserved g c =
             waits = line_more (line_among c.args.names.now) (chosen_of choice (drop i xs)) x (chosen_of choice (drop (i + 1) xs)) first _ _ _ _ _ before.waits _ line;
             counted = omega (arith, before.counted, one);
             few = omega (arith, before.few);
+            less = λ _. w.in_ok-put_packet.ensures.less;
           })
       | else-is_chosen w ↦
           let is : is_chosen choice x ≡ false = sym c.is_chosen.ensures ∙ w.if-is_chosen.false in
@@ -45,5 +46,6 @@ loop-packet-preserved g c =
             waits = rw same at before.waits;
             counted = rw same at before.counted;
             few = omega (arith, before.few);
+            less = before.less;
           })
     ]

@@ -15,13 +15,16 @@ returns-in_err-put_aside-clause-fault g c =
     rw (failed.1, failed.2)
     (line_breaks line (drop i xs) _ (drop (i + 1) xs) (drop_more xs i _ below)
     (g.W.Sink.state c.args.out.now) (g.W.Sink.state c.loop-aside.out) (g.W.Sink.state c.put_aside.new.out) text
-    (string_bytes c.loop-aside.waiting) c.loop-aside.invariant _ c.in_err-put_aside.ensures.fault)
+    (string_bytes c.loop-aside.waiting) c.loop-aside.invariant.waits _ c.in_err-put_aside.ensures.fault)
 
 pub loop-aside-preserved : goal.loop-aside-preserved
 loop-aside-preserved g c =
     let xs = c.args.asides.now in let i = c.loop-aside.aside-index in let below = c.loop-aside-test.true in
     let line = aside_among c.args.names.now in
     let text = string_bytes c.args.waiting.now ++ flat_map line xs in
-    line_more line (drop i xs) _ (drop (i + 1) xs) (drop_more xs i _ below)
-    (g.W.Sink.state c.args.out.now) (g.W.Sink.state c.loop-aside.out) (g.W.Sink.state c.put_aside.new.out) text
-    (string_bytes c.loop-aside.waiting) c.loop-aside.invariant (string_bytes c.put_aside.new.waiting) c.in_ok-put_aside.ensures.line
+    record {
+      waits = line_more line (drop i xs) _ (drop (i + 1) xs) (drop_more xs i _ below)
+          (g.W.Sink.state c.args.out.now) (g.W.Sink.state c.loop-aside.out) (g.W.Sink.state c.put_aside.new.out) text
+          (string_bytes c.loop-aside.waiting) c.loop-aside.invariant.waits (string_bytes c.put_aside.new.waiting) c.in_ok-put_aside.ensures.line;
+      less = λ _. c.in_ok-put_aside.ensures.less;
+    }

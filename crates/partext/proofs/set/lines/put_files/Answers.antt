@@ -14,13 +14,16 @@ returns-in_err-put_file-clause-fault g c =
     rw (failed.1, failed.2)
     (line_breaks line (drop i xs) x (drop (i + 1) xs) (rest_more xs i x c.loop-file-test.true c.file-item.is)
     (g.W.Sink.state c.args.out.now) (g.W.Sink.state c.loop-file.out) (g.W.Sink.state c.put_file.new.out) text
-    (string_bytes c.loop-file.waiting) c.loop-file.invariant _ c.in_err-put_file.ensures.fault)
+    (string_bytes c.loop-file.waiting) c.loop-file.invariant.waits _ c.in_err-put_file.ensures.fault)
 
 pub loop-file-preserved : goal.loop-file-preserved
 loop-file-preserved g c =
     let xs = c.args.files.now in let i = c.loop-file.file-index in let x = c.file-item.result in
     let line = file_line c.args.size in
     let text = string_bytes c.args.waiting.now ++ flat_map line xs in
-    line_more line (drop i xs) x (drop (i + 1) xs) (rest_more xs i x c.loop-file-test.true c.file-item.is)
-    (g.W.Sink.state c.args.out.now) (g.W.Sink.state c.loop-file.out) (g.W.Sink.state c.put_file.new.out) text
-    (string_bytes c.loop-file.waiting) c.loop-file.invariant (string_bytes c.put_file.new.waiting) c.in_ok-put_file.ensures.line
+    record {
+      waits = line_more line (drop i xs) x (drop (i + 1) xs) (rest_more xs i x c.loop-file-test.true c.file-item.is)
+          (g.W.Sink.state c.args.out.now) (g.W.Sink.state c.loop-file.out) (g.W.Sink.state c.put_file.new.out) text
+          (string_bytes c.loop-file.waiting) c.loop-file.invariant.waits (string_bytes c.put_file.new.waiting) c.in_ok-put_file.ensures.line;
+      less = λ _. c.in_ok-put_file.ensures.less;
+    }

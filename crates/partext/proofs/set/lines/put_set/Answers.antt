@@ -25,9 +25,9 @@ returns-in_err-put_files-clause-fault g c =
     rw (failed.1, failed.2)
     (files_break own files others have creator asides w0 w1 start c.in_ok-push_set.ensures _ (g.W.Sink.state c.put_files.new.out) breaks)
 
-pub returns-in_err-push_counts-clause-fault : goal.returns-in_err-push_counts-clause-fault
+pub returns-in_err-put_counts-clause-fault : goal.returns-in_err-put_counts-clause-fault
 unfolding set_text
-returns-in_err-push_counts-clause-fault g c =
+returns-in_err-put_counts-clause-fault g c =
     let set = c.args.set.now in let names = c.args.names.now in
     let own = set_line set in let files = flat_map (file_line set.size) set.files in let others = others_line set.others in
     let have = have_line set.have in let creator = creator_lines set.creator in let asides = flat_map (aside_among names) set.aside in
@@ -35,9 +35,10 @@ returns-in_err-push_counts-clause-fault g c =
     let start = g.W.Sink.state c.args.out.now in
     let mid = g.W.Sink.state c.put_files.new.out in
     let second = rw (c.size.ensures.field, c.files.ensures.field) at c.in_ok-put_files.ensures.lines in
-    let failed = err_from_is_err_and c.from_residual-in_err-push_counts.result c.from_residual-in_err-push_counts.ensures.1 in
+    let failed = err_from_is_err_and c.from_residual-in_err-put_counts.result c.from_residual-in_err-put_counts.ensures.1 in
     rw (failed.1, failed.2)
-    (counts_break own files others have creator asides w0 w1 start c.in_ok-push_set.ensures mid (string_bytes c.put_files.new.waiting) second)
+    (counts_break own files others have creator asides w0 w1 start c.in_ok-push_set.ensures mid (string_bytes c.put_files.new.waiting) second
+    _ (g.W.Sink.state c.put_counts.new.out) c.in_err-put_counts.ensures.fault)
 
 pub returns-clause-text : goal.returns-clause-text
 unfolding set_text
@@ -52,7 +53,8 @@ returns-clause-text g c =
     let last = rw c.aside.ensures at c.put_asides.ensures.lines in
     in_ok c.put_asides.result
     (asides_wait own files others have creator asides w0 w1 start c.in_ok-push_set.ensures mid (string_bytes c.put_files.new.waiting) second
-    (string_bytes c.push_counts.new.text) c.in_ok-push_counts.ensures new (string_bytes c.put_asides.new.waiting)) last
+    (g.W.Sink.state c.put_counts.new.out) (string_bytes c.put_counts.new.waiting) c.in_ok-put_counts.ensures.lines
+    new (string_bytes c.put_asides.new.waiting)) last
 
 pub returns-clause-fault : goal.returns-clause-fault
 unfolding set_text
@@ -67,4 +69,4 @@ returns-clause-fault g c =
     let last = rw c.aside.ensures at c.put_asides.ensures.fault in
     IfErr-weaker c.put_asides.result _ _
     (λ why. asides_break own files others have creator asides w0 w1 start c.in_ok-push_set.ensures mid (string_bytes c.put_files.new.waiting) second
-    (string_bytes c.push_counts.new.text) c.in_ok-push_counts.ensures why new) last
+    (g.W.Sink.state c.put_counts.new.out) (string_bytes c.put_counts.new.waiting) c.in_ok-put_counts.ensures.lines why new) last
