@@ -69,7 +69,7 @@ pub fn drive<H: Shelf>(
 fn put(answers: &mut Vec<Answer>, answer: Answer)
     requires { vec_len answers.old < vec_capacity answers.old }
     ensures items { answers.new.items ≡ answers.old.items ++ answer ∷ [] }
-    ensures capacity { vec_capacity answers.new ≡ vec_capacity answers.old }
+    ensures capacity { vec_capacity answers.old ≤ vec_capacity answers.new }
 {
     match answers.push(answer) {
         Ok(()) => {}
