@@ -1,4 +1,4 @@
-ghost use Rattle.std.specs.Prelude.{◌≡◌, ◌<◌, ◌≤◌, ◌++◌, ◌∷◌, [], All, Contains, IsTrue, IfOk, IfErr, vec_len, vec_capacity};
+ghost use Rattle.std.specs.Prelude.{◌≡◌, ◌+◌, ◌<◌, ◌≤◌, ◌++◌, ◌∷◌, [], All, Contains, IsTrue, IfOk, IfErr, vec_len, vec_capacity};
 ghost use Rattle.parcursor.specs.Order.{is_from};
 ghost use Rattle.parfind.specs.Marks.{marks};
 ghost use Rattle.parfind.specs.Reach.{HandsWithin};
@@ -69,6 +69,7 @@ pub fn drive<H: Shelf>(
 fn put(answers: &mut Vec<Answer>, answer: Answer)
     requires { vec_len answers.old < vec_capacity answers.old }
     ensures items { answers.new.items ≡ answers.old.items ++ answer ∷ [] }
+    ensures len { vec_len answers.new ≡ vec_len answers.old + 1 }
     ensures capacity { vec_capacity answers.old ≤ vec_capacity answers.new }
 {
     match answers.push(answer) {
