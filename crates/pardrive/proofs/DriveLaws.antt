@@ -1,5 +1,5 @@
 -- How calls go on, one after another.
-use Rattle.std.proofs.Common.{◌≡◌, ℕ, zero, suc, ◌+◌, ◌<◌, ◌≤◌, true, List, [], ◌∷◌, ◌++◌, length, drop, get_or, refl, sym, ap, ◌∙◌, subst, arith, append_assoc, append-nil, add-one, IsTrue, Option, Some, None, Result, Ok, Err}
+use Rattle.std.proofs.Common.{◌≡◌, ℕ, ◌+◌, ◌<◌, ◌≤◌, List, [], ◌∷◌, ◌++◌, length, drop, get_or, refl, sym, ap, ◌∙◌, subst, arith, append_assoc, append-nil, add-one, IsTrue, Option, Some, None, Result}
 use Rattle.std.specs.List.{Contains}
 use Rattle.std.proofs.Math.Seq.{drop-cons}
 use Rattle.std.proofs.lemmas.Grind.{common_steps}
@@ -8,12 +8,11 @@ use Rattle.parshelf.specs.declared.reading.ReadFault.{ReadFault}
 use Rattle.parwindow.specs.Index.{SliceSet}
 use Rattle.parcursor.specs.declared.cursor.Cursor.{Cursor}
 use Rattle.parcursor.specs.Order.{is_from}
-use Rattle.parcursor.proofs.OrderLaws.{From-by_test, is_from-true, From-refl, From-trans}
+use Rattle.parcursor.proofs.OrderLaws.{From-by_test, is_from-true, From-trans}
 use Rattle.parfind.specs.declared.finder.Step.{Step}
-use Rattle.parfind.specs.Finders.{FinderState, BelongsTo, search_of}
+use Rattle.parfind.specs.Finders.{FinderState, search_of}
 use Rattle.parfind.specs.Marks.{marks}
 use Rattle.parfind.specs.Moves.{StepMoves}
-use Rattle.parfind.specs.Places.{place_at}
 use Rattle.parfind.specs.Reach.{SearchState, CallReads, CallsRead, HandsWithin}
 use Rattle.parfind.specs.Steps.{StepGives, scan_of}
 use Rattle.parfind.proofs.MoveLaws.{moves_onward}

@@ -1,6 +1,5 @@
 -- Calls of a search, one after another.
-use Rattle.std.proofs.Common.{◌≡◌, ℕ, ◌+◌, ◌<◌, ◌≤◌, true, List, [], ◌∷◌, ◌++◌, length, map, sum, drop, get_or, refl, sym, ap, ◌∙◌, subst, arith, append_assoc, append-nil, add-one, IsTrue, Option, Some, None, Result, Ok, Err}
-use Rattle.std.proofs.Math.Seq.{drop-cons}
+use Rattle.std.proofs.Common.{◌≡◌, ℕ, ◌+◌, ◌<◌, List, [], ◌∷◌, ◌++◌, length, map, sum, refl, sym, ap, ◌∙◌, subst, arith, IsTrue, Option, Some, None, Result, Ok, Err}
 use Rattle.std.proofs.lemmas.Grind.{common_steps}
 use Rattle.std.proofs.lemmas.List.Sums.{sum_by-cons}
 use Rattle.parfield.specs.Added.{length-added_at, sum-added_at}
@@ -16,7 +15,7 @@ use Rattle.parcursor.proofs.OrderLaws.{From-by_test, is_from-true, From-refl, Fr
 use Rattle.parfind.specs.declared.finder.Step.{Step}
 use Rattle.parfind.specs.declared.finder.Step.TheVariants.{Hit, Spent, Done}
 use Rattle.parfind.specs.Sightings.{Scan, sightings_between}
-use Rattle.parfind.specs.Steps.{StepGives, scan_of, hit_of}
+use Rattle.parfind.specs.Steps.{StepGives, scan_of}
 use Rattle.parfind.proofs.SightingLaws.{between_joins}
 use Rattle.parfind.proofs.HandingLaws.{step_hands_out}
 use Rattle.pardrive.specs.declared.calls.Call.{Call}

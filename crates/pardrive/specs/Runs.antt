@@ -1,5 +1,5 @@
 -- A list of calls of a search, and what they answer.
-use Rattle.std.specs.Prelude.{◌≡◌, ℕ, ◌+◌, ◌<◌, List, [], ◌∷◌, Option, Some, None, Result, Ok, Err, IsTrue, map, sum}
+use Rattle.std.specs.Prelude.{◌≡◌, ℕ, ◌+◌, ◌<◌, List, [], ◌∷◌, Some, None, Ok, Err, IsTrue, map, sum}
 use Rattle.std.specs.List.{flat_map}
 use Rattle.parshelf.specs.Shelf.{ShelfState, IsShelf, failure_count}
 use Rattle.parshelf.specs.declared.reading.ReadFault.TheVariants.{Failed, Ended}

@@ -5,6 +5,8 @@ mod calls;
 mod driver;
 mod laws;
 #[cfg(test)]
+mod model_tests;
+#[cfg(test)]
 mod tests;
 
 pub use crate::calls::{Answer, Call, Drive};

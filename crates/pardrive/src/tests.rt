@@ -19,7 +19,7 @@ const START: Cursor = Cursor {
     slice: 0,
 };
 
-fn cursor(file: u32, offset: u64, slice: u32) -> Cursor {
+pub fn cursor(file: u32, offset: u64, slice: u32) -> Cursor {
     Cursor {
         file,
         offset,
@@ -37,7 +37,7 @@ fn hit(file: u32, offset: u64, slice: u32) -> Answer {
 
 const DONE: Answer = Answer::Step(Ok(Step::Done));
 
-const FAILED: Answer = Answer::Step(Err(ReadFault::Failed));
+pub const FAILED: Answer = Answer::Step(Err(ReadFault::Failed));
 
 // A packet of a set.
 fn packet(set: Hash16, kind: Kind, body: Vec<u8>) -> Result<Kept, Fail> {
@@ -103,13 +103,13 @@ fn set_of(alloc: Global, content: &[u8]) -> Result<RecoverySet, Fail> {
 }
 
 // An index of the slices of that set.
-fn index_of(rt: &(impl Abort + AllocGlobal), content: &[u8]) -> Result<Index, Fail> {
+pub fn index_of(rt: &(impl Abort + AllocGlobal), content: &[u8]) -> Result<Index, Fail> {
     let set = set_of(rt.alloc(), content)?;
     Ok(Index::new(rt.alloc(), &set)?)
 }
 
 // Files in memory that are read `piece` bytes at a time; the reads of these numbers fail.
-fn shelf_of(
+pub fn shelf_of(
     rt: &(impl Abort + AllocGlobal),
     files: &[&[u8]],
     piece: usize,

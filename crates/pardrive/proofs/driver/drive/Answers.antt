@@ -1,12 +1,11 @@
-use Rattle.std.proofs.Common.{◌≡◌, ◌+◌, List, [], ◌∷◌, ◌++◌, drop, ap, ◌∙◌, arith, subst, Some, None}
+use Rattle.std.proofs.Common.{◌+◌, List, [], ◌∷◌, ◌++◌, drop, ap, ◌∙◌, arith, subst, Some, None}
 use Rattle.std.specs.List.{Contains}
 use Rattle.std.proofs.lemmas.List.Elements.{Contains-get_or}
 use Rattle.parshelf.specs.Shelf.{ShelfState}
 use Rattle.pardrive.specs.declared.calls.Call.{Call}
 use Rattle.pardrive.specs.declared.calls.Call.TheVariants as call
 use Rattle.pardrive.specs.declared.calls.Answer.{Answer}
-use Rattle.pardrive.specs.declared.calls.Answer.TheVariants as answer
-use Rattle.pardrive.proofs.DriveLaws.{DriveSoFar, asks_step, asks_next, drive_steps, drive_reopens, drive_stops, drive_ends, next_call, drop_all}
+use Rattle.pardrive.proofs.DriveLaws.{asks_step, asks_next, drive_steps, drive_reopens, drive_stops, drive_ends, next_call, drop_all}
 use Rattle.pardrive.proofs.driver.drive.Goals as goal
 use Rattle.pardrive.proofs.driver.drive.Goals.{in-Step, in-Next, in-Reopen+in-Ok}
 
@@ -22,7 +21,7 @@ loop-call-preserved g c =
     let before = c.loop-call.invariant in
     let added = c.put-in-loop-call.ensures.items in
     elim c.match-call.branch [
-      in-Step w ↦
+      | in-Step w ↦
           let n = w.in-Step.budget in
           let r = w.step.ensures in
           rw (w.shelf-is, w.finder-is) (record {
@@ -35,7 +34,7 @@ loop-call-preserved g c =
                 (record { answer = r.answer; moves = r.moves; reads = r.reads; digests = r.digests; opening = r.opening })
                 (added ∙ ap (λ (x : Answer). xs ++ x ∷ []) w.answer-is);
           })
-    | in-Next w ↦
+      | in-Next w ↦
           let r = w.next.ensures in
           rw (w.shelf-is, w.finder-is) (record {
             belongs = r.belongs;
@@ -47,7 +46,7 @@ loop-call-preserved g c =
                 (record { answer = r.answer; moves = r.moves; reads = r.reads; digests = r.digests; opening = r.opening })
                 (added ∙ ap (λ (x : Answer). xs ++ x ∷ []) w.answer-is);
           })
-    | in-Reopen+in-Ok w ↦
+      | in-Reopen+in-Ok w ↦
           let r = w.in-Ok.ensures in
           let there : Contains calls call.Reopen =
           subst (Contains calls) w.in-Reopen.is (Contains-get_or calls i _ c.loop-call-test.true) in
@@ -72,12 +71,12 @@ returns-in-Err g c =
     let there : Contains calls call.Reopen =
     subst (Contains calls) c.in-Reopen.is (Contains-get_or calls i _ c.loop-call-test.true) in
     let so_far = drive_stops set old s c.args.start c.loop-call.finder calls (drop (i + 1) calls) c.loop-call.answers.items
-        c.put.new.answers.items there
-        (rw (next_call calls i call.Reopen _ c.loop-call-test.true c.in-Reopen.is) at c.loop-call.invariant.so_far)
-        c.put.ensures.items in
+    c.put.new.answers.items there
+    (rw (next_call calls i call.Reopen _ c.loop-call-test.true c.in-Reopen.is) at c.loop-call.invariant.so_far)
+    c.put.ensures.items in
     let e = c.drive_of.ensures in
     let gave = drive_ends set old s c.args.start c.drive_of.result.cursor c.loop-call.finder calls c.put.new.answers.items
-        c.drive_of.result.digests.count so_far e.cursor e.digests in
+    c.drive_of.result.digests.count so_far e.cursor e.digests in
     rw e.answers (record {
       answer = gave.answer;
       each = gave.each;
@@ -97,7 +96,7 @@ returns g c =
     let so_far = rw (drop_all calls i c.loop-call-test.false) at c.loop-call.invariant.so_far in
     let e = c.drive_of-2.ensures in
     let gave = drive_ends set old s c.args.start c.drive_of-2.result.cursor c.loop-call.finder calls c.loop-call.answers.items
-        c.drive_of-2.result.digests.count so_far e.cursor e.digests in
+    c.drive_of-2.result.digests.count so_far e.cursor e.digests in
     rw e.answers (record {
       answer = gave.answer;
       each = gave.each;
