@@ -239,11 +239,11 @@ fn drives_by_chance(rt: &(impl Abort + AllocGlobal), seed: u64) -> Result<bool, 
 #[test]
 fn calls_by_chance_give_what_comparing_gives(rt: HostRuntime) -> Result<(), Fail> {
     let mut seed = 0x9E37_79B9_7F4A_7C15;
-    let mut faults = 0;
+    let mut faults: u32 = 0;
     for _ in 0..40 {
         seed = xorshift(seed);
         if drives_by_chance(&rt, seed)? {
-            faults += 1;
+            faults = faults.saturating_add(1);
         }
     }
     assert!(rt; faults > 4);
