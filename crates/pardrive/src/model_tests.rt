@@ -184,13 +184,9 @@ fn xorshift(seed: u64) -> u64 {
     second ^ (second << 17)
 }
 
-// One of the items, by a number.
-fn choice<'a>(items: &[&'a [u8]], number: u64, shift: u32) -> &'a [u8] {
-    let place = (number >> (shift % 64)) as usize;
-    if items.is_empty() {
-        return &[];
-    }
-    items[place % items.len()]
+// The item at a place.
+fn item<'a>(items: &[&'a [u8]], place: u64) -> &'a [u8] {
+    items.get(place as usize).copied().unwrap_or(&[])
 }
 
 // Eight calls by chance.
@@ -213,8 +209,11 @@ fn some_calls(rt: &(impl Abort + AllocGlobal), seed: u64) -> Result<Vec<Call>, F
 // Makes calls by chance over files by chance, of which one read may fail; wants what comparing
 // gives. The answer is whether a read failed.
 fn drives_by_chance(rt: &(impl Abort + AllocGlobal), seed: u64) -> Result<bool, Fail> {
-    let content = choice(&CONTENTS, seed, 3);
-    let files = [choice(&FILES, seed, 11), choice(&FILES, seed, 19)];
+    let content = item(&CONTENTS, (seed >> 3) % 5);
+    let files = [
+        item(&FILES, (seed >> 11) % 8),
+        item(&FILES, (seed >> 19) % 8),
+    ];
     let piece = 1 + (seed >> 27) as usize % 3;
     let start = cursor(
         ((seed >> 31) % 3) as u32,
