@@ -8,7 +8,7 @@ ghost use Rattle.pardrive.specs.declared.calls.Call.TheVariants.{Reopen};
 
 use crate::calls::{Answer, Call, Drive};
 use parcursor::Cursor;
-use parfield::Sequence;
+use parfield::{Sequence, Tally};
 use parfind::Finder;
 use parshelf::Shelf;
 use parwindow::Index;
@@ -49,20 +49,25 @@ pub fn drive<H: Shelf>(
         let answer = match *call {
             Call::Step(budget) => Answer::Step(finder.step(index, shelf, budget)),
             Call::Next => Answer::Step(finder.next(index, shelf)),
-            Call::Reopen => match Finder::open(alloc, index, shelf, finder.cursor()) {
-                Ok(next) => {
-                    finder = next;
-                    Answer::Reopened
+            Call::Reopen => {
+                let at = finder.cursor();
+                let digests = finder.into_digests();
+                match Finder::open(alloc, index, shelf, at) {
+                    Ok(next) => {
+                        finder = next;
+                        Answer::Reopened
+                    }
+                    Err(_) => {
+                        put(&mut answers, Answer::NoMemory);
+                        return Ok(drive_of(answers, at, digests));
+                    }
                 }
-                Err(_) => {
-                    put(&mut answers, Answer::NoMemory);
-                    return Ok(drive_of(answers, finder));
-                }
-            },
+            }
         };
         put(&mut answers, answer);
     }
-    Ok(drive_of(answers, finder))
+    let at = finder.cursor();
+    Ok(drive_of(answers, at, finder.into_digests()))
 }
 
 // Appends an answer, for which there is room.
@@ -78,16 +83,16 @@ fn put(answers: &mut Vec<Answer>, answer: Answer)
     }
 }
 
-// What calls came to that gave these answers and left this finder.
-fn drive_of(answers: Vec<Answer>, finder: Finder) -> Drive
+// What calls came to that gave these answers, left the search at a cursor, and after whose last
+// opening so many digests were taken.
+fn drive_of(answers: Vec<Answer>, cursor: Cursor, digests: Tally) -> Drive
     ensures answers { result.answers ≡ answers.items }
-    ensures cursor { result.cursor ≡ finder.cursor }
-    ensures digests { result.digests.count ≡ finder.digests }
+    ensures cursor { result.cursor ≡ cursor }
+    ensures digests { result.digests.count ≡ digests.count }
 {
-    let cursor = finder.cursor();
     Drive {
         answers: Sequence::from_vec(answers),
         cursor,
-        digests: finder.into_digests(),
+        digests,
     }
 }

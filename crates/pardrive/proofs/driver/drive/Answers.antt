@@ -57,7 +57,7 @@ loop-call-preserved g c =
             so_far = drive_reopens set old s c.args.start c.loop-call.finder w.in-Ok.next calls later xs
                 c.put-in-loop-call.new.answers.items there
                 (rw (next_call calls i call.Reopen _ c.loop-call-test.true w.in-Reopen.is) at before.so_far)
-                (r.cursor ∙ w.cursor.ensures) r.digests (added ∙ ap (λ (x : Answer). xs ++ x ∷ []) w.answer-is);
+                (r.cursor ∙ w.cursor-at.ensures) r.digests (added ∙ ap (λ (x : Answer). xs ++ x ∷ []) w.answer-is);
           })
     ]
 
@@ -76,7 +76,7 @@ returns-in-Err g c =
     c.put.ensures.items in
     let e = c.drive_of.ensures in
     let gave = drive_ends set old s c.args.start c.drive_of.result.cursor c.loop-call.finder calls c.put.new.answers.items
-    c.drive_of.result.digests.count so_far e.cursor e.digests in
+    c.drive_of.result.digests.count so_far (e.cursor ∙ c.cursor-at.ensures) (e.digests ∙ c.into_digests-digests.ensures) in
     rw e.answers (record {
       answer = gave.answer;
       each = gave.each;
@@ -96,7 +96,7 @@ returns g c =
     let so_far = rw (drop_all calls i c.loop-call-test.false) at c.loop-call.invariant.so_far in
     let e = c.drive_of-2.ensures in
     let gave = drive_ends set old s c.args.start c.drive_of-2.result.cursor c.loop-call.finder calls c.loop-call.answers.items
-    c.drive_of-2.result.digests.count so_far e.cursor e.digests in
+    c.drive_of-2.result.digests.count so_far (e.cursor ∙ c.cursor-at-2.ensures) (e.digests ∙ c.into_digests.ensures) in
     rw e.answers (record {
       answer = gave.answer;
       each = gave.each;
