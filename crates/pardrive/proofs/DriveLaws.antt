@@ -21,7 +21,7 @@ use Rattle.pardrive.specs.declared.calls.Call.{Call}
 use Rattle.pardrive.specs.declared.calls.Call.TheVariants as call
 use Rattle.pardrive.specs.declared.calls.Answer.{Answer}
 use Rattle.pardrive.specs.declared.calls.Answer.TheVariants as answer
-use Rattle.pardrive.specs.Runs.{left_after, CallGives, CallsGive, Answers, AnswersEach, search_at}
+use Rattle.pardrive.specs.Runs.{left_after, CallGives, CallsGive, MayAnswer, AnswersEach, search_at}
 use Rattle.pardrive.proofs.RunLaws.{step_leaves}
 
 -- whatever the later calls give, all calls give it behind these answers
@@ -44,7 +44,7 @@ gives_more set old s t start c e calls later k a xs ys before one items tail new
     subst (λ (zs : List Answer). CallsGive set old start calls zs new d) (joined xs ys tail a items)
     (before (a ∷ tail) new d (t, (e, (one, h))))
 
-each_more : (calls later : List Call) (k : Call) (a : Answer) (xs ys : List Answer) → EachBefore calls (k ∷ later) xs → Answers k a
+each_more : (calls later : List Call) (k : Call) (a : Answer) (xs ys : List Answer) → EachBefore calls (k ∷ later) xs → MayAnswer k a
     → ys ≡ xs ++ a ∷ [] → EachBefore calls (left_after a later) ys
 each_more calls later k a xs ys before one items tail h =
     subst (AnswersEach calls) (joined xs ys tail a items) (before (a ∷ tail) (one, h))
@@ -84,7 +84,7 @@ pub record StepMade
 pub record Asks (k : Call) (budget : Option ℕ) : Type 0 where
   pub gives : (set : SliceSet) (old new : ShelfState) (c d : Cursor) (r : Result Step ReadFault)
       → StepGives set old new budget c r d → CallGives set old c k (answer.Step r) new d
-  pub answers : (r : Result Step ReadFault) → Answers k (answer.Step r)
+  pub answers : (r : Result Step ReadFault) → MayAnswer k (answer.Step r)
 
 pub asks_step : (n : ℕ) → Asks (call.Step n) (Some n)
 asks_step n = record { gives = λ set old new c d r h. h; answers = λ r. tt }

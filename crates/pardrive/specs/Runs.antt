@@ -42,7 +42,8 @@ CallGives set old c call.Reopen answer.Reopened new d = (new ≡ old) × (d ≡ 
 CallGives set old c call.Reopen answer.NoMemory new d = (new ≡ old) × (d ≡ c)
 
 -- these calls from c give these answers, each from where the one before it left the shelf and the
--- cursor, and at last the cursor d
+-- cursor, and at last the shelf and the cursor d; both lists end together, or at a reopening that was
+-- refused
 abbrev pub CallsGive :
     SliceSet → ShelfState → Cursor → List Call → List Answer → ShelfState → Cursor → Type 0
 CallsGive set old c [] [] new d = (new ≡ old) × (d ≡ c)
@@ -52,17 +53,17 @@ CallsGive set old c (call ∷ calls) (a ∷ answers) new d =
     (mid : ShelfState) × ((e : Cursor) × (CallGives set old c call a mid e
     × CallsGive set mid e (left_after a calls) answers new d))
 
--- an answer that such a call may have
-abbrev pub Answers : Call → Answer → Type 0
-Answers (call.Step n) (answer.Step r) = Unit {0}
-Answers (call.Step n) answer.Reopened = ⊥
-Answers (call.Step n) answer.NoMemory = ⊥
-Answers call.Next (answer.Step r) = Unit {0}
-Answers call.Next answer.Reopened = ⊥
-Answers call.Next answer.NoMemory = ⊥
-Answers call.Reopen (answer.Step r) = ⊥
-Answers call.Reopen answer.Reopened = Unit {0}
-Answers call.Reopen answer.NoMemory = Unit {0}
+-- an answer that a call may have
+abbrev pub MayAnswer : Call → Answer → Type 0
+MayAnswer (call.Step n) (answer.Step r) = Unit {0}
+MayAnswer (call.Step n) answer.Reopened = ⊥
+MayAnswer (call.Step n) answer.NoMemory = ⊥
+MayAnswer call.Next (answer.Step r) = Unit {0}
+MayAnswer call.Next answer.Reopened = ⊥
+MayAnswer call.Next answer.NoMemory = ⊥
+MayAnswer call.Reopen (answer.Step r) = ⊥
+MayAnswer call.Reopen answer.Reopened = Unit {0}
+MayAnswer call.Reopen answer.NoMemory = Unit {0}
 
 -- one answer to each call, in order; none to those behind a reopening that was refused
 abbrev pub AnswersEach : List Call → List Answer → Type 0
@@ -70,9 +71,9 @@ AnswersEach [] [] = Unit {0}
 AnswersEach [] (a ∷ answers) = ⊥
 AnswersEach (call ∷ calls) [] = ⊥
 AnswersEach (call ∷ calls) (a ∷ answers) =
-    Answers call a × AnswersEach (left_after a calls) answers
+    MayAnswer call a × AnswersEach (left_after a calls) answers
 
--- a search that is opened at a cursor over a shelf
+-- a search at a cursor over a shelf, for words that don't look at what is fetched at its end
 abbrev pub search_at : ShelfState → Cursor → SearchState
 search_at shelf c = record { shelf = shelf; fetched = place_at c; cursor = c }
 
@@ -101,7 +102,7 @@ CallsHandOut =
     (answers : List Answer) → CallsGive set old c calls answers new d
     → IsTrue (is_from c d) × (sightings_between (scan_of set old) c d ≡ hits_of answers)
 
--- each read that failed in calls is told by an answer
+-- in calls over a steady shelf as many reads failed as answers tell of
 abbrev pub CallsTellFailures : Type 0
 CallsTellFailures =
     (set : SliceSet) (old new : ShelfState) (c d : Cursor) (calls : List Call)

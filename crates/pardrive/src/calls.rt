@@ -8,7 +8,7 @@ use parshelf::ReadFault;
 pub enum Call {
     /// A step with a budget of places, which is above 0.
     Step(u64),
-    /// A step without one.
+    /// A step without a budget.
     Next,
     /// The finder is given up, and another one is opened at its cursor.
     Reopen,

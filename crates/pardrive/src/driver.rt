@@ -35,7 +35,7 @@ pub fn drive<H: Shelf>(
     ensures onward { IfOk result (λ drive. IsTrue (is_from start drive.cursor)) }
     ensures untouched { IfErr result (λ _. H.state shelf.new ≡ H.state shelf.old) }
 
-    // How much one finder reads, on any shelf.
+    // How much is read where no call reopens, on any shelf, and how many digests are taken.
     ensures reads { ¬ Contains calls.now Reopen → IfOk result (λ drive.
         HandsWithin index.now.slice_size
         (search_at (H.state shelf.old) start) (search_at (H.state shelf.new) drive.cursor)) }

@@ -11,4 +11,4 @@ mod tests;
 
 pub use crate::calls::{Answer, Call, Drive};
 pub use crate::driver::drive;
-pub use crate::laws::drive_law;
+pub use crate::laws::calls_law;
