@@ -265,3 +265,16 @@ fn each_read_that_fails_is_told_once(rt: HostRuntime) -> Result<(), Fail> {
     }
     Ok(())
 }
+
+// The window goes with the finder that is given up, and the next one reads its bytes again.
+#[test]
+fn a_reopening_reads_its_window_again(rt: HostRuntime) -> Result<(), Fail> {
+    let index = index_of(&rt, b"abcdefgh")?;
+    let mut shelf = shelf_of(&rt, &[b"XXabcdefgh"], 64, &[])?;
+    let calls = [Call::Next, Call::Reopen, Call::Next];
+    let done = drive(rt.alloc(), &calls, &index, &mut shelf, START)?;
+    let wanted = [hit(0, 2, 0), Answer::Reopened, hit(0, 6, 1)];
+    gave(&rt, &done, &wanted, cursor(0, 6, 2));
+    assert_eq!(rt; shelf.handed(), 18);
+    Ok(())
+}
