@@ -14,6 +14,7 @@ ghost use Rattle.parfind.specs.Visits.{StepSees, step_of, count_of};
 use crate::places::{next_place, rest_of};
 use crate::track::Track;
 use parcursor::{Cursor, Sighting};
+use parfield::Tally;
 use parshelf::{ReadFault, Shelf};
 use parwindow::{Index, Window};
 use std::alloc::{AllocError, Global};
@@ -84,6 +85,13 @@ impl Finder {
         ensures { result ≡ self.now.cursor }
     {
         self.cursor
+    }
+
+    /// How many digests were taken, as only contracts see it. The search is given up.
+    pub fn into_digests(self) -> Tally
+        ensures { result.count ≡ self.digests }
+    {
+        self.window.into_digests()
     }
 
     /// The next sighting, or `Done`.

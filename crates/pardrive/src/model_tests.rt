@@ -1,0 +1,250 @@
+ghost use Rattle.std.specs.Prelude.{All, IfOk};
+ghost use Rattle.pardrive.specs.Runs.{HasBudget};
+
+use crate::tests::{FAILED, cursor, index_of, shelf_of};
+use crate::{Answer, Call, drive};
+use parcursor::{Cursor, Sighting};
+use parfind::Step;
+use std::process::Abort;
+use std::test::Fail;
+
+// Whether a slice of these bytes stands there: they lie in the file, and with zeros behind both,
+// four bytes are the same.
+fn stands(file: &[u8], offset: usize, own: &[u8]) -> bool {
+    let rest = file.get(offset..).unwrap_or(&[]);
+    if own.len() > rest.len() {
+        return false;
+    }
+    for place in 0..4 {
+        if rest.get(place).copied().unwrap_or(0) != own.get(place).copied().unwrap_or(0) {
+            return false;
+        }
+    }
+    true
+}
+
+// The first slice from a number on that stands there.
+fn slice_at(content: &[u8], file: &[u8], offset: usize, least: u32) -> Option<u32> {
+    let mut number: u32 = 0;
+    for own in content.chunks(4) {
+        if number >= least && stands(file, offset, own) {
+            return Some(number);
+        }
+        number = number.saturating_add(1);
+    }
+    None
+}
+
+// A step without faults, by comparing each slice at each offset, and the cursor behind it.
+fn step_from(content: &[u8], files: &[&[u8]], at: Cursor, budget: u64) -> (Step, Cursor) {
+    let mut passed: u64 = 0;
+    let mut file: u32 = 0;
+    for bytes in files {
+        for place in 0..bytes.len() {
+            let offset = place as u64;
+            let here = cursor(file, offset, 0);
+            if here >= cursor(at.file, at.offset, 0) {
+                let least = if here < at { at.slice } else { 0 };
+                if let Some(slice) = slice_at(content, bytes, place, least) {
+                    let sighting = Sighting {
+                        file,
+                        offset,
+                        slice,
+                    };
+                    let behind = cursor(file, offset, slice.saturating_add(1));
+                    return (Step::Hit(sighting), behind);
+                }
+                passed = passed.saturating_add(1);
+                if passed == budget {
+                    return (Step::Spent, cursor(file, offset.saturating_add(1), 0));
+                }
+            }
+        }
+        file = file.saturating_add(1);
+    }
+    let end = cursor(file, 0, 0);
+    (Step::Done, if at < end { end } else { at })
+}
+
+// How many places there are from one cursor's on and before another's.
+fn places_between(files: &[&[u8]], from: Cursor, to: Cursor) -> u64 {
+    let mut count: u64 = 0;
+    let mut file: u32 = 0;
+    for bytes in files {
+        for place in 0..bytes.len() {
+            let here = cursor(file, place as u64, 0);
+            if here >= cursor(from.file, from.offset, 0) && here < cursor(to.file, to.offset, 0) {
+                count = count.saturating_add(1);
+            }
+        }
+        file = file.saturating_add(1);
+    }
+    count
+}
+
+// Whether a fault may leave a step there: it passes no sighting, and no more places than it may.
+fn may_stop(content: &[u8], files: &[&[u8]], at: Cursor, budget: u64, to: Cursor) -> bool {
+    let none = match step_from(content, files, at, u64::MAX).0 {
+        Step::Hit(x) => cursor(x.file, x.offset, x.slice) >= to,
+        _ => true,
+    };
+    none && to >= at && places_between(files, at, to) <= budget
+}
+
+// The budget of a call, if it is a step.
+fn budget_of(call: Call) -> Option<u64> {
+    match call {
+        Call::Step(budget) => Some(budget),
+        Call::Next => Some(u64::MAX),
+        Call::Reopen => None,
+    }
+}
+
+// Where these calls come to from a cursor, if they give these answers, one fault at most among
+// them, which leaves the cursor `to`.
+fn follows(
+    content: &[u8],
+    files: &[&[u8]],
+    start: Cursor,
+    calls: &[(Call, Answer)],
+    to: Cursor,
+) -> Option<Cursor> {
+    let mut at = start;
+    let mut failed = false;
+    for &(call, answer) in calls {
+        match budget_of(call) {
+            None => {
+                if answer != Answer::Reopened {
+                    return None;
+                }
+            }
+            Some(budget) if answer == FAILED => {
+                if failed || !may_stop(content, files, at, budget, to) {
+                    return None;
+                }
+                failed = true;
+                at = to;
+            }
+            Some(budget) => {
+                let (step, behind) = step_from(content, files, at, budget);
+                if answer != Answer::Step(Ok(step)) {
+                    return None;
+                }
+                at = behind;
+            }
+        }
+    }
+    Some(at)
+}
+
+// Whether calls may give these answers and come to this end, wherever a fault left them.
+fn is_right(
+    content: &[u8],
+    files: &[&[u8]],
+    start: Cursor,
+    calls: &[(Call, Answer)],
+    end: Cursor,
+) -> bool {
+    for file in 0..4 {
+        for offset in 0..10 {
+            for slice in 0..3 {
+                let to = cursor(file, offset, slice);
+                if follows(content, files, start, calls, to) == Some(end) {
+                    return true;
+                }
+            }
+        }
+    }
+    false
+}
+
+const CONTENTS: [&[u8]; 5] = [
+    b"\0\0\0\0\0\0\0\0",
+    b"aaaaa",
+    b"abcdabcd",
+    b"abcdef",
+    b"aaaa\0\0\0",
+];
+
+const FILES: [&[u8]; 8] = [
+    b"",
+    b"ef",
+    b"aaaaaa",
+    b"a\0\0\0\0",
+    b"\0\0\0\0\0\0",
+    b"Xabcdefab",
+    b"abcdabcd",
+    b"baaaaa\0\0",
+];
+
+// The number that follows on another one that isn't 0.
+fn xorshift(seed: u64) -> u64 {
+    let first = seed ^ (seed << 13);
+    let second = first ^ (first >> 7);
+    second ^ (second << 17)
+}
+
+// The item at a place.
+fn item<'a>(items: &[&'a [u8]], place: u64) -> &'a [u8] {
+    items.get(place as usize).copied().unwrap_or(&[])
+}
+
+// Eight calls by chance.
+fn some_calls(rt: &(impl Abort + AllocGlobal), seed: u64) -> Result<Vec<Call>, Fail>
+    ensures { IfOk result (λ calls. All HasBudget calls.items) }
+{
+    let mut calls = Vec::new(rt.alloc());
+    let mut number = seed;
+    for _ in 0..8 {
+        number = xorshift(number);
+        calls.push(match (number >> 20) % 6 {
+            0 => Call::Next,
+            1 | 2 => Call::Reopen,
+            _ => Call::Step(1 + (number >> 40) % 5),
+        })?;
+    }
+    Ok(calls)
+}
+
+// Makes calls by chance over files by chance, of which one read may fail; wants what comparing
+// gives. The answer is whether a read failed.
+fn drives_by_chance(rt: &(impl Abort + AllocGlobal), seed: u64) -> Result<bool, Fail> {
+    let content = item(&CONTENTS, (seed >> 3) % 5);
+    let files = [
+        item(&FILES, (seed >> 11) % 8),
+        item(&FILES, (seed >> 19) % 8),
+    ];
+    let piece = 1 + (seed >> 27) as usize % 3;
+    let start = cursor(
+        ((seed >> 31) % 3) as u32,
+        (seed >> 35) % 4,
+        ((seed >> 39) % 3) as u32,
+    );
+    let calls = some_calls(rt, seed)?;
+    let index = index_of(rt, content)?;
+    let mut shelf = shelf_of(rt, &files, piece, &[(seed >> 43) % 10])?;
+    let done = drive(rt.alloc(), &calls, &index, &mut shelf, start)?;
+    assert_eq!(rt; done.answers.len(), calls.len());
+    let mut pairs = Vec::new(rt.alloc());
+    let mut failed = false;
+    for (call, answer) in calls.iter().zip(done.answers.as_slice()) {
+        failed = failed || *answer == FAILED;
+        pairs.push((*call, *answer))?;
+    }
+    assert!(rt; is_right(content, &files, start, &pairs, done.cursor));
+    Ok(failed)
+}
+
+#[test]
+fn calls_by_chance_give_what_comparing_gives(rt: HostRuntime) -> Result<(), Fail> {
+    let mut seed = 0x9E37_79B9_7F4A_7C15;
+    let mut faults: u32 = 0;
+    for _ in 0..40 {
+        seed = xorshift(seed);
+        if drives_by_chance(&rt, seed)? {
+            faults = faults.saturating_add(1);
+        }
+    }
+    assert!(rt; faults > 4);
+    Ok(())
+}
