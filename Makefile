@@ -1,27 +1,39 @@
 # One command each. CRATE picks one crate, as in `make plant CRATE=parfield`.
+SHELL = bash
 PREFIX ?= /usr/local
+MANDIR ?= $(PREFIX)/share/man
+BASHDIR ?= $(PREFIX)/share/bash-completion/completions
+ZSHDIR ?= $(PREFIX)/share/zsh/site-functions
 CRATE ?= parv
 SIZE ?= small
 PARV = crates/parv/out/parv
 
-.PHONY: demo build test checks bench check try plant mustfail format install
+.PHONY: demo build test checks bench check try plant mustfail format install uninstall
 
-# Builds the proved program and runs it on a real damaged set.
-demo: build
+# Builds the proved program and runs it on a real damaged set. Its log is out/demo.log.
+demo:
+	@echo "Builds the proved program, then shows it at work on the damaged set in demo/ (a second)."
+	@$(MAKE) --no-print-directory build
 	@tools/demo.sh
 
-# Proves the program with all below it, and leaves it at crates/parv/out/parv.
+# Proves the program with all below it, and leaves it at crates/parv/out/parv. Its log is out/build.log.
 build:
-	@cd crates/parv && rt run -- packets data/v.par2 > out.log 2>&1 || { cat out.log; rm out.log; exit 1; }
-	@rm crates/parv/out.log
+	@mkdir -p out
+	@echo "Proves the program and all below it and builds $(PARV): BUILDTIME"
+	@echo "the first time, and seconds where nothing changed. The log is out/build.log."
+	@set -o pipefail; (cd crates/parv && rt run -- packets data/v.par2) 2>&1 | tee out/build.log \
+		| { grep --line-buffered '^rt: [a-z_]* proved$$' || true; } \
+		|| { tail -n 40 out/build.log; exit 1; }
 
-# The gate: every proof, edit and test, then the checks of the program that they leave.
+# The gate: every proof, edit and test, then the checks of the program that they leave. Its log is
+# out/gate.log.
 test:
 	@tools/gate.sh
 
-# The program alone against what it must print.
+# The program alone against what it must print. Its log is out/checks.log.
 checks: build
-	@tools/checks.sh
+	@echo "Checks the built program, CHECKTIME. The log is out/checks.log."
+	@set -o pipefail; tools/checks.sh | tee out/checks.log
 
 # Processor time of the program against that of par2's, case by case, on small sets or, with
 # SIZE=large, on those whose ratios count. It needs Debian's par2, keeps its sets in $PARV_BENCH
@@ -44,6 +56,15 @@ mustfail:
 format:
 	for crate in crates/*/; do (cd $$crate && rt fmt && rt check --fix-imports) || exit 1; done
 
-install: build
-	install -D -m 755 $(PARV) $(DESTDIR)$(PREFIX)/bin/parv
-	install -D -m 644 docs/parv.1 $(DESTDIR)$(PREFIX)/share/man/man1/parv.1
+# Installs what is built, and builds nothing: root needs no toolchain. DESTDIR goes before each path.
+install:
+	@test -x $(PARV) || { echo "There is no program at $(PARV): 'make build' builds it." >&2; exit 1; }
+	install -D -m 755 $(PARV) "$(DESTDIR)$(PREFIX)/bin/parv"
+	install -D -m 644 docs/parv.1 "$(DESTDIR)$(MANDIR)/man1/parv.1"
+	install -D -m 644 completions/parv.bash "$(DESTDIR)$(BASHDIR)/parv"
+	install -D -m 644 completions/_parv "$(DESTDIR)$(ZSHDIR)/_parv"
+
+# Removes these four files, and no folder.
+uninstall:
+	rm -f "$(DESTDIR)$(PREFIX)/bin/parv" "$(DESTDIR)$(MANDIR)/man1/parv.1"
+	rm -f "$(DESTDIR)$(BASHDIR)/parv" "$(DESTDIR)$(ZSHDIR)/_parv"

@@ -1,0 +1,49 @@
+#!/usr/bin/env bash
+# Checks a folder into which the files of a PAR2 set still come, again and again, until each file of
+# the set is complete, and prints a line for each check.
+# Usage: watch_folder.sh FOLDER [SECONDS [CHECKS]]
+# It waits SECONDS (60) between two checks and ends after CHECKS of them, if that is given. Its exit
+# status is that of the last check: 0 complete, 1 a repair can be tried, 2 slices are missing for one,
+# 3 no packet file yet, 4 no set in the packet files yet, 6 a file can't be read; 8, no memory, ends it.
+# Each check reads all files of the folder.
+set -uo pipefail
+parv=${PARV:-parv}
+folder=${1:?usage: watch_folder.sh FOLDER [SECONDS [CHECKS]]}
+seconds=${2:-60}
+checks=${3:-}
+if ! cd -- "$folder" 2> /dev/null; then
+    echo "watch_folder.sh: cannot open $folder" >&2
+    exit 6
+fi
+shopt -s nullglob nocasematch
+
+for ((check = 1; ; check++)); do
+    # Only regular files can be opened, so folders and the like are left out.
+    files=()
+    packets=0
+    for file in ./*; do
+        [ -f "$file" ] || continue
+        files+=("$file")
+        [[ $file != *.par2 ]] || packets=$((packets + 1))
+    done
+    if [ $packets -eq 0 ]; then
+        status=3
+        said='no packet file'
+    else
+        # `-B .` takes the ./ off, which a name that begins with a dash needs.
+        said=$("$parv" verify -q -B . "${files[@]}" 2>&1)
+        status=$?
+    fi
+    case $status in
+    0) echo 'complete' ;;
+    1) echo "a repair can be tried: ${said%%$'\n'*}" ;;
+    2) echo "not enough for a repair: ${said%%$'\n'*}" ;;
+    3 | 4 | 6) echo "nothing to tell yet: ${said#parv: }" ;;
+    *)
+        echo "$said" >&2
+        exit $status
+        ;;
+    esac
+    [ $status -ne 0 ] && [ "$check" != "$checks" ] || exit $status
+    sleep "$seconds"
+done

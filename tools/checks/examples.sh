@@ -1,0 +1,73 @@
+#!/usr/bin/env bash
+# The scripts of examples/: a folder that is checked while its files come, and a search in parts, whole,
+# stopped and gone on with.
+. "$(dirname "$0")/wants.sh"
+cd "$work" || exit 1
+export PARV=$parv
+watch=$top/examples/watch_folder.sh
+search=$top/examples/search_in_parts.sh
+demo=$top/demo
+
+mkdir -p -- 'a room/-coast/folder.par2'
+room='a room/-coast'
+checked() {
+    wants "a folder $1" "$2" "$3" "" "$watch" "$room" 0 1
+}
+checked "without a packet file" 3 "nothing to tell yet: no packet file"
+head -c 100 "$demo/photos.par2" > "$room/photos.par2"
+checked "without a set" 4 "nothing to tell yet: no usable set: no main"
+cp "$demo/photos.par2" "$room"
+checked "without the files of the set" 2 "not enough for a repair: need 38 have 0"
+cp "$demo/beach.raw" "$demo/harbour.raw" "$demo/notes.txt" "$room"
+checked "with all files but one" 2 "not enough for a repair: need 5 have 0"
+cp "$demo/photos.vol07+8.par2" "$room"
+checked "with recovery slices enough" 1 "a repair can be tried: need 5 have 8"
+cp "$demo/tower.raw" "$room/-t w.raw"
+checked "with a file under another name" 1 "a repair can be tried: need 0 have 8"
+mv "$room/-t w.raw" "$room/tower.raw"
+checked "with all files" 0 "complete"
+wants "a folder that isn't there" 6 "" "watch_folder.sh: cannot open none" \
+    "$watch" none 0 1
+
+# The last file comes while the folder is checked.
+mv "$room/tower.raw" tower.raw
+timeout 60 "$watch" "$room" 0.1 > watched &
+for _ in $(seq 100); do [ -s watched ] && break; sleep 0.1; done
+mv tower.raw "$room"
+wait $!
+status=$?
+if [ $status -eq 0 ] && [ "$(sed '$!d' watched)" = complete ] \
+    && [ "$(sed '$d' watched | sort -u)" = "a repair can be tried: need 5 have 8" ]; then
+    echo "ok: a folder is checked until its last file has come"
+else
+    fails "a folder that is checked: status $status, $(sort -u watched)"
+fi
+
+# A long file: the files of the set, cut at other places and with bytes between.
+{ head -c 300000 /dev/zero; cat "$demo/beach.raw"; printf 'x'; tail -c 9001 "$demo/harbour.raw"; } > 'disc image'
+cat "$demo/tower.raw" "$demo/notes.txt" >> 'disc image'
+words=("$demo/photos.par2" 'disc image' "$demo/notes.txt")
+"$tools/find_slices.py" "${words[@]}" > wanted
+sed -i '$d' wanted
+[ "$(wc -l < wanted)" -gt 25 ] || fails "there is little to find"
+for limit in 7 1000; do
+    if "$search" parts$limit $limit "${words[@]}" > found 2> told && cmp -s found wanted; then
+        echo "ok: a search in $(wc -l < told) parts of $limit finds what the independent search finds"
+    else
+        fails "a search in parts of $limit: $(cmp found wanted 2>&1), $(tail -n 1 told)"
+    fi
+done
+# Stopped: the last part is gone, and of the one before there is a beginning.
+last=$(find parts7 -name '[0-9]*' | wc -l)
+head -c 50 "parts7/$((last - 1))" > parts7/new
+rm "parts7/$last" "parts7/$((last - 1))"
+if "$search" parts7 7 "${words[@]}" > found 2> told && cmp -s found wanted && [ "$(wc -l < told)" -eq 2 ]; then
+    echo "ok: a search that was stopped goes on behind its last whole part"
+else
+    fails "a search that goes on: $(cmp found wanted 2>&1), $(cat told)"
+fi
+wants "a search that is over is told again" 0 "$(cat wanted)" "" "$search" parts7 7 "${words[@]}"
+wants "a search with other words" 3 "" "search_in_parts.sh: ./parts7 is of a search with other words" \
+    "$search" parts7 7 "${words[0]}" 'disc image'
+wants "a search that can't begin" 6 "" "parv: cannot open none" "$search" parts0 7 "${words[0]}" none
+exit $failed

@@ -1,0 +1,49 @@
+#!/usr/bin/env bash
+# What is installed: the program, its page and its completions in their places and nothing else, without a
+# toolchain, and nothing of them behind the removal.
+. "$(dirname "$0")/wants.sh"
+
+places="/usr/bin/parv
+/usr/share/bash-completion/completions/parv
+/usr/share/man/man1/parv.1
+/usr/share/zsh/site-functions/_parv"
+room="$work/a room"
+path=$work/path
+mkdir "$path"
+for tool in bash make install rm test; do ln -s "$(command -v $tool)" "$path"; done
+
+# make with a PATH that has no rt.
+made() {
+    (cd "$top" && PATH=$path make -s "$@" DESTDIR="$room" PREFIX=/usr PARV="$parv") > "$work/made" 2>&1 < /dev/null
+}
+
+standing() {
+    (cd "$room" && find . -not -type d | LC_ALL=C sort | sed 's/^.//')
+}
+
+if made install && [ "$(standing)" = "$places" ]; then
+    echo "ok: what is installed stands in its places"
+else
+    fails "installed: $(head -c 300 "$work/made"), $(standing)"
+fi
+if cmp -s "$parv" "$room/usr/bin/parv" && [ -x "$room/usr/bin/parv" ] \
+    && cmp -s "$top/docs/parv.1" "$room/usr/share/man/man1/parv.1" \
+    && cmp -s "$top/completions/parv.bash" "$room/usr/share/bash-completion/completions/parv" \
+    && cmp -s "$top/completions/_parv" "$room/usr/share/zsh/site-functions/_parv"; then
+    echo "ok: what is installed is what was built"
+else
+    fails "what is installed is another"
+fi
+touch "$room/usr/bin/other"
+if made uninstall && [ "$(standing)" = /usr/bin/other ]; then
+    echo "ok: what is removed is what was installed"
+else
+    fails "removed: $(head -c 300 "$work/made"), $(standing)"
+fi
+parv=$work/none
+if ! made install && grep -q "make build" "$work/made" && [ "$(standing)" = /usr/bin/other ]; then
+    echo "ok: where nothing is built nothing is installed"
+else
+    fails "installed without a program: $(head -c 300 "$work/made"), $(standing)"
+fi
+exit $failed

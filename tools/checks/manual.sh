@@ -1,0 +1,111 @@
+#!/usr/bin/env bash
+# The manual page: mandoc and man have nothing to say of it, where they are there, it has each option and
+# each line of standard error, and each of its examples is run in a folder with the files that it names.
+. "$(dirname "$0")/wants.sh"
+cd "$work" || exit 1
+page=$top/docs/parv.1
+
+# silent OUTPUT COMMAND..: it has nothing to say, its standard output aside where OUTPUT is not `said`.
+silent() {
+    local output=$1
+    shift
+    if ! command -v "$1" > /dev/null; then
+        echo "not run: there is no $1"
+    elif { "$@" > "$output"; } 2> complaint && [ ! -s complaint ] && [ ! -s said ]; then
+        echo "ok: $* is silent"
+    else
+        fails "$*: $(cat said complaint | head -c 600)"
+    fi
+}
+: > said
+silent said mandoc -T lint "$page"
+: > said
+MANWIDTH=80 silent /dev/null man --warnings -E UTF-8 -l "$page"
+
+for word in --set -B --base --limit --cursor -q; do
+    grep -q "^\.It.* Fl ${word#-}\b" "$page" || fails "the page has no $word"
+done
+grep -o '`parv: [^`]*`' "$top/docs/FORMATS.md" | tr -d '`\\' | sed 's/ <[A-Za-z]*>$//' > messages
+while IFS= read -r message; do
+    grep -qF "It \"$message" "$page" || fails "the page has no '$message'"
+done < messages
+[ "$(wc -l < messages)" -eq 12 ] || fails "there are $(wc -l < messages) messages"
+
+# Each example is a file: its commands without `$ `, as bash reads them.
+mkdir examples
+awk '/^\.Sh /{ here = $2 == "EXAMPLES" } here && /^\.Bd/{ n++; text = 1; next } /^\.Ed/{ text = 0 }
+    here && text { sub(/^(\$ |  )/, ""); print > ("examples/" n) }' "$page"
+sed -i 's/\\-/-/g; s/\\e/\\/g' examples/*
+
+# A folder photos with the set, whole, and other files; the volume has one recovery slice.
+furnish() {
+    rm -rf photos
+    mkdir photos
+    cp "$top"/demo/{beach.raw,harbour.raw,tower.raw,notes.txt,photos.par2,photos.vol00+1.par2} photos
+    { head -c 40000 /dev/zero; cat "$top/demo/beach.raw"; } > photos/disc.img
+    printf 'odd' > photos/-odd.raw
+    cd photos || exit 1
+}
+# example NUMBER NAME STATUS TEXT, in the present folder.
+example() {
+    given=$((given + 1))
+    wants "the example of $2" "$3" "$4" "" env PATH="$(dirname "$parv"):$PATH" bash "$work/examples/$1"
+}
+
+set=589c76e09f0580b9203c5b64963b8957
+line="set $set size 1024 slices 38"
+whole="$line
+complete harbour.raw
+complete beach.raw
+complete notes.txt
+complete tower.raw
+need 0 have 1
+result complete"
+gone="$line
+missing harbour.raw 0/12
+missing beach.raw 0/20
+missing notes.txt 0/1
+missing tower.raw 0/5
+need 38 have 0
+result impossible"
+given=0
+furnish
+example 1 "a folder" 0 "$whole"
+example 2 "a folder without its base" 1 "$line
+renamed harbour.raw from ./harbour.raw
+renamed beach.raw from ./beach.raw
+renamed notes.txt from ./notes.txt
+renamed tower.raw from ./tower.raw
+need 0 have 1
+result possible"
+cd ..
+example 3 "a folder elsewhere" 0 "$whole"
+cd photos || exit 1
+mkdir within
+mkfifo pipe
+example 4 "the regular files of a folder" 0 "$whole"
+rm -r within pipe
+cp "$top/crates/parv/data/v.par2" a.par2
+example 5 "two sets in a folder" 0 "$set
+617cdc72ba53d94fe713fea2ae18f776
+$whole"
+rm a.par2
+example 6 "a script" 0 "nothing to repair"
+example 7 "a name that begins with a dash" 2 "$gone
+$gone"
+cp beach.raw 'a\b c.raw'
+example 8 "the names of files with slices" 0 "./a\b c.raw
+./beach.raw
+./harbour.raw
+./tower.raw
+./disc.img"
+"$tools/find_slices.py" photos.par2 disc.img > ../found
+example 9 "a search from a cursor on" 0 "$(cat ../found; awk '$1 == "end" || $2 > 51200' ../found)"
+sed -i 's/1000/3/' ../examples/10
+example 10 "a search in parts" 0 "$(sed '$d' ../found)"
+if [ $given -eq "$(find ../examples -type f | wc -l)" ] && [ "$(wc -l < ../found)" -gt 20 ]; then
+    echo "ok: each example of the manual page was run"
+else
+    fails "$given examples were run of $(find ../examples -type f | wc -l)"
+fi
+exit $failed
