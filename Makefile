@@ -16,7 +16,8 @@ demo:
 	@$(MAKE) --no-print-directory build
 	@tools/demo.sh
 
-# Proves the program with all below it, and leaves it at crates/parv/out/parv. Its log is out/build.log.
+# Proves the program with all below it, and leaves it at crates/parv/out/parv. Its log is
+# out/build.log.
 build:
 	@mkdir -p out
 	@echo "Proves the program and all below it and builds $(PARV): BUILDTIME"
@@ -56,7 +57,8 @@ mustfail:
 format:
 	for crate in crates/*/; do (cd $$crate && rt fmt && rt check --fix-imports) || exit 1; done
 
-# Installs what is built, and builds nothing: root needs no toolchain. DESTDIR goes before each path.
+# Installs what is built, and builds nothing: root needs no toolchain. DESTDIR goes before each
+# path.
 install:
 	@test -x $(PARV) || { echo "There is no program at $(PARV): 'make build' builds it." >&2; exit 1; }
 	install -D -m 755 $(PARV) "$(DESTDIR)$(PREFIX)/bin/parv"

@@ -41,11 +41,14 @@ _parv() {
             ;;
         esac
     fi
-    # Files as bash itself completes them, and before them the packet files for those that read no others.
+    # Files as bash itself completes them; where no others are read, packet files before all.
     compopt -o filenames -o default
     case ${COMP_WORDS[1]} in
     packets | set)
-        mapfile -t COMPREPLY < <(compgen -f -X '!*.[Pp][Aa][Rr]2' -- "$word"; compgen -d -- "$word")
+        mapfile -t COMPREPLY < <(
+            compgen -f -X '!*.[Pp][Aa][Rr]2' -- "$word"
+            compgen -d -- "$word"
+        )
         ;;
     esac
 }

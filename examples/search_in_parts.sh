@@ -1,7 +1,7 @@
 #!/usr/bin/env bash
 # Searches large files for the slices of a PAR2 set, a part of LIMIT sightings at a time, and writes
-# all sightings at the end. Each part is a file in the folder PARTS, so a search that was stopped goes
-# on behind the last part that is whole, when it is called again with the same words.
+# all sightings at the end. Each part is a file in the folder PARTS, so a search that was stopped
+# goes on behind the last part that is whole, when it is called again with the same words.
 # Usage: search_in_parts.sh PARTS LIMIT FILES, the packet files among them
 # Its exit status is that of parv; 3 also where PARTS is of a search with other words.
 set -euo pipefail

@@ -3,9 +3,9 @@
 # the set is complete, and prints a line for each check.
 # Usage: watch_folder.sh FOLDER [SECONDS [CHECKS]]
 # It waits SECONDS (60) between two checks and ends after CHECKS of them, if that is given. Its exit
-# status is that of the last check: 0 complete, 1 a repair can be tried, 2 slices are missing for one,
-# 3 no packet file yet, 4 no set in the packet files yet, 6 a file can't be read; 8, no memory, ends it.
-# Each check reads all files of the folder.
+# status is that of the last check: 0 complete, 1 a repair can be tried, 2 slices are missing for
+# one, 3 no packet file, 4 no set in the packet files, 6 a file can't be read; 8, no memory, ends
+# it. Each check reads all files of the folder.
 set -uo pipefail
 parv=${PARV:-parv}
 folder=${1:?usage: watch_folder.sh FOLDER [SECONDS [CHECKS]]}

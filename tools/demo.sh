@@ -1,6 +1,6 @@
 #!/usr/bin/env bash
-# Shows the built program at work on the PAR2 set in demo/, of which one volume is damaged. All that it
-# prints stands in out/demo.log.
+# Shows the built program at work on the PAR2 set in demo/, of which one volume is damaged. All that
+# it prints stands in out/demo.log.
 set -euo pipefail
 cd "$(dirname "$0")/.."
 parv=$PWD/crates/parv/out/parv
@@ -36,7 +36,8 @@ show() {
     cp "$demo/beach.raw" "$demo/photos.par2" "$work"
     cp "$demo/photos.vol00+1.par2" "$demo/photos.vol01+2.par2" "$work"
     cp "$demo/harbour.raw" "$work/port.raw"
-    { head -c 2000 "$demo/tower.raw"; printf '?'; tail -c 3000 "$demo/tower.raw"; } > "$work/tower.raw"
+    { head -c 2000 "$demo/tower.raw"; printf '?'; tail -c 3000 "$demo/tower.raw"; } \
+        > "$work/tower.raw"
     verify photos.par2 photos.vol00+1.par2 photos.vol01+2.par2 beach.raw port.raw tower.raw
     echo
     echo 'The same without the larger volume:'

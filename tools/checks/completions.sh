@@ -1,14 +1,14 @@
 #!/usr/bin/env bash
-# The completions, typed into bash itself, and into zsh where it is there: each line is typed at a terminal
-# with a key behind it, and then it must be the one that is wanted.
+# The completions, typed into bash itself, and into zsh where it is there: each line is typed at a
+# terminal with a key behind it, and then it must be the one that is wanted.
 . "$(dirname "$0")/wants.sh"
 cd "$work" || exit 1
 mkdir 'a folder' folder typed
 touch photos.par2 'more photos.PAR2' 'a picture.raw' -- -odd.raw folder/inner.par2
 cat > type.py << 'PYTHON'
-"""Types each line of standard input into the shell named first, on a terminal of its own. A line is the text
-to type, a key (TAB, or ALL, which puts all that is offered in) and what must stand there then; of ALL the
-words behind the text are compared in any order."""
+"""Types each line of standard input into the shell named first, on a terminal of its own. A line is
+the text to type, a key (TAB, or ALL, which puts all that is offered in) and what must stand there
+then; of ALL the words that are put in are compared in any order."""
 import os
 import pty
 import select
@@ -27,7 +27,8 @@ SETUP = {
              "bind -x '\"\\eg\": printf \"%s\\n\" \"$READLINE_LINE\" > typed/line'"],
     "zsh": ["PS1=; unsetopt beep; setopt interactive_comments",
             "fpath=('%s' $fpath); autoload -Uz compinit; compinit -u -d typed/dump" % completions,
-            "shown() { print -r -- \"$BUFFER\" > typed/line }; zle -N shown; bindkey -e; bindkey '\\eg' shown",
+            "shown() { print -r -- \"$BUFFER\" > typed/line }; zle -N shown",
+            "bindkey -e; bindkey '\\eg' shown",
             "zstyle ':completion:all-matches:*' completer _all_matches _complete",
             "zstyle ':completion:all-matches:*' insert true",
             "zle -C all-matches complete-word _generic; bindkey '\\ea' all-matches"],
@@ -84,8 +85,9 @@ for case in sys.stdin.read().splitlines():
     line = left_by(text + KEYS[key])
     same = line == wanted
     if key == "ALL" and line is not None:
-        front, back = wanted[:len(text.rsplit(" ", 1)[0])], wanted[len(text.rsplit(" ", 1)[0]):]
-        same = line.startswith(front) and sorted(line[len(front):].split()) == sorted(back.split())
+        front = text.rsplit(" ", 1)[0]
+        offered, right = line[len(front):].split(), wanted[len(front):].split()
+        same = line.startswith(front) and sorted(offered) == sorted(right)
     if same:
         print("ok: %s completes '%s' to '%s'" % (shell, text, wanted))
     else:

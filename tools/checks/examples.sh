@@ -1,6 +1,6 @@
 #!/usr/bin/env bash
-# The scripts of examples/: a folder that is checked while its files come, and a search in parts, whole,
-# stopped and gone on with.
+# The scripts of examples/: a folder that is checked while its files come, and a search in parts,
+# whole, stopped and gone on with.
 . "$(dirname "$0")/wants.sh"
 cd "$work" || exit 1
 export PARV=$parv
@@ -44,15 +44,18 @@ else
 fi
 
 # A long file: the files of the set, cut at other places and with bytes between.
-{ head -c 300000 /dev/zero; cat "$demo/beach.raw"; printf 'x'; tail -c 9001 "$demo/harbour.raw"; } > 'disc image'
+head -c 300000 /dev/zero > 'disc image'
+{ cat "$demo/beach.raw"; printf 'x'; tail -c 9001 "$demo/harbour.raw"; } >> 'disc image'
 cat "$demo/tower.raw" "$demo/notes.txt" >> 'disc image'
 words=("$demo/photos.par2" 'disc image' "$demo/notes.txt")
 "$tools/find_slices.py" "${words[@]}" > wanted
 sed -i '$d' wanted
 [ "$(wc -l < wanted)" -gt 25 ] || fails "there is little to find"
 for limit in 7 1000; do
-    if "$search" parts$limit $limit "${words[@]}" > found 2> told && cmp -s found wanted; then
-        echo "ok: a search in $(wc -l < told) parts of $limit finds what the independent search finds"
+    "$search" parts$limit $limit "${words[@]}" > found 2> told
+    if [ $? -eq 0 ] && cmp -s found wanted; then
+        parts=$(wc -l < told)
+        echo "ok: a search in $parts parts of $limit finds what the independent search finds"
     else
         fails "a search in parts of $limit: $(cmp found wanted 2>&1), $(tail -n 1 told)"
     fi
@@ -61,13 +64,16 @@ done
 last=$(find parts7 -name '[0-9]*' | wc -l)
 head -c 50 "parts7/$((last - 1))" > parts7/new
 rm "parts7/$last" "parts7/$((last - 1))"
-if "$search" parts7 7 "${words[@]}" > found 2> told && cmp -s found wanted && [ "$(wc -l < told)" -eq 2 ]; then
+"$search" parts7 7 "${words[@]}" > found 2> told
+if [ $? -eq 0 ] && cmp -s found wanted && [ "$(wc -l < told)" -eq 2 ]; then
     echo "ok: a search that was stopped goes on behind its last whole part"
 else
     fails "a search that goes on: $(cmp found wanted 2>&1), $(cat told)"
 fi
 wants "a search that is over is told again" 0 "$(cat wanted)" "" "$search" parts7 7 "${words[@]}"
-wants "a search with other words" 3 "" "search_in_parts.sh: ./parts7 is of a search with other words" \
+wants "a search with other words" 3 "" \
+    "search_in_parts.sh: ./parts7 is of a search with other words" \
     "$search" parts7 7 "${words[0]}" 'disc image'
-wants "a search that can't begin" 6 "" "parv: cannot open none" "$search" parts0 7 "${words[0]}" none
+wants "a search that can't begin" 6 "" "parv: cannot open none" \
+    "$search" parts0 7 "${words[0]}" none
 exit $failed

@@ -1,6 +1,6 @@
 #!/usr/bin/env bash
-# What is installed: the program, its page and its completions in their places and nothing else, without a
-# toolchain, and nothing of them behind the removal.
+# What is installed: the program, its page and its completions in their places and nothing else,
+# without a toolchain, and nothing of them behind the removal.
 . "$(dirname "$0")/wants.sh"
 
 places="/usr/bin/parv
@@ -14,7 +14,8 @@ for tool in bash make install rm test; do ln -s "$(command -v $tool)" "$path"; d
 
 # make with a PATH that has no rt.
 made() {
-    (cd "$top" && PATH=$path make -s "$@" DESTDIR="$room" PREFIX=/usr PARV="$parv") > "$work/made" 2>&1 < /dev/null
+    (cd "$top" && PATH=$path make -s "$@" DESTDIR="$room" PREFIX=/usr PARV="$parv") \
+        > "$work/made" 2>&1 < /dev/null
 }
 
 standing() {

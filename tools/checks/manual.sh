@@ -1,11 +1,12 @@
 #!/usr/bin/env bash
-# The manual page: mandoc and man have nothing to say of it, where they are there, it has each option and
-# each line of standard error, and each of its examples is run in a folder with the files that it names.
+# The manual page: mandoc and man have nothing to say of it, where they are there, it has each
+# option and each line of standard error, and each of its examples is run in a folder with the files
+# that it names.
 . "$(dirname "$0")/wants.sh"
 cd "$work" || exit 1
 page=$top/docs/parv.1
 
-# silent OUTPUT COMMAND..: it has nothing to say, its standard output aside where OUTPUT is not `said`.
+# silent OUTPUT COMMAND..: it has nothing to say, its output aside where OUTPUT isn't `said`.
 silent() {
     local output=$1
     shift
@@ -41,7 +42,8 @@ sed -i 's/\\-/-/g; s/\\e/\\/g' examples/*
 furnish() {
     rm -rf photos
     mkdir photos
-    cp "$top"/demo/{beach.raw,harbour.raw,tower.raw,notes.txt,photos.par2,photos.vol00+1.par2} photos
+    cp "$top"/demo/{beach,harbour,tower}.raw "$top"/demo/notes.txt photos
+    cp "$top"/demo/photos.{par2,vol00+1.par2} photos
     { head -c 40000 /dev/zero; cat "$top/demo/beach.raw"; } > photos/disc.img
     printf 'odd' > photos/-odd.raw
     cd photos || exit 1
@@ -49,7 +51,8 @@ furnish() {
 # example NUMBER NAME STATUS TEXT, in the present folder.
 example() {
     given=$((given + 1))
-    wants "the example of $2" "$3" "$4" "" env PATH="$(dirname "$parv"):$PATH" bash "$work/examples/$1"
+    wants "the example of $2" "$3" "$4" "" \
+        env PATH="$(dirname "$parv"):$PATH" bash "$work/examples/$1"
 }
 
 set=589c76e09f0580b9203c5b64963b8957
