@@ -20,7 +20,7 @@ demo:
 # out/build.log.
 build:
 	@mkdir -p out
-	@echo "Proves the program and all below it and builds $(PARV): BUILDTIME"
+	@echo "Proves the program and all below it and builds $(PARV): about a quarter of an hour"
 	@echo "the first time, and seconds where nothing changed. The log is out/build.log."
 	@set -o pipefail; (cd crates/parv && rt run -- packets data/v.par2) 2>&1 | tee out/build.log \
 		| { grep --line-buffered '^rt: [a-z_]* proved$$' || true; } \
@@ -33,7 +33,7 @@ test:
 
 # The program alone against what it must print. Its log is out/checks.log.
 checks: build
-	@echo "Checks the built program, CHECKTIME. The log is out/checks.log."
+	@echo "Checks the built program, a minute or two. The log is out/checks.log."
 	@set -o pipefail; tools/checks.sh | tee out/checks.log
 
 # Processor time of the program against that of par2's, case by case, on small sets or, with

@@ -8,7 +8,8 @@ touch photos.par2 'more photos.PAR2' 'a picture.raw' -- -odd.raw folder/inner.pa
 cat > type.py << 'PYTHON'
 """Types each line of standard input into the shell named first, on a terminal of its own. A line is
 the text to type, a key (TAB, or ALL, which puts all that is offered in) and what must stand there
-then; of ALL the words that are put in are compared in any order."""
+then; of ALL the words that are put in are compared in any order. An option may be put in with the
+`=` of its value."""
 import os
 import pty
 import select
@@ -69,7 +70,7 @@ def left_by(keys):
                 line = file.read()
             if line.endswith("\n"):
                 type_in("\x05\x15")
-                return line.rstrip()
+                return line.rstrip(" \n")
     return None
 
 
@@ -83,11 +84,11 @@ failed = 0
 for case in sys.stdin.read().splitlines():
     text, key, wanted = case.split("|")
     line = left_by(text + KEYS[key])
-    same = line == wanted
+    same = line in (wanted, wanted + "=" * text.split()[-1].startswith("--"))
     if key == "ALL" and line is not None:
         front = text.rsplit(" ", 1)[0]
-        offered, right = line[len(front):].split(), wanted[len(front):].split()
-        same = line.startswith(front) and sorted(offered) == sorted(right)
+        offered = [word.rstrip("=") for word in line[len(front):].split()]
+        same = line.startswith(front) and sorted(offered) == sorted(wanted[len(front):].split())
     if same:
         print("ok: %s completes '%s' to '%s'" % (shell, text, wanted))
     else:
@@ -110,6 +111,7 @@ parv find --l|TAB|parv find --limit
 parv verify --c|TAB|parv verify --c
 parv packets --s|TAB|parv packets --set
 parv verify -B a|TAB|parv verify -B a\ folder/
+parv verify --base=a|TAB|parv verify --base=a\ folder/
 parv verify -B . --b|TAB|parv verify -B . --b
 parv verify --base . -|ALL|parv verify --base . --set -q
 parv verify -q -|ALL|parv verify -q --set --base -B -q

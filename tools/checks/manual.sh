@@ -6,22 +6,28 @@
 cd "$work" || exit 1
 page=$top/docs/parv.1
 
-# silent OUTPUT COMMAND..: it has nothing to say, its output aside where OUTPUT isn't `said`.
-silent() {
-    local output=$1
-    shift
-    if ! command -v "$1" > /dev/null; then
-        echo "not run: there is no $1"
-    elif { "$@" > "$output"; } 2> complaint && [ ! -s complaint ] && [ ! -s said ]; then
-        echo "ok: $* is silent"
+# Of the pages of others that this one names, some may not be installed here.
+if command -v mandoc > /dev/null; then
+    mandoc -T lint "$page" 2>&1 \
+        | grep -v 'not found: Xr par2 1\|outdated mandoc.db lacks par2(1) entry' > said
+    if [ ! -s said ]; then
+        echo "ok: mandoc -T lint is silent"
     else
-        fails "$*: $(cat said complaint | head -c 600)"
+        fails "mandoc -T lint: $(head -c 600 said)"
     fi
-}
-: > said
-silent said mandoc -T lint "$page"
-: > said
-MANWIDTH=80 silent /dev/null man --warnings -E UTF-8 -l "$page"
+else
+    echo "not run: there is no mandoc"
+fi
+if command -v man > /dev/null; then
+    MANWIDTH=80 man --warnings -E UTF-8 -l "$page" 2> said > text
+    if [ $? -eq 0 ] && [ ! -s said ] && grep -q '^EXIT STATUS' text; then
+        echo "ok: man --warnings is silent"
+    else
+        fails "man --warnings: $(head -c 600 said)"
+    fi
+else
+    echo "not run: there is no man"
+fi
 
 for word in --set -B --base --limit --cursor -q; do
     grep -q "^\.It.* Fl ${word#-}\b" "$page" || fails "the page has no $word"
