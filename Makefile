@@ -20,10 +20,10 @@ demo:
 # out/build.log.
 build:
 	@mkdir -p out
-	@echo "Proves the program and all below it and builds $(PARV): about a quarter of an hour"
-	@echo "the first time, and seconds where nothing changed. The log is out/build.log."
+	@echo "Proves the program and all below it and builds $(PARV): on four processors up to"
+	@echo "half an hour the first time, then what changed. The log is out/build.log."
 	@set -o pipefail; (cd crates/parv && rt run -- packets data/v.par2) 2>&1 | tee out/build.log \
-		| { grep --line-buffered '^rt: [a-z_]* proved$$' || true; } \
+		| sed -un 's/^rt: chose --jobs [0-9]* for \([a-z_]*\)$$/proving \1/p' \
 		|| { tail -n 40 out/build.log; exit 1; }
 
 # The gate: every proof, edit and test, then the checks of the program that they leave. Its log is

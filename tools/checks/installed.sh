@@ -12,9 +12,9 @@ path=$work/path
 mkdir "$path"
 for tool in bash make install rm test; do ln -s "$(command -v $tool)" "$path"; done
 
-# make with a PATH that has no rt.
+# make with a PATH that has no rt, and nothing else from outside.
 made() {
-    (cd "$top" && PATH=$path make -s "$@" DESTDIR="$room" PREFIX=/usr PARV="$parv") \
+    env -i PATH="$path" make -s -C "$top" "$@" DESTDIR="$room" PREFIX=/usr PARV="$parv" \
         > "$work/made" 2>&1 < /dev/null
 }
 
