@@ -74,24 +74,32 @@ def files_of(chance):
     return dict(packet_files + scanned)
 
 
-def option(chance, owners):
+def option(chance, command, owners):
+    """An option, mostly one of the command and in its form."""
     owner = chance.choice([*owners, "0" * 32])
-    numbers = [chance.choice([*ODD_NUMBERS, *"00123"]) for _ in range(3)]
-    limit = chance.choice(["1", "2", "3", *ODD_NUMBERS])
-    cursor = ":".join([owner, *numbers[:chance.choice([3, 3, 3, 3, 2])]])
-    return chance.choice([["--limit", limit], ["--limit=" + limit], ["--cursor", cursor], ["-q"],
-                          ["-q", "-q"], ["--set", owner], ["--set", owner.upper()],
-                          ["--set", owner[1:]], ["-B", chance.choice([".", "./", "", "d"])],
-                          ["--base", "."], [chance.choice(ODD_WORDS)]])
+    odd = chance.randrange(6) == 0
+    numbers = [chance.choice(ODD_NUMBERS if odd else "00123") for _ in range(3)]
+    limit = chance.choice(ODD_NUMBERS if odd else "1239")
+    cursor = ":".join([owner, *numbers[:chance.choice([3, 2]) if odd else 3]])
+    options = [["--set", owner], ["--set", owner.upper()], ["-B", "."], ["--base=./"]]
+    if command == "find" or odd:
+        options += [["--limit", limit], ["--limit=" + limit], ["--cursor", cursor]] * 2
+    if command == "verify" or odd:
+        options += [["-q"], ["-q", "-q"], ["-qq"]]
+    if odd:
+        options += [[chance.choice(ODD_WORDS)], ["--set", owner[1:]], ["-B", ""]] * 2
+    return chance.choice(options)
 
 
 def words_of(chance, names, owners):
-    words = [chance.choice(COMMANDS)] if chance.randrange(40) else [chance.choice(ODD_WORDS)]
-    for _ in range(chance.choice([0, 0, 1, 1, 2, 3])):
-        words += option(chance, owners)
+    """A command, some options and some of the files, now and then with an odd word among them."""
+    command = chance.choice(COMMANDS if chance.randrange(40) else ODD_WORDS)
+    words = [command]
+    for _ in range(chance.choice([0, 0, 0, 1, 1, 2, 3])):
+        words += option(chance, command, owners)
     chosen = chance.choice([names, names, names, chance.choices(names, k=3)])
     words += [chance.choice([name, name, name, b"./" + name]) for name in chosen]
-    if chance.randrange(8) == 0:
+    if chance.randrange(16) == 0:
         words.insert(chance.randrange(len(words) + 1), chance.choice(ODD_WORDS))
     return words
 

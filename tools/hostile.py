@@ -26,7 +26,7 @@ from list_packets import listing, shown
 from runs import Runner, as_text
 from tell_states import verdict
 
-CHUNK = 50              # cases that one process makes at once
+CHUNK = 100             # cases that one process makes at once
 DEAR = 4 << 20          # bytes of windows that the model hashes in a case; slices may have 256 MiB
 
 WANTED = """packets 0,set 0,find 0,find 3,verify 0,verify 1,verify 2,no main,no description,

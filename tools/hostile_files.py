@@ -25,11 +25,14 @@ def places(data):
 
 
 def make_hashes_anew(data):
-    """Every packet that lacks at most the right hash gets it, the last first: it may lie in one."""
+    """Each place of the magic gets the hash that its length asks for, or would ask for by a sum
+    that wraps or an end that is too far; the last place first, since it may lie in a body."""
     for at in reversed(places(data)):
-        length = int.from_bytes(data[at + 8:at + 16], "little")
-        if 64 <= length <= len(data) - at:
-            data[at + 16:at + 32] = md5(data[at + 32:at + length])
+        end = at + int.from_bytes(data[at + 8:at + 16], "little")
+        if end > len(data):
+            wrapped = [end % K32, end % K64, len(data)]
+            end = next(end for end in wrapped if at + 32 <= end <= len(data) or end == len(data))
+        data[at + 16:at + 32] = md5(data[at + 32:end])
 
 
 def lengths_at(data, at):
