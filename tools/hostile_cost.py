@@ -10,7 +10,7 @@ windows  A set of the largest slice size, none of whose slices has sums: no wind
 sums     A slice of zeros with the right CRC-32 and a wrong MD5, in a file of zeros: an MD5 a place.
 names    Names of 4,096 bytes that are shown by 16,384 each, and one long name of a scanned file.
 
-PARV is the program (crates/parv/out/parv). A run is stopped after 300 seconds.
+PARV is the program (crates/parv/out/parv). A run is stopped after 1,000 seconds.
 """
 
 import shutil
@@ -122,7 +122,7 @@ def main():
     if not set(asked) <= set(costs):
         sys.exit(__doc__)
     for name in asked:
-        runner = Runner(300)
+        runner = Runner(1000)
         costs[name](runner)
         runner.close()
 

@@ -3,9 +3,9 @@
 
 usage: wrong_models.py [CASES]
 
-Each edit is made in a copy of the tools, and hostile.py runs its first 200 cases there and, where
-they agree, its first CASES (4000). An edit after which every case still agrees shows that no case
-comes to that bound.
+Each edit is made in a copy of the tools, and hostile.py runs its first 200 cases there; those that
+no case notices then run the first CASES (4000). An edit after which every case still agrees shows
+that no case comes to that bound.
 
 PARV is the program (crates/parv/out/parv).
 """
@@ -45,12 +45,11 @@ EDITS = [
      "file.slices for file in files) % 2**64 >"),
     ("describe_set.py", "file.slices for file in files) >",
      "file.slices % 2**32 for file in files) >"),
-    ("describe_set.py", "len(body) < 12 or ", ""),
     ("describe_set.py", "(len(body) - 12) // 16 < number", "(len(body) - 12) // 16 <= number"),
     ("describe_set.py", "(len(body) - 12) // 16 < number(body[8:12])", "False"),
     ("describe_set.py", "size == 0 or size % 4", "size % 4"),
     ("describe_set.py", "size == 0 or size % 4", "size == 0"),
-    ("describe_set.py", "len(set(ids)) < len(ids)", "len(set(ids[:1000])) < len(ids[:1000])"),
+    ("describe_set.py", "len(set(ids)) < len(ids)", "False"),
     ("describe_set.py", "if len(set(ids)) <",
      "ids = ids[:number(body[8:12])]\n    if len(set(ids)) <"),
     ("describe_set.py", "hashlib.md5(body).hexdigest() != owner", "False"),
@@ -95,23 +94,26 @@ def notices(edit, cases):
             return f"NOT ONE PLACE has {old}"
         with open(path, "w") as file:
             file.write(text.replace(old, new))
-        for count in (200, cases):
-            ran = subprocess.run([sys.executable, "hostile.py", "--cases", str(count)], cwd=folder,
-                                 env={**os.environ, "PARV": PARV}, capture_output=True, text=True)
-            if ran.returncode:
-                return (ran.stdout.splitlines() + ran.stderr.splitlines()[-1:])[0]
-        return None
+        ran = subprocess.run([sys.executable, "hostile.py", "--cases", str(cases)], cwd=folder,
+                             env={**os.environ, "PARV": PARV}, capture_output=True, text=True)
+        lines = ran.stdout.splitlines() + ran.stderr.splitlines()[-1:]
+        return lines[0] if ran.returncode else None
 
 
 def main():
     cases = int(sys.argv[1]) if len(sys.argv) > 1 else 4000
-    with ThreadPoolExecutor(os.cpu_count()) as pool:
-        found = []
-        for edit, line in zip(EDITS, pool.map(lambda edit: notices(edit, cases), EDITS)):
-            found.append(line)
-            said = f"noticed, {line[:100]}" if line else "NOT NOTICED"
-            print(f"{edit[0]}: {edit[2]!r} in the place of {edit[1]!r}: {said}", flush=True)
-    return 0 if all(found) else 1
+    left = EDITS
+    for count in (200, cases):
+        unnoticed = []
+        with ThreadPoolExecutor(os.cpu_count()) as pool:
+            for edit, line in zip(left, pool.map(lambda edit: notices(edit, count), left)):
+                module, old, new = edit
+                said = f"noticed, {line[:100]}" if line else f"NOT NOTICED by {count} cases"
+                print(f"{module}: {new!r} in the place of {old!r}: {said}", flush=True)
+                if line is None:
+                    unnoticed.append(edit)
+        left = unnoticed
+    return 1 if left else 0
 
 
 if __name__ == "__main__":
