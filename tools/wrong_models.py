@@ -70,7 +70,8 @@ EDITS = [
     ("describe_set.py", "first_sums.setdefault((body[:16], (len(body) - 16) // 20), body)",
      "first_sums[body[:16], (len(body) - 16) // 20] = body"),
     ("describe_set.py", "if text), None)", "), None)"),
-    ("describe_set.py", "have = len({body[:4]", "have = len([body[:4]"),
+    ("describe_set.py", 'len({body[:4] for body in usable.get("recvslic", [])})',
+     'len(usable.get("recvslic", []))'),
     ("describe_set.py", "choice in (None, owner)", "True"),
     ("find_slices.py", "offset + own <= len(data)", "True"),
     ("find_slices.py", "range(len(data))", "range(0, len(data), found.size)"),
@@ -91,13 +92,14 @@ def notices(edit, cases):
         with open(path) as file:
             text = file.read()
         if text.count(old) != 1:
-            return f"NOT ONE PLACE has {old}"
+            sys.exit(f"{module}: it isn't one place that has {old!r}")
         with open(path, "w") as file:
             file.write(text.replace(old, new))
         ran = subprocess.run([sys.executable, "hostile.py", "--cases", str(cases)], cwd=folder,
                              env={**os.environ, "PARV": PARV}, capture_output=True, text=True)
-        lines = ran.stdout.splitlines() + ran.stderr.splitlines()[-1:]
-        return lines[0] if ran.returncode else None
+        if ran.stderr or ran.returncode not in (0, 1):
+            sys.exit(f"{edit}: {ran.stderr}")
+        return ran.stdout.splitlines()[0] if ran.returncode else None
 
 
 def main():
