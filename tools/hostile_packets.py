@@ -110,14 +110,16 @@ def large_bodies(chance, size, owner):
     many = ids_of(count, 1)
     split = chance.choice([0, 1, count])
     content = struct.pack(f"<{count}I", *range(count))[:4 * count - chance.choice([0, 3])]
-    few = many[:chance.choice([2, 7, 8, 9])]
+    described = chance.choice([content, content[:4 * MOST]])
+    few = many[:chance.choice([2, 8, 8, 9])]
     greatest = [("filedesc", desc_of(of, b"%d" % at, b"", K63 - 1)) for at, of in enumerate(few)]
     return chance.choice([
         lambda: [("main", main_body(4, few)), *greatest],
+        lambda: [("main", main_body(size, [], many[:MOST - 1] + many[:1]))],
         lambda: [("main", main_body(size, [], many))],
         lambda: [("main", main_body(size, many[:split], many[split:]))],
         lambda: [("main", numbers(4) + bytes(4) + ids_of(1)[0] * count)],
-        lambda: [("main", main_body(4, [owner])), ("filedesc", desc_of(owner, b"many", content)),
+        lambda: [("main", main_body(4, [owner])), ("filedesc", desc_of(owner, b"many", described)),
                  ("ifsc", sums_of(owner, content, 4))],
         lambda: [("main", main_body(size, [])), ("creator", b"c" * most)],
         lambda: [("main", main_body(size, [])), ("main", main_body(size, []) + bytes(most - 12))],
@@ -180,7 +182,7 @@ def packets_of(chance):
     for _ in range(chance.choice([1, 1, 1, 1, 2])):
         size = chance.choice(SIZES)
         members = members_of(chance, size)
-        is_large = chance.randrange(60) == 0
+        is_large = chance.randrange(40) == 0
         bodies = large_bodies(chance, size, bytes(16)) if is_large else \
             bodies_of(chance, size, members)
         owner = md5(bodies[0][1])

@@ -50,6 +50,7 @@ EDITS = [
     ("describe_set.py", "size == 0 or size % 4", "size % 4"),
     ("describe_set.py", "size == 0 or size % 4", "size == 0"),
     ("describe_set.py", "len(set(ids)) < len(ids)", "False"),
+    ("describe_set.py", "len(set(ids)) < len(ids)", "len(set(ids[1:])) < len(ids[1:])"),
     ("describe_set.py", "if len(set(ids)) <",
      "ids = ids[:number(body[8:12])]\n    if len(set(ids)) <"),
     ("describe_set.py", "hashlib.md5(body).hexdigest() != owner", "False"),
