@@ -3,17 +3,46 @@
 
 usage: describe_set.py FILE...
 
-Prints what `parv set` prints where the files give a set. Bodies above 1,048,576 bytes are put
-aside; of several packets for one thing the first by file and offset is taken.
+Prints what `parv set` prints; where the files give no set, nothing but the first cause, on standard
+error. Bodies above 1,048,576 bytes are put aside; of several packets for one thing the first by
+file and offset is taken.
 """
 
 import hashlib
 import os
 import sys
+from typing import NamedTuple
 
-from list_packets import packet_at, shown
+from list_packets import packets_in, shown, with_bytes
 
 LIMIT = 1048576
+GREATEST_SIZE = 268435456
+MOST = 32768
+
+
+class NoSet(Exception):
+    """Why there is no set, in the words of parv."""
+
+
+class File(NamedTuple):
+    """A file of the set; its sums are pairs of MD5 and CRC-32, one after the other, or None."""
+    id: bytes
+    length: int
+    slices: int
+    whole: bytes
+    name: bytes
+    sums: list
+
+
+class RecoverySet(NamedTuple):
+    """The files stand by their IDs; aside is a list of file name, offset and reason."""
+    id: str
+    size: int
+    files: list
+    others: int
+    have: int
+    creator: bytes
+    aside: list
 
 
 def number(data):
@@ -25,15 +54,9 @@ def pieces(data, width):
 
 
 def packets_of(files):
-    """Every packet by file and offset, as (file, offset, kind, set ID, body)."""
-    for name in files:
-        with open(name, "rb") as file:
-            data = file.read()
-        for at in range(len(data)):
-            found = packet_at(data, at)
-            if found is not None:
-                length, kind, owner = found
-                yield name, at, kind, owner, data[at + 64:at + length]
+    """Every packet of files, by file and offset, as (name, offset, kind, set ID, body)."""
+    return [(name, at, kind, owner, data[at + 64:at + length])
+            for name, data in files for at, length, kind, owner in packets_in(data)]
 
 
 def main_reason(body, owner):
@@ -44,7 +67,7 @@ def main_reason(body, owner):
     size, ids = number(body[:8]), pieces(body[12:], 16)
     if size == 0 or size % 4:
         return 2
-    if size > 268435456 or len(ids) > 32768:
+    if size > GREATEST_SIZE or len(ids) > MOST:
         return 7
     if len(set(ids)) < len(ids):
         return 3
@@ -69,7 +92,7 @@ def ifsc_reason(body):
         return 7
     if len(body) < 16 or (len(body) - 16) % 20:
         return 1
-    return 7 if (len(body) - 16) // 20 > 32768 else None
+    return 7 if (len(body) - 16) // 20 > MOST else None
 
 
 def slice_reason(body, size):
@@ -92,41 +115,77 @@ def reason(kind, body, owner, size):
     return None
 
 
-def set_of(packets):
-    """The set of packets by file and offset: its ID, slice size, number of other files, files by ID,
-    usable bodies by kind and packets put aside. A file is (ID, length, name, sums of its slices)."""
-    body, owner = next((body, owner) for _, _, kind, owner, body in packets
-                       if kind == "main" and main_reason(body, owner) is None)
-    size, count, ids = number(body[:8]), number(body[8:12]), pieces(body[12:], 16)
-    own = [packet for packet in packets if packet[3] == owner]
-    usable = [(kind, body) for _, _, kind, _, body in own if reason(kind, body, owner, size) is None]
-    files = []
-    for file in sorted(ids[:count], key=number):
-        desc = next(body for kind, body in usable if kind == "filedesc" and body[:16] == file)
-        length = number(desc[48:56])
+def files_of(size, ids, descs, sums):
+    """The files of the recovery IDs by ID, or the first cause why there is no set."""
+    first_desc, first_sums = {}, {}
+    for body in descs:
+        first_desc.setdefault(body[:16], body)
+    for body in sums:
+        first_sums.setdefault((body[:16], (len(body) - 16) // 20), body)
+    files, names = [], set()
+    for file in sorted(ids, key=number):
+        body = first_desc.get(file)
+        if body is None:
+            raise NoSet(f"no description of {file.hex()}")
+        length = number(body[48:56])
         slices = -(-length // size)
-        sums = [pieces(body[16:], 20) for kind, body in usable if kind == "ifsc"
-                and body[:16] == file and (len(body) - 16) // 20 == slices]
-        files.append((file, length, desc[56:].rstrip(b"\0"), sums[0] if sums else None))
-    aside = [(name, at, why) for name, at, kind, _, body in own
-             for why in [reason(kind, body, owner, size)] if why is not None]
-    return owner, size, len(ids) - count, files, usable, aside
+        pairs = first_sums.get((file, slices))
+        known = None if pairs is None else pieces(pairs[16:], 20)
+        files.append(File(file, length, slices, body[16:32], body[56:].rstrip(b"\0"), known))
+    for file in files:
+        if file.name in names:
+            raise NoSet(f"name twice {file.id.hex()}")
+        names.add(file.name)
+    if sum(file.slices for file in files) > MOST:
+        raise NoSet("too many slices")
+    return files
+
+
+def set_of(packets, choice=None):
+    """The set of packets by file and offset: that of the first usable Main, or of this set ID."""
+    body, owner = next(((body, owner) for _, _, kind, owner, body in packets
+                        if kind == "main" and choice in (None, owner)
+                        and main_reason(body, owner) is None), (None, None))
+    if body is None:
+        raise NoSet("no main")
+    size, count, ids = number(body[:8]), number(body[8:12]), pieces(body[12:], 16)
+    usable, aside = {}, []
+    for name, at, kind, of, body in packets:
+        if of == owner:
+            why = reason(kind, body, owner, size)
+            if why is None:
+                usable.setdefault(kind, []).append(body)
+            else:
+                aside.append((name, at, why))
+    files = files_of(size, ids[:count], usable.get("filedesc", []), usable.get("ifsc", []))
+    have = len({body[:4] for body in usable.get("recvslic", [])})
+    texts = [body.rstrip(b"\0") for body in usable.get("creator", [])]
+    creator = next((text for text in texts if text), None)
+    return RecoverySet(owner, size, files, len(ids) - count, have, creator, aside)
+
+
+def set_line(found):
+    return f"set {found.id} size {found.size} slices {sum(file.slices for file in found.files)}"
+
+
+def description(found):
+    """The lines of a set."""
+    lines = [set_line(found)]
+    for file in found.files:
+        known = "no" if file.sums is None else "yes"
+        lines.append(f"file {file.id.hex()} {file.length} {file.slices} {known} {shown(file.name)}")
+    lines += [f"others {found.others}", f"have {found.have}"]
+    if found.creator is not None:
+        lines.append(f"creator {shown(found.creator)}")
+    return lines + [f"aside {shown(name)} {at} {why}" for name, at, why in found.aside]
 
 
 def main():
-    packets = list(packets_of(map(os.fsencode, sys.argv[1:])))
-    owner, size, others, files, usable, aside = set_of(packets)
-    print("set", owner, "size", size, "slices", sum(-(-file[1] // size) for file in files))
-    for file, length, name, sums in files:
-        known = "yes" if sums is not None else "no"
-        print(f"file {file.hex()} {length} {-(-length // size)} {known} {shown(name)}")
-    print("others", others)
-    print("have", len({number(body[:4]) for kind, body in usable if kind == "recvslic"}))
-    texts = [body.rstrip(b"\0") for kind, body in usable if kind == "creator"]
-    for text in [text for text in texts if text][:1]:
-        print("creator", shown(text))
-    for name, at, why in aside:
-        print("aside", shown(name), at, why)
+    try:
+        found = set_of(packets_of(with_bytes(map(os.fsencode, sys.argv[1:]))))
+    except NoSet as cause:
+        sys.exit(f"parv: no usable set: {cause}")
+    print("\n".join(description(found)))
 
 
 if __name__ == "__main__":

@@ -13,32 +13,46 @@ import sys
 import zlib
 
 from describe_set import number, packets_of, set_of
-from list_packets import shown
+from list_packets import is_packet_file, shown, with_bytes
+
+
+def slices_of(found):
+    """Every slice in order: its file ID, its number in the file, its own length and its sums."""
+    return [(file.id, at, min(found.size, file.length - at * found.size),
+             None if file.sums is None else (file.sums[at][:16], number(file.sums[at][16:])))
+            for file in found.files for at in range(file.slices)]
+
+
+def sightings(found, contents):
+    """Every sighting in these contents by file, offset and slice: the three numbers."""
+    slices, by_sums = slices_of(found), {}
+    for at, (_, _, own, sums) in enumerate(slices):
+        if sums is not None:
+            by_sums.setdefault(sums, []).append((at, own))
+    crcs = {crc for _, crc in by_sums}
+    for place, data in enumerate(contents if crcs else []):
+        for offset in range(len(data)):
+            window = data[offset:offset + found.size].ljust(found.size, b"\0")
+            crc = zlib.crc32(window)
+            if crc not in crcs:
+                continue
+            for at, own in by_sums.get((hashlib.md5(window).digest(), crc), []):
+                if offset + own <= len(data):
+                    yield place, offset, at
+
+
+def line_of(name, offset, entry):
+    """The line of a sighting; an entry is one of slices_of."""
+    return f"{shown(name)} {offset} {entry[0].hex()} {entry[1]}"
 
 
 def main():
     words = [os.fsencode(word) for word in sys.argv[1:]]
-    packet_files = [word for word in words if word.lower().endswith(b".par2")]
-    _, size, _, files, _, _ = set_of(list(packets_of(packet_files)))
-    slices = {}                     # (MD5, CRC-32): file ID, number and own length of each
-    for file, length, _, sums in files:
-        for at, pair in enumerate(sums or []):
-            own = min(size, length - at * size)
-            slices.setdefault((pair[:16], number(pair[16:])), []).append((file, at, own))
-    crcs = {crc for _, crc in slices}
-    for name in words:
-        if name in packet_files:
-            continue
-        with open(name, "rb") as file:
-            data = file.read()
-        for offset in range(len(data)):
-            window = data[offset:offset + size].ljust(size, b"\0")
-            crc = zlib.crc32(window)
-            if crc not in crcs:
-                continue
-            for file, at, own in slices.get((hashlib.md5(window).digest(), crc), []):
-                if offset + own <= len(data):
-                    print(shown(name), offset, file.hex(), at)
+    found = set_of(packets_of(with_bytes(filter(is_packet_file, words))))
+    scanned = with_bytes(word for word in words if not is_packet_file(word))
+    slices = slices_of(found)
+    for place, offset, at in sightings(found, [data for _, data in scanned]):
+        print(line_of(scanned[place][0], offset, slices[at]))
     print("end")
 
 

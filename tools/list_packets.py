@@ -1,5 +1,5 @@
 #!/usr/bin/env python3
-"""Lists the PAR2 packets of files, trying every offset by the definition of a packet.
+"""Lists the PAR2 packets of files, by the definition of a packet at every offset of the magic.
 
 usage: list_packets.py [--set HEX] FILE...
 
@@ -36,6 +36,16 @@ def packet_at(data, at):
     return length, kind, data[at + 32:at + 48].hex()
 
 
+def packets_in(data):
+    """Each packet, by its offset: that, its length, its kind and its set ID."""
+    at = data.find(MAGIC)
+    while at >= 0:
+        found = packet_at(data, at)
+        if found is not None:
+            yield at, *found
+        at = data.find(MAGIC, at + 1)
+
+
 def shown(name):
     """The name as text: printable ASCII as it is, other bytes and the backslash escaped."""
     text = ""
@@ -55,28 +65,35 @@ def set_id(text):
     return text.lower()
 
 
+def listing(files, chosen=None):
+    """The lines of files, which are pairs of name and bytes; with a set ID those of its packets."""
+    lines = [f"{shown(name)} {at} {length} {kind} {owner}" for name, data in files
+             for at, length, kind, owner in packets_in(data) if chosen in (None, owner)]
+    return [*lines, f"packets {len(lines)}"]
+
+
+def is_packet_file(name):
+    return name[-5:].lower() == b".par2"
+
+
+def with_bytes(names):
+    """The files of these names, as pairs of name and bytes."""
+    files = []
+    for name in names:
+        with open(name, "rb") as file:
+            files.append((name, file.read()))
+    return files
+
+
 def main():
     parser = argparse.ArgumentParser(allow_abbrev=False)
     parser.add_argument("--set", type=set_id, metavar="HEX", help="list this set's packets only")
     parser.add_argument("files", nargs="+", type=os.fsencode, metavar="FILE")
     arguments = parser.parse_args()
-    files = [name for name in arguments.files if name[-5:].lower() == b".par2"]
-    if not files:
+    names = list(filter(is_packet_file, arguments.files))
+    if not names:
         parser.error("no packet file")
-
-    count = 0
-    for name in files:
-        with open(name, "rb") as file:
-            data = file.read()
-        for at in range(len(data)):
-            found = packet_at(data, at)
-            if found is None:
-                continue
-            length, kind, owner = found
-            if arguments.set in (None, owner):
-                print(shown(name), at, length, kind, owner)
-                count += 1
-    print("packets", count)
+    print("\n".join(listing(with_bytes(names), arguments.set)))
 
 
 if __name__ == "__main__":

@@ -21,6 +21,13 @@ wants "the slices in the files of the set are those that the independent search 
     "$("$tools/find_slices.py" ./*.par2 "${scanned[@]}")" "" "$parv" find ./*.par2 "${scanned[@]}"
 wants "the slices in a file that was cut and put together" 0 \
     "$("$tools/find_slices.py" ./*.par2 "$work/cut.bin")" "" "$parv" find ./*.par2 "$work/cut.bin"
+for files in "${scanned[*]}" "notes.txt $work/cut.bin"; do
+    # shellcheck disable=SC2086
+    states=$("$tools/tell_states.py" ./*.par2 $files)
+    # shellcheck disable=SC2086
+    wants "the states of the set are those of the independent reading" $? "$states" "" \
+        "$parv" verify ./*.par2 $files
+done
 
 "$tools/cut_search.sh" ./*.par2 notes.txt "$work/cut.bin" || failed=1
 exit $failed

@@ -1,0 +1,123 @@
+#!/usr/bin/env python3
+"""Turns the model that hostile.py compares with wrong, one edit at a time: each must be noticed.
+
+usage: wrong_models.py [CASES]
+
+Each edit is made in a copy of the tools, and hostile.py runs its first 200 cases there; those that
+no case notices then run the first CASES (4000). An edit after which every case still agrees shows
+that no case comes to that bound.
+
+PARV is the program (crates/parv/out/parv).
+"""
+
+import glob
+import os
+import shutil
+import subprocess
+import sys
+import tempfile
+from concurrent.futures import ThreadPoolExecutor
+
+from runs import HERE, PARV
+
+EDITS = [
+    ("list_packets.py", "length < 64", "length < 68"),
+    ("list_packets.py", "length < 64", "length < 60"),
+    ("list_packets.py", "length % 4 != 0 or ", ""),
+    ("list_packets.py", "at + length > len(data)", "at + length > len(data) + 4"),
+    ("list_packets.py", "at + length > len(data)", "at + length >= len(data)"),
+    ("list_packets.py", "at + length > len(data)", "(at + length) % 2**64 > len(data)"),
+    ("list_packets.py", "at + length > len(data)", "at + length % 2**32 > len(data)"),
+    ("list_packets.py", "data[at + 32:at + length]", "data[at + 48:at + length]"),
+    ("list_packets.py", "data.find(MAGIC, at + 1)", "data.find(MAGIC, at + (found or [1])[0])"),
+    ("list_packets.py", "0x20 <= byte <= 0x7E", "0x20 <= byte <= 0x7F"),
+    ("describe_set.py", "LIMIT = 1048576", "LIMIT = 1048572"),
+    ("describe_set.py", "LIMIT = 1048576", "LIMIT = 1048580"),
+    ("describe_set.py", "GREATEST_SIZE = 268435456", "GREATEST_SIZE = 268435452"),
+    ("describe_set.py", "GREATEST_SIZE = 268435456", "GREATEST_SIZE = 268435460"),
+    ("describe_set.py", "len(ids) > MOST", "len(ids) > MOST - 1"),
+    ("describe_set.py", "len(ids) > MOST", "len(ids) > MOST + 1"),
+    ("describe_set.py", "// 20 > MOST", "// 20 > MOST - 1"),
+    ("describe_set.py", "// 20 > MOST", "// 20 > MOST + 1"),
+    ("describe_set.py", "for file in files) > MOST", "for file in files) > MOST - 1"),
+    ("describe_set.py", "for file in files) > MOST", "for file in files) > MOST + 1"),
+    ("describe_set.py", "file.slices for file in files) >",
+     "file.slices for file in files) % 2**64 >"),
+    ("describe_set.py", "file.slices for file in files) >",
+     "file.slices % 2**32 for file in files) >"),
+    ("describe_set.py", "(len(body) - 12) // 16 < number", "(len(body) - 12) // 16 <= number"),
+    ("describe_set.py", "(len(body) - 12) // 16 < number(body[8:12])", "False"),
+    ("describe_set.py", "size == 0 or size % 4", "size % 4"),
+    ("describe_set.py", "size == 0 or size % 4", "size == 0"),
+    ("describe_set.py", "len(set(ids)) < len(ids)", "False"),
+    ("describe_set.py", "len(set(ids)) < len(ids)", "len(set(ids[1:])) < len(ids[1:])"),
+    ("describe_set.py", "if len(set(ids)) <",
+     "ids = ids[:number(body[8:12])]\n    if len(set(ids)) <"),
+    ("describe_set.py", "hashlib.md5(body).hexdigest() != owner", "False"),
+    ("describe_set.py", "len(body) < 56 or", "len(body) < 60 or"),
+    ("describe_set.py", "1 <= len(name) <= 4096", "len(name) <= 4096"),
+    ("describe_set.py", "1 <= len(name) <= 4096", "1 <= len(name) <= 4095"),
+    ("describe_set.py", "1 <= len(name) <= 4096", "1 <= len(name) <= 4097"),
+    ("describe_set.py", ' or b"\\0" in name', ""),
+    ("describe_set.py", ">= 1 << 63", ">= 1 << 64"),
+    ("describe_set.py", ">= 1 << 63", ">= (1 << 63) - 1"),
+    ("describe_set.py", "len(body) < 16 or", "len(body) < 20 or"),
+    ("describe_set.py", " or (len(body) - 16) % 20", ""),
+    ("describe_set.py", "number(body[:4]) > 65534", "number(body[:4]) > 65533"),
+    ("describe_set.py", "number(body[:4]) > 65534", "number(body[:4]) > 65535"),
+    ("describe_set.py", "len(body) - 4 != size", "len(body) - 4 < size"),
+    ("describe_set.py", "key=number", "key=bytes"),
+    ("describe_set.py", "first_desc.setdefault(body[:16], body)", "first_desc[body[:16]] = body"),
+    ("describe_set.py", "first_sums.setdefault((body[:16], (len(body) - 16) // 20), body)",
+     "first_sums[body[:16], (len(body) - 16) // 20] = body"),
+    ("describe_set.py", "if text), None)", "), None)"),
+    ("describe_set.py", 'len({body[:4] for body in usable.get("recvslic", [])})',
+     'len(usable.get("recvslic", []))'),
+    ("describe_set.py", "choice in (None, owner)", "True"),
+    ("find_slices.py", "offset + own <= len(data)", "True"),
+    ("find_slices.py", "range(len(data))", "range(0, len(data), found.size)"),
+    ("tell_states.py", "need <= found.have", "need < found.have"),
+    ("tell_states.py", "len(data) == file.length and ", ""),
+    ("hostile.py", "sighting >= start", "sighting > start"),
+    ("hostile.py", "len(left) >= limit", "len(left) > limit"),
+]
+
+
+def notices(edit, cases):
+    """The first line that says how the wrong model differs, or nothing."""
+    module, old, new = edit
+    with tempfile.TemporaryDirectory() as folder:
+        for path in glob.glob(os.path.join(HERE, "*.py")) + [os.path.join(HERE, "runner.c")]:
+            shutil.copy(path, folder)
+        path = os.path.join(folder, module)
+        with open(path) as file:
+            text = file.read()
+        if text.count(old) != 1:
+            sys.exit(f"{module}: it isn't one place that has {old!r}")
+        with open(path, "w") as file:
+            file.write(text.replace(old, new))
+        ran = subprocess.run([sys.executable, "hostile.py", "--cases", str(cases)], cwd=folder,
+                             env={**os.environ, "PARV": PARV}, capture_output=True, text=True)
+        if ran.stderr or ran.returncode not in (0, 1):
+            sys.exit(f"{edit}: {ran.stderr}")
+        return ran.stdout.splitlines()[0] if ran.returncode else None
+
+
+def main():
+    cases = int(sys.argv[1]) if len(sys.argv) > 1 else 4000
+    left = EDITS
+    for count in (200, cases):
+        unnoticed = []
+        with ThreadPoolExecutor(os.cpu_count()) as pool:
+            for edit, line in zip(left, pool.map(lambda edit: notices(edit, count), left)):
+                module, old, new = edit
+                said = f"noticed, {line[:100]}" if line else f"NOT NOTICED by {count} cases"
+                print(f"{module}: {new!r} in the place of {old!r}: {said}", flush=True)
+                if line is None:
+                    unnoticed.append(edit)
+        left = unnoticed
+    return 1 if left else 0
+
+
+if __name__ == "__main__":
+    sys.exit(main())
