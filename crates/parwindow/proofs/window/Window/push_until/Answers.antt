@@ -1,3 +1,5 @@
+use Rattle.std.proofs.Common.{arith}
+use Rattle.std.proofs.lemmas.Grind.{common_steps}
 use Rattle.parwindow.proofs.SlideLaws.{pushes_until}
 use Rattle.parwindow.proofs.window.Window.push_until.Goals as goal
 
@@ -5,3 +7,9 @@ pub returns-clause-until : goal.returns-clause-until
 returns-clause-until c =
     rw (← c.self.view_is, ← c.as_slices.ensures)
     (pushes_until c.args.index.now _ c.args.bytes.now c.slide_over-slid.result c.slide_over-slid.ensures)
+
+pub invariant_of-self : goal.invariant_of-self
+invariant_of-self c = grind (arith, common_steps)
+
+pub returns-clause-content : goal.returns-clause-content
+returns-clause-content c = grind (arith, common_steps)
