@@ -1,5 +1,5 @@
 -- What one more answer tells of a shelf.
-use Rattle.std.proofs.Common.{◌≡◌, ℕ, ◌+◌, ◌<◌, List, [], ◌∷◌, ◌++◌, length, map, sum, refl, ap, ◌∙◌, arith, Result, Ok, Err, OnOk, IfErr}
+use Rattle.std.proofs.Common.{◌≡◌, ℕ, ◌+◌, List, [], ◌∷◌, ◌++◌, map, sum, refl, ap, ◌∙◌, arith, Result, Ok, Err, OnOk, IfErr}
 use Rattle.std.proofs.lemmas.List.Sums.{sum_by-cons}
 use Rattle.parfield.specs.Added.{sum-added_at}
 use Rattle.parshelf.specs.Shelf.{ShelfState, IsShelf, failure_count, early_end_count}

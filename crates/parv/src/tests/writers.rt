@@ -116,10 +116,6 @@ pub fn rows_with_options() -> &'static [OptionRow] {
     &WITH_OPTIONS
 }
 
-static X_BIN: [&[u8]; 1] = [b"XXabcdefgh"];
-
-static A_BIN: [&[u8]; 1] = [b"abcd"];
-
 static WITH_OPTIONS: [OptionRow; 9] = [
     // The first slice that is seen ends at the sixth byte.
     (
@@ -127,7 +123,7 @@ static WITH_OPTIONS: [OptionRow; 9] = [
             Row {
                 words: &["find", "--limit", "1", "v.par2", "x.bin"],
                 packets: &["g"],
-                scanned: &X_BIN,
+                scanned: &[b"XXabcdefgh"],
                 ends: Ends::Wrote(
                     "x.bin 2 e345eacbe656c0e6fd20ed63cb7b062c 0\n\
                      cursor 617cdc72ba53d94fe713fea2ae18f776:0:2:1\n",
@@ -152,7 +148,7 @@ static WITH_OPTIONS: [OptionRow; 9] = [
                     "x.bin",
                 ],
                 packets: &["g"],
-                scanned: &X_BIN,
+                scanned: &[b"XXabcdefgh"],
                 ends: Ends::Wrote("x.bin 6 e345eacbe656c0e6fd20ed63cb7b062c 1\nend\n", 0),
             },
             "",
@@ -167,7 +163,7 @@ static WITH_OPTIONS: [OptionRow; 9] = [
             Row {
                 words: &["find", "--limit", "2", "v.par2", "x.bin"],
                 packets: &["g"],
-                scanned: &X_BIN,
+                scanned: &[b"XXabcdefgh"],
                 ends: Ends::Wrote(
                     "x.bin 2 e345eacbe656c0e6fd20ed63cb7b062c 0\n\
                      x.bin 6 e345eacbe656c0e6fd20ed63cb7b062c 1\n\
@@ -193,7 +189,7 @@ static WITH_OPTIONS: [OptionRow; 9] = [
                     "x.bin",
                 ],
                 packets: &["g"],
-                scanned: &X_BIN,
+                scanned: &[b"XXabcdefgh"],
                 ends: Ends::Wrote("end\n", 0),
             },
             "",
@@ -208,7 +204,7 @@ static WITH_OPTIONS: [OptionRow; 9] = [
             Row {
                 words: &["verify", "-q", "v.par2", "a.bin"],
                 packets: &["a_with_a_slice_twice"],
-                scanned: &A_BIN,
+                scanned: &[b"abcd"],
                 ends: Ends::Wrote("need 1 have 1\nresult possible\n", 1),
             },
             "",
@@ -223,7 +219,7 @@ static WITH_OPTIONS: [OptionRow; 9] = [
             Row {
                 words: &["verify", "-q", "-q", "v.par2", "a.bin"],
                 packets: &["a_with_a_slice_twice"],
-                scanned: &A_BIN,
+                scanned: &[b"abcd"],
                 ends: Ends::Wrote("", 1),
             },
             "",
@@ -238,7 +234,7 @@ static WITH_OPTIONS: [OptionRow; 9] = [
             Row {
                 words: &["verify", "v.par2", "a.bin"],
                 packets: &["a"],
-                scanned: &A_BIN,
+                scanned: &[b"abcd"],
                 ends: Ends::Wrote(
                     "set 2b5d19a47ee4561a2c85b51d7f6d65c4 size 4 slices 2\n\
                      damaged a.bin 1/2\nneed 1 have 0\nresult impossible\n",
@@ -257,7 +253,7 @@ static WITH_OPTIONS: [OptionRow; 9] = [
             Row {
                 words: &["verify", "-q", "v.par2", "a.bin"],
                 packets: &["a"],
-                scanned: &A_BIN,
+                scanned: &[b"abcd"],
                 ends: Ends::Wrote("need 1 have 0\nresult impossible\n", 2),
             },
             "",
@@ -272,7 +268,7 @@ static WITH_OPTIONS: [OptionRow; 9] = [
             Row {
                 words: &["verify", "-q", "-q", "v.par2", "a.bin"],
                 packets: &["a"],
-                scanned: &A_BIN,
+                scanned: &[b"abcd"],
                 ends: Ends::Wrote("", 2),
             },
             "",
