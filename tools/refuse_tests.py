@@ -1,12 +1,13 @@
 #!/usr/bin/env python3
 """Refuses each allocation of each test of some crates in turn, or each and all that come later.
 
-usage: refuse_tests.py LIBRARY one|later PROGRAM [WORD]
+usage: refuse_tests.py LIBRARY one|later PROGRAM [WORD [SAID,SAID..]]
 
 LIBRARY is disturb.c, built; PROGRAM is what `rt test` and `rt ci` leave at crates/NAME/out/NAME_tests.
 Of the tests whose names have WORD, each run must pass, or fail and name want of memory: a test that fails
 in any other way saw another answer in its place. What was taken is given back, and past the last allocation
-the test passes. A test that takes more than a thousand times memory is refused each one hundredth.
+the test passes. A test that takes more than a thousand times memory is refused each one hundredth. Each SAID
+is what some test says that ended so.
 """
 
 import os
@@ -33,16 +34,18 @@ def run(library, program, test, variable, number, folder):
 
 
 def refuse(library, program, test, variable, folder):
-    """How many runs there were and how many ended early, or what was wrong."""
+    """How many runs there were, how many ended early, and what those said; or what was wrong."""
     status, said, _, whole, taken = run(library, program, test, variable, 10**9, folder)
     if status != 0 or whole is None:
         return f"{test} fails undisturbed, or leaves no report: {said[:200]}"
     runs = ended = 0
+    ends = ""
     step = max(1, taken // 100) if taken > 1000 else 1
     for number in range(1, taken + 1, step):
         status, said, met, left, _ = run(library, program, test, variable, number, folder)
         runs += 1
         ended += status != 0
+        ends += said if status else ""
         if status != 0 and (status not in (101, -6) or not any(want in said for want in WANT)):
             return f"{test}, allocation {number}: status {status}, {said[:300]}"
         if not met:
@@ -50,7 +53,7 @@ def refuse(library, program, test, variable, folder):
         # A failed assert ends a test with no report.
         if status != -6 and (left is None or left > whole):
             return f"{test}, allocation {number}: {left} allocations not given back"
-    return runs, ended
+    return runs, ended, ends
 
 
 def main():
@@ -58,6 +61,7 @@ def main():
         sys.exit(__doc__.split("\n\n")[1])
     library, mode, program = os.path.abspath(sys.argv[1]), sys.argv[2], os.path.abspath(sys.argv[3])
     word = sys.argv[4] if len(sys.argv) > 4 else ""
+    wanted = sys.argv[5].split(",") if len(sys.argv) > 5 else []
     variable = {"one": "REFUSE", "later": "REFUSE_LATER"}[mode]
     listed = subprocess.run([program, "--list"], capture_output=True, text=True, check=True).stdout
     tests = [line.removesuffix(": test") for line in listed.splitlines() if line.endswith(": test") and word in line]
@@ -70,10 +74,14 @@ def main():
     if not tests:
         print(f"FAILED: {name}: no test's name has {word}")
     elif not wrong:
-        runs, ended = (sum(column) for column in zip(*answers))
+        runs, ended = (sum(answer[place] for answer in answers) for place in (0, 1))
         if not ended:
             print(f"FAILED: {name}: no run was refused memory")
             return 1
+        for want in wanted:
+            if not any(want in answer[2] for answer in answers):
+                print(f"FAILED: {name}: no test said {want}")
+                return 1
         what = "an allocation" if mode == "one" else "an allocation and all later ones"
         print(f"ok: {name}: {what} refused in each of {runs} runs of {len(tests)} tests, {ended} ended with want of "
               "memory, none in another way")

@@ -1,13 +1,14 @@
 #!/usr/bin/env bash
-# Each allocation of each test of four libraries, and of the tests of parsalvage over bytes, is refused in
-# turn: a test passes, or it fails by want of memory. A crate of tests has its own name before the _tests of
-# its program. The gate leaves these programs; elsewhere there may be none, and then nothing is run.
+# Each allocation of each test of five libraries, and of the tests of parsalvage over bytes, is refused in
+# turn: a test passes, or it fails by want of memory, and where what it says then is named, some test says it.
+# A crate of tests has its own name before the _tests of its program. The gate leaves these programs; elsewhere
+# there may be none, and then nothing is run.
 . "$(dirname "$0")/wants.sh"
 gcc -shared -fPIC -O1 -o "$work/disturb.so" "$tools/disturb.c" -ldl || fails "no compiler"
-while read -r crate word; do
+while IFS='|' read -r crate word told; do
     tests=$top/crates/$crate/out/${crate}_tests
     if [ -x "$tests" ]; then
-        "$tools/refuse_tests.py" "$work/disturb.so" one "$tests" "$word" || failed=1
+        "$tools/refuse_tests.py" "$work/disturb.so" one "$tests" "$word" ${told:+"$told"} || failed=1
     elif [ -n "${GATE:-}" ]; then
         fails "there is no $tests"
     else
@@ -15,11 +16,12 @@ while read -r crate word; do
     fi
 done << 'END'
 parshelf_tests
-parsalvage_tests packet_inside
-parsalvage_tests many_bytes
-parsalvage_tests bodies_at
+parsalvage_tests|packet_inside
+parsalvage_tests|many_bytes
+parsalvage_tests|bodies_at
 parwindow_tests
 parcursor
 parfind_tests
+pardrive||OutOfMemory before the first call,NoMemory told at a reopening
 END
 exit $failed

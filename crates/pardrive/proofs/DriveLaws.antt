@@ -1,9 +1,10 @@
 -- How calls go on, one after another.
-use Rattle.std.proofs.Common.{◌≡◌, ℕ, ◌+◌, ◌<◌, ◌≤◌, List, [], ◌∷◌, ◌++◌, length, drop, get_or, refl, sym, ap, ◌∙◌, subst, arith, append_assoc, append-nil, add-one, IsTrue, Option, Some, None, Result}
+use Rattle.std.proofs.Common.{◌≡◌, ℕ, ◌+◌, ◌<◌, ◌≤◌, List, [], ◌∷◌, ◌++◌, length, drop, get_or, refl, sym, ap, ◌∙◌, subst, arith, append_assoc, append-nil, add-one, IsTrue, Option, Some, None, Result, OnOk, IfErr}
 use Rattle.std.specs.List.{Contains}
 use Rattle.std.proofs.Math.Seq.{drop-cons}
 use Rattle.std.proofs.lemmas.Grind.{common_steps}
-use Rattle.parshelf.specs.Shelf.{ShelfState}
+use Rattle.parshelf.specs.Shelf.{ShelfState, IsShelf}
+use Rattle.parshelf.specs.Reads.{ReadsOnly, FaultsIn}
 use Rattle.parshelf.specs.declared.reading.ReadFault.{ReadFault}
 use Rattle.parwindow.specs.Index.{SliceSet}
 use Rattle.parcursor.specs.declared.cursor.Cursor.{Cursor}
@@ -14,6 +15,7 @@ use Rattle.parfind.specs.Finders.{FinderState, search_of}
 use Rattle.parfind.specs.Marks.{marks}
 use Rattle.parfind.specs.Moves.{StepMoves}
 use Rattle.parfind.specs.Reach.{SearchState, CallReads, CallsRead, HandsWithin}
+use Rattle.parfind.specs.Sightings.{Scan}
 use Rattle.parfind.specs.Steps.{StepGives, scan_of}
 use Rattle.parfind.proofs.MoveLaws.{moves_onward}
 use Rattle.parfind.proofs.ReachLaws.{reach_adds_up}
@@ -22,7 +24,8 @@ use Rattle.pardrive.specs.declared.calls.Call.TheVariants as call
 use Rattle.pardrive.specs.declared.calls.Answer.{Answer}
 use Rattle.pardrive.specs.declared.calls.Answer.TheVariants as answer
 use Rattle.pardrive.specs.Runs.{left_after, CallGives, CallsGive, MayAnswer, AnswersEach, search_at}
-use Rattle.pardrive.proofs.RunLaws.{step_leaves}
+use Rattle.pardrive.specs.Told.{TellsOf}
+use Rattle.pardrive.proofs.ToldLaws.{tells_same, tells_step}
 
 -- whatever the later calls give, all calls give it behind these answers
 abbrev pub GivesBefore : SliceSet → ShelfState → Cursor → List Call → ShelfState → Cursor → List Call → List Answer → Type 0
@@ -64,7 +67,7 @@ pub record KeptSoFar (size : ℕ) (old now : ShelfState) (start : Cursor) (finde
 pub record DriveSoFar
     (set : SliceSet) (old now : ShelfState) (start : Cursor) (finder : FinderState) (calls later : List Call) (answers : List Answer)
     : Type 0 where
-  pub steady : IsTrue old.is_steady → IsTrue now.is_steady
+  pub told : TellsOf old now answers
   pub gives : IsTrue old.is_steady → GivesBefore set old start calls now finder.cursor later answers
   pub each : EachBefore calls later answers
   pub onward : IsTrue (is_from start finder.cursor)
@@ -76,6 +79,8 @@ pub record StepMade
     (set : SliceSet) (old new : ShelfState) (budget : Option ℕ) (before after : FinderState) (r : Result Step ReadFault) : Type 0 where
   pub answer : IsTrue old.is_steady → StepGives set old new budget before.cursor r after.cursor
   pub moves : StepMoves old.lengths budget before.cursor r after.cursor
+  pub ok : OnOk r (ReadsOnly old new)
+  pub fault : IfErr r (FaultsIn old new after.cursor.file)
   pub reads : CallReads set.slice_size (search_of old before) (search_of new after)
   pub digests : IsTrue new.is_steady → after.digests ≤ marks (scan_of set new) after.opening after.cursor
   pub opening : after.opening ≡ before.opening
@@ -93,13 +98,13 @@ pub asks_next : Asks call.Next None
 asks_next = record { gives = λ set old new c d r h. h; answers = λ r. tt }
 
 pub drive_steps : (set : SliceSet) (old s t : ShelfState) (start : Cursor) (before after : FinderState) (calls later : List Call)
-    (k : Call) (budget : Option ℕ) (r : Result Step ReadFault) (xs ys : List Answer) → Asks k budget
+    (k : Call) (budget : Option ℕ) (r : Result Step ReadFault) (xs ys : List Answer) → Asks k budget → IsShelf s
     → DriveSoFar set old s start before calls (k ∷ later) xs → StepMade set s t budget before after r
     → ys ≡ xs ++ answer.Step r ∷ [] → DriveSoFar set old t start after calls later ys
-drive_steps set old s t start before after calls later k budget r xs ys asks so_far made items = record {
-  steady = λ h. (step_leaves set s t budget before.cursor after.cursor r (made.answer (so_far.steady h))).steady_is ∙ so_far.steady h;
+drive_steps set old s t start before after calls later k budget r xs ys asks shelf so_far made items = record {
+  told = rw items (tells_step old s t xs r after.cursor.file shelf so_far.told made.ok made.fault);
   gives = λ h. gives_more set old s t start before.cursor after.cursor calls later k (answer.Step r) xs ys (so_far.gives h)
-      (asks.gives set s t before.cursor after.cursor r (made.answer (so_far.steady h))) items;
+      (asks.gives set s t before.cursor after.cursor r (made.answer (so_far.told.steady_is ∙ h))) items;
   each = each_more calls later k (answer.Step r) xs ys so_far.each (asks.answers r) items;
   onward =
       let on = moves_onward s.lengths budget before.cursor after.cursor r made.moves in
@@ -120,7 +125,7 @@ pub drive_reopens : (set : SliceSet) (old s : ShelfState) (start : Cursor) (befo
     → DriveSoFar set old s start before calls (call.Reopen ∷ later) xs → after.cursor ≡ before.cursor → after.digests ≡ 0
     → ys ≡ xs ++ answer.Reopened ∷ [] → DriveSoFar set old s start after calls later ys
 drive_reopens set old s start before after calls later xs ys there so_far cursor digests items = record {
-  steady = so_far.steady;
+  told = rw items (tells_same old s xs answer.Reopened so_far.told refl refl);
   gives = λ h. gives_more set old s s start before.cursor after.cursor calls later call.Reopen answer.Reopened xs ys (so_far.gives h) (refl, cursor) items;
   each = each_more calls later call.Reopen answer.Reopened xs ys so_far.each tt items;
   onward = rw cursor so_far.onward;
@@ -134,7 +139,7 @@ pub drive_stops : (set : SliceSet) (old s : ShelfState) (start : Cursor) (before
     → DriveSoFar set old s start before calls (call.Reopen ∷ later) xs
     → ys ≡ xs ++ answer.NoMemory ∷ [] → DriveSoFar set old s start before calls [] ys
 drive_stops set old s start before calls later xs ys there so_far items = record {
-  steady = so_far.steady;
+  told = rw items (tells_same old s xs answer.NoMemory so_far.told refl refl);
   gives = λ h. gives_more set old s s start before.cursor before.cursor calls later call.Reopen answer.NoMemory xs ys (so_far.gives h) (refl, refl) items;
   each = each_more calls later call.Reopen answer.NoMemory xs ys so_far.each tt items;
   onward = so_far.onward;
@@ -148,8 +153,9 @@ pub record DriveGave
   pub answer : IsTrue old.is_steady → CallsGive set old start calls answers new d
   pub each : AnswersEach calls answers
   pub onward : IsTrue (is_from start d)
+  pub told : TellsOf old new answers
   pub reads : ¬ Contains calls call.Reopen → HandsWithin set.slice_size (search_at old start) (search_at new d)
-  pub counted : ¬ Contains calls call.Reopen → IsTrue new.is_steady → digests ≤ marks (scan_of set new) start d
+  pub counted : ¬ Contains calls call.Reopen → IsTrue old.is_steady → digests ≤ marks (scan_of set old) start d
 
 pub drive_ends : (set : SliceSet) (old new : ShelfState) (start d : Cursor) (finder : FinderState) (calls : List Call) (answers : List Answer)
     (digests : ℕ) → DriveSoFar set old new start finder calls [] answers → d ≡ finder.cursor → digests ≡ finder.digests
@@ -159,11 +165,17 @@ drive_ends set old new start d finder calls answers digests so_far cursor count 
       (so_far.gives h [] new finder.cursor (refl, refl));
   each = subst (AnswersEach calls) (append-nil answers) (so_far.each [] tt);
   onward = so_far.onward;
+  told = so_far.told;
   reads = λ none.
       let kept = so_far.kept none in
       let within = reach_adds_up set.slice_size (search_at old start) (search_of new finder) kept.states refl kept.read in
       record { room = within.room; none = within.none; near = within.near };
-  counted = λ none steady. subst (λ (c : Cursor). finder.digests ≤ marks (scan_of set new) c finder.cursor) (so_far.kept none).opening (so_far.marked steady);
+  counted = λ none steady.
+      let same : scan_of set new ≡ scan_of set old =
+      ap (λ (files : List (List ℕ)). record { set = set; contents = files }) so_far.told.files_are in
+      subst (λ (scan : Scan). finder.digests ≤ marks scan start finder.cursor) same
+      (subst (λ (c : Cursor). finder.digests ≤ marks (scan_of set new) c finder.cursor) (so_far.kept none).opening
+      (so_far.marked (so_far.told.steady_is ∙ steady)));
 })
 
 -- the call at an index, and those behind it

@@ -4,6 +4,7 @@ ghost use Rattle.parfind.specs.Marks.{marks};
 ghost use Rattle.parfind.specs.Reach.{HandsWithin};
 ghost use Rattle.parfind.specs.Steps.{scan_of};
 ghost use Rattle.pardrive.specs.Runs.{HasBudget, CallsGive, AnswersEach, search_at};
+ghost use Rattle.pardrive.specs.Told.{TellsOf};
 ghost use Rattle.pardrive.specs.declared.calls.Call.TheVariants.{Reopen};
 
 use crate::calls::{Answer, Call, Drive};
@@ -33,15 +34,17 @@ pub fn drive<H: Shelf>(
     // On any shelf.
     ensures each { IfOk result (λ drive. AnswersEach calls.now drive.answers) }
     ensures onward { IfOk result (λ drive. IsTrue (is_from start drive.cursor)) }
+    ensures told { IfOk result (λ drive.
+        TellsOf (H.state shelf.old) (H.state shelf.new) drive.answers) }
     ensures untouched { IfErr result (λ _. H.state shelf.new ≡ H.state shelf.old) }
 
     // How much is read where no call reopens, on any shelf, and how many digests are taken.
     ensures reads { ¬ Contains calls.now Reopen → IfOk result (λ drive.
         HandsWithin index.now.slice_size
         (search_at (H.state shelf.old) start) (search_at (H.state shelf.new) drive.cursor)) }
-    ensures digests { ¬ Contains calls.now Reopen → IsTrue (H.state shelf.new).is_steady →
+    ensures digests { ¬ Contains calls.now Reopen → IsTrue (H.state shelf.old).is_steady →
         IfOk result (λ drive. drive.digests.count
-        ≤ marks (scan_of index.now (H.state shelf.new)) start drive.cursor) }
+        ≤ marks (scan_of index.now (H.state shelf.old)) start drive.cursor) }
 {
     let mut answers = Vec::with_capacity(alloc, calls.len())?;
     let mut finder = Finder::open(alloc, index, shelf, start)?;

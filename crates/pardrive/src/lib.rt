@@ -7,6 +7,8 @@ mod laws;
 #[cfg(test)]
 mod model_tests;
 #[cfg(test)]
+mod refused_tests;
+#[cfg(test)]
 mod tests;
 
 pub use crate::calls::{Answer, Call, Drive};

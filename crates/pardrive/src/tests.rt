@@ -13,7 +13,7 @@ use std::alloc::Global;
 use std::process::Abort;
 use std::test::Fail;
 
-const START: Cursor = Cursor {
+pub const START: Cursor = Cursor {
     file: 0,
     offset: 0,
     slice: 0,
@@ -27,7 +27,7 @@ pub fn cursor(file: u32, offset: u64, slice: u32) -> Cursor {
     }
 }
 
-fn hit(file: u32, offset: u64, slice: u32) -> Answer {
+pub fn hit(file: u32, offset: u64, slice: u32) -> Answer {
     Answer::Step(Ok(Step::Hit(Sighting {
         file,
         offset,
@@ -136,19 +136,27 @@ fn drives(
 {
     let index = index_of(rt, content)?;
     let mut shelf = shelf_of(rt, files, 1, failing)?;
-    Ok(drive(rt.alloc(), calls, &index, &mut shelf, start)?)
+    all_made(drive(rt.alloc(), calls, &index, &mut shelf, start)?)
+}
+
+// Ends a test in which a reopening was refused.
+fn all_made(done: Drive) -> Result<Drive, Fail> {
+    if done.answers.as_slice().last() == Some(&Answer::NoMemory) {
+        return Err("NoMemory at a reopening".into());
+    }
+    Ok(done)
 }
 
 // Wants these answers, and this cursor at last.
-fn gave(rt: &impl Abort, done: &Drive, wanted: &[Answer], end: Cursor) {
+pub fn gave(rt: &impl Abort, done: &Drive, wanted: &[Answer], end: Cursor) {
     assert_eq!(rt; done.answers.as_slice(), wanted);
     assert_eq!(rt; done.cursor, end);
 }
 
 // The bytes of two equal slices.
-const ZEROS: [u8; 8] = [0; 8];
+pub const ZEROS: [u8; 8] = [0; 8];
 
-const SIX_ZEROS: [&[u8]; 1] = [b"\0\0\0\0\0\0"];
+pub const SIX_ZEROS: [&[u8]; 1] = [b"\0\0\0\0\0\0"];
 
 #[test]
 fn a_search_goes_on_after_two_faults_and_two_reopenings(rt: HostRuntime) -> Result<(), Fail> {
@@ -272,7 +280,7 @@ fn a_reopening_reads_its_window_again(rt: HostRuntime) -> Result<(), Fail> {
     let index = index_of(&rt, b"abcdefgh")?;
     let mut shelf = shelf_of(&rt, &[b"XXabcdefgh"], 64, &[])?;
     let calls = [Call::Next, Call::Reopen, Call::Next];
-    let done = drive(rt.alloc(), &calls, &index, &mut shelf, START)?;
+    let done = all_made(drive(rt.alloc(), &calls, &index, &mut shelf, START)?)?;
     let wanted = [hit(0, 2, 0), Answer::Reopened, hit(0, 6, 1)];
     gave(&rt, &done, &wanted, cursor(0, 6, 2));
     assert_eq!(rt; shelf.handed(), 18);

@@ -1,6 +1,7 @@
 use crate::tests::fixtures::{Files, Outcome, ROOMY, is_same, packet_files, ran_with};
 use crate::tests::rows::{Ends, Row, ends_so, has_ended};
-use crate::tests::whole_rows::{FIRST, SECOND, whole_rows};
+use crate::tests::whole_rows::{FIRST, SECOND, WholeRow, whole_rows};
+use crate::tests::writers::rows_with_options;
 use parreport::RunFault;
 use parshelf::ReadFault;
 use std::process::Abort;
@@ -43,9 +44,9 @@ static FAULTY: [(u64, Row); 7] = [
             ends: Ends::Refused("parv: cursor of another set\n", 3),
         },
     ),
-    // The third read gives the window of the first sighting; the fourth would fail.
+    // The first read gives the whole file; a second one would fail.
     (
-        4,
+        2,
         Row {
             words: &["find", "--limit", "1", "v.par2", "x.bin"],
             packets: &["g"],
@@ -117,7 +118,7 @@ fn file_read(reads: &[u64], number: u64) -> Option<u32> {
 
 // Whether a word names a packet file, or else a scanned file.
 fn is_path(word: &str, packet: bool) -> bool {
-    word.ends_with(".par2") == packet
+    word.ends_with(if packet { ".par2" } else { ".bin" })
 }
 
 // The packet file, or else the scanned file, of a number, as the words name it.
@@ -225,20 +226,20 @@ fn left_by(
 
 // Each read failing in turn, of the packet files, where it is told how many each has, or else of
 // the one scanned file: the fault, and a beginning of the text in whole lines, until so many reads
-// are not made.
+// are not made. The answer is how many are.
 fn reads_fail_in_turn(
     rt: &(impl Abort + AllocGlobal),
     row: &Row,
     part: &str,
     reads: Option<&[u64]>,
     piece: usize,
-) -> Result<(), Fail> {
+) -> Result<u64, Fail> {
     let mut most = 0;
     let mut saw_part = part.is_empty();
     for number in 1..1000u64 {
         let Some((size, is_part)) = left_by(rt, row, part, reads, piece, number)? else {
             is_same(rt, &(saw_part || reads.is_some()), &true, &part);
-            return Ok(());
+            return Ok(number.saturating_sub(1));
         };
         let may_leave = reads.is_none() && number > 1 && !part.is_empty();
         is_same(
@@ -258,14 +259,52 @@ fn is_front(text: &[u8], whole: &str) -> bool {
     whole.as_bytes().starts_with(text) && (text.is_empty() || text.ends_with(b"\n"))
 }
 
+// The same of both shelves of a row, by 1 byte and by 64: as many bytes of the scanned file are
+// read as the text needs at least, and as are ahead at most.
+fn both_fail_in_turn(
+    rt: &(impl Abort + AllocGlobal),
+    whole: &WholeRow,
+    least: u64,
+    most: u64,
+) -> Result<(), Fail> {
+    let (row, part, by_1, by_64) = whole;
+    let made = reads_fail_in_turn(rt, row, part, None, 1)?;
+    is_same(
+        rt,
+        &(least <= made, made <= most),
+        &(true, true),
+        &(row.words, made),
+    );
+    // One read gives the whole scanned file then, so its failing leaves no text.
+    let made = reads_fail_in_turn(rt, row, "", None, 64)?;
+    is_same(rt, &made, &most.min(1), &row.words);
+    reads_fail_in_turn(rt, row, part, Some(*by_1), 1)?;
+    reads_fail_in_turn(rt, row, part, Some(*by_64), 64)?;
+    Ok(())
+}
+
+// How many bytes the scanned files of a row have.
+fn scanned_size(row: &Row) -> u64 {
+    let mut size = 0u64;
+    for file in row.scanned {
+        size = size.saturating_add(file.len() as u64);
+    }
+    size
+}
+
 #[test]
 fn each_read_failing_in_turn(rt: HostRuntime) -> Result<(), Fail> {
-    for (row, part, by_1, by_64) in whole_rows() {
-        reads_fail_in_turn(&rt, row, part, None, 1)?;
-        // One read gives a whole scanned file then, so its failing leaves no text.
-        reads_fail_in_turn(&rt, row, "", None, 64)?;
-        reads_fail_in_turn(&rt, row, part, Some(*by_1), 1)?;
-        reads_fail_in_turn(&rt, row, part, Some(*by_64), 64)?;
+    for whole in whole_rows() {
+        let size = scanned_size(&whole.0);
+        both_fail_in_turn(&rt, whole, size, size)?;
+    }
+    Ok(())
+}
+
+#[test]
+fn each_read_failing_in_turn_with_options(rt: HostRuntime) -> Result<(), Fail> {
+    for (whole, least, most) in rows_with_options() {
+        both_fail_in_turn(&rt, whole, *least, *most)?;
     }
     Ok(())
 }

@@ -1,6 +1,6 @@
 use crate::tests::fixtures::{Files, Outcome, Room, is_same, is_text, packet_files, ran_with};
 use crate::tests::rows::{Ends, Row};
-use crate::tests::whole_rows::whole_rows;
+use crate::tests::whole_rows::{FIRST, WholeRow, whole_rows};
 use parreport::RunFault;
 use std::process::Abort;
 use std::test::Fail;
@@ -65,11 +65,27 @@ static ROOMS: [Room; 5] = [
     },
 ];
 
-#[test]
-fn writers_with_some_room(rt: HostRuntime) -> Result<(), Fail> {
-    for (row, _, _, _) in whole_rows() {
-        for room in &ROOMS {
-            written(&rt, row, *room)?;
+// Writers with all those rooms, and for each number of bytes of the text with room for so many,
+// behind which one takes no byte and the other fails.
+fn all_written(rt: &(impl Abort + AllocGlobal), row: &Row) -> Result<(), Fail> {
+    for room in &ROOMS {
+        written(rt, row, *room)?;
+    }
+    let Ends::Wrote(whole, _) = row.ends else {
+        return Err("a row with no text".into());
+    };
+    for bytes in 0..=whole.len() {
+        for takes_zero in [false, true] {
+            let piece = 5;
+            written(
+                rt,
+                row,
+                Room {
+                    bytes,
+                    piece,
+                    takes_zero,
+                },
+            )?;
         }
     }
     Ok(())
@@ -78,18 +94,188 @@ fn writers_with_some_room(rt: HostRuntime) -> Result<(), Fail> {
 #[test]
 fn writers_with_room_for_each_number_of_bytes(rt: HostRuntime) -> Result<(), Fail> {
     for (row, _, _, _) in whole_rows() {
-        for bytes in 0..300 {
-            let takes_zero = bytes % 2 == 0;
-            written(
-                &rt,
-                row,
-                Room {
-                    bytes,
-                    piece: 5,
-                    takes_zero,
-                },
-            )?;
-        }
+        all_written(&rt, row)?;
     }
     Ok(())
 }
+
+#[test]
+fn writers_with_room_for_each_number_of_bytes_with_options(rt: HostRuntime) -> Result<(), Fail> {
+    for ((row, _, _, _), _, _) in rows_with_options() {
+        all_written(&rt, row)?;
+    }
+    Ok(())
+}
+
+/// A command line with options; how many bytes of the scanned file its text needs, and how many of
+/// them are ahead.
+pub type OptionRow = (WholeRow, u64, u64);
+
+/// Command lines with options whose reads and writes fail in turn.
+pub fn rows_with_options() -> &'static [OptionRow] {
+    &WITH_OPTIONS
+}
+
+static WITH_OPTIONS: [OptionRow; 9] = [
+    // The first slice that is seen ends at the sixth byte.
+    (
+        (
+            Row {
+                words: &["find", "--limit", "1", "v.par2", "x.bin"],
+                packets: &["g"],
+                scanned: &[b"XXabcdefgh"],
+                ends: Ends::Wrote(
+                    "x.bin 2 e345eacbe656c0e6fd20ed63cb7b062c 0\n\
+                     cursor 617cdc72ba53d94fe713fea2ae18f776:0:2:1\n",
+                    0,
+                ),
+            },
+            "",
+            &[416],
+            &[7],
+        ),
+        6,
+        10,
+    ),
+    (
+        (
+            Row {
+                words: &[
+                    "find",
+                    "--cursor",
+                    "617cdc72ba53d94fe713fea2ae18f776:0:2:1",
+                    "v.par2",
+                    "x.bin",
+                ],
+                packets: &["g"],
+                scanned: &[b"XXabcdefgh"],
+                ends: Ends::Wrote("x.bin 6 e345eacbe656c0e6fd20ed63cb7b062c 1\nend\n", 0),
+            },
+            "",
+            &[416],
+            &[7],
+        ),
+        8,
+        8,
+    ),
+    (
+        (
+            Row {
+                words: &["find", "--limit", "2", "v.par2", "x.bin"],
+                packets: &["g"],
+                scanned: &[b"XXabcdefgh"],
+                ends: Ends::Wrote(
+                    "x.bin 2 e345eacbe656c0e6fd20ed63cb7b062c 0\n\
+                     x.bin 6 e345eacbe656c0e6fd20ed63cb7b062c 1\n\
+                     cursor 617cdc72ba53d94fe713fea2ae18f776:0:6:2\n",
+                    0,
+                ),
+            },
+            FIRST,
+            &[416],
+            &[7],
+        ),
+        10,
+        10,
+    ),
+    (
+        (
+            Row {
+                words: &[
+                    "find",
+                    "--cursor",
+                    "617cdc72ba53d94fe713fea2ae18f776:4294967295:18446744073709551615:4294967295",
+                    "v.par2",
+                    "x.bin",
+                ],
+                packets: &["g"],
+                scanned: &[b"XXabcdefgh"],
+                ends: Ends::Wrote("end\n", 0),
+            },
+            "",
+            &[416],
+            &[7],
+        ),
+        0,
+        0,
+    ),
+    (
+        (
+            Row {
+                words: &["verify", "-q", "v.par2", "a.bin"],
+                packets: &["a_with_a_slice_twice"],
+                scanned: &[b"abcd"],
+                ends: Ends::Wrote("need 1 have 1\nresult possible\n", 1),
+            },
+            "",
+            &[484],
+            &[8],
+        ),
+        4,
+        4,
+    ),
+    (
+        (
+            Row {
+                words: &["verify", "-q", "-q", "v.par2", "a.bin"],
+                packets: &["a_with_a_slice_twice"],
+                scanned: &[b"abcd"],
+                ends: Ends::Wrote("", 1),
+            },
+            "",
+            &[484],
+            &[8],
+        ),
+        4,
+        4,
+    ),
+    (
+        (
+            Row {
+                words: &["verify", "v.par2", "a.bin"],
+                packets: &["a"],
+                scanned: &[b"abcd"],
+                ends: Ends::Wrote(
+                    "set 2b5d19a47ee4561a2c85b51d7f6d65c4 size 4 slices 2\n\
+                     damaged a.bin 1/2\nneed 1 have 0\nresult impossible\n",
+                    2,
+                ),
+            },
+            "",
+            &[340],
+            &[6],
+        ),
+        4,
+        4,
+    ),
+    (
+        (
+            Row {
+                words: &["verify", "-q", "v.par2", "a.bin"],
+                packets: &["a"],
+                scanned: &[b"abcd"],
+                ends: Ends::Wrote("need 1 have 0\nresult impossible\n", 2),
+            },
+            "",
+            &[340],
+            &[6],
+        ),
+        4,
+        4,
+    ),
+    (
+        (
+            Row {
+                words: &["verify", "-q", "-q", "v.par2", "a.bin"],
+                packets: &["a"],
+                scanned: &[b"abcd"],
+                ends: Ends::Wrote("", 2),
+            },
+            "",
+            &[340],
+            &[6],
+        ),
+        4,
+        4,
+    ),
+];

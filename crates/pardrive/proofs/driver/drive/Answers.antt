@@ -29,9 +29,9 @@ loop-call-preserved g c =
             room = omega (arith, before.room, c.put-in-loop-call.ensures.capacity);
             count = omega (arith, before.count, c.put-in-loop-call.ensures.len);
             so_far = drive_steps set old s (g.H.Shelf.state w.step.new.shelf) c.args.start c.loop-call.finder w.step.new.self calls later
-                (call.Step n) (Some n) w.step.result xs c.put-in-loop-call.new.answers.items (asks_step n)
+                (call.Step n) (Some n) w.step.result xs c.put-in-loop-call.new.answers.items (asks_step n) (g.met.H.Shelf.in_order c.loop-call.shelf)
                 (rw (next_call calls i (call.Step n) _ c.loop-call-test.true w.in-Step.is) at before.so_far)
-                (record { answer = r.answer; moves = r.moves; reads = r.reads; digests = r.digests; opening = r.opening })
+                (record { answer = r.answer; moves = r.moves; ok = r.ok; fault = r.fault; reads = r.reads; digests = r.digests; opening = r.opening })
                 (added ∙ ap (λ (x : Answer). xs ++ x ∷ []) w.answer-is);
           })
       | in-Next w ↦
@@ -41,9 +41,9 @@ loop-call-preserved g c =
             room = omega (arith, before.room, c.put-in-loop-call.ensures.capacity);
             count = omega (arith, before.count, c.put-in-loop-call.ensures.len);
             so_far = drive_steps set old s (g.H.Shelf.state w.next.new.shelf) c.args.start c.loop-call.finder w.next.new.self calls later
-                call.Next None w.next.result xs c.put-in-loop-call.new.answers.items asks_next
+                call.Next None w.next.result xs c.put-in-loop-call.new.answers.items asks_next (g.met.H.Shelf.in_order c.loop-call.shelf)
                 (rw (next_call calls i call.Next _ c.loop-call-test.true w.in-Next.is) at before.so_far)
-                (record { answer = r.answer; moves = r.moves; reads = r.reads; digests = r.digests; opening = r.opening })
+                (record { answer = r.answer; moves = r.moves; ok = r.ok; fault = r.fault; reads = r.reads; digests = r.digests; opening = r.opening })
                 (added ∙ ap (λ (x : Answer). xs ++ x ∷ []) w.answer-is);
           })
       | in-Reopen+in-Ok w ↦
@@ -81,6 +81,7 @@ returns-in-Err g c =
       answer = gave.answer;
       each = gave.each;
       onward = gave.onward;
+      told = gave.told;
       untouched = tt;
       reads = gave.reads;
       digests = gave.counted;
@@ -101,6 +102,7 @@ returns g c =
       answer = gave.answer;
       each = gave.each;
       onward = gave.onward;
+      told = gave.told;
       untouched = tt;
       reads = gave.reads;
       digests = gave.counted;
