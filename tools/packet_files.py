@@ -3,8 +3,8 @@
 
 usage: packet_files.py FOLDER
 
-FOLDER gets packet_files.rt and packet_sets.rt, to lie in crates/parv/src/tests, and each
-packet file as NAME.par2. All hashes come from hashlib and zlib alone.
+FOLDER gets packet_files.rt, packet_sets.rt and packet_edges.rt, to lie in crates/parv/src/tests, and
+each packet file as NAME.par2. All hashes come from hashlib and zlib alone.
 """
 
 import os
@@ -161,6 +161,69 @@ def other_sets():
     }
 
 
+def with_hashed_length(length, count):
+    """A header with this length field, and the hash that is right where it has so many bytes behind that."""
+    hashed = ZEROS + TYPES["creator"] + CREATOR
+    return b"PAR2\0PKT" + struct.pack("<Q", length) + md5(hashed[:count]) + hashed[:32]
+
+
+def edges():
+    """Packets at both sides of limits, each of them alone and in sets."""
+    twice = main_body(SLICE_SIZE, [G], [G])
+    mains = [
+        main_body(SLICE_SIZE, [])[:8], main_body(SLICE_SIZE, []), main_body(SLICE_SIZE, []) + bytes(4),
+        struct.pack("<QI", SLICE_SIZE, 0xFFFFFFFF), struct.pack("<QI", SLICE_SIZE, 1),
+        struct.pack("<QI", SLICE_SIZE, 2) + G, main_body(0, []), main_body(2, []), main_body(268435458, []),
+        main_body(268435456, []), main_body(536870912, []), main_body((1 << 64) - 4, []),
+        twice, main_body(SLICE_SIZE, [], [G, G]), main_body(268435460, [G], [G]),
+    ]
+    others = [
+        ("filedesc", description(G, b"")), ("filedesc", description(G, bytes(4))),
+        ("filedesc", description(G, b"\0abc")), ("filedesc", description(G, b"n", b"", (1 << 64) - 1)),
+        ("filedesc", description(ZEROS, b"n", b"", GREATEST)),
+        ("filedesc", description(G, b"g\0bin", b"", 1 << 63)),
+        ("ifsc", G[:12]), ("ifsc", G), ("ifsc", G + bytes(12)), ("ifsc", G + bytes(16)), ("ifsc", G + bytes(20)),
+        ("recvslic", b""), ("recvslic", bytes(4)), ("recvslic", recvslic_body(65534, b"data")),
+        ("recvslic", recvslic_body(65536, b"data")), ("recvslic", recvslic_body(0xFFFFFFFF, b"data")),
+        ("recvslic", recvslic_body(65535, b"datadata")), ("creator", b""),
+    ]
+    unusable = [main_body(0, []), main_body(6, []), main_body(268435460, []), main_body(536870912, []),
+                main_body(SLICE_SIZE, [G, G]), twice]
+    return {
+        "behind_wrong_lengths": b"".join(with_hashed_length(length, count) for length, count in [
+            (0, 0), (32, 0), (60, 28), (66, 34), ((1 << 32) + 64, 32), ((1 << 63) + 64, 32),
+            ((1 << 64) - 64, 0), ((1 << 64) - 4, 32)]) + CREATOR,
+        "edge_mains": b"".join(packet(G_SET, "main", body) for body in mains),
+        "edge_others": b"".join(packet(G_SET, kind, body) for kind, body in others),
+        "greatest_size": set_of(main_body(268435456, [])),
+        "no_usable_main": b"".join(map(set_of, unusable)),
+        **{f"lengths_{name}": set_of(main_body(SLICE_SIZE, [bytes([at]) * 16 for at in range(1, len(lengths) + 1)]),
+                                     *[("filedesc", description(bytes([at]) * 16, b"%d" % at, b"", length))
+                                       for at, length in enumerate(lengths, 1)])
+           for name, lengths in [("131068_and_4", [131068, 4]), ("131068_and_5", [131068, 5]),
+                                 ("of_32_bits", [1 << 33] * 2), ("of_64_bits", [GREATEST] * 8)]},
+        **{f"front_of_{name}": packet(G_SET, kind, head + filling)[:64 + len(head)]
+           for name, kind, head, filling in large_bodies()},
+    }
+
+
+def large_bodies():
+    """Large bodies: the kind, the bytes that differ, and those behind them, which tests put there."""
+    of_length, over_length = bytes(1048576), bytes(LARGE)
+    ids = main_body(SLICE_SIZE, [])
+    letters = description(G, b"")
+    return [
+        ("creator_at_limit", "creator", b"", of_length),
+        ("main_at_limit", "main", b"", of_length), ("main_above_limit", "main", b"", over_length),
+        ("desc_at_limit", "filedesc", b"", of_length), ("desc_above_limit", "filedesc", b"", over_length),
+        ("sums_above_limit", "ifsc", b"", over_length),
+        ("name_of_4096", "filedesc", letters, b"x" * 4096),
+        ("name_of_4097", "filedesc", letters + b"x", b"x" * 4096 + bytes(3)),
+        ("32768_sums", "ifsc", G, bytes(20 * 32768)), ("32769_sums", "ifsc", G, bytes(20 * 32769)),
+        ("32768_ids", "main", ids, b"\x07" * (16 * 32768)), ("32769_ids", "main", ids, b"\x07" * (16 * 32769)),
+    ]
+
+
 def literal(data):
     """The lines of a byte string in 92 columns; each packet begins a line."""
     rows, row = [], ""
@@ -202,6 +265,7 @@ def main():
     write_table(folder, "packet_files.rt", "PACKET_FILES", "Packets, and the set of g.bin",
                 {**listings(), **sets_of_g()})
     write_table(folder, "packet_sets.rt", "PACKET_SETS", "Sets of other files", other_sets())
+    write_table(folder, "packet_edges.rt", "PACKET_EDGES", "Packets and sets at both sides of limits", edges())
 
 
 if __name__ == "__main__":

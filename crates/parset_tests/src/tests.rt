@@ -1,5 +1,9 @@
+mod hostile;
+mod model;
+mod packets;
 mod reasons;
 mod sets;
+mod worked;
 
 use md5::{Digest, Md5};
 use parfield::Hash16;
@@ -173,12 +177,13 @@ fn has_text(rt: &(impl Abort + AllocGlobal), body: &[u8], wanted: &[u8]) -> Resu
 #[test]
 fn text_of_a_creator_body(rt: HostRuntime) -> Result<(), Fail> {
     has_text(&rt, b"a\0b\0\0\0\0\0", b"a\0b")?;
+    has_text(&rt, b"a\nb\\", b"a\nb\\")?;
     has_text(&rt, b"\0\0\0\0", b"")?;
     Ok(())
 }
 
 // The first four bytes of a recovery slice's body, its length, the slice size, and the answer.
-static SLICES: [([u8; 4], u64, u64, Result<u32, Aside>); 10] = [
+static SLICES: [([u8; 4], u64, u64, Result<u32, Aside>); 14] = [
     ([0, 0, 0, 0], 12, 8, Ok(0)),
     ([1, 2, 0, 0], 8, 4, Ok(513)),
     ([0xfe, 0xff, 0, 0], 8, 4, Ok(65_534)),
@@ -187,7 +192,11 @@ static SLICES: [([u8; 4], u64, u64, Result<u32, Aside>); 10] = [
     ([0, 0, 0, 0], 7, 4, Err(Aside::WrongLength)),
     ([0, 0, 0, 0], 9, 4, Err(Aside::WrongLength)),
     ([0, 0, 0, 0], 12, 4, Err(Aside::WrongLength)),
+    ([0, 0, 0, 0], 0, 4, Err(Aside::WrongLength)),
+    ([0, 0, 0, 0], 4, 4, Err(Aside::WrongLength)),
     ([0, 0, 0, 0], 3, u64::MAX, Err(Aside::WrongLength)),
+    ([0, 0, 0, 0], u64::MAX, u64::MAX, Err(Aside::WrongLength)),
+    ([9, 0, 0, 0], u64::MAX, u64::MAX - 4, Ok(9)),
     ([0xff, 0xff, 0, 0], 12, 4, Err(Aside::WrongLength)),
 ];
 

@@ -6,6 +6,7 @@ mod finding;
 mod fixtures;
 mod large;
 mod listing;
+mod packet_edges;
 mod packet_files;
 mod packet_sets;
 mod reads;

@@ -27,9 +27,9 @@ fn zeros(alloc: Global, length: usize) -> Result<Vec<u8>, AllocError> {
     vec![in alloc; 0; length]
 }
 
-// A Main body with this many IDs, of which no two are the same.
-fn long_main_bytes(alloc: Global, ids: u32) -> Result<Vec<u8>, AllocError> {
-    let mut body = main_bytes(alloc, 4, 0, &[])?;
+// A Main body with this many IDs, of which no two are the same, so many of them recovery IDs.
+fn long_main_bytes(alloc: Global, count: u32, ids: u32) -> Result<Vec<u8>, AllocError> {
+    let mut body = main_bytes(alloc, 4, count, &[])?;
     for id in 0..ids {
         body.extend_from_slice(&id.to_le_bytes())?;
         body.extend_from_slice(&[0; 12])?;
@@ -46,11 +46,13 @@ fn desc_bytes(alloc: Global, length: u64, field: &[u8]) -> Result<Vec<u8>, Alloc
 }
 
 // The slice size, the count and the IDs of a Main body, and the reason.
-static MAINS: [(u64, u32, &str, u8); 18] = [
+static MAINS: [(u64, u32, &str, u8); 21] = [
     (4, 0, "", 0),
     (4, 1, "", 1),
     (4, 1, "a", 0),
     (4, 2, "a", 1),
+    (4, 2, "ab", 0),
+    (4, 3, "ab", 1),
     (4, u32::MAX, "", 1),
     (6, 1, "", 1),
     (0, 0, "", 2),
@@ -62,6 +64,7 @@ static MAINS: [(u64, u32, &str, u8); 18] = [
     (536_870_912, 0, "", 7),
     (4, 1, "ab", 0),
     (4, 1, "aa", 3),
+    (4, 2, "aa", 3),
     (4, 0, "aba", 3),
     (4, 2, "baa", 3),
     (268_435_460, 0, "aa", 7),
@@ -118,13 +121,19 @@ fn reasons_of_main_fronts(rt: &(impl Abort + AllocGlobal)) -> Result<(), Fail> {
     Ok(())
 }
 
-// How many IDs a Main body has, of which no two are the same, and the reasons.
-static MAIN_COUNTS: [(u32, u8); 2] = [(32_768, 0), (32_769, 7)];
+// How many recovery IDs and how many IDs a Main body has, of which no two are the same, and the
+// reasons.
+static MAIN_COUNTS: [(u32, u32, u8); 4] = [
+    (0, 32_768, 0),
+    (0, 32_769, 7),
+    (32_767, 32_768, 0),
+    (32_768, 32_769, 7),
+];
 
 fn reasons_of_long_mains(rt: &(impl Abort + AllocGlobal)) -> Result<(), AllocError> {
     for row in &MAIN_COUNTS {
-        let body = long_main_bytes(rt.alloc(), row.0)?;
-        is_in_row(rt, row, &main_number(rt.alloc(), &body), &row.1);
+        let body = long_main_bytes(rt.alloc(), row.0, row.1)?;
+        is_in_row(rt, row, &main_number(rt.alloc(), &body), &row.2);
     }
     Ok(())
 }
@@ -150,7 +159,7 @@ fn reasons_of_main_bodies_by_length(rt: HostRuntime) -> Result<(), Fail> {
 
 // The reason of a Main body with this many different IDs, and one of them again.
 fn number_with_one_again(alloc: Global, ids: u32) -> Result<u8, AllocError> {
-    let mut body = long_main_bytes(alloc, ids)?;
+    let mut body = long_main_bytes(alloc, 0, ids)?;
     body.extend_from_slice(&[0; 16])?;
     Ok(main_number(alloc, &body))
 }
@@ -174,11 +183,12 @@ fn field_number(alloc: Global, length: u64, field: &[u8]) -> Result<u8, AllocErr
 }
 
 // The length and the name field of a description, and the reason.
-static DESCS: [(u64, &str, u8); 13] = [
+static DESCS: [(u64, &str, u8); 15] = [
     (0, "", 5),
     (0, "\0\0\0\0", 5),
     (0, "a\0\0\0", 0),
     (0, "abcd", 0),
+    (0, "../g.bin", 0),
     (0, "abcd\0\0\0\0", 0),
     (0, "abc", 1),
     (0, "abcde", 1),
@@ -188,6 +198,7 @@ static DESCS: [(u64, &str, u8); 13] = [
     (9_223_372_036_854_775_808, "a\0\0\0", 7),
     (u64::MAX, "a\0\0\0", 7),
     (9_223_372_036_854_775_808, "a\0b\0", 5),
+    (9_223_372_036_854_775_808, "abcde", 1),
 ];
 
 #[test]
@@ -230,7 +241,7 @@ fn reasons_of_description_bodies_by_length(rt: HostRuntime) -> Result<(), Fail> 
 }
 
 // Lengths of IFSC bodies of zeros, and the reasons.
-static IFSC_ZEROS: [(usize, u8); 12] = [
+static IFSC_ZEROS: [(usize, u8); 13] = [
     (0, 1),
     (15, 1),
     (16, 0),
@@ -242,6 +253,7 @@ static IFSC_ZEROS: [(usize, u8); 12] = [
     (655_377, 1),
     (655_396, 7),
     (1_048_575, 1),
+    (1_048_576, 7),
     (1_048_577, 7),
 ];
 

@@ -2,7 +2,7 @@ use crate::tests::rows::{Ends, Row, all_end_so};
 use std::test::Fail;
 
 // Packets, and the set that they describe, or why there is none.
-static SETS: [Row; 16] = [
+static SETS: [Row; 23] = [
     Row {
         words: &["set", "p.par2"],
         packets: &["g"],
@@ -143,6 +143,71 @@ static SETS: [Row; 16] = [
              aside o.par2 244 7\naside o.par2 372 1\naside o.par2 496 7\n",
             0,
         ),
+    },
+    // Both sides of the limits of Main bodies, and of all others.
+    Row {
+        words: &["set", "g.par2", "m.par2", "o.par2"],
+        packets: &["g", "edge_mains", "edge_others"],
+        scanned: &[],
+        ends: Ends::Wrote(
+            "set 617cdc72ba53d94fe713fea2ae18f776 size 4 slices 2\n\
+             file e345eacbe656c0e6fd20ed63cb7b062c 8 2 yes g.bin\nothers 0\nhave 1\n\
+             aside g.par2 340 1\naside m.par2 0 1\naside m.par2 72 4\naside m.par2 148 1\n\
+             aside m.par2 228 1\naside m.par2 304 1\naside m.par2 380 1\naside m.par2 472 2\n\
+             aside m.par2 548 2\naside m.par2 624 2\naside m.par2 700 4\naside m.par2 776 7\n\
+             aside m.par2 852 7\naside m.par2 928 3\naside m.par2 1036 3\naside m.par2 1144 7\n\
+             aside o.par2 0 5\naside o.par2 120 5\naside o.par2 244 5\naside o.par2 368 7\n\
+             aside o.par2 616 5\naside o.par2 744 1\naside o.par2 900 1\naside o.par2 992 1\n\
+             aside o.par2 1188 1\naside o.par2 1252 1\naside o.par2 1392 7\n\
+             aside o.par2 1464 7\naside o.par2 1536 1\n",
+            0,
+        ),
+    },
+    Row {
+        words: &["set", "p.par2"],
+        packets: &["greatest_size"],
+        scanned: &[],
+        ends: Ends::Wrote(
+            "set 27679183086c1b7ab4c0ac3dd06050cb size 268435456 slices 0\nothers 0\nhave 0\n",
+            0,
+        ),
+    },
+    // Slice sizes 0, 6, 268,435,460 and 536,870,912; an ID twice in one list, and across both.
+    Row {
+        words: &["set", "p.par2"],
+        packets: &["no_usable_main"],
+        scanned: &[],
+        ends: Ends::Refused("parv: no usable set: no main\n", 4),
+    },
+    Row {
+        words: &["set", "p.par2"],
+        packets: &["lengths_131068_and_4"],
+        scanned: &[],
+        ends: Ends::Wrote(
+            "set bfbb8cc347c88c9b3dd072ec0e2f6a1d size 4 slices 32768\n\
+             file 01010101010101010101010101010101 131068 32767 no 1\n\
+             file 02020202020202020202020202020202 4 1 no 2\nothers 0\nhave 0\n",
+            0,
+        ),
+    },
+    Row {
+        words: &["set", "p.par2"],
+        packets: &["lengths_131068_and_5"],
+        scanned: &[],
+        ends: Ends::Refused("parv: no usable set: too many slices\n", 4),
+    },
+    // The numbers of slices add up to 2^32 and to 2^64.
+    Row {
+        words: &["set", "p.par2"],
+        packets: &["lengths_of_32_bits"],
+        scanned: &[],
+        ends: Ends::Refused("parv: no usable set: too many slices\n", 4),
+    },
+    Row {
+        words: &["set", "p.par2"],
+        packets: &["lengths_of_64_bits"],
+        scanned: &[],
+        ends: Ends::Refused("parv: no usable set: too many slices\n", 4),
     },
 ];
 

@@ -2,7 +2,7 @@ use crate::tests::rows::{Ends, Row, all_end_so};
 use std::test::Fail;
 
 // Files, and where slices of a set are seen in them.
-static SEARCHES: [Row; 12] = [
+static SEARCHES: [Row; 13] = [
     Row {
         words: &["find", "v.par2", "x.bin"],
         packets: &["g"],
@@ -123,6 +123,12 @@ static SEARCHES: [Row; 12] = [
              x.bin 8 02020202020202020202020202020202 1\nend\n",
             0,
         ),
+    },
+    Row {
+        words: &["find", "v.par2", "x.bin"],
+        packets: &["greatest_lengths"],
+        scanned: &[b"abcdefghij"],
+        ends: Ends::Refused("parv: no usable set: too many slices\n", 4),
     },
 ];
 

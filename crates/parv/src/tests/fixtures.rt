@@ -3,6 +3,7 @@ ghost use Rattle.std.specs.Prelude.{◌≡◌, ◌<◌, ◌^◌, length, IfOk};
 ghost use Rattle.parshelf.specs.Memory.{shelf_state_of};
 ghost use Rattle.parplan.specs.Commands.{HasLimit};
 
+use crate::tests::packet_edges::PACKET_EDGES;
 use crate::tests::packet_files::PACKET_FILES;
 use crate::tests::packet_sets::PACKET_SETS;
 use parreport::{End, MemSink, Plan, RunFault, Status, ending, reads_scanned, run, run_end};
@@ -33,9 +34,12 @@ fn named(files: &'static [Named], name: &str) -> Option<&'static [u8]> {
 
 /// The bytes of the packet file that goes by this name.
 pub fn packet_file(name: &str) -> Result<&'static [u8], &'static str> {
-    match named(&PACKET_FILES, name) {
+    if let Some(bytes) = named(&PACKET_FILES, name) {
+        return Ok(bytes);
+    }
+    match named(&PACKET_SETS, name) {
         Some(bytes) => Ok(bytes),
-        None => named(&PACKET_SETS, name).ok_or("no such packet file"),
+        None => named(&PACKET_EDGES, name).ok_or("no such packet file"),
     }
 }
 

@@ -17,32 +17,89 @@ fn over<'p>(packets: &'p [&'p [u8]]) -> Files<'p, 'static> {
     }
 }
 
-// A front with 1,048,580 zeros behind it.
-fn with_zeros(alloc: Global, front: &[u8]) -> Result<Vec<u8>, AllocError> {
-    let zeros = repeated(alloc, &[0; 20], 52_429)?;
-    joined(alloc, front, &zeros)
-}
+// The end of `set` over the set of g.bin in one file and a packet that is usable in another.
+const USABLE: Ends = Ends::Wrote(
+    "set 617cdc72ba53d94fe713fea2ae18f776 size 4 slices 2\n\
+     file e345eacbe656c0e6fd20ed63cb7b062c 8 2 yes g.bin\n\
+     others 0\nhave 0\naside g.par2 340 1\n",
+    0,
+);
 
-#[test]
-fn creator_packet_above_the_limit_is_put_aside(rt: HostRuntime) -> Result<(), Fail> {
-    let set = packet_file("g")?;
-    let front = packet_file("large_creator_front")?;
-    let large = with_zeros(rt.alloc(), front)?;
-    runs_so(
-        &rt,
-        &["set", "g.par2", "c.par2"],
-        over(&[set, &large]),
-        ASIDE,
-    )
-}
+// The same where the other packet ends within a field,
+const WRONG_LENGTH: Ends = Ends::Wrote(
+    "set 617cdc72ba53d94fe713fea2ae18f776 size 4 slices 2\n\
+     file e345eacbe656c0e6fd20ed63cb7b062c 8 2 yes g.bin\n\
+     others 0\nhave 0\naside g.par2 340 1\naside c.par2 0 1\n",
+    0,
+);
 
-// The end of `set` over the set of g.bin and that packet.
-const ASIDE: Ends = Ends::Wrote(
+// has an ID twice,
+const ID_TWICE: Ends = Ends::Wrote(
+    "set 617cdc72ba53d94fe713fea2ae18f776 size 4 slices 2\n\
+     file e345eacbe656c0e6fd20ed63cb7b062c 8 2 yes g.bin\n\
+     others 0\nhave 0\naside g.par2 340 1\naside c.par2 0 3\n",
+    0,
+);
+
+// has a wrong name,
+const NAME: Ends = Ends::Wrote(
+    "set 617cdc72ba53d94fe713fea2ae18f776 size 4 slices 2\n\
+     file e345eacbe656c0e6fd20ed63cb7b062c 8 2 yes g.bin\n\
+     others 0\nhave 0\naside g.par2 340 1\naside c.par2 0 5\n",
+    0,
+);
+
+// or is above a limit.
+const OVER_LIMIT: Ends = Ends::Wrote(
     "set 617cdc72ba53d94fe713fea2ae18f776 size 4 slices 2\n\
      file e345eacbe656c0e6fd20ed63cb7b062c 8 2 yes g.bin\n\
      others 0\nhave 0\naside g.par2 340 1\naside c.par2 0 7\n",
     0,
 );
+
+// Packets: their fronts, some bytes so many times and those at the end, and the end of `set`.
+static LARGE: [(&str, &[u8], u64, &[u8], Ends); 13] = [
+    ("front_of_creator_at_limit", &[0; 16], 65_536, b"", USABLE),
+    ("large_creator_front", &[0; 20], 52_429, b"", OVER_LIMIT),
+    ("front_of_main_at_limit", &[0; 16], 65_536, b"", WRONG_LENGTH),
+    ("front_of_main_above_limit", &[0; 20], 52_429, b"", OVER_LIMIT),
+    ("front_of_desc_at_limit", &[0; 16], 65_536, b"", NAME),
+    ("front_of_desc_above_limit", &[0; 20], 52_429, b"", OVER_LIMIT),
+    ("front_of_sums_above_limit", &[0; 20], 52_429, b"", OVER_LIMIT),
+    ("front_of_name_of_4096", b"x", 4_096, b"", USABLE),
+    ("front_of_name_of_4097", b"x", 4_096, &[0; 3], NAME),
+    ("front_of_32768_sums", &[0; 20], 32_768, b"", USABLE),
+    ("front_of_32769_sums", &[0; 20], 32_769, b"", OVER_LIMIT),
+    ("front_of_32768_ids", &[7; 16], 32_768, b"", ID_TWICE),
+    ("front_of_32769_ids", &[7; 16], 32_769, b"", OVER_LIMIT),
+];
+
+// A packet of such a row.
+fn large_packet(
+    alloc: Global,
+    front: &[u8],
+    middle: &[u8],
+    times: u64,
+    last: &[u8],
+) -> Result<Vec<u8>, AllocError> {
+    let middle = repeated(alloc, middle, times)?;
+    let mut packet = joined(alloc, front, &middle)?;
+    packet.extend_from_slice(last)?;
+    Ok(packet)
+}
+
+#[test]
+fn packets_with_large_bodies(rt: HostRuntime) -> Result<(), Fail> {
+    let set = packet_file("g")?;
+    for (name, middle, times, last, ends) in &LARGE {
+        let front = packet_file(name)?;
+        let large = large_packet(rt.alloc(), front, middle, *times, last)?;
+        // A base, which `set` does not ask for, names the row.
+        let words = ["set", "-B", *name, "g.par2", "c.par2"];
+        runs_so(&rt, &words, over(&[set, &large]), *ends)?;
+    }
+    Ok(())
+}
 
 // Command lines over the set of g.bin behind 1,001 packets, their text and their exit status.
 static BEHIND: [(&[&str], &str, u8); 3] = [

@@ -2,7 +2,7 @@ use crate::tests::rows::{Ends, Row, all_end_so};
 use std::test::Fail;
 
 // Packets and what stands between them; several files; a chosen set.
-static LISTINGS: [Row; 18] = [
+static LISTINGS: [Row; 19] = [
     Row {
         words: &["packets", "p.par2"],
         packets: &["empty"],
@@ -74,6 +74,15 @@ static LISTINGS: [Row; 18] = [
         scanned: &[],
         ends: Ends::Wrote(
             "p.par2 64 64 creator 00000000000000000000000000000000\npackets 1\n",
+            0,
+        ),
+    },
+    Row {
+        words: &["packets", "p.par2"],
+        packets: &["behind_wrong_lengths"],
+        scanned: &[],
+        ends: Ends::Wrote(
+            "p.par2 512 64 creator 00000000000000000000000000000000\npackets 1\n",
             0,
         ),
     },

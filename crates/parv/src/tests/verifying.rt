@@ -2,7 +2,7 @@ use crate::tests::rows::{Ends, Row, all_end_so};
 use std::test::Fail;
 
 // What of a set is there.
-static VERDICTS: [Row; 20] = [
+static VERDICTS: [Row; 23] = [
     Row {
         words: &["verify", "v.par2", "g.bin"],
         packets: &["g"],
@@ -174,6 +174,33 @@ static VERDICTS: [Row; 20] = [
         packets: &["empty"],
         scanned: &[],
         ends: Ends::Refused("parv: no usable set: no main\n", 4),
+    },
+    Row {
+        words: &["verify", "v.par2", "g.bin"],
+        packets: &["greatest_lengths"],
+        scanned: &[b"abcdefgh"],
+        ends: Ends::Refused("parv: no usable set: too many slices\n", 4),
+    },
+    // A name that leads out of the folder: the file counts where an argument has that name.
+    Row {
+        words: &["verify", "p.par2"],
+        packets: &["many_packets"],
+        scanned: &[],
+        ends: Ends::Wrote(
+            "set 0bbc1be07c3c8cdcafa6da4fb0539235 size 4 slices 0\n\
+             missing ../g\\x0a.bin 0/0\nneed 0 have 2\nresult possible\n",
+            1,
+        ),
+    },
+    Row {
+        words: &["verify", "p.par2", "../g\n.bin"],
+        packets: &["many_packets"],
+        scanned: &[b""],
+        ends: Ends::Wrote(
+            "set 0bbc1be07c3c8cdcafa6da4fb0539235 size 4 slices 0\n\
+             complete ../g\\x0a.bin\nneed 0 have 2\nresult complete\n",
+            0,
+        ),
     },
 ];
 

@@ -1,0 +1,152 @@
+use super::model::{Standing, all_standing};
+use super::worked::WORKED;
+use super::*;
+use md5::{Digest, Md5};
+use std::fmt::Debug;
+
+// The packets of bytes are those of the model.
+fn are_standing(rt: &impl Abort, found: &[Packet<'_>], wanted: &[Standing<'_>], of: &impl Debug) {
+    assert_eq!(rt; found.len(), wanted.len(), "{of:?}");
+    for (one, other) in found.iter().zip(wanted) {
+        assert_eq!(rt;
+            (one.at, one.length, one.set, one.kind),
+            (other.at, other.length, Hash16(other.set), other.kind),
+            "{of:?}"
+        );
+        assert!(rt; one.body == other.body, "{of:?}");
+    }
+}
+
+// Whether of this body is held what is to be.
+fn is_held(body: &KeptBody, packet: &Standing<'_>) -> bool {
+    match body {
+        KeptBody::Whole(held) => packet.is_whole() && held.as_slice() == packet.body,
+        KeptBody::Front { first, len } => {
+            !packet.is_whole()
+                && *first == packet.front()
+                && *len == packet.body.len() as u64
+        }
+    }
+}
+
+// The packets of a file are those of the model.
+fn are_held(rt: &impl Abort, found: &[Kept], wanted: &[Standing<'_>], of: &impl Debug) {
+    assert_eq!(rt; found.len(), wanted.len(), "{of:?}");
+    for (one, other) in found.iter().zip(wanted) {
+        assert_eq!(rt;
+            (one.file, one.at, one.length, one.set, one.kind),
+            (0, other.at as u64, other.length, Hash16(other.set), other.kind),
+            "{of:?}"
+        );
+        assert!(rt; is_held(&one.body, other), "{of:?}");
+    }
+}
+
+// Bytes, and a file of them, have the packets of the model; answers how many there are.
+fn agrees(
+    rt: &(impl Abort + AllocGlobal),
+    bytes: &[u8],
+    of: &impl Debug,
+) -> Result<usize, Fail> {
+    let wanted = all_standing(rt.alloc(), bytes)?;
+    let packets = salvage(rt.alloc(), bytes)?;
+    are_standing(rt, &packets, &wanted, of);
+    let mut shelf = shelf_of(rt.alloc(), bytes, 50, &[])?;
+    assert_eq!(rt; shelf.count(), 1);
+    let kept = salvage_file(rt.alloc(), &mut shelf, 0).ok().ok_or("kept")?;
+    are_held(rt, &kept, &wanted, of);
+    Ok(wanted.len())
+}
+
+// The packets of the worked file end here, and a beginning of it has those that end in it.
+static ENDS: [usize; 4] = [92, 220, 340, 416];
+
+fn ends_in(size: usize) -> usize {
+    ENDS.iter().filter(|end| **end <= size).count()
+}
+
+#[test]
+fn the_worked_file_cut_at_each_place(rt: HostRuntime) -> Result<(), Fail> {
+    for size in 0..=WORKED.len() {
+        let front = WORKED.as_slice().get(..size).ok_or("size")?;
+        assert_eq!(rt; agrees(&rt, front, &size)?, ends_in(size), "{size}");
+    }
+    Ok(())
+}
+
+#[test]
+fn the_worked_file_with_each_byte_inverted(rt: HostRuntime) -> Result<(), Fail> {
+    for at in 0..WORKED.len() {
+        let mut bytes = Vec::from_slice(rt.alloc(), WORKED.as_slice())?;
+        if let Some(byte) = bytes.get_mut(at) {
+            *byte = 255 - *byte;
+        }
+        // The packet that has the byte is gone.
+        assert_eq!(rt; agrees(&rt, &bytes, &at)?, 3, "{at}");
+    }
+    Ok(())
+}
+
+// Length fields, of how many bytes behind the hash field that is the MD5, and how many packets there
+// are: the one at 128 alone, or one with this header at 64 too.
+static LENGTHS: [(u64, usize, usize); 24] = [
+    (0, 0, 1),
+    (4, 0, 1),
+    (28, 0, 1),
+    (32, 0, 1),
+    (60, 28, 1),
+    (62, 30, 1),
+    (63, 31, 1),
+    (64, 32, 2),
+    (64, 31, 1),
+    (65, 33, 1),
+    (66, 34, 1),
+    (67, 35, 1),
+    (68, 36, 2),
+    (127, 95, 1),
+    (128, 96, 2),
+    (128, 32, 1),
+    (129, 96, 1),
+    (132, 96, 1),
+    (0x1_0000_0040, 32, 1),
+    (0x8000_0000_0000_0040, 32, 1),
+    (0xFFFF_FFFF_FFFF_FFC0, 0, 1),
+    (0xFFFF_FFFF_FFFF_FFC0, 32, 1),
+    (0xFFFF_FFFF_FFFF_FFFC, 32, 1),
+    (0xFFFF_FFFF_FFFF_FFFF, 31, 1),
+];
+
+// Behind 64 bytes a header with this length field and the hash of so many bytes behind that field, and
+// then a Creator packet.
+fn with_length(alloc: Global, length: u64, hashed: usize) -> Result<Vec<u8>, Fail> {
+    let mut rest = Vec::from_slice(alloc, CREATOR.get(32..).ok_or("rest")?)?;
+    rest.extend_from_slice(&CREATOR)?;
+    let mut bytes = vec![in alloc; b'x'; 64]?;
+    bytes.extend_from_slice(b"PAR2\0PKT")?;
+    bytes.extend_from_slice(&length.to_le_bytes())?;
+    bytes.extend_from_slice(&Md5::digest(rest.get(..hashed).ok_or("hashed")?))?;
+    bytes.extend_from_slice(&rest)?;
+    Ok(bytes)
+}
+
+#[test]
+fn headers_of_each_length(rt: HostRuntime) -> Result<(), Fail> {
+    for row in &LENGTHS {
+        let (length, hashed, packets) = *row;
+        let bytes = with_length(rt.alloc(), length, hashed)?;
+        assert_eq!(rt; agrees(&rt, &bytes, row)?, packets, "{row:?}");
+    }
+    Ok(())
+}
+
+#[test]
+fn a_packet_behind_each_beginning_of_one(rt: HostRuntime) -> Result<(), Fail> {
+    for size in 0..CREATOR.len() {
+        let mut bytes = Vec::from_slice(rt.alloc(), CREATOR.get(..size).ok_or("size")?)?;
+        bytes.extend_from_slice(&CREATOR)?;
+        let packets = salvage(rt.alloc(), &bytes)?;
+        stand_at(&rt, &packets, &[(Kind::Creator, size)]);
+        assert_eq!(rt; agrees(&rt, &bytes, &size)?, 1, "{size}");
+    }
+    Ok(())
+}
