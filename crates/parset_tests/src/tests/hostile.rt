@@ -21,7 +21,12 @@ fn are_files(rt: &impl Abort, found: &[SetFile], wanted: &[File<'_>], of: &impl 
     for (one, other) in found.iter().zip(wanted) {
         assert_eq!(rt;
             (one.id, one.whole, one.length, one.known),
-            (Hash16(other.id), Hash16(other.whole), other.length, other.sums.is_some()),
+            (
+                Hash16(other.id),
+                Hash16(other.whole),
+                other.length,
+                other.sums.is_some()
+            ),
             "{of:?}"
         );
         assert!(rt; one.name.as_slice() == other.name, "{of:?}");
@@ -53,7 +58,12 @@ fn are_aside(rt: &impl Abort, found: &[SetAside], wanted: &[(usize, u8)], of: &i
 // The set is that of the model.
 fn is_set(rt: &impl Abort, built: &RecoverySet, set: &Parts<'_>, of: &impl Debug) {
     assert_eq!(rt;
-        (built.id(), built.size(), built.others() as usize, built.have() as usize),
+        (
+            built.id(),
+            built.size(),
+            built.others() as usize,
+            built.have() as usize
+        ),
         (Hash16(set.id), set.size, set.others, set.have),
         "{of:?}"
     );

@@ -1,7 +1,9 @@
 // Recovery sets as their definition has them: filters and the first such, over one list of packets. No
 // body here is longer than those that are held.
-use super::packets::{CREATOR_TYPE, DESC_TYPE, IFSC_TYPE, MAIN_TYPE, SLICE_TYPE, Standing};
-use super::packets::{field, filled_text, ids_in, long_at, sums_in, word_at};
+use super::packets::{
+    CREATOR_TYPE, DESC_TYPE, IFSC_TYPE, MAIN_TYPE, SLICE_TYPE, Standing, field, filled_text,
+    ids_in, long_at, sums_in, word_at,
+};
 use md5::{Digest, Md5};
 use std::alloc::{AllocError, Global};
 
@@ -260,10 +262,7 @@ fn slice_of(file: &File<'_>, size: u64, number: u64) -> Slice {
         None => None,
     };
     let sums = match sums {
-        Some(pair) => Some((
-            field::<16>(pair, 0).unwrap_or([0; 16]),
-            word_at(pair, 16),
-        )),
+        Some(pair) => Some((field::<16>(pair, 0).unwrap_or([0; 16]), word_at(pair, 16))),
         None => None,
     };
     (file.id, number, left.min(size), sums)
