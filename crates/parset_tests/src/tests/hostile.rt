@@ -354,7 +354,7 @@ fn sets_of_packets_by_strangers(rt: HostRuntime) -> Result<(), Fail> {
     };
     are(&rt, behind.aside(), &[odd]);
     let named = set_in(&rt, &with_names(rt.alloc())?)?;
-    assert!(rt; matches!(named.files(), [file] if file.name.as_slice() == b"../g.bin"));
-    assert!(rt; named.creator() == Some(b"a\nb\\"));
+    assert!(rt; matches!(named.files(), [file] if file.name.as_slice() == b"../g.bin".as_slice()));
+    assert!(rt; named.creator() == Some(b"a\nb\\".as_slice()));
     Ok(())
 }
