@@ -74,7 +74,7 @@ fn all_written(rt: &(impl Abort + AllocGlobal), row: &Row) -> Result<(), Fail> {
     let Ends::Wrote(whole, _) = row.ends else {
         return Err("a row with no text".into());
     };
-    for bytes in 0..=whole.len() {
+    for bytes in 0..whole.len().saturating_add(1) {
         for takes_zero in [false, true] {
             let piece = 5;
             written(
