@@ -8,9 +8,10 @@ use std::fmt::Debug;
 fn are_standing(rt: &impl Abort, found: &[Packet<'_>], wanted: &[Standing<'_>], of: &impl Debug) {
     assert_eq!(rt; found.len(), wanted.len(), "{of:?}");
     for (one, other) in found.iter().zip(wanted) {
+        let set = other.set;
         assert_eq!(rt;
             (one.at, one.length, one.set, one.kind),
-            (other.at, other.length, Hash16(other.set), other.kind),
+            (other.at, other.length, Hash16(set), other.kind),
             "{of:?}"
         );
         assert!(rt; one.body == other.body, "{of:?}");
@@ -31,15 +32,10 @@ fn is_held(body: &KeptBody, packet: &Standing<'_>) -> bool {
 fn are_held(rt: &impl Abort, found: &[Kept], wanted: &[Standing<'_>], of: &impl Debug) {
     assert_eq!(rt; found.len(), wanted.len(), "{of:?}");
     for (one, other) in found.iter().zip(wanted) {
+        let set = other.set;
         assert_eq!(rt;
             (one.file, one.at, one.length, one.set, one.kind),
-            (
-                0,
-                other.at as u64,
-                other.length,
-                Hash16(other.set),
-                other.kind
-            ),
+            (0, other.at as u64, other.length, Hash16(set), other.kind),
             "{of:?}"
         );
         assert!(rt; is_held(&one.body, other), "{of:?}");
