@@ -8,9 +8,10 @@ use std::fmt::Debug;
 fn are_standing(rt: &impl Abort, found: &[Packet<'_>], wanted: &[Standing<'_>], of: &impl Debug) {
     assert_eq!(rt; found.len(), wanted.len(), "{of:?}");
     for (one, other) in found.iter().zip(wanted) {
+        let set = other.set;
         assert_eq!(rt;
             (one.at, one.length, one.set, one.kind),
-            (other.at, other.length, Hash16(other.set), other.kind),
+            (other.at, other.length, Hash16(set), other.kind),
             "{of:?}"
         );
         assert!(rt; one.body == other.body, "{of:?}");
@@ -22,9 +23,7 @@ fn is_held(body: &KeptBody, packet: &Standing<'_>) -> bool {
     match body {
         KeptBody::Whole(held) => packet.is_whole() && held.as_slice() == packet.body,
         KeptBody::Front { first, len } => {
-            !packet.is_whole()
-                && *first == packet.front()
-                && *len == packet.body.len() as u64
+            !packet.is_whole() && *first == packet.front() && *len == packet.body.len() as u64
         }
     }
 }
@@ -33,9 +32,10 @@ fn is_held(body: &KeptBody, packet: &Standing<'_>) -> bool {
 fn are_held(rt: &impl Abort, found: &[Kept], wanted: &[Standing<'_>], of: &impl Debug) {
     assert_eq!(rt; found.len(), wanted.len(), "{of:?}");
     for (one, other) in found.iter().zip(wanted) {
+        let set = other.set;
         assert_eq!(rt;
             (one.file, one.at, one.length, one.set, one.kind),
-            (0, other.at as u64, other.length, Hash16(other.set), other.kind),
+            (0, other.at as u64, other.length, Hash16(set), other.kind),
             "{of:?}"
         );
         assert!(rt; is_held(&one.body, other), "{of:?}");
@@ -43,11 +43,7 @@ fn are_held(rt: &impl Abort, found: &[Kept], wanted: &[Standing<'_>], of: &impl 
 }
 
 // Bytes, and a file of them, have the packets of the model; answers how many there are.
-fn agrees(
-    rt: &(impl Abort + AllocGlobal),
-    bytes: &[u8],
-    of: &impl Debug,
-) -> Result<usize, Fail> {
+fn agrees(rt: &(impl Abort + AllocGlobal), bytes: &[u8], of: &impl Debug) -> Result<usize, Fail> {
     let wanted = all_standing(rt.alloc(), bytes)?;
     let packets = salvage(rt.alloc(), bytes)?;
     are_standing(rt, &packets, &wanted, of);

@@ -19,9 +19,15 @@ fn cause_of(answer: &Answer<'_>) -> Option<SetFault> {
 fn are_files(rt: &impl Abort, found: &[SetFile], wanted: &[File<'_>], of: &impl Debug) {
     assert_eq!(rt; found.len(), wanted.len(), "{of:?}");
     for (one, other) in found.iter().zip(wanted) {
+        let (id, whole) = (other.id, other.whole);
         assert_eq!(rt;
             (one.id, one.whole, one.length, one.known),
-            (Hash16(other.id), Hash16(other.whole), other.length, other.sums.is_some()),
+            (
+                Hash16(id),
+                Hash16(whole),
+                other.length,
+                other.sums.is_some()
+            ),
             "{of:?}"
         );
         assert!(rt; one.name.as_slice() == other.name, "{of:?}");
@@ -32,12 +38,8 @@ fn are_files(rt: &impl Abort, found: &[SetFile], wanted: &[File<'_>], of: &impl 
 fn are_slices(rt: &impl Abort, found: &[SetSlice], wanted: &[Slice], of: &impl Debug) {
     assert_eq!(rt; found.len(), wanted.len(), "{of:?}");
     for (one, other) in found.iter().zip(wanted) {
-        let sums = match one.sums {
-            Some((digest, crc)) => Some((digest.0, crc)),
-            None => None,
-        };
-        let slice = (one.id.0, u64::from(one.number), one.length, sums);
-        assert!(rt; slice == *other, "{of:?}");
+        let slice = (one.id, u64::from(one.number), one.length, one.sums);
+        assert_eq!(rt; slice, *other, "{of:?}");
     }
 }
 
@@ -52,9 +54,15 @@ fn are_aside(rt: &impl Abort, found: &[SetAside], wanted: &[(usize, u8)], of: &i
 
 // The set is that of the model.
 fn is_set(rt: &impl Abort, built: &RecoverySet, set: &Parts<'_>, of: &impl Debug) {
+    let id = set.id;
     assert_eq!(rt;
-        (built.id(), built.size(), built.others() as usize, built.have() as usize),
-        (Hash16(set.id), set.size, set.others, set.have),
+        (
+            built.id(),
+            built.size(),
+            built.others() as usize,
+            built.have() as usize
+        ),
+        (Hash16(id), set.size, set.others, set.have),
         "{of:?}"
     );
     assert!(rt; built.creator() == set.creator, "{of:?}");
@@ -344,7 +352,7 @@ fn sets_of_packets_by_strangers(rt: HostRuntime) -> Result<(), Fail> {
     };
     are(&rt, behind.aside(), &[odd]);
     let named = set_in(&rt, &with_names(rt.alloc())?)?;
-    assert!(rt; matches!(named.files(), [file] if file.name.as_slice() == b"../g.bin"));
-    assert!(rt; named.creator() == Some(b"a\nb\\"));
+    assert!(rt; matches!(named.files(), [file] if file.name.as_slice() == b"../g.bin".as_slice()));
+    assert!(rt; named.creator() == Some(b"a\nb\\".as_slice()));
     Ok(())
 }

@@ -1,8 +1,11 @@
 // Recovery sets as their definition has them: filters and the first such, over one list of packets. No
 // body here is longer than those that are held.
-use super::packets::{CREATOR_TYPE, DESC_TYPE, IFSC_TYPE, MAIN_TYPE, SLICE_TYPE, Standing};
-use super::packets::{field, filled_text, ids_in, long_at, sums_in, word_at};
+use super::packets::{
+    CREATOR_TYPE, DESC_TYPE, IFSC_TYPE, MAIN_TYPE, SLICE_TYPE, Standing, field, filled_text,
+    ids_in, long_at, sums_in, word_at,
+};
 use md5::{Digest, Md5};
+use parfield::Hash16;
 use std::alloc::{AllocError, Global};
 
 /// A file of a set; its slices have sums, or none are known.
@@ -16,7 +19,7 @@ pub struct File<'a> {
 }
 
 /// A slice: the ID of its file, its number there, its length, and its MD5 and CRC-32.
-pub type Slice = ([u8; 16], u64, u64, Option<([u8; 16], u32)>);
+pub type Slice = (Hash16, u64, u64, Option<(Hash16, u32)>);
 
 /// What packets give.
 #[derive(Drop)]
@@ -236,7 +239,8 @@ fn name_twice(files: &[File<'_>]) -> Option<[u8; 16]> {
     for (place, file) in files.iter().enumerate() {
         for (before, other) in files.iter().enumerate() {
             if before < place && file.name == other.name {
-                return Some(file.id);
+                let id = file.id;
+                return Some(id);
             }
         }
     }
@@ -260,13 +264,14 @@ fn slice_of(file: &File<'_>, size: u64, number: u64) -> Slice {
         None => None,
     };
     let sums = match sums {
-        Some(pair) => Some((
-            field::<16>(pair, 0).unwrap_or([0; 16]),
-            word_at(pair, 16),
-        )),
+        Some(pair) => {
+            let digest = field::<16>(pair, 0).unwrap_or([0; 16]);
+            Some((Hash16(digest), word_at(pair, 16)))
+        }
         None => None,
     };
-    (file.id, number, left.min(size), sums)
+    let id = file.id;
+    (Hash16(id), number, left.min(size), sums)
 }
 
 // The slices of all files.
@@ -328,15 +333,16 @@ pub fn answer_of<'a>(
     let Some(main) = first_main(packets, choice) else {
         return Ok(Answer::NoMain);
     };
-    let own = own_packets(alloc, packets, main.set)?;
+    let id = main.set;
+    let own = own_packets(alloc, packets, id)?;
     let size = long_at(main.body, 0);
     let all = ids_in(main.body);
     let recovery = all.get(..word_at(main.body, 8) as usize).unwrap_or(all);
     let mut files = Vec::new(alloc);
-    for id in &in_order(alloc, recovery)? {
-        match first_desc(&own, *id) {
-            Some(body) => files.push(file_of(&own, *id, body, size))?,
-            None => return Ok(Answer::NoDesc(*id)),
+    for file in &in_order(alloc, recovery)? {
+        match first_desc(&own, *file) {
+            Some(body) => files.push(file_of(&own, *file, body, size))?,
+            None => return Ok(Answer::NoDesc(*file)),
         }
     }
     if let Some(id) = name_twice(&files) {
@@ -346,7 +352,7 @@ pub fn answer_of<'a>(
         return Ok(Answer::TooManySlices);
     }
     Ok(Answer::Set(Parts {
-        id: main.set,
+        id,
         size,
         slices: all_slices(alloc, &files, size)?,
         files,
