@@ -112,15 +112,25 @@ fn large_packet(
     Ok(packet)
 }
 
+// Wants that `set` over these two packet files ends so. A base, which it does not ask for, names the
+// row.
+fn set_ends_so<'p>(
+    rt: &(impl Abort + AllocGlobal),
+    name: &str,
+    set: &'p [u8],
+    large: &'p [u8],
+    ends: Ends,
+) -> Result<(), Fail> {
+    let words = ["set", "-B", name, "g.par2", "c.par2"];
+    runs_so(rt, &words, over(&[set, large]), ends)
+}
+
 #[test]
 fn packets_with_large_bodies(rt: HostRuntime) -> Result<(), Fail> {
-    let set = packet_file("g")?;
     for (name, middle, times, last, ends) in &LARGE {
         let front = packet_file(name)?;
         let large = large_packet(rt.alloc(), front, middle, *times, last)?;
-        // A base, which `set` does not ask for, names the row.
-        let words = ["set", "-B", *name, "g.par2", "c.par2"];
-        runs_so(&rt, &words, over(&[set, &large]), *ends)?;
+        set_ends_so(&rt, name, packet_file("g")?, &large, *ends)?;
     }
     Ok(())
 }
