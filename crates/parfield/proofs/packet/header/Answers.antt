@@ -6,3 +6,6 @@ returns-clause-found c = search rules
 
 pub returns-then-bytes-lt64-clause-fault : goal.returns-then-bytes-lt64-clause-fault
 returns-then-bytes-lt64-clause-fault c = search rules
+
+pub returns-clause-fields : goal.returns-clause-fields
+returns-clause-fields c = search rules

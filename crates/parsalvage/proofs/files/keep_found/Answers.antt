@@ -1,0 +1,8 @@
+use Rattle.std.proofs.Common.{rules}
+use Rattle.parsalvage.proofs.files.keep_found.Goals as goal
+
+pub returns-clause-some : goal.returns-clause-some
+returns-clause-some c = search rules
+
+pub returns-in_err-store-clause-some : goal.returns-in_err-store-clause-some
+returns-in_err-store-clause-some c = search rules
