@@ -83,8 +83,8 @@ fn the_worked_file_with_each_byte_inverted(rt: HostRuntime) -> Result<(), Fail> 
     Ok(())
 }
 
-// Length fields, of how many bytes behind the hash field that is the MD5, and how many packets there
-// are: the one at 128 alone, or one with this header at 64 too.
+// Length fields, of how many bytes behind the hash field that is the MD5, and how many packets
+// there are: the one at 128 alone, or one with this header at 64 too.
 static LENGTHS: [(u64, usize, usize); 24] = [
     (0, 0, 1),
     (4, 0, 1),
@@ -112,8 +112,8 @@ static LENGTHS: [(u64, usize, usize); 24] = [
     (0xFFFF_FFFF_FFFF_FFFF, 31, 1),
 ];
 
-// Behind 64 bytes a header with this length field and the hash of so many bytes behind that field, and
-// then a Creator packet.
+// Behind 64 bytes a header with this length field and the hash of so many bytes behind that field,
+// and then a Creator packet.
 fn with_length(alloc: Global, length: u64, hashed: usize) -> Result<Vec<u8>, Fail> {
     let mut rest = Vec::from_slice(alloc, CREATOR.get(32..).ok_or("rest")?)?;
     rest.extend_from_slice(&CREATOR)?;

@@ -1,5 +1,5 @@
-// Salvage as its definition has it: each offset is tried by itself, with the hash of the bytes from there
-// on, and nothing is skipped, searched for or remembered.
+// Salvage as its definition has it: each offset is tried by itself, with the hash of the bytes
+// from there on, and nothing is skipped, searched for or remembered.
 use md5::{Digest, Md5};
 use parfield::Kind;
 use std::alloc::{AllocError, Global};

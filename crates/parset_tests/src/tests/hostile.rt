@@ -229,8 +229,8 @@ static INVERTED: [(usize, usize, Anew, [usize; 4]); 9] = [
     (220, 416, Anew::Nothing, [0, 0, 0, 196]),
     // A Main packet of another set, kind or body has another ID than its set.
     (32, 92, Anew::Hashes, [60, 0, 0, 0]),
-    // In a description set, kind, file ID, the greatest byte of the length and the last two of the name
-    // count; the five bytes before the greatest make the file too long.
+    // In a description set, kind, file ID, the greatest byte of the length and the last two of the
+    // name count; the five bytes before the greatest make the file too long.
     (124, 220, Anew::Hashes, [0, 51, 5, 40]),
     (252, 340, Anew::Hashes, [0, 0, 0, 88]),
     (372, 416, Anew::Hashes, [0, 0, 0, 44]),
@@ -281,8 +281,8 @@ fn set_of_lengths(alloc: Global, lengths: &[u64]) -> Result<Vec<u8>, Fail> {
     Ok(bytes)
 }
 
-// Lengths of files, and whether they have too many slices: more than 32,768, also where their number or
-// the sum of them is a multiple of 2^32 or of 2^64.
+// Lengths of files, and whether they have too many slices: more than 32,768, also where their
+// number or the sum of them is a multiple of 2^32 or of 2^64.
 static LENGTHS: [(&[u64], bool); 14] = [
     (&[131_068], false),
     (&[131_069], false),

@@ -1,5 +1,5 @@
-// Recovery sets as their definition has them: filters and the first such, over one list of packets. No
-// body here is longer than those that are held.
+// Recovery sets as their definition has them: filters and the first such, over one list of
+// packets. No body here is longer than those that are held.
 use super::packets::{
     CREATOR_TYPE, DESC_TYPE, IFSC_TYPE, MAIN_TYPE, SLICE_TYPE, Standing, field, filled_text,
     ids_in, long_at, sums_in, word_at,

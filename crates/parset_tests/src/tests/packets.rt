@@ -1,4 +1,5 @@
-// Packets of bytes as their definition has them, tried at each offset, and the fields of their bodies.
+// Packets of bytes as their definition has them, tried at each offset, and the fields of their
+// bodies.
 use md5::{Digest, Md5};
 use std::alloc::{AllocError, Global};
 

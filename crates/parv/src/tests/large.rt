@@ -112,8 +112,8 @@ fn large_packet(
     Ok(packet)
 }
 
-// Wants that `set` over these two packet files ends so. A base, which it does not ask for, names the
-// row.
+// Wants that `set` over these two packet files ends so. A base, which it does not ask for, names
+// the row.
 fn set_ends_so<'p>(
     rt: &(impl Abort + AllocGlobal),
     name: &str,
