@@ -72,6 +72,7 @@ fn first_colon(text: &[u8]) -> Option<usize>
     text.iter().position(|byte| *byte == b':')
 }
 
+// The set ID and the cursor that these parts of a text name; `None` where one is not of its form.
 fn pair_of_parts(id: &[u8], file: &[u8], offset: &[u8], slice: &[u8]) -> Option<(Hash16, Cursor)>
     ensures { result ≡ pair_of_parts (id.now ∷ file.now ∷ offset.now ∷ slice.now ∷ []) }
 {
@@ -87,6 +88,7 @@ fn pair_of_parts(id: &[u8], file: &[u8], offset: &[u8], slice: &[u8]) -> Option<
     Some((id, cursor))
 }
 
+// The ID that a part is in 32 digits, those above 9 in lower case; `None` for any other part.
 fn id_in(part: &[u8]) -> Option<Hash16>
     ensures { result ≡ id_in part.now }
 {
@@ -97,6 +99,7 @@ fn id_in(part: &[u8]) -> Option<Hash16>
     }
 }
 
+// Whether each byte is a hexadecimal digit, those above 9 in lower case.
 fn has_lower_digits(part: &[u8]) -> bool
     ensures { result ≡ list_all is_lower_digit part.now }
 {
@@ -104,12 +107,14 @@ fn has_lower_digits(part: &[u8]) -> bool
         .all(|byte| matches!(*byte, b'0'..=b'9' | b'a'..=b'f'))
 }
 
+// The number that a part is in canonical decimal, if it is below 2^32.
 fn u32_in(part: &[u8]) -> Option<u32>
     ensures { result ≡ number_in (2 ^ 32) part.now }
 {
     canonical(part)?.parse::<u32>().ok()
 }
 
+// The number that a part is in canonical decimal, if it is below 2^64.
 fn u64_in(part: &[u8]) -> Option<u64>
     ensures { result ≡ number_in (2 ^ 64) part.now }
 {
@@ -129,6 +134,7 @@ fn canonical(part: &[u8]) -> Option<&str>
     }
 }
 
+// Whether the part is canonical decimal: digits of which the first is not 0, or `0` alone.
 fn is_canonical(part: &[u8]) -> bool
     ensures { result ≡ is_canonical part.now }
 {

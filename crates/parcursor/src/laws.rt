@@ -11,7 +11,8 @@ pub fn cursor_order_law()
     ensures greater { (a b : Cursor) → is_gt (⟦<Cursor as Ord>⟧.cmp a b) ≡ is_before b a }
 {}
 
-/// The law of cursor texts: a text is read as one pair, and exactly as it was written. Does nothing.
+/// The law of cursor texts: a text is read as one pair, and exactly as it was written. Does
+/// nothing.
 pub fn cursor_text_law()
     ensures read { ReadsItsText }
     ensures one { HasOnePair }

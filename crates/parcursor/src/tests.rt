@@ -9,7 +9,7 @@ const SET: Hash16 = Hash16([
     0x61, 0x7c, 0xdc, 0x72, 0xba, 0x53, 0xd9, 0x4f, 0xe7, 0x13, 0xfe, 0xa2, 0xae, 0x18, 0xf7, 0x76,
 ]);
 
-// The text of a cursor of the set.
+// Wants that this is the text of a cursor of the set.
 fn is_written(rt: &(impl Abort + AllocGlobal), cursor: Cursor, wanted: &[u8]) -> Result<(), Fail> {
     let text = cursor.text(rt.alloc(), SET)?;
     assert_eq!(rt; text.as_slice(), wanted);
@@ -73,7 +73,7 @@ static TEXTS: [&[u8]; 17] = [
     b"000000000000000000000000000000000:0:1:1",
 ];
 
-// No cursor can be read from a text.
+// Wants that no cursor can be read from a text.
 fn is_refused(rt: &impl Abort, text: &[u8]) {
     assert_eq!(rt; split_cursor(text), None, "{text:?}");
     assert_eq!(rt;
