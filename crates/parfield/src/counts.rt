@@ -7,6 +7,7 @@ use std::marker::Model;
 /// A number for each place, that only contracts see. None has an upper bound.
 #[derive(Drop)]
 pub struct Counts {
+    /// The numbers, by place.
     pub ghost counts: { List ℕ },
 }
 

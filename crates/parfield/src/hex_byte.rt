@@ -3,7 +3,7 @@ ghost use Rattle.hex.specs.Hex.{lower_digits};
 
 use std::fmt;
 
-// A byte that is written as two hexadecimal digits in lower case.
+/// A byte that is written as two hexadecimal digits in lower case.
 #[derive(Clone, Copy)]
 pub struct HexByte(pub u8);
 
@@ -19,6 +19,7 @@ impl fmt::Display for HexByte {
     }
 }
 
+// The hexadecimal digit of a value below 16, in lower case.
 fn hex_digit(value: u8) -> char
     requires { value < 16 }
     ensures value { result ≡ slice_index lower_digits value }

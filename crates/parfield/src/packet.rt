@@ -7,6 +7,7 @@ use crate::kind::Kind;
 use byteorder::{ByteOrder, LittleEndian};
 use md5::{Digest, Md5};
 
+// What each packet begins with.
 const MAGIC: [u8; 8] = *b"PAR2\0PKT";
 
 /// The header that the bytes begin with.

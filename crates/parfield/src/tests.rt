@@ -6,7 +6,7 @@ const CREATOR: [u8; 64] =
     *b"PAR2\0PKT\x40\0\0\0\0\0\0\0\x90\xb7\x2c\x62\xf3\xda\xe9\x4b\x3d\xe0\x28\xf3\x1e\x19\x95\x02\0\0\0\0\0\0\0\0\0\0\0\0\0\0\0\0PAR 2.0\0Creator\0";
 
 #[test]
-fn md5_of_standard_vectors(rt: HostRuntime) -> Result<(), Fail> {
+fn md5_gives_the_digests_of_standard_vectors(rt: HostRuntime) -> Result<(), Fail> {
     for (message, digest) in [
         ("", "d41d8cd98f00b204e9800998ecf8427e"),
         ("a", "0cc175b9c0f1b6a831c399e269772661"),
@@ -46,7 +46,7 @@ fn faults_of_a_header_come_in_order(rt: HostRuntime) {
 }
 
 #[test]
-fn fields_of_a_header(rt: HostRuntime) -> Result<(), Fail> {
+fn the_fields_of_a_header_are_read(rt: HostRuntime) -> Result<(), Fail> {
     let head = header(&CREATOR).ok().ok_or("header")?;
     assert_eq!(rt; head.length, 64);
     assert_eq!(rt;
@@ -59,7 +59,7 @@ fn fields_of_a_header(rt: HostRuntime) -> Result<(), Fail> {
 }
 
 #[test]
-fn kinds_by_their_type_fields(rt: HostRuntime) {
+fn each_type_field_names_its_kind(rt: HostRuntime) {
     for (field, kind) in [
         (*b"PAR 2.0\0Main\0\0\0\0", Kind::Main),
         (*b"PAR 2.0\0FileDesc", Kind::FileDesc),
@@ -73,7 +73,7 @@ fn kinds_by_their_type_fields(rt: HostRuntime) {
 }
 
 #[test]
-fn creator_alone(rt: HostRuntime) -> Result<(), Fail> {
+fn a_packet_without_a_body_is_found(rt: HostRuntime) -> Result<(), Fail> {
     let packet = packet_at(&CREATOR, 0).ok_or("packet")?;
     assert_eq!(rt; packet.at, 0);
     assert_eq!(rt; packet.length, 64);
@@ -83,7 +83,7 @@ fn creator_alone(rt: HostRuntime) -> Result<(), Fail> {
 }
 
 #[test]
-fn no_packet_with_another_type_length_or_offset(rt: HostRuntime) {
+fn no_packet_is_found_with_another_type_length_or_offset(rt: HostRuntime) {
     let mut changed = CREATOR;
     changed[63] = 1;
     assert_eq!(rt; packet_at(&changed, 0), None);
@@ -101,7 +101,7 @@ fn no_packet_with_another_type_length_or_offset(rt: HostRuntime) {
 }
 
 #[test]
-fn shown_names(rt: HostRuntime) -> Result<(), Fail> {
+fn names_are_shown_in_printable_ascii(rt: HostRuntime) -> Result<(), Fail> {
     let name = show_name(rt.alloc(), b"a\\\x0a\xc3\xa9")?;
     assert_eq!(rt; name.as_slice(), b"a\\\\\\x0a\\xc3\\xa9".as_slice());
     let name = show_name(rt.alloc(), b"\x1f ~\x7f\0")?;
@@ -158,7 +158,7 @@ fn hashes_are_read_from_digits_of_either_case(rt: HostRuntime) {
 }
 
 #[test]
-fn last_byte_of_an_id_weighs_most(rt: HostRuntime) {
+fn the_last_byte_of_an_id_weighs_most(rt: HostRuntime) {
     let mut last = [0; 16];
     last[15] = 1;
     let mut first = [0; 16];
