@@ -12,7 +12,7 @@ use parwindow::Window;
 static ZEROS: [u8; AHEAD] = [0; AHEAD];
 
 impl Track {
-    // For the window of an offset, of which nothing is read yet.
+    /// A track for the window of an offset, of which nothing is read yet.
     pub fn new(file: u32, offset: u64) -> Track
         ensures { IsUnread file offset result }
     {
@@ -26,7 +26,7 @@ impl Track {
         }
     }
 
-    // Sees to it that the byte which the window takes next is at hand, if the file has one.
+    /// Sees to it that the byte which the window takes next is at hand, if the file has one.
     pub fn ready<H: Shelf>(&mut self, window: &Window, shelf: &mut H) -> Result<(), ReadFault>
         requires file { self.old.file < length (H.state shelf.old).lengths }
         requires inside { self.old.held < slice_index (H.state shelf.old).lengths self.old.file }
@@ -81,8 +81,8 @@ impl Track {
         }
     }
 
-    // The bytes that the window takes next, at least one and at most so many: what is at hand of a
-    // file that ends there, or zeros past its end.
+    /// The bytes that the window takes next, at least one and at most so many: what is at hand of a
+    /// file that ends there, or zeros past its end.
     pub fn piece(&self, window: &Window, file_end: u64, most: u64) -> &[u8]
         requires some { 0 < most }
         requires small { next_offset window.now self.now < 2 ^ 64 }

@@ -25,7 +25,8 @@ use std::marker::Model;
 pub enum Step {
     /// The next sighting.
     Hit(Sighting),
-    /// As many places as the step may look at were passed, with no sighting from the cursor on at any of them.
+    /// As many places as the step may look at were passed, with no sighting from the cursor on at
+    /// any of them.
     Spent,
     /// There is no further sighting.
     Done,
@@ -312,7 +313,7 @@ impl Finder {
         self.track.fill(&mut self.window, shelf)
     }
 
-    // The same at a place, whose window is there.
+    // What `visit` gives at the place where the search stands, whose window is there.
     fn look<H: Shelf>(
         &mut self,
         index: &Index,

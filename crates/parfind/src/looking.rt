@@ -11,8 +11,8 @@ use parfield::Hash16;
 use parwindow::{Index, Window};
 
 impl Track {
-    // The first slice from a number on that has both sums of a full window and fits into what is
-    // left of the file. The MD5 is taken only where some slice has the CRC-32, and once.
+    /// The first slice from a number on that has both sums of a full window and fits into what is
+    /// left of the file. The MD5 is taken only where some slice has the CRC-32, and once.
     pub fn first_seen(
         &mut self,
         window: &mut Window,
@@ -56,7 +56,7 @@ impl Track {
     }
 }
 
-// The first slice from a number on that has both sums and fits into what is left of the file.
+/// The first slice from a number on that has both sums and fits into what is left of the file.
 pub fn first_fit(index: &Index, crc: u32, digest: Hash16, left: u64, first: u32) -> Option<u32>
     ensures first { IsLeastFrom (slice_passes index.now (is_fit (digest, crc) left)) first result }
     ensures there { IfSome result (λ n. n < length index.now.slices) }

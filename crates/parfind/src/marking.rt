@@ -10,7 +10,8 @@ use crate::looking::first_fit;
 use parfield::Hash16;
 use parwindow::{Index, Window};
 
-// The first slice from a number on that has no mark; the number of all slices, where there is none.
+/// The first slice from a number on that has no mark; the number of all slices, where there is
+/// none.
 pub fn next_missing(found: &[bool], from: usize) -> usize
     requires { from ≤ length found.now }
     ensures within { result ≤ length found.now }
@@ -24,9 +25,10 @@ pub fn next_missing(found: &[bool], from: usize) -> usize
     number
 }
 
-// Marks each slice that has both sums of a full window and fits into what is left of the file. The
-// MD5 is taken only where some slice with the CRC-32 has no mark. `settled` keeps a CRC-32 of which
-// each slice has its mark, so that in a run of equal windows, as of zeros, that is asked once.
+/// Marks each slice that has both sums of a full window and fits into what is left of the file. The
+/// MD5 is taken only where some slice with the CRC-32 has no mark. `settled` keeps a CRC-32 of
+/// which each slice has its mark, so that in a run of equal windows, as of zeros, that is asked
+/// once.
 pub fn mark_seen(
     window: &mut Window,
     index: &Index,

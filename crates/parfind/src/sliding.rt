@@ -9,7 +9,7 @@ use parshelf::{ReadFault, Shelf};
 use parwindow::{Index, Window};
 
 impl Track {
-    // Goes to an offset of another file, with an empty window. In the same file nothing changes.
+    /// Goes to an offset of another file, with an empty window. In the same file nothing changes.
     pub fn enter(&mut self, window: &mut Window, file: u32, offset: u64)
         ensures same { self.old.file ≡ file → (self.new ≡ self.old) × (window.new ≡ window.old) }
         ensures other { self.old.file ≢ file → IsUnread file offset self.new
@@ -21,7 +21,7 @@ impl Track {
         }
     }
 
-    // Fills the window from its file, and with zeros past the file's end.
+    /// Fills the window from its file, and with zeros past the file's end.
     pub fn fill<H: Shelf>(&mut self, window: &mut Window, shelf: &mut H) -> Result<(), ReadFault>
         requires file { self.old.file < length (H.state shelf.old).lengths }
         requires inside { self.old.held < slice_index (H.state shelf.old).lengths self.old.file }
@@ -45,8 +45,8 @@ impl Track {
         Ok(())
     }
 
-    // Passes the place of a full window, and those behind it up to the first whose CRC-32 is that
-    // of a slice; at most so many, and only of this file. The answer is how many.
+    /// Passes the place of a full window, and those behind it up to the first whose CRC-32 is that
+    /// of a slice; at most so many, and only of this file. The answer is how many.
     pub fn pass<H: Shelf>(
         &mut self,
         window: &mut Window,
