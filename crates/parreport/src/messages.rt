@@ -57,12 +57,14 @@ fn line(alloc: Global, end: &End, argument: &str) -> Result<String, AllocError>
     }
 }
 
+// The line of a message.
 fn plain(alloc: Global, message: &str) -> Result<String, AllocError>
     ensures { IfOk result (λ line. string_bytes line ≡ error_line_of (Some message.now)) }
 {
     format!(in alloc; "parv: {message}\n")
 }
 
+// The line of a message that ends with the name of a file.
 fn of_file(alloc: Global, what: &str, name: Shown<'_>) -> Result<String, AllocError>
     ensures { IfOk result (λ line. string_bytes line
         ≡ error_line_of (Some (what.now ++ shown name.entry.0.now))) }
@@ -81,6 +83,7 @@ fn no_set(alloc: Global, cause: Cause) -> Result<String, AllocError>
     Ok(plain(alloc, message.as_str())?)
 }
 
+// The text of a cause.
 fn why(alloc: Global, cause: Cause) -> Result<String, AllocError>
     ensures { IfOk result (λ text. string_bytes text ≡ cause_text cause) }
 {

@@ -9,7 +9,8 @@ use parstates::FilesFault;
 use std::alloc::Global;
 
 /// The packets of all files, by file and offset.
-// Its arrays leave the stack before a scanned file is read: both don't fit into what a run begins with.
+// Its arrays leave the stack before a scanned file is read: both don't fit into what a run begins
+// with.
 #[inline(never)]
 pub fn salvage_files<H: Shelf>(alloc: Global, shelf: &mut H) -> Result<Vec<Kept>, FilesFault>
     ensures kept { IsTrue (H.state shelf.old).is_steady → IfOk result (λ kept.
