@@ -8,8 +8,8 @@ use crate::files::SalvageFault;
 use crate::piece::{Piece, read};
 use parshelf::Shelf;
 
-/// Bodies of a file. Those that overlap make a run, in which each byte stands once; the last run, from
-/// `start` up to `end` of the file, stands at the end of the bytes.
+/// Bodies of a file. Those that overlap make a run, in which each byte stands once; the last run,
+/// from `start` up to `end` of the file, stands at the end of the bytes.
 #[derive(Drop)]
 pub struct Bodies {
     pub bytes: Vec<u8>,

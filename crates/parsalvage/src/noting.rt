@@ -37,7 +37,7 @@ pub struct Found {
     pub bodies: Bodies,
 }
 
-// Notes the packet at this offset, if there is one. Packets are noted by rising offset.
+/// Notes the packet at this offset, if there is one. Packets are noted by rising offset.
 pub fn note_at<H: Shelf>(
     shelf: &mut H,
     file: u32,

@@ -15,7 +15,7 @@ use memchr::memmem::Finder;
 use parshelf::{Shelf, fill};
 use std::alloc::Global;
 
-/// How many bytes of a file are searched at a time.
+// How many bytes of a file are searched at a time.
 const PIECE: usize = 65_536;
 
 // Notes the packets that begin in a piece of a file, but for its last seven places.
