@@ -8,7 +8,7 @@ use crate::fields::{hash_at, is_over_limit, u32_at};
 use parfield::{Hash16, Sequence};
 use std::alloc::{AllocError, Global};
 
-// The most slices of a recovery set, and so of a file.
+/// The most slices of a recovery set, and so of a file.
 pub const SLICES_LIMIT: usize = 32_768;
 
 /// The fields of an Input File Slice Checksum body.
@@ -30,7 +30,7 @@ pub fn ifsc_body(alloc: Global, body: &[u8]) -> Result<Ifsc, BodyFault>
     }
 }
 
-// Why an Input File Slice Checksum body is not usable.
+/// Why an Input File Slice Checksum body is not usable.
 #[tactic(auto, unfolding(crate::specs::Reasons::checksums_reason))]
 pub fn checksums_reason(body: &[u8]) -> Option<Aside>
     ensures reason { result ≡ checksums_reason body.now }

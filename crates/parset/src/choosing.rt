@@ -26,7 +26,7 @@ use std::collections::BTreeMap;
 // How many exponents there can be.
 const EXPONENTS: usize = EXPONENT_LIMIT as usize + 1;
 
-// The first usable Main packet that is asked for, with its set ID.
+/// The first usable Main packet that is asked for, with its set ID.
 pub fn first_main(
     alloc: Global,
     packets: &[Kept],
@@ -42,7 +42,7 @@ pub fn first_main(
     Ok(None)
 }
 
-// The packets of the set of this ID.
+/// The packets of the set of this ID.
 pub fn set_packets<'a>(
     alloc: Global,
     packets: &'a [Kept],
@@ -54,7 +54,7 @@ pub fn set_packets<'a>(
     packets.iter().filter(|kept| kept.set == set).collect(alloc)
 }
 
-// The first usable description of each file ID.
+/// The first usable description of each file ID.
 pub fn descriptions(alloc: Global, own: &[&Kept]) -> Result<BTreeMap<Hash16, Desc>, AllocError>
     ensures { IfOk result (λ found. (id : Hash16) → get id_cmp found id
         ≡ file_description_of id (map (λ k. k.now) own.now)) }
@@ -68,7 +68,7 @@ pub fn descriptions(alloc: Global, own: &[&Kept]) -> Result<BTreeMap<Hash16, Des
     Ok(found)
 }
 
-// The first sums of each file that are as many as its slices, for the files that have a count.
+/// The first sums of each file that are as many as its slices, for the files that have a count.
 pub fn checksums(
     alloc: Global,
     own: &[&Kept],
@@ -89,7 +89,7 @@ pub fn checksums(
     Ok(found)
 }
 
-// How many exponents the usable RecvSlic packets have.
+/// How many exponents the usable RecvSlic packets have.
 pub fn exponent_count(alloc: Global, own: &[&Kept], size: u64) -> Result<u32, AllocError>
     ensures { IfOk result (λ count. count ≡ exponent_count_of size (map (λ k. k.now) own.now)) }
 {
@@ -97,7 +97,7 @@ pub fn exponent_count(alloc: Global, own: &[&Kept], size: u64) -> Result<u32, Al
     Ok(set_flags(seen.as_slice()) as u32)
 }
 
-// The first text of a Creator packet that is not empty.
+/// The first text of a Creator packet that is not empty.
 pub fn creator(alloc: Global, own: &[&Kept]) -> Result<Option<Sequence<u8>>, AllocError>
     ensures { IfOk result (λ text. text ≡ first_creator_of (map (λ k. k.now) own.now)) }
 {
@@ -109,7 +109,7 @@ pub fn creator(alloc: Global, own: &[&Kept]) -> Result<Option<Sequence<u8>>, All
     Ok(None)
 }
 
-// The packets whose bodies are not usable.
+/// The packets whose bodies are not usable.
 pub fn asides(alloc: Global, own: &[&Kept], size: u64) -> Result<Sequence<SetAside>, AllocError>
     ensures { IfOk result (λ asides. asides ≡ asides_of size (map (λ k. k.now) own.now)) }
 {

@@ -20,7 +20,7 @@ pub fn creator_body(alloc: Global, body: &[u8]) -> Result<Sequence<u8>, BodyFaul
     Ok(Sequence::from_vec(text))
 }
 
-// Why a Creator body is not usable.
+/// Why a Creator body is not usable.
 #[tactic(auto, unfolding(crate::specs::Reasons::creator_reason))]
 pub fn creator_reason(body: &[u8]) -> Option<Aside>
     ensures { result ≡ creator_reason body.now }

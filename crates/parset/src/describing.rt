@@ -10,7 +10,7 @@ use parsalvage::Kept;
 use std::alloc::{AllocError, Global};
 use std::collections::BTreeSet;
 
-// The descriptions of the files of these IDs.
+/// The descriptions of the files of these IDs.
 pub fn described(alloc: Global, own: &[&Kept], ids: &[Hash16]) -> Result<Sequence<Desc>, SetFault>
     ensures { AnswersSet (descriptions_of (map (λ k. k.now) own.now) ids.now) result }
 {
@@ -46,7 +46,7 @@ fn copy_of(alloc: Global, file: &Desc) -> Result<Desc, AllocError>
     })
 }
 
-// The files, where no two have one name.
+/// The files, where no two have one name.
 pub fn names_checked(alloc: Global, files: Sequence<Desc>) -> Result<Sequence<Desc>, SetFault>
     ensures { AnswersSet (names_checked files) result }
 {

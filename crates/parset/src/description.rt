@@ -39,7 +39,7 @@ pub fn desc_body(alloc: Global, body: &[u8]) -> Result<Desc, BodyFault>
     }
 }
 
-// Why a File Description body is not usable.
+/// Why a File Description body is not usable.
 #[tactic(auto, unfolding(crate::specs::Reasons::description_reason, crate::specs::Bodies::file_length_field))]
 pub fn description_reason(body: &[u8]) -> Option<Aside>
     ensures reason { result ≡ description_reason body.now }

@@ -9,14 +9,14 @@ use parfield::Hash16;
 // The most bytes of a body that is kept whole.
 const BODY_LIMIT: usize = 1_048_576;
 
-// Whether the body has more bytes than are kept.
+/// Whether the body has more bytes than are kept.
 pub fn is_over_limit(body: &[u8]) -> bool
     ensures { result ≡ is_over_limit body.now }
 {
     body.len() > BODY_LIMIT
 }
 
-// A hash or an ID of sixteen bytes.
+/// The hash or the ID in the sixteen bytes from an offset on.
 pub fn hash_at(bytes: &[u8], at: usize) -> Hash16
     requires { at + 16 ≤ length bytes.now }
     ensures { result ≡ hash_of (slice_range bytes.now at (at + 16)) }
@@ -26,7 +26,7 @@ pub fn hash_at(bytes: &[u8], at: usize) -> Hash16
     Hash16(hash)
 }
 
-// A number of eight bytes.
+/// The little-endian number in the eight bytes from an offset on.
 pub fn u64_at(bytes: &[u8], at: usize) -> u64
     requires { at + 8 ≤ length bytes.now }
     ensures { result ≡ le_value (slice_range bytes.now at (at + 8)) }
@@ -34,7 +34,7 @@ pub fn u64_at(bytes: &[u8], at: usize) -> u64
     LittleEndian::read_u64(&bytes[at..at + 8])
 }
 
-// A number of four bytes.
+/// The little-endian number in the four bytes from an offset on.
 pub fn u32_at(bytes: &[u8], at: usize) -> u32
     requires { at + 4 ≤ length bytes.now }
     ensures { result ≡ le_value (slice_range bytes.now at (at + 4)) }
@@ -42,7 +42,7 @@ pub fn u32_at(bytes: &[u8], at: usize) -> u32
     LittleEndian::read_u32(&bytes[at..at + 4])
 }
 
-// The bytes without the zero bytes at their end.
+/// The bytes without the zero bytes at their end.
 pub fn trimmed(bytes: &[u8]) -> &[u8]
     ensures { result.now ≡ without_end_zeros bytes.now }
 {

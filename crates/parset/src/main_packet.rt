@@ -40,7 +40,7 @@ pub fn main_body(alloc: Global, body: &[u8], set: Hash16) -> Result<Main, BodyFa
     }
 }
 
-// Why a Main body in a packet of this recovery set ID is not usable.
+/// Why a Main body in a packet of this recovery set ID is not usable.
 #[tactic(auto, unfolding(crate::specs::Reasons::main_reason, crate::specs::Reasons::early_main_reason))]
 pub fn main_reason(alloc: Global, body: &[u8], set: Hash16) -> Result<Option<Aside>, AllocError>
     ensures reason { IfOk result (λ reason. reason ≡ main_reason body.now set) }
@@ -127,6 +127,7 @@ fn fields_in(alloc: Global, body: &[u8]) -> Result<Main, AllocError>
     })
 }
 
+// The slice size in bytes.
 #[tactic(auto, unfolding(crate::specs::Bodies::slice_size_field))]
 fn slice_size(body: &[u8]) -> u64
     requires { 12 ≤ length body.now }

@@ -17,7 +17,7 @@ use parfield::{Hash16, Kind, Sequence};
 use parsalvage::{Kept, KeptBody};
 use std::alloc::{AllocError, Global};
 
-// The fields of a usable Main packet.
+/// The fields of a usable Main packet.
 pub fn read_main(alloc: Global, kept: &Kept) -> Result<Option<Main>, AllocError>
     ensures { IfOk result (λ found. found ≡ main_in kept.now.kind kept.now.body kept.now.set) }
 {
@@ -27,7 +27,7 @@ pub fn read_main(alloc: Global, kept: &Kept) -> Result<Option<Main>, AllocError>
     }
 }
 
-// The fields of a usable FileDesc packet.
+/// The fields of a usable FileDesc packet.
 pub fn read_description(alloc: Global, kept: &Kept) -> Result<Option<Desc>, AllocError>
     ensures found { IfOk result (λ found. found ≡ description_in kept.now.kind kept.now.body) }
     ensures memory { IfErr result (λ _.
@@ -39,7 +39,7 @@ pub fn read_description(alloc: Global, kept: &Kept) -> Result<Option<Desc>, Allo
     }
 }
 
-// The fields of a usable IFSC packet.
+/// The fields of a usable IFSC packet.
 pub fn read_checksums(alloc: Global, kept: &Kept) -> Result<Option<Ifsc>, AllocError>
     ensures found { IfOk result (λ found. found ≡ checksums_in kept.now.kind kept.now.body) }
     ensures memory { IfErr result (λ _.
@@ -51,7 +51,7 @@ pub fn read_checksums(alloc: Global, kept: &Kept) -> Result<Option<Ifsc>, AllocE
     }
 }
 
-// The text of a usable Creator packet, where it is not empty.
+/// The text of a usable Creator packet, where it is not empty.
 pub fn read_creator(alloc: Global, kept: &Kept) -> Result<Option<Sequence<u8>>, AllocError>
     ensures text { IfOk result (λ text. text ≡ creator_in kept.now) }
     ensures memory { IfErr result (λ _.
@@ -66,7 +66,7 @@ pub fn read_creator(alloc: Global, kept: &Kept) -> Result<Option<Sequence<u8>>, 
     }
 }
 
-// The exponent of a RecvSlic packet that is usable in a set of this slice size.
+/// The exponent of a RecvSlic packet that is usable in a set of this slice size.
 pub fn read_exponent(kept: &Kept, size: u64) -> Option<u32>
     ensures { result ≡ exponent_in size kept.now.kind kept.now.body }
 {
@@ -76,7 +76,7 @@ pub fn read_exponent(kept: &Kept, size: u64) -> Option<u32>
     }
 }
 
-// The packet with the reason why it is put aside, in a set of this slice size.
+/// The packet with the reason why it is put aside, in a set of this slice size.
 pub fn read_aside(alloc: Global, kept: &Kept, size: u64) -> Result<Option<SetAside>, AllocError>
     ensures aside { IfOk result (λ found. found ≡ aside_in size kept.now) }
     ensures memory { IfErr result (λ _. kept.now.kind ≡ kind.Main) }

@@ -6,7 +6,7 @@ ghost use Rattle.parset.specs.Reasons.{slice_reason};
 use crate::aside::Aside;
 use crate::fields::u32_at;
 
-// The largest exponent.
+/// The largest exponent.
 pub const EXPONENT_LIMIT: u32 = 65_534;
 
 /// The exponent of a Recovery Slice body, by its first four bytes and its length, in a set of this

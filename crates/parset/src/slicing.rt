@@ -13,7 +13,7 @@ use parfield::{Hash16, Sequence};
 use std::alloc::{AllocError, Global};
 use std::collections::BTreeMap;
 
-// How many slices of this size so many bytes have.
+/// How many slices of this size so many bytes have.
 pub fn slice_count(size: u64, length: u64) -> u64
     requires { 0 < size }
     ensures { result ≡ slice_count size length }
@@ -21,7 +21,7 @@ pub fn slice_count(size: u64, length: u64) -> u64
     length.div_ceil(size)
 }
 
-// The files, where they have no more slices than a recovery set may have.
+/// The files, where they have no more slices than a recovery set may have.
 pub fn slices_checked(size: u64, files: Sequence<Desc>) -> Result<Sequence<Desc>, SetFault>
     requires { 0 < size }
     ensures { AnswersSet (slices_checked size files) result }
@@ -48,7 +48,7 @@ fn has_many(size: u64, files: &[Desc]) -> bool
     false
 }
 
-// How many slices each file has, by its ID.
+/// How many slices each file has, by its ID.
 pub fn slice_counts(
     alloc: Global,
     size: u64,
@@ -64,7 +64,7 @@ pub fn slice_counts(
     Ok(counts)
 }
 
-// The files as a recovery set shows them.
+/// The files as a recovery set shows them.
 pub fn set_files(
     alloc: Global,
     files: &[Desc],
@@ -93,7 +93,7 @@ fn set_file(alloc: Global, file: &Desc, known: bool) -> Result<SetFile, AllocErr
     })
 }
 
-// The slices of all files.
+/// The slices of all files.
 pub fn set_slices(
     alloc: Global,
     size: u64,
