@@ -9,7 +9,7 @@ pub mod writer;
 
 /// A place that bytes are written to.
 pub trait Sink {
-    // The bytes written to it, and how often it refused some.
+    /// The bytes written to it, and how often it refused some.
     ghost state: { Self → SinkState };
 
     /// Writes some first bytes of `part`, and gives their number.
