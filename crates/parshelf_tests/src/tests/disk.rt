@@ -119,7 +119,7 @@ fn hundred_files(rt: &HostRuntime) -> Result<Vec<Text>, Fail> {
     Ok(paths)
 }
 
-// The last byte of the file of this number is its number.
+// Wants that the last byte of the file of this number is its number.
 fn ends_with_its_number<H: Shelf>(rt: &impl Abort, shelf: &mut H, number: u8) {
     let mut buf = [100];
     assert!(rt; (number as u32) < shelf.count());
@@ -158,7 +158,7 @@ fn a_file_that_was_shortened_ends(rt: HostRuntime) -> Result<(), Fail> {
     Ok(())
 }
 
-// The path at this index can't be opened.
+// Wants that the path at this index can't be opened.
 fn names_path(rt: &impl Abort, fault: Option<OpenFault>, index: usize) {
     assert_eq!(rt; fault, Some(OpenFault::CannotOpen(index)));
 }
