@@ -9,7 +9,7 @@ use std::alloc::AllocError;
 /// Why files were not all read.
 #[derive(Clone, Copy, Debug, PartialEq, Eq)]
 pub enum FilesFault {
-    /// A file could not be read.
+    /// The file of this number could not be read.
     Read { file: u32, fault: ReadFault },
     /// Memory was refused.
     Memory,

@@ -105,6 +105,7 @@ fn is_named(files: &[Scanned], file: &SetFile) -> bool
     files.iter().any(|scanned| has_name(scanned, file))
 }
 
+// Whether a scanned file has the content and the name of a file of the set.
 fn has_both(scanned: &Scanned, content: &Option<LengthAndMd5>, file: &SetFile) -> bool
     ensures { result
         ≡ (shows_content_of file.now content.now && is_name_of file.now scanned.now.name) }
@@ -112,6 +113,7 @@ fn has_both(scanned: &Scanned, content: &Option<LengthAndMd5>, file: &SetFile) -
     has_content(content, file) && has_name(scanned, file)
 }
 
+// Whether this is the content of a file of the set, by its length and its MD5.
 fn has_content(content: &Option<LengthAndMd5>, file: &SetFile) -> bool
     ensures { result ≡ shows_content_of file.now content.now }
 {
@@ -121,6 +123,7 @@ fn has_content(content: &Option<LengthAndMd5>, file: &SetFile) -> bool
     }
 }
 
+// Whether a scanned file has the name of a file of the set.
 fn has_name(scanned: &Scanned, file: &SetFile) -> bool
     ensures { result ≡ is_name_of file.now scanned.now.name }
 {
