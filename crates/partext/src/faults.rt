@@ -15,11 +15,11 @@ use thiserror::Error;
 pub enum Cause {
     /// There is no usable Main packet, or none of the set that is asked for.
     NoMain,
-    /// The least recovery ID without a usable FileDesc packet.
+    /// The least recovery ID that has no usable FileDesc packet.
     NoDesc(Hash16),
     /// The least recovery ID whose name a smaller recovery ID has.
     NameTwice(Hash16),
-    /// The files have too many slices together.
+    /// The files have more than 32,768 slices together.
     TooManySlices,
 }
 
@@ -29,7 +29,7 @@ pub enum RunFault {
     /// The packets give no recovery set.
     #[error("no usable set")]
     Set(Cause),
-    /// A packet file, where `packet`, or else a scanned file could not be read.
+    /// The packet file of this number, where `packet`, or else the scanned file could not be read.
     #[error("read fault")]
     Read {
         packet: bool,
@@ -50,7 +50,7 @@ pub enum RunFault {
 /// Why a search did not write all that it was asked for.
 #[derive(Clone, Copy, Debug, PartialEq, Eq)]
 pub enum FindFault {
-    /// A file could not be read.
+    /// The scanned file of this number could not be read.
     Read { file: u32, fault: ReadFault },
     /// The output failed, or took nothing.
     Write,

@@ -17,8 +17,8 @@ use parshelf::{Shelf, Sink};
 use parwindow::Index;
 use std::alloc::Global;
 
-/// Writes a line for each sighting from a cursor on, each before the next is looked for; then `end`,
-/// or the cursor to go on from, once as many lines are written as the limit allows.
+/// Writes a line for each sighting from a cursor on, each before the next is looked for; then
+/// `end`, or the cursor to go on from, once as many lines are written as the limit allows.
 pub fn search<Q: Shelf, W: Sink>(
     alloc: Global,
     files: &[Scanned],

@@ -32,7 +32,7 @@ pub fn put_set<W: Sink>(
     put_asides(names, set.aside(), waiting, out)
 }
 
-// Appends the line of the set.
+/// Appends the line of the set.
 #[tactic(auto, unfolding(crate::specs::Lines::set_line))]
 pub fn push_set(text: &mut String, set: &RecoverySet) -> Result<(), AllocError>
     ensures { OnOk result (string_bytes text.new ≡ string_bytes text.old ++ set_line set.now) }
