@@ -43,7 +43,7 @@ fn set_list(alloc: Global, length: u64) -> Result<String, AllocError> {
     Ok(text)
 }
 
-// As many bytes of the list were written as there was room for, and a fault where it was less.
+// Wants as many bytes of the list as there was room for, and a fault where it was less.
 fn shows(rt: &impl Abort, ran: &Outcome, list: &[u8], room: usize) {
     let size = room.min(list.len());
     assert!(rt; ran.text.as_slice() == &list[..size]);
@@ -55,7 +55,7 @@ fn shows(rt: &impl Abort, ran: &Outcome, list: &[u8], room: usize) {
     assert_eq!(rt; ran.fault, fault);
 }
 
-// The list of a command over one packet file, by sinks of each room.
+// Wants the list of a command over one packet file, by sinks of each room.
 fn lists(
     rt: &(impl Abort + AllocGlobal),
     command: &str,

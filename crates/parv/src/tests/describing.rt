@@ -212,6 +212,6 @@ static SETS: [Row; 23] = [
 ];
 
 #[test]
-fn sets_of_packet_files(rt: HostRuntime) -> Result<(), Fail> {
+fn set_shows_the_set_or_why_there_is_none(rt: HostRuntime) -> Result<(), Fail> {
     all_end_so(&rt, &SETS)
 }

@@ -135,7 +135,7 @@ fn listed_and_wanted(
 }
 
 #[test]
-fn packets_of_files_on_disk(rt: HostRuntime) -> Result<(), Fail> {
+fn packets_lists_the_packets_of_files_on_disk(rt: HostRuntime) -> Result<(), Fail> {
     for (name, lines, last) in &LISTED {
         let (listed, wanted) = listed_and_wanted(&rt, name, lines, last)?;
         is_text(&rt, &listed, wanted.as_str(), name);
@@ -150,7 +150,7 @@ fn fault_at(rt: &HostRuntime, path: &str) -> Result<Option<OpenFault>, Fail> {
 }
 
 #[test]
-fn a_packet_file_that_is_not_there(rt: HostRuntime) -> Result<(), Fail> {
+fn a_packet_file_that_is_not_there_cannot_be_opened(rt: HostRuntime) -> Result<(), Fail> {
     let path = "/tmp/parv_has_no_such_file.par2";
     let fault = fault_at(&rt, path)?;
     is_same(&rt, &fault, &Some(OpenFault::CannotOpen(0)), &path);

@@ -54,14 +54,14 @@ pub fn ends_with(
     Ok(())
 }
 
-// The exit status and the line of an end are these.
+// Wants that the exit status and the line of an end are these.
 fn has_code_and_line(rt: &impl Abort, end: &End, found: (u8, &[u8]), wanted: (u8, &str)) {
     is_same(rt, &found.0, &wanted.0, end);
     is_text(rt, found.1, wanted.1, end);
 }
 
 #[test]
-fn endings_and_their_lines(rt: HostRuntime) -> Result<(), Fail> {
+fn each_end_has_its_exit_status_and_line(rt: HostRuntime) -> Result<(), Fail> {
     for (end, status, line) in &ENDINGS {
         ends_with(&rt, end, "a\nb", *status, line)?;
     }
@@ -73,7 +73,7 @@ fn takes(rt: &impl Abort, out: &mut impl Sink, part: &[u8], count: usize) {
     is_same(rt, &out.put(part), &Ok(count), &part);
 }
 
-// Puts three parts into a sink over bytes.
+// Puts three parts into a sink over bytes; wants that it takes each.
 fn puts_parts(rt: &impl Abort, bytes: &mut Vec<u8>) {
     let mut out = WriteSink::new(bytes);
     takes(rt, &mut out, b"", 0);

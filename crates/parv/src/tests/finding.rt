@@ -133,6 +133,6 @@ static SEARCHES: [Row; 13] = [
 ];
 
 #[test]
-fn sightings_in_files(rt: HostRuntime) -> Result<(), Fail> {
+fn find_lists_where_slices_are_seen(rt: HostRuntime) -> Result<(), Fail> {
     all_end_so(&rt, &SEARCHES)
 }

@@ -126,7 +126,7 @@ fn set_ends_so<'p>(
 }
 
 #[test]
-fn packets_with_large_bodies(rt: HostRuntime) -> Result<(), Fail> {
+fn bodies_are_usable_up_to_their_limits(rt: HostRuntime) -> Result<(), Fail> {
     for (name, middle, times, last, ends) in &LARGE {
         let front = packet_file(name)?;
         let large = large_packet(rt.alloc(), front, middle, *times, last)?;
@@ -173,7 +173,7 @@ fn all_end_so(rt: &(impl Abort + AllocGlobal), packets: &[u8]) -> Result<(), Fai
 }
 
 #[test]
-fn set_behind_more_than_a_thousand_packets(rt: HostRuntime) -> Result<(), Fail> {
+fn a_set_behind_more_than_a_thousand_packets_is_found(rt: HostRuntime) -> Result<(), Fail> {
     let creator = packet_file("creator_of_g")?;
     let set = packet_file("g")?;
     let many = behind_many(rt.alloc(), creator, set)?;

@@ -180,6 +180,6 @@ static LISTINGS: [Row; 19] = [
 ];
 
 #[test]
-fn packets_of_packet_files(rt: HostRuntime) -> Result<(), Fail> {
+fn packets_lists_the_packets_of_packet_files(rt: HostRuntime) -> Result<(), Fail> {
     all_end_so(&rt, &LISTINGS)
 }

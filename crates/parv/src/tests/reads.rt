@@ -95,7 +95,7 @@ static FAULTY: [(u64, Row); 7] = [
 ];
 
 #[test]
-fn one_failing_read_of_the_scanned_files(rt: HostRuntime) -> Result<(), Fail> {
+fn scanned_files_are_read_no_more_than_is_needed(rt: HostRuntime) -> Result<(), Fail> {
     for (failing, row) in &FAULTY {
         ends_so(&rt, row, *failing)?;
     }
@@ -259,8 +259,8 @@ fn is_front(text: &[u8], whole: &str) -> bool {
     whole.as_bytes().starts_with(text) && (text.is_empty() || text.ends_with(b"\n"))
 }
 
-// The same of both shelves of a row, by 1 byte and by 64: as many bytes of the scanned file are
-// read as the text needs at least, and as are ahead at most.
+// Each read of both shelves of a row failing in turn, by 1 byte and by 64: as many bytes of the
+// scanned file are read as the text needs at least, and as are ahead at most.
 fn both_fail_in_turn(
     rt: &(impl Abort + AllocGlobal),
     whole: &WholeRow,
@@ -293,7 +293,7 @@ fn scanned_size(row: &Row) -> u64 {
 }
 
 #[test]
-fn each_read_failing_in_turn(rt: HostRuntime) -> Result<(), Fail> {
+fn each_failing_read_is_told_behind_whole_lines(rt: HostRuntime) -> Result<(), Fail> {
     for whole in whole_rows() {
         let size = scanned_size(&whole.0);
         both_fail_in_turn(&rt, whole, size, size)?;
@@ -302,7 +302,7 @@ fn each_read_failing_in_turn(rt: HostRuntime) -> Result<(), Fail> {
 }
 
 #[test]
-fn each_read_failing_in_turn_with_options(rt: HostRuntime) -> Result<(), Fail> {
+fn each_failing_read_is_told_behind_whole_lines_with_options(rt: HostRuntime) -> Result<(), Fail> {
     for (whole, least, most) in rows_with_options() {
         both_fail_in_turn(&rt, whole, *least, *most)?;
     }
@@ -346,7 +346,7 @@ fn second_fails(rt: &impl Abort, ran: &Outcome) -> bool {
 }
 
 #[test]
-fn lines_of_the_files_before_one_that_fails(rt: HostRuntime) -> Result<(), Fail> {
+fn the_lines_of_files_before_one_that_fails_are_written(rt: HostRuntime) -> Result<(), Fail> {
     // The one read of the second file comes after all reads of the first.
     for number in 1..20u64 {
         let ran = found_in_both(&rt, number)?;

@@ -205,6 +205,6 @@ static VERDICTS: [Row; 23] = [
 ];
 
 #[test]
-fn verdicts_on_files(rt: HostRuntime) -> Result<(), Fail> {
+fn verify_tells_what_of_a_set_is_there(rt: HostRuntime) -> Result<(), Fail> {
     all_end_so(&rt, &VERDICTS)
 }

@@ -159,7 +159,7 @@ fn is_command(
 }
 
 #[test]
-fn words_that_are_no_plan(rt: HostRuntime) -> Result<(), Fail> {
+fn words_that_are_no_plan_are_refused(rt: HostRuntime) -> Result<(), Fail> {
     for (words, fault) in &NO_PLANS {
         is_refused(&rt, words, *fault)?;
     }
@@ -167,7 +167,7 @@ fn words_that_are_no_plan(rt: HostRuntime) -> Result<(), Fail> {
 }
 
 #[test]
-fn words_that_are_a_plan(rt: HostRuntime) -> Result<(), Fail> {
+fn each_command_takes_its_options(rt: HostRuntime) -> Result<(), Fail> {
     for (words, command) in &COMMANDS {
         is_command(&rt, words, *command)?;
     }
@@ -359,13 +359,13 @@ fn has_files(rt: &(impl Abort + AllocGlobal), words: &[&str], wanted: &str) -> R
     Ok(())
 }
 
-// The files of the plan of words are these, each with a bar behind it.
+// Wants that the files of the plan of words are these, each with a bar behind it.
 fn are_files(rt: &impl Abort, files: &str, wanted: &str, words: &[&str]) {
     is_same(rt, &files.strip_suffix("|"), &Some(wanted), &words);
 }
 
 #[test]
-fn files_by_their_ending_and_names_under_the_base(rt: HostRuntime) -> Result<(), Fail> {
+fn files_are_told_by_their_ending_and_named_under_the_base(rt: HostRuntime) -> Result<(), Fail> {
     for (words, wanted) in &FILES {
         has_files(&rt, words, wanted)?;
     }
@@ -382,7 +382,7 @@ fn fault_over(alloc: Global, others: u32) -> Result<Option<PlanFault>, AllocErro
 }
 
 #[test]
-fn at_most_65535_files(rt: HostRuntime) -> Result<(), Fail> {
+fn a_plan_has_at_most_65535_files(rt: HostRuntime) -> Result<(), Fail> {
     let fault = fault_over(rt.alloc(), 65_534)?;
     is_same(&rt, &fault, &None, &65_535);
     let fault = fault_over(rt.alloc(), 65_535)?;

@@ -5,7 +5,7 @@ use parreport::RunFault;
 use std::process::Abort;
 use std::test::Fail;
 
-// A writer with some room: it gets the text that fits, and the run a fault unless all of it does.
+// Wants that a writer with some room gets the text that fits, and the run a fault unless all does.
 fn written(rt: &(impl Abort + AllocGlobal), row: &Row, room: Room) -> Result<(), Fail> {
     let packets = packet_files(rt, row.packets)?;
     let files = Files {
@@ -23,7 +23,7 @@ fn written(rt: &(impl Abort + AllocGlobal), row: &Row, room: Room) -> Result<(),
     Ok(())
 }
 
-// A run with this whole text and exit status, in room for so many bytes.
+// Wants that a run of this whole text and exit status ended so in room for so many bytes.
 fn is_written(rt: &impl Abort, ran: &Outcome, whole: &str, status: u8, bytes: usize) {
     let size = bytes.min(whole.len());
     let (fault, status, line) = if size == whole.len() {
@@ -92,7 +92,7 @@ fn all_written(rt: &(impl Abort + AllocGlobal), row: &Row) -> Result<(), Fail> {
 }
 
 #[test]
-fn writers_with_room_for_each_number_of_bytes(rt: HostRuntime) -> Result<(), Fail> {
+fn writers_get_the_text_that_they_have_room_for(rt: HostRuntime) -> Result<(), Fail> {
     for (row, _, _, _) in whole_rows() {
         all_written(&rt, row)?;
     }
@@ -100,7 +100,7 @@ fn writers_with_room_for_each_number_of_bytes(rt: HostRuntime) -> Result<(), Fai
 }
 
 #[test]
-fn writers_with_room_for_each_number_of_bytes_with_options(rt: HostRuntime) -> Result<(), Fail> {
+fn writers_get_the_text_that_they_have_room_for_with_options(rt: HostRuntime) -> Result<(), Fail> {
     for ((row, _, _, _), _, _) in rows_with_options() {
         all_written(&rt, row)?;
     }
