@@ -5,6 +5,7 @@ use std::alloc::{AllocError, Global};
 /// A set of bits, one for each 20 bits of a key: its top 14 and its low 6.
 #[derive(Drop)]
 pub struct BitSet {
+    /// The words that hold the bits.
     pub words: Vec<u64>,
     ghost size: { vec_len words ≡ 16384 },
 }
@@ -12,7 +13,7 @@ pub struct BitSet {
 impl BitSet {
     ghost use Rattle.parwindow.specs.FilterBits.{HasBit};
 
-    /// No bit is set.
+    /// A set in which no bit is set.
     pub fn new(alloc: Global) -> Result<BitSet, AllocError>
         ensures { IfOk result (λ set. set.words.items ≡ replicate 16384 0) }
     {

@@ -7,7 +7,9 @@ use std::alloc::{AllocError, Global};
 /// Bits that say of nearly all registers that they are no slice's.
 #[derive(Drop)]
 pub struct Filter {
+    /// The bits of the registers as they are.
     pub plain: BitSet,
+    /// The bits of the registers, scattered.
     pub scattered: BitSet,
 }
 

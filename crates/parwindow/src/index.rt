@@ -49,7 +49,7 @@ impl Index {
         })
     }
 
-    /// The slice size.
+    /// The slice size in bytes.
     pub fn size(&self) -> u64
         ensures size { result ≡ self.now.slice_size }
         ensures least { 4 ≤ result }
@@ -99,7 +99,7 @@ impl Index {
         self.entries.next_crc(crc, from)
     }
 
-    // Whether some slice has the CRC-32 of this register.
+    /// Whether some slice has the CRC-32 of this register.
     pub(crate) fn has_register(&self, register: u32) -> bool
         ensures { IsTrue result ↔ HasRegister self.now register }
     {

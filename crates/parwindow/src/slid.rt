@@ -9,7 +9,7 @@ pub struct Slid {
 }
 
 impl Slid {
-    /// It stopped at the register of a slice.
+    /// A slide that stopped at the register of a slice.
     pub fn hit(count: usize, register: u32) -> Slid
         ensures { result ≡ record { count = count; register = register; hit = true } }
     {
@@ -20,7 +20,7 @@ impl Slid {
         }
     }
 
-    /// It went to the end, and the register there is no slice's.
+    /// A slide that went to the end, where the register is no slice's.
     pub fn missed(count: usize, register: u32) -> Slid
         ensures { result ≡ record { count = count; register = register; hit = false } }
     {

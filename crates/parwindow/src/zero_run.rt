@@ -7,7 +7,9 @@ use crate::checksum::after_byte;
 /// A run of zero bytes, kept by what it makes of each bit of the register.
 #[derive(Drop)]
 pub struct ZeroRun {
+    /// How many bytes it has.
     pub len: usize,
+    /// What it makes of each bit, from the lowest on.
     pub columns: [u32; 32],
     ghost by_bit: { MapsBits columns len },
 }
