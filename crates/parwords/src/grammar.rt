@@ -8,13 +8,13 @@ use std::alloc::{AllocError, Global};
 /// The word that names a command.
 #[derive(Clone, Copy, Debug, PartialEq, Eq)]
 pub enum Verb {
-    /// `packets`
+    /// `packets`.
     Packets,
-    /// `set`
+    /// `set`.
     Set,
-    /// `find`
+    /// `find`.
     Find,
-    /// `verify`
+    /// `verify`.
     Verify,
 }
 
