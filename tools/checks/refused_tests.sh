@@ -20,7 +20,7 @@ parsalvage_tests|packet_inside
 parsalvage_tests|many_bytes
 parsalvage_tests|bodies_at
 parwindow_tests
-parcursor
+parcursor_tests
 parfind_tests
 pardrive||OutOfMemory before the first call,NoMemory told at a reopening
 END

@@ -5,8 +5,6 @@ mod cursor;
 mod cursor_text;
 mod laws;
 mod sighting;
-#[cfg(test)]
-mod tests;
 
 pub use crate::cursor::Cursor;
 pub use crate::cursor_text::{CursorFault, read_cursor, split_cursor};

@@ -11,8 +11,6 @@ mod packet;
 mod sequence;
 mod shown;
 mod tally;
-#[cfg(test)]
-mod tests;
 mod text;
 mod transcript;
 

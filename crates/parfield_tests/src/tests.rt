@@ -1,4 +1,7 @@
-use super::*;
+use parfield::{
+    Counts, Hash16, HeaderFault, Kind, Sequence, Tally, Text, Transcript, header,
+    ids_follow_numbers, packet_at, show_name,
+};
 use std::test::Fail;
 
 // A Creator packet of set ID zeros, without a body.

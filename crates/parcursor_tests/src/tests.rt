@@ -1,4 +1,4 @@
-use super::*;
+use parcursor::{Cursor, CursorFault, read_cursor, split_cursor};
 use parfield::Hash16;
 use std::process::Abort;
 use std::test::Fail;
