@@ -2,4 +2,4 @@ use Rattle.std.proofs.Common.{rules}
 use Rattle.parset.proofs.describing.names_checked.Goals as goal
 
 pub returns-in-Some : goal.returns-in-Some
-returns-in-Some c = search rules
+returns-in-Some c = search rules steps 1000000

@@ -2,4 +2,4 @@ use Rattle.std.proofs.Common.{rules}
 use Rattle.parwords.proofs.words.plan.Goals as goal
 
 pub returns-then-is_empty-clause-plan : goal.returns-then-is_empty-clause-plan
-returns-then-is_empty-clause-plan c = search rules
+returns-then-is_empty-clause-plan c = search rules steps 3000000

@@ -2,4 +2,4 @@ use Rattle.std.proofs.Common.{rules}
 use Rattle.parfind.proofs.track.Track.digest_of.Goals as goal
 
 pub returns-clause-looks : goal.returns-clause-looks
-returns-clause-looks c = search rules
+returns-clause-looks c = search rules steps 1000000

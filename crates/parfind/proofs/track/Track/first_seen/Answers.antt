@@ -11,4 +11,4 @@ returns-then-not-has_crc-clause-first c = λ k from fits.
     cc
 
 pub returns-then-not-has_crc-clause-marked : goal.returns-then-not-has_crc-clause-marked
-returns-then-not-has_crc-clause-marked c = search rules
+returns-then-not-has_crc-clause-marked c = search rules steps 1000000

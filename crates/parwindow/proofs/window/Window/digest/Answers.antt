@@ -2,10 +2,10 @@ use Rattle.std.proofs.Common.{rules}
 use Rattle.parwindow.proofs.window.Window.digest.Goals as goal
 
 pub invariant_of-self : goal.invariant_of-self
-invariant_of-self c = search rules
+invariant_of-self c = search rules steps 1000000
 
 pub returns-clause-counted : goal.returns-clause-counted
-returns-clause-counted c = search rules
+returns-clause-counted c = search rules steps 1000000
 
 pub returns-clause-digest : goal.returns-clause-digest
-returns-clause-digest c = search rules
+returns-clause-digest c = search rules steps 1000000

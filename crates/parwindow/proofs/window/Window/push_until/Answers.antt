@@ -9,7 +9,7 @@ returns-clause-until c =
     (pushes_until c.args.index.now _ c.args.bytes.now c.slide_over-slid.result c.slide_over-slid.ensures)
 
 pub invariant_of-self : goal.invariant_of-self
-invariant_of-self c = grind (arith, common_steps)
+invariant_of-self c = grind (arith, common_steps) steps 3000000
 
 pub returns-clause-content : goal.returns-clause-content
-returns-clause-content c = grind (arith, common_steps)
+returns-clause-content c = grind (arith, common_steps) steps 3000000
