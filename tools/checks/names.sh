@@ -1,0 +1,70 @@
+#!/usr/bin/env bash
+# Names of a set that are paths: whatever lies there, it isn't opened. Files are opened by the words
+# that name them; the names of the set are compared with these, and shown.
+. "$(dirname "$0")/wants.sh"
+mkdir "$work/below"
+cd "$work/below" || exit 1
+
+# Writes that.par2, the set of one file of this name that holds abcdefgh, and prints its ID.
+one_file() {
+    PYTHONPATH=$tools PYTHONDONTWRITEBYTECODE=1 python3 - "$1" << 'END'
+import os, sys
+from vectors import SLICE_SIZE, desc_body, file_id, ifsc_body, main_body, md5, packet
+name, content = os.fsencode(sys.argv[1]), b"abcdefgh"
+main = main_body(SLICE_SIZE, [file_id(name, content)])
+bodies = [("main", main), ("filedesc", desc_body(name, content)),
+          ("ifsc", ifsc_body(name, content, SLICE_SIZE))]
+with open("that.par2", "wb") as out:
+    out.write(b"".join(packet(md5(main), kind, body) for kind, body in bodies))
+print(md5(main).hex())
+END
+}
+
+# passes WHAT: no word names what lies there, and it is neither verified nor searched.
+passes() {
+    wants "$1 at $place is missing" 2 "$line
+missing $name 0/2
+need 2 have 0
+result impossible" "" "$parv" verify that.par2
+    wants "$1 at $place is not searched" 0 end "" "$parv" find that.par2
+}
+
+for name in ../g.bin "$work/g.bin" g.bin; do
+    place=${name/#"$work"\//a whole path to }
+    line="set $(one_file "$name") size 4 slices 2"
+    passes "no file"
+
+    printf 'abcdefgh' > "$name"
+    passes "a file with the bytes"
+    wants "the file at $place where a word names it" 0 "$line
+complete $name
+need 0 have 0
+result complete" "" "$parv" verify that.par2 "$name"
+    chmod 000 "$name"
+    passes "a file that may not be read"
+    rm -f "$name"
+
+    # What writes to a FIFO waits until the FIFO is opened by a reader.
+    mkfifo "$name"
+    : > "$name" &
+    waits=$!
+    sleep 0.2
+    passes "a FIFO"
+    sleep 0.2
+    if kill "$waits" 2> "$said/kill"; then
+        echo "ok: the FIFO at $place was not opened"
+    else
+        fails "the FIFO at $place was opened"
+    fi
+    wait "$waits" 2> "$said/kill"
+    rm "$name"
+done
+
+"$tools/packet_files.py" sets > made || exit 1
+: > $'../g\n.bin'
+wants "an empty file whose name has a line feed is missing" 1 \
+    "$("$tools/describe_set.py" sets/many_packets.par2 | sed -n 1p)
+missing ../g\\x0a.bin 0/0
+need 0 have 2
+result possible" "" "$parv" verify sets/many_packets.par2
+exit $failed
