@@ -22,6 +22,6 @@ parsalvage_tests|bodies_at
 parwindow_tests
 parcursor_tests
 parfind_tests
-pardrive||OutOfMemory before the first call,NoMemory told at a reopening
+pardrive_tests||OutOfMemory before the first call,NoMemory told at a reopening
 END
 exit $failed

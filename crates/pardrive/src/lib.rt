@@ -4,12 +4,6 @@
 mod calls;
 mod driver;
 mod laws;
-#[cfg(test)]
-mod model_tests;
-#[cfg(test)]
-mod refused_tests;
-#[cfg(test)]
-mod tests;
 
 pub use crate::calls::{Answer, Call, Drive};
 pub use crate::driver::drive;

@@ -3,7 +3,6 @@ mod model;
 mod packets;
 mod reasons;
 mod sets;
-mod worked;
 
 use md5::{Digest, Md5};
 use parfield::Hash16;

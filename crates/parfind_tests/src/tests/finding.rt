@@ -1,7 +1,8 @@
 // Sightings that a search finds.
-use crate::tests::fixtures::{START, cursor, index_of, shelf_of};
+use crate::tests::fixtures::index_of;
 use crate::tests::searching::{Search, cursor_of, gives, handed_in, is_answer, next_of, opened};
 use parfind::Cursor;
+use parfixtures::{START, cursor, shelf_of};
 use parshelf::{MemShelf, ReadFault};
 use parwindow::Index;
 use std::process::Abort;
@@ -185,6 +186,6 @@ fn goes_on(
 #[test]
 fn a_search_goes_on_after_a_failed_read(rt: HostRuntime) -> Result<(), Fail> {
     let index = index_of(rt.alloc(), b"abcdefgh")?;
-    let mut shelf = shelf_of(&rt, &[b"XXabcdefgh"], 1, 3)?;
+    let mut shelf = shelf_of(rt.alloc(), &[b"XXabcdefgh"], 1, &[3])?;
     goes_on(&rt, &index, &mut shelf)
 }

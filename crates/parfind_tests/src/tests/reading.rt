@@ -1,6 +1,7 @@
 // How much of its files a search reads.
-use crate::tests::fixtures::{START, index_of, index_with};
+use crate::tests::fixtures::{index_of, index_with};
 use crate::tests::searching::{Search, Walk, Wanted, handed_along, handed_in};
+use parfixtures::START;
 use parwindow::Index;
 use std::process::Abort;
 use std::test::Fail;

@@ -3,8 +3,9 @@ ghost use Rattle.std.specs.Prelude.{◌<◌, IfOk};
 ghost use Rattle.parshelf.specs.Memory.{shelf_state_of};
 ghost use Rattle.parfind.specs.Finders.{BelongsTo};
 
-use crate::tests::fixtures::{Spot, cursor, handed, hit, index_of, shelf_of};
+use crate::tests::fixtures::{handed, hit, index_of};
 use parfind::{Cursor, Finder, Step};
+use parfixtures::{Spot, cursor, shelf_of};
 use parshelf::{MemShelf, ReadFault};
 use parwindow::Index;
 use std::alloc::{AllocError, Global};
@@ -112,7 +113,7 @@ pub fn handed_in(
     piece: usize,
 ) -> Result<u64, Fail> {
     let index = index_of(rt.alloc(), search.content)?;
-    let mut shelf = shelf_of(rt, search.files, piece, 0)?;
+    let mut shelf = shelf_of(rt.alloc(), search.files, piece, &[])?;
     searches(rt, &index, &mut shelf, search)?;
     Ok(handed(&shelf))
 }
@@ -185,7 +186,7 @@ pub fn handed_along(
     piece: usize,
     failing: u64,
 ) -> Result<u64, Fail> {
-    let mut shelf = shelf_of(rt, walk.files, piece, failing)?;
+    let mut shelf = shelf_of(rt.alloc(), walk.files, piece, &[failing])?;
     steps_through(rt, index, &mut shelf, walk)?;
     Ok(handed(&shelf))
 }

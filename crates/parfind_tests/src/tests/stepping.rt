@@ -1,6 +1,7 @@
 // Steps with a budget.
-use crate::tests::fixtures::{START, index_of};
+use crate::tests::fixtures::index_of;
 use crate::tests::searching::{Walk, Wanted, handed_along};
+use parfixtures::START;
 use std::process::Abort;
 use std::test::Fail;
 

@@ -3,9 +3,10 @@ ghost use Rattle.std.specs.Prelude.{◌≡◌, ◌∷◌, [], true, false};
 ghost use Rattle.parfind.specs.Marks.{missing_places};
 ghost use Rattle.parfind_tests.specs.Worked.{two_slices, equal_slices};
 
-use crate::tests::fixtures::{handed, index_of, shelf_of};
+use crate::tests::fixtures::{handed, index_of};
 use crate::tests::reading::{is_handed, is_handed_at_most};
 use parfind::{SurveyFault, survey, survey_in};
+use parfixtures::shelf_of;
 use parshelf::{MemShelf, ReadFault};
 use parwindow::{Index, Window};
 use std::alloc::{AllocError, Global};
@@ -66,7 +67,7 @@ struct Marks<'f> {
 // Surveys files that are read `piece` bytes at a time.
 fn mark_by(rt: &(impl Abort + AllocGlobal), marks: &Marks<'_>, piece: usize) -> Result<(), Fail> {
     let mut found = vec![in rt.alloc(); false; marks.wanted.len()]?;
-    let mut shelf = shelf_of(rt, marks.files, piece, 0)?;
+    let mut shelf = shelf_of(rt.alloc(), marks.files, piece, &[])?;
     surveys(
         rt,
         marks.content,
@@ -206,7 +207,7 @@ fn handed_for(
     marks: [bool; 2],
 ) -> Result<u64, Fail> {
     let mut found = marks;
-    let mut shelf = shelf_of(rt, files, 64, failing)?;
+    let mut shelf = shelf_of(rt.alloc(), files, 64, &[failing])?;
     surveys(
         rt,
         b"abcdefgh",
@@ -270,7 +271,7 @@ fn fails(
     wanted: &[bool],
 ) -> Result<(), Fail> {
     let mut found = [false, false, false];
-    let mut shelf = shelf_of(rt, &[b"abcd", b"XXefghijkl"], piece, failing)?;
+    let mut shelf = shelf_of(rt.alloc(), &[b"abcd", b"XXefghijkl"], piece, &[failing])?;
     surveys(rt, b"abcdefghijkl", &mut shelf, &mut found, answer, wanted)
 }
 
@@ -345,8 +346,8 @@ fn surveys_both(
 
 #[test]
 fn a_survey_marks_what_a_search_finds(rt: HostRuntime) -> Result<(), Fail> {
-    let mut failing = shelf_of(&rt, &[b"ab", b"XXabcdefgh"], 64, 1)?;
-    let mut shelf = shelf_of(&rt, &[b"XXabcd"], 64, 0)?;
+    let mut failing = shelf_of(rt.alloc(), &[b"ab", b"XXabcdefgh"], 64, &[1])?;
+    let mut shelf = shelf_of(rt.alloc(), &[b"XXabcd"], 64, &[])?;
     surveys_both(&rt, &mut failing, &mut shelf)
 }
 

@@ -1,7 +1,7 @@
-use super::model::{Standing, all_standing};
-use super::worked::WORKED;
+use super::model::{front_of, is_whole, kind_of};
 use super::*;
 use md5::{Digest, Md5};
+use parfixtures::{Standing, WORKED, all_standing};
 use std::fmt::Debug;
 
 // The packets of bytes are those of the model.
@@ -11,7 +11,7 @@ fn are_standing(rt: &impl Abort, found: &[Packet<'_>], wanted: &[Standing<'_>], 
         let set = other.set;
         assert_eq!(rt;
             (one.at, one.length, one.set, one.kind),
-            (other.at, other.length, Hash16(set), other.kind),
+            (other.at, other.length, Hash16(set), kind_of(other)),
             "{of:?}"
         );
         assert!(rt; one.body == other.body, "{of:?}");
@@ -21,9 +21,9 @@ fn are_standing(rt: &impl Abort, found: &[Packet<'_>], wanted: &[Standing<'_>], 
 // Whether of this body is held what is to be.
 fn is_held(body: &KeptBody, packet: &Standing<'_>) -> bool {
     match body {
-        KeptBody::Whole(held) => packet.is_whole() && held.as_slice() == packet.body,
+        KeptBody::Whole(held) => is_whole(packet) && held.as_slice() == packet.body,
         KeptBody::Front { first, len } => {
-            !packet.is_whole() && *first == packet.front() && *len == packet.body.len() as u64
+            !is_whole(packet) && *first == front_of(packet) && *len == packet.body.len() as u64
         }
     }
 }
@@ -35,7 +35,13 @@ fn are_held(rt: &impl Abort, found: &[Kept], wanted: &[Standing<'_>], of: &impl 
         let set = other.set;
         assert_eq!(rt;
             (one.file, one.at, one.length, one.set, one.kind),
-            (0, other.at as u64, other.length, Hash16(set), other.kind),
+            (
+                0,
+                other.at as u64,
+                other.length,
+                Hash16(set),
+                kind_of(other)
+            ),
             "{of:?}"
         );
         assert!(rt; is_held(&one.body, other), "{of:?}");
@@ -47,7 +53,7 @@ fn agrees(rt: &(impl Abort + AllocGlobal), bytes: &[u8], of: &impl Debug) -> Res
     let wanted = all_standing(rt.alloc(), bytes)?;
     let packets = salvage(rt.alloc(), bytes)?;
     are_standing(rt, &packets, &wanted, of);
-    let mut shelf = shelf_of(rt.alloc(), bytes, 50, &[])?;
+    let mut shelf = shelf_of(rt.alloc(), &[bytes], 50, &[])?;
     assert_eq!(rt; shelf.count(), 1);
     let kept = salvage_file(rt.alloc(), &mut shelf, 0).ok().ok_or("kept")?;
     are_held(rt, &kept, &wanted, of);

@@ -1,28 +1,11 @@
 use super::*;
-use md5::{Digest, Md5};
-
-const MAGIC: [u8; 8] = *b"PAR2\0PKT";
-
-const CREATOR_TYPE: [u8; 16] = *b"PAR 2.0\0Creator\0";
-
-const RECV_SLIC: [u8; 16] = *b"PAR 2.0\0RecvSlic";
+use parfixtures::{CREATOR_TYPE, SLICE_TYPE, packet_of};
 
 const UNKNOWN: [u8; 16] = *b"PAR 2.0\0Unknown\0";
 
-// A packet of set ID zeros with the length and the hash that its fields ask for.
+// A packet of set ID zeros.
 fn packet(alloc: Global, kind: &[u8; 16], body: &[u8]) -> Result<Vec<u8>, AllocError> {
-    let length = (body.len() as u64).saturating_add(64);
-    let mut hasher = Md5::new();
-    hasher.update(&[0; 16]);
-    hasher.update(kind);
-    hasher.update(body);
-    let mut bytes = Vec::from_slice(alloc, &MAGIC)?;
-    bytes.extend_from_slice(&length.to_le_bytes())?;
-    bytes.extend_from_slice(&hasher.finalize())?;
-    bytes.extend_from_slice(&[0; 16])?;
-    bytes.extend_from_slice(kind)?;
-    bytes.extend_from_slice(body)?;
-    Ok(bytes)
+    packet_of(alloc, [0; 16], *kind, body)
 }
 
 // Whether the same is held of two bodies.
@@ -62,7 +45,7 @@ fn found_at(rt: &(impl Abort + AllocGlobal), bytes: &[u8], wanted: &[u64]) -> Re
         assert_eq!(rt; packet.at, *at);
     }
     for piece in [1, 7, 65_536] {
-        let mut shelf = shelf_of(rt.alloc(), bytes, piece, &[])?;
+        let mut shelf = shelf_of(rt.alloc(), &[bytes], piece, &[])?;
         assert_eq!(rt; shelf.count(), 1);
         let found = salvage_file(rt.alloc(), &mut shelf, 0).ok().ok_or("found")?;
         are_same(rt, &found, &kept, piece);
@@ -91,7 +74,7 @@ fn bodies_longer_than_a_piece(rt: HostRuntime) -> Result<(), Fail> {
     let mut body = vec![in rt.alloc(); 5; 100_000]?;
     body.extend_from_slice(&CREATOR)?;
     body.extend_from_slice(&[6; 100_000])?;
-    for kind in [CREATOR_TYPE, RECV_SLIC, UNKNOWN] {
+    for kind in [CREATOR_TYPE, SLICE_TYPE, UNKNOWN] {
         let mut bytes = packet(rt.alloc(), &kind, &body)?;
         bytes.extend_from_slice(&CREATOR)?;
         found_at(&rt, &bytes, &[0, 100_064, 200_128])?;
@@ -124,7 +107,7 @@ fn overlapping_packets(rt: HostRuntime) -> Result<(), Fail> {
 // A file of these bytes has no packet. No memory is taken, so the answer is the same where an
 // allocation of the call would be refused.
 fn nothing_in(rt: &(impl Abort + AllocGlobal), bytes: &[u8]) -> Result<(), Fail> {
-    let mut shelf = shelf_of(rt.alloc(), bytes, 65_536, &[])?;
+    let mut shelf = shelf_of(rt.alloc(), &[bytes], 65_536, &[])?;
     assert_eq!(rt; shelf.count(), 1);
     match salvage_file(rt.alloc(), &mut shelf, 0) {
         Ok(found) => assert!(rt; found.is_empty()),
@@ -164,7 +147,7 @@ fn mixed_bytes(alloc: Global, seed: u64, length: usize) -> Result<Vec<u8>, Alloc
         let body = vec![in alloc; ((number >> 16) % 256) as u8; size]?;
         let kind = match number % 3 {
             0 => CREATOR_TYPE,
-            1 => RECV_SLIC,
+            1 => SLICE_TYPE,
             _ => UNKNOWN,
         };
         let mut part = packet(alloc, &kind, &body)?;

@@ -1,7 +1,6 @@
 use super::model::{Answer, File, Parts, Slice, answer_of};
-use super::packets::{CREATOR_TYPE, DESC_TYPE, MAIN_TYPE, all_standing, packet_of};
-use super::worked::WORKED;
 use super::*;
+use parfixtures::{CREATOR_TYPE, DESC_TYPE, MAIN_TYPE, WORKED, all_standing, packet_of};
 use parsalvage::{kept_of, salvage};
 
 // Why the model has no set; `None` where it has one.

@@ -1,11 +1,9 @@
 // Recovery sets as their definition has them: filters and the first such, over one list of
 // packets. No body here is longer than those that are held.
-use super::packets::{
-    CREATOR_TYPE, DESC_TYPE, IFSC_TYPE, MAIN_TYPE, SLICE_TYPE, Standing, field, filled_text,
-    ids_in, long_at, sums_in, word_at,
-};
+use super::packets::{filled_text, ids_in, long_at, sums_in, word_at};
 use md5::{Digest, Md5};
 use parfield::Hash16;
+use parfixtures::{CREATOR_TYPE, DESC_TYPE, IFSC_TYPE, MAIN_TYPE, SLICE_TYPE, Standing, field};
 use std::alloc::{AllocError, Global};
 
 /// A file of a set; its slices have sums, or none are known.

@@ -1,58 +1,11 @@
 use super::*;
-use md5::{Digest, Md5};
-use parfield::{Hash16, Kind};
-use parsalvage::{Kept, KeptBody, Part};
-use parset::build;
-
-// The ID of the one file of the set.
-const FILE: [u8; 16] = [b'f'; 16];
-
-// The body of the Main packet of a set of the one file, in slices of 4 bytes.
-const MAIN: [u8; 28] = *b"\x04\0\0\0\0\0\0\0\x01\0\0\0ffffffffffffffff";
-
-// A packet of the set, whose body is held whole.
-fn packet(kind: Kind, body: Vec<u8>) -> Result<Kept, AllocError> {
-    Ok(Kept {
-        file: 0,
-        at: 0,
-        length: 64 + body.len() as u64,
-        set: Hash16(Md5::digest(&MAIN)),
-        kind,
-        body: KeptBody::Whole(Part::from_vec(body)?),
-    })
-}
-
-// The body of the File Description packet of the file, of this length.
-fn desc_bytes(alloc: Global, length: u64) -> Result<Vec<u8>, AllocError> {
-    let mut body = vec![in alloc; b'f'; 48]?;
-    body.extend_from_slice(&length.to_le_bytes())?;
-    body.extend_from_slice(b"name")?;
-    Ok(body)
-}
-
-// The body of the IFSC packet of the file, with these bytes as its sums.
-fn ifsc_bytes(alloc: Global, sums: &[&[u8]]) -> Result<Vec<u8>, AllocError> {
-    let mut body = Vec::from_slice(alloc, &FILE)?;
-    for bytes in sums {
-        body.extend_from_slice(bytes)?;
-    }
-    Ok(body)
-}
-
-// The packets of the set of the one file.
-fn packets_of(alloc: Global, length: u64, sums: &[&[u8]]) -> Result<Vec<Kept>, AllocError> {
-    let mut packets = Vec::new(alloc);
-    packets.push(packet(Kind::Main, Vec::from_slice(alloc, &MAIN)?)?)?;
-    packets.push(packet(Kind::FileDesc, desc_bytes(alloc, length)?)?)?;
-    packets.push(packet(Kind::Ifsc, ifsc_bytes(alloc, sums)?)?)?;
-    Ok(packets)
-}
+use parfield::Hash16;
+use parfixtures::set_with;
 
 // The slices of one file of this length, each of 4 bytes, with these bytes as their sums, which
 // are known where there are as many as the slices need.
-fn index_of(alloc: Global, length: u64, sums: &[&[u8]]) -> Result<Index, Fail> {
-    let packets = packets_of(alloc, length, sums)?;
-    let set = build(alloc, &packets, None)?;
+fn index_with(alloc: Global, length: u64, sums: &[u8]) -> Result<Index, Fail> {
+    let set = set_with(alloc, length, sums)?;
     Ok(Index::new(alloc, &set)?)
 }
 
@@ -65,12 +18,15 @@ const ABCD_CRC: u32 = 0xed82_cd11;
 
 const AB_CRC: u32 = 0xe98d_5034;
 
-// Both sums of each, as a packet has them.
-const ABCD_SUMS: [u8; 20] =
-    *b"\xe2\xfc\x71\x4c\x47\x27\xee\x93\x95\xf3\x24\xcd\x2e\x7f\x33\x1f\x11\xcd\x82\xed";
+// Both sums of the slices of `abcdabcdab`, and of those of `abcdab`, as a packet has them.
+const TEN_BYTES: [u8; 60] =
+    *b"\xe2\xfc\x71\x4c\x47\x27\xee\x93\x95\xf3\x24\xcd\x2e\x7f\x33\x1f\x11\xcd\x82\xed\
+      \xe2\xfc\x71\x4c\x47\x27\xee\x93\x95\xf3\x24\xcd\x2e\x7f\x33\x1f\x11\xcd\x82\xed\
+      \x66\x27\x1d\x2e\x70\x37\x2c\x1b\x4d\xc5\xb4\x6e\x79\xa6\xf0\x01\x34\x50\x8d\xe9";
 
-const AB_SUMS: [u8; 20] =
-    *b"\x66\x27\x1d\x2e\x70\x37\x2c\x1b\x4d\xc5\xb4\x6e\x79\xa6\xf0\x01\x34\x50\x8d\xe9";
+const SIX_BYTES: [u8; 40] =
+    *b"\xe2\xfc\x71\x4c\x47\x27\xee\x93\x95\xf3\x24\xcd\x2e\x7f\x33\x1f\x11\xcd\x82\xed\
+      \x66\x27\x1d\x2e\x70\x37\x2c\x1b\x4d\xc5\xb4\x6e\x79\xa6\xf0\x01\x34\x50\x8d\xe9";
 
 // There are so many slices of 4 bytes.
 fn has_slices(rt: &impl Abort, index: &Index, slices: u32) {
@@ -105,7 +61,7 @@ fn finds_crc(rt: &impl Abort, index: &Index, crc: u32, rows: &[(u32, Option<u32>
 
 #[test]
 fn slices_of_a_file_of_ten_bytes(rt: HostRuntime) -> Result<(), Fail> {
-    let index = index_of(rt.alloc(), 10, &[&ABCD_SUMS, &ABCD_SUMS, &AB_SUMS])?;
+    let index = index_with(rt.alloc(), 10, &TEN_BYTES)?;
     has_slices(&rt, &index, 3);
     has_own_length(&rt, &index, 1, 4);
     has_own_length(&rt, &index, 2, 2);
@@ -114,7 +70,7 @@ fn slices_of_a_file_of_ten_bytes(rt: HostRuntime) -> Result<(), Fail> {
 
 #[test]
 fn equal_slices_are_found_by_number(rt: HostRuntime) -> Result<(), Fail> {
-    let index = index_of(rt.alloc(), 10, &[&ABCD_SUMS, &ABCD_SUMS, &AB_SUMS])?;
+    let index = index_with(rt.alloc(), 10, &TEN_BYTES)?;
     has_crc(&rt, &index, AB_CRC, true);
     has_crc(&rt, &index, 0, false);
     let abcds = [(0, Some(0)), (1, Some(1)), (2, None), (3, None)];
@@ -133,7 +89,7 @@ fn takes(rt: &impl Abort, window: &mut Window, index: &Index, bytes: &[u8], coun
 
 #[test]
 fn pieces_stop_where_a_slice_ends(rt: HostRuntime) -> Result<(), Fail> {
-    let index = index_of(rt.alloc(), 6, &[&ABCD_SUMS, &AB_SUMS])?;
+    let index = index_with(rt.alloc(), 6, &SIX_BYTES)?;
     let mut window = Window::new(rt.alloc(), 4)?;
     for byte in *b"xyab" {
         let _ = window.push(byte);
@@ -155,7 +111,7 @@ fn pieces_stop_where_a_slice_ends(rt: HostRuntime) -> Result<(), Fail> {
 
 #[test]
 fn slices_without_sums_are_not_found(rt: HostRuntime) -> Result<(), Fail> {
-    let index = index_of(rt.alloc(), 10, &[&ABCD])?;
+    let index = index_with(rt.alloc(), 10, &ABCD)?;
     has_slices(&rt, &index, 3);
     has_crc(&rt, &index, ABCD_CRC, false);
     finds(&rt, &index, ABCD_CRC, ABCD, &[(0, None)]);
@@ -169,8 +125,8 @@ fn fits_into(rt: &impl Abort, index: &Index, left: u64, fits: bool) {
 
 #[test]
 fn a_slice_fits_into_what_its_own_bytes_need(rt: HostRuntime) -> Result<(), Fail> {
-    let known = index_of(rt.alloc(), 6, &[&ABCD_SUMS, &AB_SUMS])?;
-    let unknown = index_of(rt.alloc(), 6, &[&ABCD])?;
+    let known = index_with(rt.alloc(), 6, &SIX_BYTES)?;
+    let unknown = index_with(rt.alloc(), 6, &ABCD)?;
     for (left, fits) in [
         (0, false),
         (1, false),

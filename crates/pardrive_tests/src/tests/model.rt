@@ -1,10 +1,11 @@
 ghost use Rattle.std.specs.Prelude.{All, IfOk};
 ghost use Rattle.pardrive.specs.Runs.{HasBudget};
 
-use crate::tests::{FAILED, cursor, index_of, shelf_of};
-use crate::{Answer, Call, drive};
-use parcursor::{Cursor, Sighting};
+use super::{FAILED, index_of};
+use parcursor::Cursor;
+use pardrive::{Answer, Call, drive};
 use parfind::Step;
+use parfixtures::{cursor, shelf_of, sighting};
 use std::process::Abort;
 use std::test::Fail;
 
@@ -42,27 +43,22 @@ fn step_from(content: &[u8], files: &[&[u8]], at: Cursor, budget: u64) -> (Step,
     for bytes in files {
         for place in 0..bytes.len() {
             let offset = place as u64;
-            let here = cursor(file, offset, 0);
-            if here >= cursor(at.file, at.offset, 0) {
+            let here = cursor((file, offset, 0));
+            if here >= cursor((at.file, at.offset, 0)) {
                 let least = if here < at { at.slice } else { 0 };
                 if let Some(slice) = slice_at(content, bytes, place, least) {
-                    let sighting = Sighting {
-                        file,
-                        offset,
-                        slice,
-                    };
-                    let behind = cursor(file, offset, slice.saturating_add(1));
-                    return (Step::Hit(sighting), behind);
+                    let behind = cursor((file, offset, slice.saturating_add(1)));
+                    return (Step::Hit(sighting((file, offset, slice))), behind);
                 }
                 passed = passed.saturating_add(1);
                 if passed == budget {
-                    return (Step::Spent, cursor(file, offset.saturating_add(1), 0));
+                    return (Step::Spent, cursor((file, offset.saturating_add(1), 0)));
                 }
             }
         }
         file = file.saturating_add(1);
     }
-    let end = cursor(file, 0, 0);
+    let end = cursor((file, 0, 0));
     (Step::Done, if at < end { end } else { at })
 }
 
@@ -72,8 +68,10 @@ fn places_between(files: &[&[u8]], from: Cursor, to: Cursor) -> u64 {
     let mut file: u32 = 0;
     for bytes in files {
         for place in 0..bytes.len() {
-            let here = cursor(file, place as u64, 0);
-            if here >= cursor(from.file, from.offset, 0) && here < cursor(to.file, to.offset, 0) {
+            let here = cursor((file, place as u64, 0));
+            if here >= cursor((from.file, from.offset, 0))
+                && here < cursor((to.file, to.offset, 0))
+            {
                 count = count.saturating_add(1);
             }
         }
@@ -85,7 +83,7 @@ fn places_between(files: &[&[u8]], from: Cursor, to: Cursor) -> u64 {
 // Whether a fault may leave a step there: it passes no sighting, and no more places than it may.
 fn may_stop(content: &[u8], files: &[&[u8]], at: Cursor, budget: u64, to: Cursor) -> bool {
     let none = match step_from(content, files, at, u64::MAX).0 {
-        Step::Hit(x) => cursor(x.file, x.offset, x.slice) >= to,
+        Step::Hit(x) => cursor((x.file, x.offset, x.slice)) >= to,
         _ => true,
     };
     none && to >= at && places_between(files, at, to) <= budget
@@ -148,7 +146,7 @@ fn is_right(
     for file in 0..4 {
         for offset in 0..10 {
             for slice in 0..3 {
-                let to = cursor(file, offset, slice);
+                let to = cursor((file, offset, slice));
                 if follows(content, files, start, calls, to) == Some(end) {
                     return true;
                 }
@@ -215,14 +213,14 @@ fn drives_by_chance(rt: &(impl Abort + AllocGlobal), seed: u64) -> Result<bool, 
         item(&FILES, (seed >> 19) % 8),
     ];
     let piece = 1 + (seed >> 27) as usize % 3;
-    let start = cursor(
+    let start = cursor((
         ((seed >> 31) % 3) as u32,
         (seed >> 35) % 4,
         ((seed >> 39) % 3) as u32,
-    );
+    ));
     let calls = some_calls(rt, seed)?;
-    let index = index_of(rt, content)?;
-    let mut shelf = shelf_of(rt, &files, piece, &[(seed >> 43) % 10])?;
+    let index = index_of(rt.alloc(), content)?;
+    let mut shelf = shelf_of(rt.alloc(), &files, piece, &[(seed >> 43) % 10])?;
     let done = drive(rt.alloc(), &calls, &index, &mut shelf, start)?;
     let refused = done.answers.as_slice().last() == Some(&Answer::NoMemory);
     assert!(rt; refused || done.answers.len() == calls.len());

@@ -1,10 +1,11 @@
 ghost use Rattle.std.specs.Prelude.{All};
 ghost use Rattle.pardrive.specs.Runs.{HasBudget};
 
-use crate::tests::{FAILED, SIX_ZEROS, START, ZEROS, cursor, gave, hit, index_of, shelf_of};
-use crate::{Answer, Call, Drive, drive};
+use super::{FAILED, SIX_ZEROS, ZEROS, gave, hit, index_of};
 use parcursor::Cursor;
+use pardrive::{Answer, Call, Drive, drive};
 use parfind::Step;
+use parfixtures::{START, cursor, shelf_of};
 use parshelf::MemShelf;
 use parwindow::Index;
 use std::process::Abort;
@@ -13,9 +14,9 @@ use std::test::Fail;
 // Where the search stands at each reopening: behind how many answers, and what it finds next.
 fn stops() -> [(usize, Cursor, Answer); 3] {
     [
-        (1, START, hit(0, 0, 0)),
-        (3, cursor(0, 0, 1), hit(0, 0, 1)),
-        (6, cursor(0, 1, 0), hit(0, 1, 0)),
+        (1, cursor(START), hit((0, 0, 0))),
+        (3, cursor((0, 0, 1)), hit((0, 0, 1))),
+        (6, cursor((0, 1, 0)), hit((0, 1, 0))),
     ]
 }
 
@@ -61,17 +62,17 @@ fn refused_memory_is_told_where_it_is_wanted(rt: HostRuntime) -> Result<(), Fail
     let wanted = [
         FAILED,
         Answer::Reopened,
-        hit(0, 0, 0),
+        hit((0, 0, 0)),
         Answer::Reopened,
-        hit(0, 0, 1),
+        hit((0, 0, 1)),
         Answer::Step(Ok(Step::Spent)),
         Answer::Reopened,
-        hit(0, 1, 0),
+        hit((0, 1, 0)),
     ];
-    let end = cursor(0, 1, 1);
-    let index = index_of(&rt, &ZEROS)?;
-    let mut shelf = shelf_of(&rt, &SIX_ZEROS, 1, &[1])?;
-    match drive(rt.alloc(), &calls, &index, &mut shelf, START) {
+    let end = cursor((0, 1, 1));
+    let index = index_of(rt.alloc(), &ZEROS)?;
+    let mut shelf = shelf_of(rt.alloc(), &SIX_ZEROS, 1, &[1])?;
+    match drive(rt.alloc(), &calls, &index, &mut shelf, cursor(START)) {
         Ok(done) if done.answers.len() == wanted.len() => {
             gave(&rt, &done, &wanted, end);
             Ok(())
@@ -83,7 +84,7 @@ fn refused_memory_is_told_where_it_is_wanted(rt: HostRuntime) -> Result<(), Fail
         Err(_) => {
             // No read was made: the first one is still to fail.
             assert_eq!(rt; shelf.handed(), 0);
-            let done = drive(rt.alloc(), &calls, &index, &mut shelf, START)?;
+            let done = drive(rt.alloc(), &calls, &index, &mut shelf, cursor(START))?;
             gave(&rt, &done, &wanted, end);
             Err("OutOfMemory before the first call".into())
         }

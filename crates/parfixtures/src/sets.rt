@@ -1,0 +1,62 @@
+// Recovery sets of one file, in slices of four bytes.
+use crate::sums::pairs_of;
+use parfield::{Hash16, Kind};
+use parsalvage::{Kept, KeptBody, Part};
+use parset::{RecoverySet, build};
+use std::alloc::{AllocError, Global};
+use std::test::Fail;
+
+// The body of the Main packet.
+const MAIN: [u8; 28] = *b"\x04\0\0\0\0\0\0\0\x01\0\0\0ffffffffffffffff";
+
+// The MD5 of that body, as Python's `hashlib` has it.
+const SET: Hash16 = Hash16(*b"\x20\xa7\xc3\x3f\xa4\x10\x7d\x0a\x46\xc2\x84\x3a\x68\x0b\xe5\x12");
+
+// A packet of the set, whose body is held whole.
+fn packet(kind: Kind, body: Vec<u8>) -> Result<Kept, AllocError> {
+    let length = 64 + body.len() as u64;
+    Ok(Kept {
+        file: 0,
+        at: 0,
+        length,
+        set: SET,
+        kind,
+        body: KeptBody::Whole(Part::from_vec(body)?),
+    })
+}
+
+// The body of the description of the file, which has this length.
+fn description(alloc: Global, length: u64) -> Result<Vec<u8>, AllocError> {
+    let mut body = vec![in alloc; b'f'; 48]?;
+    body.extend_from_slice(&length.to_le_bytes())?;
+    body.extend_from_slice(b"name")?;
+    Ok(body)
+}
+
+// The body of the packet with these sums of its slices.
+fn sums(alloc: Global, pairs: &[u8]) -> Result<Vec<u8>, AllocError> {
+    let mut body = vec![in alloc; b'f'; 16]?;
+    body.extend_from_slice(pairs)?;
+    Ok(body)
+}
+
+// The packets of the set.
+fn packets(alloc: Global, length: u64, pairs: &[u8]) -> Result<[Kept; 3], AllocError> {
+    let main = packet(Kind::Main, Vec::from_slice(alloc, &MAIN)?)?;
+    let desc = packet(Kind::FileDesc, description(alloc, length)?)?;
+    let ifsc = packet(Kind::Ifsc, sums(alloc, pairs)?)?;
+    Ok([main, desc, ifsc])
+}
+
+/// The set of one file of this length, in slices of four, with these bytes as their sums, which are
+/// known where there are as many as the slices need.
+pub fn set_with(alloc: Global, length: u64, pairs: &[u8]) -> Result<RecoverySet, Fail> {
+    let packets = packets(alloc, length, pairs)?;
+    Ok(build(alloc, &packets, None)?)
+}
+
+/// The set of one file of these bytes, in slices of four, whose sums are known.
+pub fn set_of(alloc: Global, content: &[u8]) -> Result<RecoverySet, Fail> {
+    let pairs = pairs_of(alloc, content)?;
+    set_with(alloc, content.len() as u64, &pairs)
+}
