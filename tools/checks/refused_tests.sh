@@ -18,7 +18,7 @@ done << 'END'
 parshelf_tests
 parsalvage_tests|packet_inside
 parsalvage_tests|many_bytes
-parsalvage_tests|bodies_at
+parsalvage_tests|bodies_up_to
 parwindow_tests
 parcursor_tests
 parfind_tests

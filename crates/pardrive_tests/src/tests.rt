@@ -14,6 +14,7 @@ use std::alloc::Global;
 use std::process::Abort;
 use std::test::Fail;
 
+// The answer that sees a slice at a spot.
 fn hit(at: Spot) -> Answer {
     Answer::Step(Ok(Step::Hit(sighting(at))))
 }

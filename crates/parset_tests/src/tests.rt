@@ -49,6 +49,7 @@ fn are<T: Debug + PartialEq>(rt: &impl Abort, got: &[T], wanted: &[T]) {
     assert_eq!(rt; got, wanted);
 }
 
+// The MD5 of bytes.
 fn digest_of(bytes: &[u8]) -> Hash16 {
     Hash16(Md5::digest(bytes))
 }
@@ -102,14 +103,14 @@ fn has_ids(rt: &impl Abort, main: &Main, size: u64, recovery: &[Hash16], others:
 }
 
 #[test]
-fn fields_of_a_main_body(rt: HostRuntime) -> Result<(), Fail> {
+fn the_fields_of_a_main_body_are_read(rt: HostRuntime) -> Result<(), Fail> {
     let main = main_body(rt.alloc(), &MAIN, SET)?;
     has_ids(&rt, &main, 4, &[FILE], &[]);
     Ok(())
 }
 
 #[test]
-fn fields_of_a_main_body_with_two_ids(rt: HostRuntime) -> Result<(), Fail> {
+fn the_fields_of_a_main_body_with_two_ids_are_read(rt: HostRuntime) -> Result<(), Fail> {
     let body = main_bytes(rt.alloc(), 8, 1, &[1, 2])?;
     let set = Hash16(*b"Z\xa4\xe0\x8c-\x8c\x8a\xe7\xbd\xa6\xa1\xc1\xe4!\xcf\xa0");
     let main = main_body(rt.alloc(), &body, set)?;
@@ -131,14 +132,14 @@ fn describes(
 }
 
 #[test]
-fn fields_of_a_description_body(rt: HostRuntime) -> Result<(), Fail> {
+fn the_fields_of_a_description_are_read(rt: HostRuntime) -> Result<(), Fail> {
     let desc = desc_body(rt.alloc(), &DESC)?;
     describes(&rt, &desc, (FILE, CONTENT, CONTENT), 8, "g.bin");
     Ok(())
 }
 
 #[test]
-fn fields_of_a_description_of_a_file_longer_than_its_front(rt: HostRuntime) -> Result<(), Fail> {
+fn the_fields_of_a_description_of_a_long_file_are_read(rt: HostRuntime) -> Result<(), Fail> {
     let long = desc_body(rt.alloc(), &LONG_DESC)?;
     let id = Hash16(*b"\x10\xa1\xa0\xe8\xa38\x16\xd0RjVdEU\xa3\xe7");
     let whole = Hash16(*b"\x8d\x07_r5V\xe7v\xf6\xf5\xdc\xf2\x8eh\x89\xa7");
@@ -159,7 +160,7 @@ static SUMS: [(Hash16, u32); 2] = [
 ];
 
 #[test]
-fn fields_of_a_checksum_body(rt: HostRuntime) -> Result<(), Fail> {
+fn the_fields_of_a_checksum_body_are_read(rt: HostRuntime) -> Result<(), Fail> {
     let ifsc = ifsc_body(rt.alloc(), &IFSC)?;
     is(&rt, &ifsc.id, &FILE);
     are(&rt, ifsc.sums.as_slice(), SUMS.as_slice());
@@ -174,7 +175,7 @@ fn has_text(rt: &(impl Abort + AllocGlobal), body: &[u8], wanted: &[u8]) -> Resu
 }
 
 #[test]
-fn text_of_a_creator_body(rt: HostRuntime) -> Result<(), Fail> {
+fn the_text_of_a_creator_body_is_read(rt: HostRuntime) -> Result<(), Fail> {
     has_text(&rt, b"a\0b\0\0\0\0\0", b"a\0b")?;
     has_text(&rt, b"a\nb\\", b"a\nb\\")?;
     has_text(&rt, b"\0\0\0\0", b"")?;
@@ -199,12 +200,13 @@ static SLICES: [([u8; 4], u64, u64, Result<u32, Aside>); 14] = [
     ([0xff, 0xff, 0, 0], 12, 4, Err(Aside::WrongLength)),
 ];
 
+// The exponent or the reason of a recovery slice packet whose body begins so and is so long.
 fn slice_answer(first: [u8; 4], len: u64, size: u64) -> Result<u32, Aside> {
     slice_body(first, len, size)
 }
 
 #[test]
-fn exponents_and_reasons_of_recovery_slices(rt: HostRuntime) {
+fn recovery_slices_have_their_exponent_or_a_reason(rt: HostRuntime) {
     for row in &SLICES {
         let (first, len, size, wanted) = *row;
         is_in_row(&rt, row, &slice_answer(first, len, size), &wanted);
@@ -221,7 +223,7 @@ static NUMBERS: [(Aside, u8); 6] = [
 ];
 
 #[test]
-fn numbers_of_reasons(rt: HostRuntime) {
+fn each_reason_has_its_number(rt: HostRuntime) {
     for row in &NUMBERS {
         is_in_row(&rt, row, &row.0.number(), &row.1);
     }

@@ -1,5 +1,5 @@
-//! Tests of `parwindow`. A check of tests proves their crate anew, so they stand in a crate of their
-//! own.
+//! Tests of `parwindow`. A check of tests proves their crate anew, so they stand in a crate of
+//! their own.
 #![tactic(auto)]
 
 #[cfg(test)]

@@ -15,7 +15,7 @@ static VECTORS: [(&[u8], u32); 5] = [
 ];
 
 #[test]
-fn crc32_of_standard_vectors(rt: HostRuntime) {
+fn crc32_gives_the_sums_of_standard_vectors(rt: HostRuntime) {
     for (bytes, crc) in &VECTORS {
         assert_eq!(rt; crc32(bytes), *crc);
     }

@@ -25,7 +25,7 @@ static TWO_SLICES: [Search; 1] = [Search {
 }];
 
 #[test]
-fn two_slices_one_after_the_other(rt: HostRuntime) -> Result<(), Fail> {
+fn two_slices_one_after_the_other_are_both_seen(rt: HostRuntime) -> Result<(), Fail> {
     find(&rt, &TWO_SLICES)
 }
 

@@ -63,12 +63,13 @@ fn agrees(rt: &(impl Abort + AllocGlobal), bytes: &[u8], of: &impl Debug) -> Res
 // The packets of the worked file end here, and a beginning of it has those that end in it.
 static ENDS: [usize; 4] = [92, 220, 340, 416];
 
+// How many packets a beginning of the worked file of this size has.
 fn ends_in(size: usize) -> usize {
     ENDS.iter().filter(|end| **end <= size).count()
 }
 
 #[test]
-fn the_worked_file_cut_at_each_place(rt: HostRuntime) -> Result<(), Fail> {
+fn packets_agree_with_the_model_at_each_cut(rt: HostRuntime) -> Result<(), Fail> {
     for size in 0..=WORKED.len() {
         let front = WORKED.as_slice().get(..size).ok_or("size")?;
         assert_eq!(rt; agrees(&rt, front, &size)?, ends_in(size), "{size}");
@@ -77,7 +78,7 @@ fn the_worked_file_cut_at_each_place(rt: HostRuntime) -> Result<(), Fail> {
 }
 
 #[test]
-fn the_worked_file_with_each_byte_inverted(rt: HostRuntime) -> Result<(), Fail> {
+fn packets_agree_with_the_model_for_each_inverted_byte(rt: HostRuntime) -> Result<(), Fail> {
     for at in 0..WORKED.len() {
         let mut bytes = Vec::from_slice(rt.alloc(), WORKED.as_slice())?;
         if let Some(byte) = bytes.get_mut(at) {
@@ -132,7 +133,7 @@ fn with_length(alloc: Global, length: u64, hashed: usize) -> Result<Vec<u8>, Fai
 }
 
 #[test]
-fn headers_of_each_length(rt: HostRuntime) -> Result<(), Fail> {
+fn headers_of_each_length_agree_with_the_model(rt: HostRuntime) -> Result<(), Fail> {
     for row in &LENGTHS {
         let (length, hashed, packets) = *row;
         let bytes = with_length(rt.alloc(), length, hashed)?;
@@ -142,7 +143,7 @@ fn headers_of_each_length(rt: HostRuntime) -> Result<(), Fail> {
 }
 
 #[test]
-fn a_packet_behind_each_beginning_of_one(rt: HostRuntime) -> Result<(), Fail> {
+fn a_packet_behind_each_beginning_of_one_is_found(rt: HostRuntime) -> Result<(), Fail> {
     for size in 0..CREATOR.len() {
         let mut bytes = Vec::from_slice(rt.alloc(), CREATOR.get(..size).ok_or("size")?)?;
         bytes.extend_from_slice(&CREATOR)?;

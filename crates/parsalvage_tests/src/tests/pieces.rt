@@ -54,7 +54,7 @@ fn found_at(rt: &(impl Abort + AllocGlobal), bytes: &[u8], wanted: &[u64]) -> Re
 }
 
 #[test]
-fn packets_across_pieces(rt: HostRuntime) -> Result<(), Fail> {
+fn packets_across_pieces_are_found(rt: HostRuntime) -> Result<(), Fail> {
     // The magic, the header or the body goes over the end of the first piece, or all is behind it.
     for before in [
         65_465, 65_472, 65_500, 65_528, 65_529, 65_530, 65_533, 65_536,
@@ -70,7 +70,7 @@ fn packets_across_pieces(rt: HostRuntime) -> Result<(), Fail> {
 }
 
 #[test]
-fn bodies_longer_than_a_piece(rt: HostRuntime) -> Result<(), Fail> {
+fn bodies_longer_than_a_piece_are_hashed_whole(rt: HostRuntime) -> Result<(), Fail> {
     let mut body = vec![in rt.alloc(); 5; 100_000]?;
     body.extend_from_slice(&CREATOR)?;
     body.extend_from_slice(&[6; 100_000])?;
@@ -83,7 +83,7 @@ fn bodies_longer_than_a_piece(rt: HostRuntime) -> Result<(), Fail> {
 }
 
 #[test]
-fn packets_within_packets(rt: HostRuntime) -> Result<(), Fail> {
+fn packets_within_packets_are_found(rt: HostRuntime) -> Result<(), Fail> {
     let mut bytes = Vec::new(rt.alloc());
     let mut wanted = Vec::new(rt.alloc());
     for level in 0..40u64 {
@@ -94,7 +94,7 @@ fn packets_within_packets(rt: HostRuntime) -> Result<(), Fail> {
 }
 
 #[test]
-fn overlapping_packets(rt: HostRuntime) -> Result<(), Fail> {
+fn overlapping_packets_are_found(rt: HostRuntime) -> Result<(), Fail> {
     let second = packet(rt.alloc(), &CREATOR_TYPE, b"abcd")?;
     let mut bytes = packet(rt.alloc(), &CREATOR_TYPE, second.get(..64).ok_or("front")?)?;
     bytes.extend_from_slice(second.get(64..).ok_or("rest")?)?;
@@ -117,7 +117,7 @@ fn nothing_in(rt: &(impl Abort + AllocGlobal), bytes: &[u8]) -> Result<(), Fail>
 }
 
 #[test]
-fn no_packet(rt: HostRuntime) -> Result<(), Fail> {
+fn no_packet_is_found_where_none_begins(rt: HostRuntime) -> Result<(), Fail> {
     let mut odd = [0; 66];
     odd[..64].copy_from_slice(&CREATOR);
     odd[8] = 66;
@@ -166,7 +166,7 @@ fn mixed_bytes(alloc: Global, seed: u64, length: usize) -> Result<Vec<u8>, Alloc
 }
 
 #[test]
-fn mixed_files(rt: HostRuntime) -> Result<(), Fail> {
+fn packets_of_mixed_files_are_found(rt: HostRuntime) -> Result<(), Fail> {
     for seed in 1..=12u64 {
         let length = if seed % 4 == 0 { 140_000 } else { 3_000 };
         let bytes = mixed_bytes(rt.alloc(), seed * 7_919, length)?;

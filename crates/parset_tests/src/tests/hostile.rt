@@ -145,7 +145,7 @@ fn agrees_twice(
 }
 
 #[test]
-fn sets_of_the_worked_file_cut_at_each_place(rt: HostRuntime) -> Result<(), Fail> {
+fn sets_agree_with_the_model_at_each_cut(rt: HostRuntime) -> Result<(), Fail> {
     let mut counts = NOTHING;
     for size in 0..=WORKED.len() {
         let front = WORKED.as_slice().get(..size).ok_or("size")?;
@@ -239,7 +239,7 @@ static INVERTED: [(usize, usize, Anew, [usize; 4]); 9] = [
 ];
 
 #[test]
-fn sets_of_the_worked_file_with_each_byte_inverted(rt: HostRuntime) -> Result<(), Fail> {
+fn sets_agree_with_the_model_for_each_inverted_byte(rt: HostRuntime) -> Result<(), Fail> {
     for row in &INVERTED {
         let (from, end, anew, [no_main, no_desc, many, sets]) = *row;
         let mut counts = NOTHING;
@@ -300,7 +300,7 @@ static LENGTHS: [(&[u64], bool); 14] = [
 ];
 
 #[test]
-fn sets_with_many_slices(rt: HostRuntime) -> Result<(), Fail> {
+fn sets_have_at_most_32768_slices(rt: HostRuntime) -> Result<(), Fail> {
     for row in &LENGTHS {
         let bytes = set_of_lengths(rt.alloc(), row.0)?;
         let wanted = if row.1 {
@@ -341,7 +341,7 @@ fn set_in(rt: &(impl Abort + AllocGlobal), bytes: &[u8]) -> Result<RecoverySet, 
 }
 
 #[test]
-fn sets_of_packets_by_strangers(rt: HostRuntime) -> Result<(), Fail> {
+fn sets_of_strangers_agree_with_the_model(rt: HostRuntime) -> Result<(), Fail> {
     let behind = set_in(&rt, &behind_another_main(rt.alloc())?)?;
     is(&rt, &(behind.id(), behind.slices().len()), &(SET, 2));
     let odd = SetAside {

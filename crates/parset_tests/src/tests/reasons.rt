@@ -19,10 +19,12 @@ fn main_number(alloc: Global, body: &[u8]) -> u8 {
     main_number_in(alloc, body, digest_of(body))
 }
 
+// The reason of a File Description body.
 fn desc_number(alloc: Global, body: &[u8]) -> u8 {
     number_of(desc_body(alloc, body))
 }
 
+// So many zeros.
 fn zeros(alloc: Global, length: usize) -> Result<Vec<u8>, AllocError> {
     vec![in alloc; 0; length]
 }
@@ -84,7 +86,7 @@ fn made_number(
 }
 
 #[test]
-fn reasons_of_main_bodies(rt: HostRuntime) -> Result<(), Fail> {
+fn main_bodies_have_their_first_reason(rt: HostRuntime) -> Result<(), Fail> {
     for row in &MAINS {
         let (size, count, ids, reason) = *row;
         let number = made_number(rt.alloc(), size, count, ids.as_bytes(), None)?;
@@ -96,6 +98,7 @@ fn reasons_of_main_bodies(rt: HostRuntime) -> Result<(), Fail> {
     Ok(())
 }
 
+// The first bytes, so many.
 fn front(bytes: &[u8], length: usize) -> Result<&[u8], Fail> {
     Ok(bytes.get(..length).ok_or("length")?)
 }
@@ -112,6 +115,7 @@ static MAIN_FRONTS: [(usize, u8); 8] = [
     (44, 0),
 ];
 
+// Wants the reasons of Main bodies that are cut.
 fn reasons_of_main_fronts(rt: &(impl Abort + AllocGlobal)) -> Result<(), Fail> {
     let body = main_bytes(rt.alloc(), 4, 0, b"ab")?;
     for row in &MAIN_FRONTS {
@@ -130,6 +134,7 @@ static MAIN_COUNTS: [(u32, u32, u8); 4] = [
     (32_768, 32_769, 7),
 ];
 
+// Wants the reasons of Main bodies with many IDs.
 fn reasons_of_long_mains(rt: &(impl Abort + AllocGlobal)) -> Result<(), AllocError> {
     for row in &MAIN_COUNTS {
         let body = long_main_bytes(rt.alloc(), row.0, row.1)?;
@@ -141,6 +146,7 @@ fn reasons_of_long_mains(rt: &(impl Abort + AllocGlobal)) -> Result<(), AllocErr
 // Lengths of Main bodies of zeros, and the reasons.
 static MAIN_ZEROS: [(usize, u8); 3] = [(12 + 16 * 32_769, 2), (1_048_576, 1), (1_048_577, 7)];
 
+// Wants the reasons of Main bodies of zeros.
 fn reasons_of_main_zeros(rt: &(impl Abort + AllocGlobal)) -> Result<(), AllocError> {
     for row in &MAIN_ZEROS {
         let body = zeros(rt.alloc(), row.0)?;
@@ -150,7 +156,7 @@ fn reasons_of_main_zeros(rt: &(impl Abort + AllocGlobal)) -> Result<(), AllocErr
 }
 
 #[test]
-fn reasons_of_main_bodies_by_length(rt: HostRuntime) -> Result<(), Fail> {
+fn main_bodies_of_each_length_have_their_reason(rt: HostRuntime) -> Result<(), Fail> {
     reasons_of_main_fronts(&rt)?;
     reasons_of_long_mains(&rt)?;
     reasons_of_main_zeros(&rt)?;
@@ -167,7 +173,7 @@ fn number_with_one_again(alloc: Global, ids: u32) -> Result<u8, AllocError> {
 static REPEATS: [(u32, u8); 2] = [(32_767, 3), (32_768, 7)];
 
 #[test]
-fn one_id_too_often(rt: HostRuntime) -> Result<(), Fail> {
+fn an_id_again_is_a_reason_up_to_the_limit(rt: HostRuntime) -> Result<(), Fail> {
     for row in &REPEATS {
         is_in_row(&rt, row, &number_with_one_again(rt.alloc(), row.0)?, &row.1);
     }
@@ -202,7 +208,7 @@ static DESCS: [(u64, &str, u8); 15] = [
 ];
 
 #[test]
-fn reasons_of_description_bodies(rt: HostRuntime) -> Result<(), Fail> {
+fn descriptions_have_their_first_reason(rt: HostRuntime) -> Result<(), Fail> {
     for row in &DESCS {
         let number = field_number(rt.alloc(), row.0, row.1.as_bytes())?;
         is_in_row(&rt, row, &number, &row.2);
@@ -213,6 +219,7 @@ fn reasons_of_description_bodies(rt: HostRuntime) -> Result<(), Fail> {
 // Lengths of fronts of the description of `g.bin`, and the reasons.
 static DESC_FRONTS: [(usize, u8); 5] = [(0, 1), (52, 1), (55, 1), (56, 5), (60, 0)];
 
+// Wants the reasons of File Description bodies that are cut.
 fn reasons_of_desc_fronts(rt: &(impl Abort + AllocGlobal)) -> Result<(), Fail> {
     for row in &DESC_FRONTS {
         let front = front(&DESC, row.0)?;
@@ -231,7 +238,7 @@ static LONG_NAMES: [(usize, usize, u8); 5] = [
 ];
 
 #[test]
-fn reasons_of_description_bodies_by_length(rt: HostRuntime) -> Result<(), Fail> {
+fn descriptions_of_each_length_have_their_reason(rt: HostRuntime) -> Result<(), Fail> {
     reasons_of_desc_fronts(&rt)?;
     for row in &LONG_NAMES {
         let field = letters_and_zeros(rt.alloc(), b'x', row.0, row.1)?;
@@ -273,7 +280,7 @@ fn creator_number(alloc: Global, length: usize) -> Result<u8, AllocError> {
 }
 
 #[test]
-fn reasons_of_checksum_and_creator_bodies(rt: HostRuntime) -> Result<(), Fail> {
+fn checksums_and_creators_have_their_first_reason(rt: HostRuntime) -> Result<(), Fail> {
     for row in &IFSC_ZEROS {
         is_in_row(&rt, row, &ifsc_number(rt.alloc(), row.0)?, &row.1);
     }

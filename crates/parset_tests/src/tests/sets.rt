@@ -178,10 +178,12 @@ fn set_at(packets: &[Kept], place: usize) -> Result<Hash16, Fail> {
     Ok(packet.set)
 }
 
+// The ID and the slice size of a set.
 fn id_and_size(built: &RecoverySet) -> (Hash16, u64) {
     (built.id(), built.size())
 }
 
+// How many files a set has.
 fn file_count(built: &RecoverySet) -> usize {
     built.files().len()
 }
@@ -240,14 +242,14 @@ fn first_main_counts_though_its_set_has_a_fault(rt: HostRuntime) -> Result<(), F
 }
 
 #[test]
-fn least_id_without_a_description(rt: HostRuntime) -> Result<(), Fail> {
+fn the_least_id_without_a_description_is_named(rt: HostRuntime) -> Result<(), Fail> {
     let fault = fault_of(rt.alloc(), &[4, 2, 1, 3], &[(1, b'a'), (3, b'a')])?;
     is(&rt, &fault, &Some(SetFault::NoDesc(Hash16([2; 16]))));
     Ok(())
 }
 
 #[test]
-fn least_id_whose_name_a_smaller_id_has(rt: HostRuntime) -> Result<(), Fail> {
+fn the_least_id_whose_name_a_smaller_id_has_is_named(rt: HostRuntime) -> Result<(), Fail> {
     let names = [(4, b'a'), (3, b'b'), (1, b'a'), (2, b'b')];
     let fault = fault_of(rt.alloc(), &[4, 2, 1, 3], &names)?;
     is(&rt, &fault, &Some(SetFault::NameTwice(Hash16([3; 16]))));
@@ -283,6 +285,7 @@ fn long_packet(
     }
 }
 
+// The packets of all these rows.
 fn long_packets(alloc: Global) -> Result<Vec<Kept>, AllocError> {
     let set = kept_main(alloc, 4, 0, &[])?.set;
     let mut packets = Vec::new(alloc);
@@ -302,7 +305,7 @@ fn aside(at: u64, reason: Aside) -> SetAside {
 }
 
 #[test]
-fn bodies_that_are_too_long_to_be_held(rt: HostRuntime) -> Result<(), Fail> {
+fn bodies_that_are_too_long_to_be_held_have_their_reason(rt: HostRuntime) -> Result<(), Fail> {
     let packets = long_packets(rt.alloc())?;
     let built = set_of(rt.alloc(), &packets, None)?;
     let asides = [0, 1, 2, 3].map(|at| aside(at, Aside::OverLimit));

@@ -60,7 +60,7 @@ fn finds_crc(rt: &impl Abort, index: &Index, crc: u32, rows: &[(u32, Option<u32>
 }
 
 #[test]
-fn slices_of_a_file_of_ten_bytes(rt: HostRuntime) -> Result<(), Fail> {
+fn slices_of_a_file_of_ten_bytes_are_found(rt: HostRuntime) -> Result<(), Fail> {
     let index = index_with(rt.alloc(), 10, &TEN_BYTES)?;
     has_slices(&rt, &index, 3);
     has_own_length(&rt, &index, 1, 4);
