@@ -16,55 +16,45 @@ fn cause_of(answer: &Answer<'_>) -> Option<SetFault> {
 
 // The files are those of the model.
 fn are_files(rt: &impl Abort, found: &[SetFile], wanted: &[File<'_>], of: &impl Debug) {
-    assert_eq!(rt; found.len(), wanted.len(), "{of:?}");
+    is_in_row(rt, of, &found.len(), &wanted.len());
     for (one, other) in found.iter().zip(wanted) {
-        let (id, whole) = (other.id, other.whole);
-        assert_eq!(rt;
-            (one.id, one.whole, one.length, one.known),
-            (
-                Hash16(id),
-                Hash16(whole),
-                other.length,
-                other.sums.is_some()
-            ),
-            "{of:?}"
-        );
-        assert!(rt; one.name.as_slice() == other.name, "{of:?}");
+        let sums = (Hash16(other.id), Hash16(other.whole));
+        is_in_row(rt, of, &(one.id, one.whole), &sums);
+        let known = other.sums.is_some();
+        is_in_row(rt, of, &(one.length, one.known), &(other.length, known));
+        is_in_row(rt, of, &one.name.as_slice(), &other.name);
     }
 }
 
 // The slices are those of the model.
 fn are_slices(rt: &impl Abort, found: &[SetSlice], wanted: &[Slice], of: &impl Debug) {
-    assert_eq!(rt; found.len(), wanted.len(), "{of:?}");
+    is_in_row(rt, of, &found.len(), &wanted.len());
     for (one, other) in found.iter().zip(wanted) {
         let slice = (one.id, u64::from(one.number), one.length, one.sums);
-        assert_eq!(rt; slice, *other, "{of:?}");
+        is_in_row(rt, of, &slice, other);
     }
 }
 
 // The packets put aside are those of the model.
 fn are_aside(rt: &impl Abort, found: &[SetAside], wanted: &[(usize, u8)], of: &impl Debug) {
-    assert_eq!(rt; found.len(), wanted.len(), "{of:?}");
+    is_in_row(rt, of, &found.len(), &wanted.len());
     for (one, other) in found.iter().zip(wanted) {
         let aside = (one.file, one.at, one.reason.number());
-        assert_eq!(rt; aside, (0, other.0 as u64, other.1), "{of:?}");
+        is_in_row(rt, of, &aside, &(0, other.0 as u64, other.1));
     }
 }
 
 // The set is that of the model.
 fn is_set(rt: &impl Abort, built: &RecoverySet, set: &Parts<'_>, of: &impl Debug) {
-    let id = set.id;
-    assert_eq!(rt;
-        (
-            built.id(),
-            built.size(),
-            built.others() as usize,
-            built.have() as usize
-        ),
-        (Hash16(id), set.size, set.others, set.have),
-        "{of:?}"
+    is_in_row(
+        rt,
+        of,
+        &(built.id(), built.size()),
+        &(Hash16(set.id), set.size),
     );
-    assert!(rt; built.creator() == set.creator, "{of:?}");
+    let counts = (built.others() as usize, built.have() as usize);
+    is_in_row(rt, of, &counts, &(set.others, set.have));
+    is_in_row(rt, of, &built.creator(), &set.creator);
     are_files(rt, built.files(), &set.files, of);
     are_slices(rt, built.slices(), &set.slices, of);
     are_aside(rt, built.aside(), &set.aside, of);
@@ -85,7 +75,7 @@ fn agrees(
     let kept = kept_of(rt.alloc(), 0, &packets)?;
     match (build(rt.alloc(), &kept, choice), &wanted) {
         (Ok(built), Answer::Set(set)) => is_set(rt, &built, set, of),
-        (answer, _) => assert_eq!(rt; answer.err(), cause_of(&wanted), "{of:?}"),
+        (answer, _) => is_in_row(rt, of, &answer.err(), &cause_of(&wanted)),
     }
     Ok(cause_of(&wanted))
 }
