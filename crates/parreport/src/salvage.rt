@@ -9,8 +9,7 @@ use parstates::FilesFault;
 use std::alloc::Global;
 
 /// The packets of all files, by file and offset.
-// Its arrays leave the stack before a scanned file is read: both don't fit into what a run begins
-// with.
+// Inlined, its arrays would stay on the stack beside those that scanned files are read into.
 #[inline(never)]
 pub fn salvage_files<H: Shelf>(alloc: Global, shelf: &mut H) -> Result<Vec<Kept>, FilesFault>
     ensures kept { IsTrue (H.state shelf.old).is_steady → IfOk result (λ kept.
