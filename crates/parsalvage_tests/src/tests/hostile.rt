@@ -2,19 +2,19 @@ use super::model::{front_of, is_whole, kind_of};
 use super::*;
 use md5::{Digest, Md5};
 use parfixtures::{Standing, WORKED, all_standing};
-use std::fmt::Debug;
 
 // The packets of bytes are those of the model.
 fn are_standing(rt: &impl Abort, found: &[Packet<'_>], wanted: &[Standing<'_>], of: &impl Debug) {
-    assert_eq!(rt; found.len(), wanted.len(), "{of:?}");
+    is_in_row(rt, of, &found.len(), &wanted.len());
     for (one, other) in found.iter().zip(wanted) {
         let set = other.set;
-        assert_eq!(rt;
-            (one.at, one.length, one.set, one.kind),
-            (other.at, other.length, Hash16(set), kind_of(other)),
-            "{of:?}"
+        is_in_row(
+            rt,
+            of,
+            &(one.at, one.length, one.set, one.kind),
+            &(other.at, other.length, Hash16(set), kind_of(other)),
         );
-        assert!(rt; one.body == other.body, "{of:?}");
+        is_in_row(rt, of, &(one.body == other.body), &true);
     }
 }
 
@@ -30,34 +30,40 @@ fn is_held(body: &KeptBody, packet: &Standing<'_>) -> bool {
 
 // The packets of a file are those of the model.
 fn are_held(rt: &impl Abort, found: &[Kept], wanted: &[Standing<'_>], of: &impl Debug) {
-    assert_eq!(rt; found.len(), wanted.len(), "{of:?}");
+    is_in_row(rt, of, &found.len(), &wanted.len());
     for (one, other) in found.iter().zip(wanted) {
         let set = other.set;
-        assert_eq!(rt;
-            (one.file, one.at, one.length, one.set, one.kind),
-            (
+        is_in_row(
+            rt,
+            of,
+            &(one.file, one.at, one.length, one.set, one.kind),
+            &(
                 0,
                 other.at as u64,
                 other.length,
                 Hash16(set),
-                kind_of(other)
+                kind_of(other),
             ),
-            "{of:?}"
         );
-        assert!(rt; is_held(&one.body, other), "{of:?}");
+        is_in_row(rt, of, &is_held(&one.body, other), &true);
     }
 }
 
-// Bytes, and a file of them, have the packets of the model; answers how many there are.
-fn agrees(rt: &(impl Abort + AllocGlobal), bytes: &[u8], of: &impl Debug) -> Result<usize, Fail> {
+// Bytes, and a file of them, have the packets of the model, and there are so many.
+fn agrees(
+    rt: &(impl Abort + AllocGlobal),
+    bytes: &[u8],
+    of: &impl Debug,
+    count: usize,
+) -> Result<(), Fail> {
     let wanted = all_standing(rt.alloc(), bytes)?;
     let packets = salvage(rt.alloc(), bytes)?;
     are_standing(rt, &packets, &wanted, of);
     let mut shelf = shelf_of(rt.alloc(), &[bytes], 50, &[])?;
-    assert_eq!(rt; shelf.count(), 1);
-    let kept = salvage_file(rt.alloc(), &mut shelf, 0).ok().ok_or("kept")?;
+    let kept = salvaged(rt, &mut shelf).ok().ok_or("kept")?;
     are_held(rt, &kept, &wanted, of);
-    Ok(wanted.len())
+    is_in_row(rt, of, &wanted.len(), &count);
+    Ok(())
 }
 
 // The packets of the worked file end here, and a beginning of it has those that end in it.
@@ -72,7 +78,7 @@ fn ends_in(size: usize) -> usize {
 fn packets_agree_with_the_model_at_each_cut(rt: HostRuntime) -> Result<(), Fail> {
     for size in 0..=WORKED.len() {
         let front = WORKED.as_slice().get(..size).ok_or("size")?;
-        assert_eq!(rt; agrees(&rt, front, &size)?, ends_in(size), "{size}");
+        agrees(&rt, front, &size, ends_in(size))?;
     }
     Ok(())
 }
@@ -85,7 +91,7 @@ fn packets_agree_with_the_model_for_each_inverted_byte(rt: HostRuntime) -> Resul
             *byte = 255 - *byte;
         }
         // The packet that has the byte is gone.
-        assert_eq!(rt; agrees(&rt, &bytes, &at)?, 3, "{at}");
+        agrees(&rt, &bytes, &at, 3)?;
     }
     Ok(())
 }
@@ -137,7 +143,7 @@ fn headers_of_each_length_agree_with_the_model(rt: HostRuntime) -> Result<(), Fa
     for row in &LENGTHS {
         let (length, hashed, packets) = *row;
         let bytes = with_length(rt.alloc(), length, hashed)?;
-        assert_eq!(rt; agrees(&rt, &bytes, row)?, packets, "{row:?}");
+        agrees(&rt, &bytes, row, packets)?;
     }
     Ok(())
 }
@@ -149,7 +155,7 @@ fn a_packet_behind_each_beginning_of_one_is_found(rt: HostRuntime) -> Result<(),
         bytes.extend_from_slice(&CREATOR)?;
         let packets = salvage(rt.alloc(), &bytes)?;
         stand_at(&rt, &packets, &[(Kind::Creator, size)]);
-        assert_eq!(rt; agrees(&rt, &bytes, &size)?, 1, "{size}");
+        agrees(&rt, &bytes, &size, 1)?;
     }
     Ok(())
 }

@@ -21,18 +21,17 @@ fn same_body(one: &KeptBody, other: &KeptBody) -> bool {
 
 // What is found in a file read by pieces is what the bytes have.
 fn are_same(rt: &impl Abort, found: &[Kept], kept: &[Kept], piece: usize) {
-    assert_eq!(rt; found.len(), kept.len(), "pieces of {piece}");
+    let row = ("pieces of", piece);
+    is_in_row(rt, &row, &found.len(), &kept.len());
     for (one, other) in found.iter().zip(kept) {
-        assert_eq!(rt;
-            (one.file, one.at, one.length, one.set, one.kind),
-            (other.file, other.at, other.length, other.set, other.kind),
-            "pieces of {piece}"
+        is_in_row(
+            rt,
+            &row,
+            &(one.file, one.at, one.length, one.set, one.kind),
+            &(other.file, other.at, other.length, other.set, other.kind),
         );
-        assert!(rt;
-            same_body(&one.body, &other.body),
-            "at {} in pieces of {piece}",
-            one.at
-        );
+        let is_same = same_body(&one.body, &other.body);
+        is_in_row(rt, &("at", one.at, row), &is_same, &true);
     }
 }
 
@@ -40,14 +39,13 @@ fn are_same(rt: &impl Abort, found: &[Kept], kept: &[Kept], piece: usize) {
 fn found_at(rt: &(impl Abort + AllocGlobal), bytes: &[u8], wanted: &[u64]) -> Result<(), Fail> {
     let packets = salvage(rt.alloc(), bytes)?;
     let kept = kept_of(rt.alloc(), 0, &packets)?;
-    assert_eq!(rt; kept.len(), wanted.len());
+    is(rt, &kept.len(), &wanted.len());
     for (packet, at) in kept.iter().zip(wanted) {
-        assert_eq!(rt; packet.at, *at);
+        is(rt, &packet.at, at);
     }
     for piece in [1, 7, 65_536] {
         let mut shelf = shelf_of(rt.alloc(), &[bytes], piece, &[])?;
-        assert_eq!(rt; shelf.count(), 1);
-        let found = salvage_file(rt.alloc(), &mut shelf, 0).ok().ok_or("found")?;
+        let found = salvaged(rt, &mut shelf).ok().ok_or("found")?;
         are_same(rt, &found, &kept, piece);
     }
     Ok(())
@@ -108,11 +106,8 @@ fn overlapping_packets_are_found(rt: HostRuntime) -> Result<(), Fail> {
 // allocation of the call would be refused.
 fn nothing_in(rt: &(impl Abort + AllocGlobal), bytes: &[u8]) -> Result<(), Fail> {
     let mut shelf = shelf_of(rt.alloc(), &[bytes], 65_536, &[])?;
-    assert_eq!(rt; shelf.count(), 1);
-    match salvage_file(rt.alloc(), &mut shelf, 0) {
-        Ok(found) => assert!(rt; found.is_empty()),
-        Err(_) => panic!(rt; "a file without packets is salvaged"),
-    }
+    let found = salvaged(rt, &mut shelf).ok();
+    is(rt, &found.map(|found| found.len()), &Some(0));
     Ok(())
 }
 
@@ -175,7 +170,7 @@ fn packets_of_mixed_files_are_found(rt: HostRuntime) -> Result<(), Fail> {
         for packet in &packets {
             wanted.push(packet.at as u64)?;
         }
-        assert!(rt; wanted.len() > 5, "packets of {seed}");
+        is_in_row(&rt, &("packets of", seed), &(wanted.len() > 5), &true);
         found_at(&rt, &bytes, &wanted)?;
     }
     Ok(())
