@@ -11,8 +11,19 @@ use parfixtures::{START, Spot, cursor, set_of, shelf_of, sighting};
 use parshelf::ReadFault;
 use parwindow::Index;
 use std::alloc::Global;
+use std::fmt::Debug;
 use std::process::Abort;
 use std::test::Fail;
+
+// Wants that a value is this one.
+fn is<T: Debug + PartialEq>(rt: &impl Abort, got: &T, wanted: &T) {
+    assert_eq!(rt; got, wanted);
+}
+
+// Wants that this holds.
+fn holds(rt: &impl Abort, is_so: bool) {
+    assert!(rt; is_so);
+}
 
 // The answer that sees a slice at a spot.
 fn hit(at: Spot) -> Answer {
@@ -55,8 +66,7 @@ fn all_made(done: Drive) -> Result<Drive, Fail> {
 
 // Wants these answers, and this cursor at last.
 fn gave(rt: &impl Abort, done: &Drive, wanted: &[Answer], end: Cursor) {
-    assert_eq!(rt; done.answers.as_slice(), wanted);
-    assert_eq!(rt; done.cursor, end);
+    is(rt, &(done.answers.as_slice(), done.cursor), &(wanted, end));
 }
 
 // The bytes of two equal slices.
@@ -154,6 +164,17 @@ fn no_calls_give_no_answers(rt: HostRuntime) -> Result<(), Fail> {
     Ok(())
 }
 
+// The answers that are no faults.
+fn without_faults(alloc: Global, answers: &[Answer]) -> Result<Vec<Answer>, Fail> {
+    let mut others = Vec::new(alloc);
+    for answer in answers {
+        if *answer != FAILED {
+            others.push(*answer)?;
+        }
+    }
+    Ok(others)
+}
+
 // Calls four times for the next sighting, one read failing; wants one fault, and beside it the
 // two sightings and the end, in this order.
 fn tells_one_fault(rt: &(impl Abort + AllocGlobal), failing: u64) -> Result<(), Fail> {
@@ -166,16 +187,15 @@ fn tells_one_fault(rt: &(impl Abort + AllocGlobal), failing: u64) -> Result<(), 
         cursor(START),
         &calls,
     )?;
-    let mut others = Vec::new(rt.alloc());
-    for answer in done.answers.as_slice() {
-        if *answer != FAILED {
-            others.push(*answer)?;
-        }
-    }
-    assert_eq!(rt; done.answers.len(), 4);
+    is(rt, &done.answers.len(), &4);
+    let others = without_faults(rt.alloc(), done.answers.as_slice())?;
     let wanted = [hit((0, 2, 0)), hit((0, 6, 1)), DONE];
-    assert_eq!(rt; others.as_slice(), wanted.as_slice());
-    assert_eq!(rt; done.cursor, cursor((1, 0, 0)));
+    let end = cursor((1, 0, 0));
+    is(
+        rt,
+        &(others.as_slice(), done.cursor),
+        &(wanted.as_slice(), end),
+    );
     Ok(())
 }
 
@@ -196,6 +216,6 @@ fn a_reopening_reads_its_window_again(rt: HostRuntime) -> Result<(), Fail> {
     let done = all_made(drive(rt.alloc(), &calls, &index, &mut shelf, cursor(START))?)?;
     let wanted = [hit((0, 2, 0)), Answer::Reopened, hit((0, 6, 1))];
     gave(&rt, &done, &wanted, cursor((0, 6, 2)));
-    assert_eq!(rt; shelf.handed(), 18);
+    is(&rt, &shelf.handed(), &18);
     Ok(())
 }

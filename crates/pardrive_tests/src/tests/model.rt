@@ -1,13 +1,21 @@
 ghost use Rattle.std.specs.Prelude.{All, IfOk};
 ghost use Rattle.pardrive.specs.Runs.{HasBudget};
 
-use super::{FAILED, index_of};
+use super::{FAILED, holds, index_of};
 use parcursor::Cursor;
 use pardrive::{Answer, Call, drive};
 use parfind::Step;
 use parfixtures::{cursor, shelf_of, sighting};
 use std::process::Abort;
 use std::test::Fail;
+
+// The byte at a place, or zero behind the last one.
+fn byte_at(bytes: &[u8], place: usize) -> u8 {
+    match bytes.get(place) {
+        Some(found) => *found,
+        None => 0,
+    }
+}
 
 // Whether a slice of these bytes stands there: they lie in the file, and with zeros behind both,
 // four bytes are the same.
@@ -17,7 +25,7 @@ fn stands(file: &[u8], offset: usize, own: &[u8]) -> bool {
         return false;
     }
     for place in 0..4 {
-        if rest.get(place).copied().unwrap_or(0) != own.get(place).copied().unwrap_or(0) {
+        if byte_at(rest, place) != byte_at(own, place) {
             return false;
         }
     }
@@ -184,7 +192,10 @@ fn xorshift(seed: u64) -> u64 {
 
 // The item at a place.
 fn item<'a>(items: &[&'a [u8]], place: u64) -> &'a [u8] {
-    items.get(place as usize).copied().unwrap_or(&[])
+    match items.get(place as usize) {
+        Some(found) => found,
+        None => &[],
+    }
 }
 
 // Eight calls by chance.
@@ -223,14 +234,14 @@ fn drives_by_chance(rt: &(impl Abort + AllocGlobal), seed: u64) -> Result<bool, 
     let mut shelf = shelf_of(rt.alloc(), &files, piece, &[(seed >> 43) % 10])?;
     let done = drive(rt.alloc(), &calls, &index, &mut shelf, start)?;
     let refused = done.answers.as_slice().last() == Some(&Answer::NoMemory);
-    assert!(rt; refused || done.answers.len() == calls.len());
+    holds(rt, refused || done.answers.len() == calls.len());
     let mut pairs = Vec::new(rt.alloc());
     let mut failed = false;
     for (call, answer) in calls.iter().zip(done.answers.as_slice()) {
         failed = failed || *answer == FAILED;
         pairs.push((*call, *answer))?;
     }
-    assert!(rt; is_right(content, &files, start, &pairs, done.cursor));
+    holds(rt, is_right(content, &files, start, &pairs, done.cursor));
     if refused {
         return Err("NoMemory at a reopening".into());
     }
@@ -247,6 +258,6 @@ fn calls_by_chance_give_what_comparing_gives(rt: HostRuntime) -> Result<(), Fail
             faults = faults.saturating_add(1);
         }
     }
-    assert!(rt; faults > 4);
+    holds(&rt, faults > 4);
     Ok(())
 }

@@ -1,7 +1,7 @@
 ghost use Rattle.std.specs.Prelude.{All};
 ghost use Rattle.pardrive.specs.Runs.{HasBudget};
 
-use super::{FAILED, SIX_ZEROS, ZEROS, gave, hit, index_of};
+use super::{FAILED, SIX_ZEROS, ZEROS, gave, hit, holds, index_of, is};
 use parcursor::Cursor;
 use pardrive::{Answer, Call, Drive, drive};
 use parfind::Step;
@@ -20,6 +20,19 @@ fn stops() -> [(usize, Cursor, Answer); 3] {
     ]
 }
 
+// Wants this answer of a search that goes on from a cursor.
+fn finds_next(
+    rt: &(impl Abort + AllocGlobal),
+    index: &Index,
+    shelf: &mut MemShelf,
+    at: Cursor,
+    next: Answer,
+) -> Result<(), Fail> {
+    let later = drive(rt.alloc(), &[Call::Next], index, shelf, at)?;
+    is(rt, &later.answers.as_slice(), &[next].as_slice());
+    Ok(())
+}
+
 // Wants the answers up to a reopening that was refused, its own behind them, and the cursor where
 // the search stood, from which another one goes on.
 fn stops_at_a_reopening(
@@ -30,18 +43,16 @@ fn stops_at_a_reopening(
     shelf: &mut MemShelf,
 ) -> Result<(), Fail> {
     let (last, before) = done.answers.as_slice().split_last().ok_or("no answer")?;
-    assert_eq!(rt; *last, Answer::NoMemory);
+    is(rt, last, &Answer::NoMemory);
     let mut stood = false;
     for (count, at, next) in stops() {
         if before.len() == count {
             stood = true;
-            assert_eq!(rt; Some(before), wanted.get(..count));
-            assert_eq!(rt; done.cursor, at);
-            let later = drive(rt.alloc(), &[Call::Next], index, shelf, at)?;
-            assert_eq!(rt; later.answers.as_slice(), [next].as_slice());
+            is(rt, &(Some(before), done.cursor), &(wanted.get(..count), at));
+            finds_next(rt, index, shelf, at, next)?;
         }
     }
-    assert!(rt; stood);
+    holds(rt, stood);
     Ok(())
 }
 
@@ -83,7 +94,7 @@ fn refused_memory_is_told_where_it_is_wanted(rt: HostRuntime) -> Result<(), Fail
         }
         Err(_) => {
             // No read was made: the first one is still to fail.
-            assert_eq!(rt; shelf.handed(), 0);
+            is(&rt, &shelf.handed(), &0);
             let done = drive(rt.alloc(), &calls, &index, &mut shelf, cursor(START))?;
             gave(&rt, &done, &wanted, end);
             Err("OutOfMemory before the first call".into())
