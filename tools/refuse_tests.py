@@ -1,13 +1,13 @@
 #!/usr/bin/env python3
-"""Refuses each allocation of each test of some crates in turn, or each and all that come later.
+"""Refuses each allocation of each test of some crates in turn, or each and all that come later, or none.
 
-usage: refuse_tests.py LIBRARY one|later PROGRAM [WORD [SAID,SAID..]]
+usage: refuse_tests.py LIBRARY one|later|none PROGRAM [WORD [SAID,SAID..]]
 
 LIBRARY is disturb.c, built; PROGRAM is what `rt test` and `rt ci` leave at crates/NAME/out/NAME_tests.
 Of the tests whose names have WORD, each run must pass, or fail and name want of memory: a test that fails
-in any other way saw another answer in its place. What was taken is given back, and past the last allocation
-the test passes. A test that takes more than a thousand times memory is refused each one hundredth. Each SAID
-is what some test says that ended so.
+in any other way saw another answer in its place. What was taken is given back, also where nothing is refused,
+and past the last allocation the test passes. A test that takes more than a thousand times memory is refused each
+one hundredth. Each SAID is what some test says that ended so.
 """
 
 import os
@@ -35,13 +35,15 @@ def run(library, program, test, variable, number, folder):
 
 def refuse(library, program, test, variable, folder):
     """How many runs there were, how many ended early, and what those said; or what was wrong."""
-    status, said, _, whole, taken = run(library, program, test, variable, 10**9, folder)
+    status, said, _, whole, taken = run(library, program, test, variable or "REFUSE", 10**9, folder)
     if status != 0 or whole is None:
         return f"{test} fails undisturbed, or leaves no report: {said[:200]}"
+    if whole:
+        return f"{test}, undisturbed: {whole} allocations not given back"
     runs = ended = 0
     ends = ""
     step = max(1, taken // 100) if taken > 1000 else 1
-    for number in range(1, taken + 1, step):
+    for number in range(1, taken + 1, step) if variable else []:
         status, said, met, left, _ = run(library, program, test, variable, number, folder)
         runs += 1
         ended += status != 0
@@ -51,18 +53,18 @@ def refuse(library, program, test, variable, folder):
         if not met:
             return f"{test}, allocation {number}: it was not refused"
         # A failed assert ends a test with no report.
-        if status != -6 and (left is None or left > whole):
+        if status != -6 and (left is None or left):
             return f"{test}, allocation {number}: {left} allocations not given back"
     return runs, ended, ends
 
 
 def main():
-    if len(sys.argv) < 4 or sys.argv[2] not in ("one", "later"):
+    if len(sys.argv) < 4 or sys.argv[2] not in ("one", "later", "none"):
         sys.exit(__doc__.split("\n\n")[1])
     library, mode, program = os.path.abspath(sys.argv[1]), sys.argv[2], os.path.abspath(sys.argv[3])
     word = sys.argv[4] if len(sys.argv) > 4 else ""
     wanted = sys.argv[5].split(",") if len(sys.argv) > 5 else []
-    variable = {"one": "REFUSE", "later": "REFUSE_LATER"}[mode]
+    variable = {"one": "REFUSE", "later": "REFUSE_LATER", "none": None}[mode]
     listed = subprocess.run([program, "--list"], capture_output=True, text=True, check=True).stdout
     tests = [line.removesuffix(": test") for line in listed.splitlines() if line.endswith(": test") and word in line]
     name = os.path.basename(program)
@@ -73,6 +75,8 @@ def main():
         print(f"FAILED: {name}: {answer}")
     if not tests:
         print(f"FAILED: {name}: no test's name has {word}")
+    elif not wrong and mode == "none":
+        print(f"ok: {name}: each of {len(tests)} tests gives back what it takes")
     elif not wrong:
         runs, ended = (sum(answer[place] for answer in answers) for place in (0, 1))
         if not ended:

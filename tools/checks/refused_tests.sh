@@ -2,26 +2,31 @@
 # Each allocation of each test of five libraries, and of the tests of parsalvage over bytes, is refused in
 # turn: a test passes, or it fails by want of memory, and where what it says then is named, some test says it.
 # A crate of tests has its own name before the _tests of its program. The gate leaves these programs; elsewhere
-# there may be none, and then nothing is run.
+# there may be none, and then nothing is run. The tests of parfield, parset and parv, whose refusals are tried on
+# the built program, give back what they take.
 . "$(dirname "$0")/wants.sh"
 gcc -shared -fPIC -O1 -o "$work/disturb.so" "$tools/disturb.c" -ldl || fails "no compiler"
-while IFS='|' read -r crate word told; do
+while IFS='|' read -r crate mode word told; do
     tests=$top/crates/$crate/out/${crate}_tests
     if [ -x "$tests" ]; then
-        "$tools/refuse_tests.py" "$work/disturb.so" one "$tests" "$word" ${told:+"$told"} || failed=1
+        "$tools/refuse_tests.py" "$work/disturb.so" "$mode" "$tests" "$word" ${told:+"$told"} || failed=1
     elif [ -n "${GATE:-}" ]; then
         fails "there is no $tests"
     else
         echo "not run: there is no $tests, which the gate leaves"
     fi
 done << 'END'
-parshelf_tests
-parsalvage_tests|packet_inside
-parsalvage_tests|many_bytes
-parsalvage_tests|bodies_up_to
-parwindow_tests
-parcursor_tests
-parfind_tests
-pardrive_tests||OutOfMemory before the first call,NoMemory told at a reopening
+parfield_tests|none
+parset_tests|none
+parv|none
+parshelf_tests|one
+parsalvage_tests|none
+parsalvage_tests|one|packet_inside
+parsalvage_tests|one|many_bytes
+parsalvage_tests|one|bodies_up_to
+parwindow_tests|one
+parcursor_tests|one
+parfind_tests|one
+pardrive_tests|one||OutOfMemory before the first call,NoMemory told at a reopening
 END
 exit $failed

@@ -1,6 +1,7 @@
 ghost use Rattle.std.specs.Prelude.{All};
 ghost use Rattle.pardrive.specs.Runs.{HasBudget};
 
+mod disk;
 mod model;
 mod refused;
 

@@ -1,4 +1,10 @@
 //! The search for a set's slices at every place of the scanned files. Cursors are passed on.
+//!
+//! From below: `track` is where a window goes along a file, with the bytes read ahead of it, `ahead`
+//! reads these, and `sliding` brings the window from place to place over them. `places` names the
+//! place that comes next. `looking` tells which slice a search sees at its place, and `marking`
+//! marks those that a survey sees at one. `finder` is the search, call by call, and `scanning` the
+//! survey of all files; `laws` adds up what the calls of a search promise.
 #![tactic(auto)]
 
 mod ahead;
