@@ -3,9 +3,10 @@ ghost use Rattle.pardrive.specs.Runs.{HasBudget};
 
 use super::{FAILED, holds, index_of};
 use parcursor::Cursor;
-use pardrive::{Answer, Call, drive};
+use pardrive::{Answer, Call, Drive, drive};
 use parfind::Step;
 use parfixtures::{cursor, shelf_of, sighting};
+use std::alloc::Global;
 use std::process::Abort;
 use std::test::Fail;
 
@@ -164,38 +165,36 @@ fn is_right(
     false
 }
 
-const CONTENTS: [&[u8]; 5] = [
-    b"\0\0\0\0\0\0\0\0",
-    b"aaaaa",
-    b"abcdabcd",
-    b"abcdef",
-    b"aaaa\0\0\0",
-];
+// A content of a set of one file.
+fn some_content(number: u64) -> &'static [u8] {
+    match number % 5 {
+        0 => b"\0\0\0\0\0\0\0\0",
+        1 => b"aaaaa",
+        2 => b"abcdabcd",
+        3 => b"abcdef",
+        _ => b"aaaa\0\0\0",
+    }
+}
 
-const FILES: [&[u8]; 8] = [
-    b"",
-    b"ef",
-    b"aaaaaa",
-    b"a\0\0\0\0",
-    b"\0\0\0\0\0\0",
-    b"Xabcdefab",
-    b"abcdabcd",
-    b"baaaaa\0\0",
-];
+// A scanned file.
+fn some_file(number: u64) -> &'static [u8] {
+    match number % 8 {
+        0 => b"",
+        1 => b"ef",
+        2 => b"aaaaaa",
+        3 => b"a\0\0\0\0",
+        4 => b"\0\0\0\0\0\0",
+        5 => b"Xabcdefab",
+        6 => b"abcdabcd",
+        _ => b"baaaaa\0\0",
+    }
+}
 
 // The number that follows on another one that isn't 0.
 fn xorshift(seed: u64) -> u64 {
     let first = seed ^ (seed << 13);
     let second = first ^ (first >> 7);
     second ^ (second << 17)
-}
-
-// The item at a place.
-fn item<'a>(items: &[&'a [u8]], place: u64) -> &'a [u8] {
-    match items.get(place as usize) {
-        Some(found) => found,
-        None => &[],
-    }
 }
 
 // Eight calls by chance.
@@ -215,37 +214,62 @@ fn some_calls(rt: &(impl Abort + AllocGlobal), seed: u64) -> Result<Vec<Call>, F
     Ok(calls)
 }
 
-// Makes calls by chance over files by chance, of which one read may fail; wants what comparing
-// gives. The answer is whether a read failed.
-fn drives_by_chance(rt: &(impl Abort + AllocGlobal), seed: u64) -> Result<bool, Fail> {
-    let content = item(&CONTENTS, (seed >> 3) % 5);
-    let files = [
-        item(&FILES, (seed >> 11) % 8),
-        item(&FILES, (seed >> 19) % 8),
-    ];
-    let piece = 1 + (seed >> 27) as usize % 3;
-    let start = cursor((
+// The calls, each with its answer.
+fn answered(
+    alloc: Global,
+    calls: &[Call],
+    answers: &[Answer],
+) -> Result<Vec<(Call, Answer)>, Fail> {
+    let mut pairs = Vec::new(alloc);
+    for (call, answer) in calls.iter().zip(answers) {
+        pairs.push((*call, *answer))?;
+    }
+    Ok(pairs)
+}
+
+// A cursor by chance.
+fn some_cursor(seed: u64) -> Cursor {
+    cursor((
         ((seed >> 31) % 3) as u32,
         (seed >> 35) % 4,
         ((seed >> 39) % 3) as u32,
-    ));
+    ))
+}
+
+// Makes these calls over files by chance, of which one read may fail.
+fn drives_over(
+    rt: &(impl Abort + AllocGlobal),
+    seed: u64,
+    files: &[&[u8]],
+    calls: &[Call],
+) -> Result<Drive, Fail>
+    requires { All HasBudget calls.now }
+{
+    let index = index_of(rt.alloc(), some_content(seed >> 3))?;
+    let piece = 1 + (seed >> 27) as usize % 3;
+    let mut shelf = shelf_of(rt.alloc(), files, piece, &[(seed >> 43) % 10])?;
+    Ok(drive(rt.alloc(), calls, &index, &mut shelf, some_cursor(seed))?)
+}
+
+// Makes calls by chance over files by chance, of which one read may fail; wants what comparing
+// gives. The answer is whether a read failed.
+fn drives_by_chance(rt: &(impl Abort + AllocGlobal), seed: u64) -> Result<bool, Fail> {
+    let files = [some_file(seed >> 11), some_file(seed >> 19)];
     let calls = some_calls(rt, seed)?;
-    let index = index_of(rt.alloc(), content)?;
-    let mut shelf = shelf_of(rt.alloc(), &files, piece, &[(seed >> 43) % 10])?;
-    let done = drive(rt.alloc(), &calls, &index, &mut shelf, start)?;
-    let refused = done.answers.as_slice().last() == Some(&Answer::NoMemory);
-    holds(rt, refused || done.answers.len() == calls.len());
-    let mut pairs = Vec::new(rt.alloc());
-    let mut failed = false;
-    for (call, answer) in calls.iter().zip(done.answers.as_slice()) {
-        failed = failed || *answer == FAILED;
-        pairs.push((*call, *answer))?;
-    }
-    holds(rt, is_right(content, &files, start, &pairs, done.cursor));
+    let done = drives_over(rt, seed, &files, &calls)?;
+    let answers = done.answers.as_slice();
+    let refused = answers.last() == Some(&Answer::NoMemory);
+    holds(rt, refused || answers.len() == calls.len());
+    let pairs = answered(rt.alloc(), &calls, answers)?;
+    let start = some_cursor(seed);
+    holds(
+        rt,
+        is_right(some_content(seed >> 3), &files, start, &pairs, done.cursor),
+    );
     if refused {
         return Err("NoMemory at a reopening".into());
     }
-    Ok(failed)
+    Ok(answers.contains(&FAILED))
 }
 
 #[test]

@@ -56,6 +56,39 @@ fn stops_at_a_reopening(
     Ok(())
 }
 
+// The answers where no memory is refused.
+fn undisturbed() -> [Answer; 8] {
+    [
+        FAILED,
+        Answer::Reopened,
+        hit((0, 0, 0)),
+        Answer::Reopened,
+        hit((0, 0, 1)),
+        Answer::Step(Ok(Step::Spent)),
+        Answer::Reopened,
+        hit((0, 1, 0)),
+    ]
+}
+
+// Wants the answers and the cursor of a list of calls in which no memory was refused.
+fn is_undisturbed(rt: &impl Abort, done: &Drive) {
+    gave(rt, done, &undisturbed(), cursor((0, 1, 1)));
+}
+
+// Wants that no read was made, so that the first one is still to fail.
+fn begins_anew(
+    rt: &(impl Abort + AllocGlobal),
+    calls: &[Call],
+    index: &Index,
+    shelf: &mut MemShelf,
+) -> Result<(), Fail>
+    requires { All HasBudget calls.now }
+{
+    is(rt, &shelf.handed(), &0);
+    is_undisturbed(rt, &drive(rt.alloc(), calls, index, shelf, cursor(START))?);
+    Ok(())
+}
+
 // The first read fails. Where memory is refused the test ends by that, once it has seen what was
 // left; `tools/checks/refused_tests.sh` refuses it.
 #[test]
@@ -70,34 +103,16 @@ fn refused_memory_is_told_where_it_is_wanted(rt: HostRuntime) -> Result<(), Fail
         Call::Reopen,
         Call::Next,
     ];
-    let wanted = [
-        FAILED,
-        Answer::Reopened,
-        hit((0, 0, 0)),
-        Answer::Reopened,
-        hit((0, 0, 1)),
-        Answer::Step(Ok(Step::Spent)),
-        Answer::Reopened,
-        hit((0, 1, 0)),
-    ];
-    let end = cursor((0, 1, 1));
     let index = index_of(rt.alloc(), &ZEROS)?;
     let mut shelf = shelf_of(rt.alloc(), &SIX_ZEROS, 1, &[1])?;
-    match drive(rt.alloc(), &calls, &index, &mut shelf, cursor(START)) {
-        Ok(done) if done.answers.len() == wanted.len() => {
-            gave(&rt, &done, &wanted, end);
-            Ok(())
-        }
-        Ok(done) => {
-            stops_at_a_reopening(&rt, &done, &wanted, &index, &mut shelf)?;
-            Err("NoMemory told at a reopening".into())
-        }
-        Err(_) => {
-            // No read was made: the first one is still to fail.
-            is(&rt, &shelf.handed(), &0);
-            let done = drive(rt.alloc(), &calls, &index, &mut shelf, cursor(START))?;
-            gave(&rt, &done, &wanted, end);
-            Err("OutOfMemory before the first call".into())
-        }
+    let Ok(done) = drive(rt.alloc(), &calls, &index, &mut shelf, cursor(START)) else {
+        begins_anew(&rt, &calls, &index, &mut shelf)?;
+        return Err("OutOfMemory before the first call".into());
+    };
+    if done.answers.len() < calls.len() {
+        stops_at_a_reopening(&rt, &done, &undisturbed(), &index, &mut shelf)?;
+        return Err("NoMemory told at a reopening".into());
     }
+    is_undisturbed(&rt, &done);
+    Ok(())
 }

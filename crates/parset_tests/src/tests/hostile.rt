@@ -331,7 +331,7 @@ fn set_in(rt: &(impl Abort + AllocGlobal), bytes: &[u8]) -> Result<RecoverySet, 
 }
 
 #[test]
-fn sets_of_strangers_agree_with_the_model(rt: HostRuntime) -> Result<(), Fail> {
+fn a_set_behind_another_main_agrees_with_the_model(rt: HostRuntime) -> Result<(), Fail> {
     let behind = set_in(&rt, &behind_another_main(rt.alloc())?)?;
     is(&rt, &(behind.id(), behind.slices().len()), &(SET, 2));
     let odd = SetAside {
@@ -340,6 +340,11 @@ fn sets_of_strangers_agree_with_the_model(rt: HostRuntime) -> Result<(), Fail> {
         reason: Aside::WrongLength,
     };
     are(&rt, behind.aside(), &[odd]);
+    Ok(())
+}
+
+#[test]
+fn a_set_with_odd_names_agrees_with_the_model(rt: HostRuntime) -> Result<(), Fail> {
     let named = set_in(&rt, &with_names(rt.alloc())?)?;
     assert!(rt; matches!(named.files(), [file] if file.name.as_slice() == b"../g.bin".as_slice()));
     assert!(rt; named.creator() == Some(b"a\nb\\".as_slice()));

@@ -322,6 +322,50 @@ fn all_aside(
     Ok(aside)
 }
 
+// The files of these IDs, or the first ID that has no description.
+fn all_files<'a>(
+    alloc: Global,
+    own: &[Standing<'a>],
+    ids: &[[u8; 16]],
+    size: u64,
+) -> Result<Result<Vec<File<'a>>, [u8; 16]>, AllocError> {
+    let mut files = Vec::new(alloc);
+    for id in ids {
+        match first_desc(own, *id) {
+            Some(body) => files.push(file_of(own, *id, body, size))?,
+            None => return Ok(Err(*id)),
+        }
+    }
+    Ok(Ok(files))
+}
+
+// The set of these files, whose Main packet names so many others, or the first cause against it.
+fn set_over<'a>(
+    alloc: Global,
+    own: &[Standing<'a>],
+    main: &Standing<'a>,
+    files: Vec<File<'a>>,
+    others: usize,
+) -> Result<Answer<'a>, AllocError> {
+    let size = long_at(main.body, 0);
+    if let Some(id) = name_twice(&files) {
+        return Ok(Answer::NameTwice(id));
+    }
+    if has_many(&files, size) {
+        return Ok(Answer::TooManySlices);
+    }
+    Ok(Answer::Set(Parts {
+        id: main.set,
+        size,
+        slices: all_slices(alloc, &files, size)?,
+        files,
+        others,
+        have: exponent_count(alloc, own, size)?,
+        creator: first_text(own),
+        aside: all_aside(alloc, own, size)?,
+    }))
+}
+
 /// The set of packets, or the first cause why there is none.
 pub fn answer_of<'a>(
     alloc: Global,
@@ -331,32 +375,18 @@ pub fn answer_of<'a>(
     let Some(main) = first_main(packets, choice) else {
         return Ok(Answer::NoMain);
     };
-    let id = main.set;
-    let own = own_packets(alloc, packets, id)?;
-    let size = long_at(main.body, 0);
+    let own = own_packets(alloc, packets, main.set)?;
     let all = ids_in(main.body);
     let recovery = all.get(..word_at(main.body, 8) as usize).unwrap_or(all);
-    let mut files = Vec::new(alloc);
-    for file in &in_order(alloc, recovery)? {
-        match first_desc(&own, *file) {
-            Some(body) => files.push(file_of(&own, *file, body, size))?,
-            None => return Ok(Answer::NoDesc(*file)),
-        }
+    let ids = in_order(alloc, recovery)?;
+    match all_files(alloc, &own, &ids, long_at(main.body, 0))? {
+        Ok(files) => set_over(
+            alloc,
+            &own,
+            &main,
+            files,
+            all.len().saturating_sub(ids.len()),
+        ),
+        Err(id) => Ok(Answer::NoDesc(id)),
     }
-    if let Some(id) = name_twice(&files) {
-        return Ok(Answer::NameTwice(id));
-    }
-    if has_many(&files, size) {
-        return Ok(Answer::TooManySlices);
-    }
-    Ok(Answer::Set(Parts {
-        id,
-        size,
-        slices: all_slices(alloc, &files, size)?,
-        files,
-        others: all.len().saturating_sub(recovery.len()),
-        have: exponent_count(alloc, &own, size)?,
-        creator: first_text(&own),
-        aside: all_aside(alloc, &own, size)?,
-    }))
 }
