@@ -1,11 +1,13 @@
 /* Preloaded into a program: refuses the allocation whose number stands in REFUSE, or that in REFUSE_LATER
-   and all later ones, fails the read whose number stands in FAIL_READ, lets the file end at the one in
-   CUT_READ, and of the writes to standard output fails the one in FAIL_WRITE and takes nothing at the one
-   in EMPTY_WRITE, each counted from 1. Where SHORT is a number, no read and no such write moves more bytes.
-   As the program ends, the file that REPORT names gets one line of six numbers: 1 where any of that was
+   and all later ones, fails the opening whose number stands in FAIL_OPEN and the read in FAIL_READ, lets
+   the file end at the read in CUT_READ, and of the writes to standard output fails the one in FAIL_WRITE
+   and takes nothing at the one in EMPTY_WRITE, each counted from 1. ERROR is the error's number for an
+   opening or a read that fails (EIO). Where SHORT is a number, no read and no write to standard output or
+   standard error moves more bytes.
+   As the program ends, the file that REPORT names gets one line of seven numbers: 1 where any of that was
    done, or 0; the allocations that were not given back; the files that were not closed; how many
-   allocations there were; the reads behind the one that failed or ended; and the writes to standard
-   output. */
+   allocations there were; the reads behind the one that failed or ended; the writes to standard output;
+   and the files that were opened for more than reading. */
 #define _GNU_SOURCE
 #include <dlfcn.h>
 #include <errno.h>
@@ -15,9 +17,11 @@
 #include <stdlib.h>
 #include <unistd.h>
 
-static long refused, later, failing, cut, full, empty, most; /* the numbers asked for; 0: none */
-static long allocations, reads, writes, done;   /* how many there were, and whether one was met */
+static long refused, later, closed, failing, cut, full, empty, most; /* the numbers asked for; 0: none */
+static int error;                               /* the number of a fault */
+static long allocations, opens, reads, writes, done; /* how many there were, and whether one was met */
 static long live, opened;                       /* what is taken and not yet given back */
+static long changing;                           /* files opened for more than reading */
 static char early[4096];                        /* dlsym itself asks for a little */
 
 static void *next_of(const char *name)
@@ -122,8 +126,14 @@ int open(const char *path, int flags, ...)
     va_start(rest, flags);
     mode = flags & (O_CREAT | O_TMPFILE) ? va_arg(rest, int) : 0;
     va_end(rest);
+    if (++opens == closed) {
+        done = 1;
+        errno = error;
+        return -1;
+    }
     file = next(path, flags, mode);
     opened += file >= 0;
+    changing += file >= 0 && (flags & (O_ACCMODE | O_CREAT | O_TRUNC)) != O_RDONLY;
     return file;
 }
 
@@ -150,7 +160,7 @@ ssize_t pread(int file, void *place, size_t size, off_t offset)
     }
     if (reads == failing) {
         done = 1;
-        errno = EIO;
+        errno = error;
         return -1;
     }
     if (reads == cut) {
@@ -176,10 +186,10 @@ ssize_t write(int file, const void *place, size_t size)
             done = 1;
             return 0;
         }
-        if (most && size > (size_t)most) {
-            done = 1;
-            size = most;
-        }
+    }
+    if ((file == 1 || file == 2) && most && size > (size_t)most) {
+        done = 1;
+        size = most;
     }
     return next(file, place, size);
 }
@@ -199,23 +209,27 @@ __attribute__((constructor)) static void start(void)
 {
     refused = number_in("REFUSE");
     later = number_in("REFUSE_LATER");
+    closed = number_in("FAIL_OPEN");
     failing = number_in("FAIL_READ");
+    error = getenv("ERROR") ? number_in("ERROR") : EIO;
     cut = number_in("CUT_READ");
     full = number_in("FAIL_WRITE");
     empty = number_in("EMPTY_WRITE");
     most = number_in("SHORT");
-    allocations = reads = writes = done = live = opened = 0;
+    allocations = opens = reads = writes = done = live = opened = changing = 0;
 }
 
 __attribute__((destructor)) static void end(void)
 {
-    long left = live, unclosed = opened, taken = allocations, disturbed = failing ? failing : cut;
+    long left = live, unclosed = opened, changed = changing, taken = allocations;
+    long disturbed = failing ? failing : cut;
     long behind = disturbed && reads > disturbed ? reads - disturbed : 0;
     const char *name = getenv("REPORT");
     FILE *file;
     refused = later = 0;
     if (name && (file = fopen(name, "w"))) {
-        fprintf(file, "%ld %ld %ld %ld %ld %ld\n", done, left, unclosed, taken, behind, writes);
+        fprintf(file, "%ld %ld %ld %ld %ld %ld %ld\n", done, left, unclosed, taken, behind, writes,
+                changed);
         fclose(file);
     }
 }

@@ -1,15 +1,16 @@
 #!/usr/bin/env bash
-# Disturbs a run of the built program once at each place in turn: REFUSE refuses an allocation, FAIL_READ
-# fails a read, CUT_READ ends the file at one, FAIL_WRITE fails a write and EMPTY_WRITE takes nothing at one.
+# Disturbs a run of the built program once at each place in turn: REFUSE refuses an allocation, FAIL_OPEN
+# fails an opening and FAIL_READ a read (by the error ERROR), CUT_READ ends the file at a read, FAIL_WRITE
+# fails a write and EMPTY_WRITE takes nothing at one.
 # The run must end with 8, or with 6 and its line, and what it wrote must be a beginning of the undisturbed
 # text; after a refusal it may also be the undisturbed run, where room was only asked for ahead and then had
 # one by one. Past the last place it is the undisturbed run. Each run gives back every allocation and closes
-# every file, and reads nothing more behind a read that failed or ended. The last line has the lines of read
-# faults, each once, in the order in which they came.
+# every file, opens none for more than reading, and reads nothing more behind a read that failed or ended.
+# The last line has the lines of openings and reads that failed, each once, in the order in which they came.
 # SHORT lets every read and every write of a run move at most 1, then 3, then 64 bytes: each is the
 # undisturbed run.
-# Usage: disturb.sh REFUSE|FAIL_READ|CUT_READ|FAIL_WRITE|EMPTY_WRITE|SHORT ARGUMENTS, in the folder of the
-# files.
+# Usage: disturb.sh REFUSE|FAIL_OPEN|FAIL_READ|CUT_READ|FAIL_WRITE|EMPTY_WRITE|SHORT ARGUMENTS, in the folder
+# of the files.
 set -uo pipefail
 tools=$(cd "$(dirname "$0")" && pwd)
 parv=${PARV:-$tools/../crates/parv/out/parv}
@@ -30,7 +31,8 @@ run() {
         > "$work/text" 2> "$work/err" < /dev/null
     status=$?
     [ -e "$work/report" ] || fail "status $status, and no report"
-    read -r met live opened _ behind _ < "$work/report"
+    read -r met live opened _ behind _ changing < "$work/report"
+    [ "$changing" = 0 ] || fail "$changing files opened for more than reading"
     [ "$behind" = 0 ] || fail "$behind reads behind the one that was disturbed"
     [ "$live $opened" = "0 0" ] || fail "$live allocations not given back, $opened files not closed, status $status"
 }
@@ -41,6 +43,13 @@ ends_so() {
     line=$(cat "$work/err")
     case $what in
     REFUSE) [ $status -eq 8 ] && [ "$line" = "parv: out of memory" ] ;;
+    FAIL_OPEN)
+        if [ "${ERROR-}" = 12 ]; then
+            [ $status -eq 8 ] && [ "$line" = "parv: out of memory" ]
+        else
+            [ $status -eq 6 ] && [[ $line == "parv: cannot open "?* ]]
+        fi
+        ;;
     FAIL_WRITE | EMPTY_WRITE) [ $status -eq 6 ] && [ "$line" = "parv: write fault" ] ;;
     *) [ $status -eq 6 ] && [[ $line == "parv: read fault in "?* ]] ;;
     esac && cmp -s <(head -c "$(stat -c %s "$work/text")" "$work/whole") "$work/text"
@@ -80,7 +89,7 @@ for ((n = 1; n <= 100000; n++)); do
     ends_so || fail "status $status, $(cat "$work/err")"
     ended=$((ended + 1))
     case $(cat "$work/err") in
-    *"read fault in "*) [[ "$named," == *"$(cat "$work/err"),"* ]] || named+=", $(cat "$work/err")" ;;
+    *"read fault in "* | *"cannot open "*) [[ "$named," == *"$(cat "$work/err"),"* ]] || named+=", $(cat "$work/err")" ;;
     esac
 done
 fail "no end"

@@ -5,8 +5,8 @@ usage: refuse_tests.py LIBRARY one|later|none PROGRAM [WORD [SAID,SAID..]]
 
 LIBRARY is disturb.c, built; PROGRAM is what `rt test` and `rt ci` leave at crates/NAME/out/NAME_tests.
 Of the tests whose names have WORD, each run must pass, or fail and name want of memory: a test that fails
-in any other way saw another answer in its place. What was taken is given back, also where nothing is refused,
-and past the last allocation the test passes. A test that takes more than a thousand times memory is refused each
+in any other way saw another answer in its place. What was taken is given back and what was opened is closed,
+also where nothing is refused, and past the last allocation the test passes. A test that takes more than a thousand times memory is refused each
 one hundredth. Each SAID is what some test says that ended so.
 """
 
@@ -26,7 +26,8 @@ def run(library, program, test, variable, number, folder):
     ran = subprocess.run([program, test], env=env, cwd=folder, capture_output=True, timeout=120)
     try:
         with open(report) as file:
-            met, left, _, taken = map(int, file.read().split()[:4])
+            met, left, unclosed, taken = map(int, file.read().split()[:4])
+        left += unclosed
         os.remove(report)
     except OSError:
         met, left, taken = 1, None, 0
@@ -39,7 +40,7 @@ def refuse(library, program, test, variable, folder):
     if status != 0 or whole is None:
         return f"{test} fails undisturbed, or leaves no report: {said[:200]}"
     if whole:
-        return f"{test}, undisturbed: {whole} allocations not given back"
+        return f"{test}, undisturbed: {whole} allocations and files not given back"
     runs = ended = 0
     ends = ""
     step = max(1, taken // 100) if taken > 1000 else 1
@@ -54,7 +55,7 @@ def refuse(library, program, test, variable, folder):
             return f"{test}, allocation {number}: it was not refused"
         # A failed assert ends a test with no report.
         if status != -6 and (left is None or left):
-            return f"{test}, allocation {number}: {left} allocations not given back"
+            return f"{test}, allocation {number}: {left} allocations and files not given back"
     return runs, ended, ends
 
 

@@ -36,6 +36,7 @@ disturb REFUSE verify -B demo demo/*.par2 demo/*.raw
 # Ends at a fault of another kind.
 disturb REFUSE packets none.par2
 disturb REFUSE find v.par2 w.par2 x.bin none.bin
+disturb REFUSE find v.par2 x.bin .
 disturb REFUSE set main.par2
 disturb REFUSE packets x.bin
 disturb REFUSE find --limit 0 v.par2 x.bin
@@ -60,12 +61,24 @@ about() {
 }
 
 reads "$(about v.par2 w.par2)" packets v.par2 w.par2
+"$tools/many_packets.py" 240 long.par2 || exit 1
+reads "$(about long.par2 v.par2)" packets long.par2 v.par2
+# Any error of the system is a fault: a call that was interrupted (4), want of memory (12), a file that is gone (116).
+for number in 4 12 116; do
+    ERROR=$number reads "$(about v.par2 x.bin)" find v.par2 x.bin
+done
 reads "$(about v.par2 w.par2)" set v.par2 w.par2
 reads "$(about v.par2 w.par2 x.bin y.bin)" find v.par2 x.bin w.par2 y.bin
 # All slices are those of y.bin: x.bin has the length of no file of the set, and nothing is left to find.
 reads "$(about v.par2 w.par2 y.bin)" verify x.bin v.par2 w.par2 y.bin
 # z.bin is read for its MD5, and then it is searched for slices, before x.bin.
 reads "$(about v.par2 z.bin x.bin)" verify z.bin x.bin v.par2
+# Openings that fail: by want of memory (12), and by no right to it (13), by too many open files (24).
+disturb FAIL_OPEN find v.par2 x.bin w.par2 y.bin
+for number in 12 13 24; do
+    ERROR=$number disturb FAIL_OPEN find v.par2 x.bin w.par2 y.bin
+done
+disturb SHORT packets none.par2
 for words in "packets v.par2 w.par2" "set v.par2 w.par2" "find v.par2 x.bin y.bin" "verify v.par2 x.bin y.bin"; do
     # shellcheck disable=SC2086
     disturb FAIL_WRITE $words

@@ -64,4 +64,7 @@ wants "a closed output" 6 "" "parv: write fault" sh -c '"$0" packets v.par2 >&-'
 wants "a reader that takes one line alone" 6 "x.bin 2 e345eacbe656c0e6fd20ed63cb7b062c 0" "parv: write fault" \
     bash -c 'many=$(yes x.bin | head -2000); { "$0" find --limit 100000 v.par2 $many; exit $?; } | { head -1; }; exit ${PIPESTATUS[0]}' "$parv"
 wants "a closed line for faults" 6 "" "" sh -c '"$0" packets none.par2 2>&-' "$parv"
+wants "a closed line for wrong usage" 3 "" "" sh -c '"$0" 2>&-' "$parv"
+wants "a closed line for no set" 4 "" "" sh -c '"$0" set empty.par2 2>&-' "$parv"
+wants "a full line" 6 "" "" sh -c '"$0" packets none.par2 2> /dev/full' "$parv"
 exit $failed

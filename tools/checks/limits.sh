@@ -1,6 +1,6 @@
 #!/usr/bin/env bash
 # Large input, against independent readings: a packet file of 5 MB, a hundred packet files at once, a set
-# of 3,000 files, and twenty files to scan, one of them long.
+# of 3,000 files, twenty files to scan, one of them long, and as many as may be open.
 . "$(dirname "$0")/wants.sh"
 cd "$work" || exit 1
 
@@ -29,7 +29,7 @@ in_blocks() {
     local size writes
     REPORT=report LD_PRELOAD=$PWD/disturb.so "$parv" "$@" > text
     size=$(stat -c %s text)
-    read -r _ _ _ _ _ writes < report
+    read -r _ _ _ _ _ writes _ < report
     if [ "$size" -gt 150000 ] && [ "$writes" -ge $((size / 70000)) ] && [ "$writes" -le $((size / 65536 + 1)) ]; then
         echo "ok: $1: $size bytes by $writes writes"
     else
@@ -57,4 +57,21 @@ awk -v names="${scanned[*]}" 'BEGIN { n = split(names, given, " "); for (i in gi
     $1 == "have" { print "need", 3000 - n, "have", $2; print "result impossible" }' set > wanted
 gives "the states of 3,000 files" 2 wanted "" "$parv" verify big/*.par2 "${scanned[@]}"
 wants "the verdict on 3,000 files" 2 "$(tail -n 2 wanted)" "" "$parv" verify -q big/*.par2 "${scanned[@]}"
+
+# Of many files to scan the last alone has something, and of many the last alone is missing.
+many=3000
+ulimit -n 3100 2> "$said/limit" || many=600
+mkdir many
+seq -f 'many/%g' "$many" | xargs -I{} sh -c 'printf none > {}'
+others=()
+for i in $(seq "$many"); do others+=("many/$i"); done
+cp 0000137 "many/$many"
+"$tools/find_slices.py" big/*.par2 "${others[@]}" > wanted
+if [ "$(wc -l < wanted)" -eq 2 ]; then
+    gives "the last of $many files to scan" 0 wanted "" "$parv" find big/*.par2 "${others[@]}"
+else
+    fails "the last of $many files is not as it should be: $(head -3 wanted)"
+fi
+wants "a missing one behind $many files to scan" 6 "" "parv: cannot open many/none" \
+    "$parv" find big/*.par2 "${others[@]}" many/none
 exit $failed

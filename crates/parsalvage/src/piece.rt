@@ -1,4 +1,4 @@
-ghost use Rattle.std.specs.Prelude.{◌≡◌, ℕ, List, ◌+◌, ◌≤◌, ◌<◌, length, take, drop, slice_index, IsTrue, IfSome, IfErr, OnOk};
+ghost use Rattle.std.specs.Prelude.{◌≡◌, ℕ, List, ◌+◌, ◌≤◌, ◌<◌, length, take, drop, slice_index, IsTrue, IfSome, IfNone, IfErr, OnOk};
 ghost use Rattle.parshelf.specs.Shelf.{file_of, bytes_at};
 ghost use Rattle.parshelf.specs.Reads.{FaultsWithin};
 ghost use Rattle.parsalvage.specs.Hands.{Hands};
@@ -21,6 +21,8 @@ impl<'a> Piece<'a> {
         ensures size { IfSome result (λ part. length part.now ≡ size) }
         ensures bytes { (file : List ℕ) → IsPiece file self.now.base self.now.bytes.now
             → IfSome result (λ part. part.now ≡ take size (drop from file)) }
+        ensures none { IfNone result (self.now.base ≤ from
+            → self.now.base + length self.now.bytes.now < from + size) }
     {
         let room = self.bytes.len() as u64;
         if from < self.base || from - self.base > room || size > room - (from - self.base) {

@@ -74,12 +74,15 @@ fn a_part_of_a_file_on_disk_is_read(rt: HostRuntime) -> Result<(), Fail> {
     Ok(())
 }
 
-// Writes a file of 5 GiB with some letters at 4 GiB, and gives its path.
+// The length of a file of 4 TiB and five bytes, nearly all of them zeros that take no room.
+const LONG: u64 = (1 << 42) + 5;
+
+// Writes a file of this length with some letters at 4 GiB, and gives its path.
 fn sparse(rt: &HostRuntime) -> Result<Text, Fail> {
     let path = written(rt, "sparse", b"first")?;
     let file = File::options().write(true).open(rt, path.as_str())?;
     file.write_all_at(b"abcdefgh", (1 << 32) - 4)?;
-    file.set_len(5 << 30)?;
+    file.set_len(LONG)?;
     Ok(path)
 }
 
@@ -87,14 +90,14 @@ fn sparse(rt: &HostRuntime) -> Result<Text, Fail> {
 fn a_file_above_4_gib_is_read_at_each_offset(rt: HostRuntime) -> Result<(), Fail> {
     let mut shelf = opened(&rt, sparse(&rt)?)?;
     has_files(&rt, &shelf, 1);
-    has_length(&rt, &shelf, 0, 5 << 30);
+    has_length(&rt, &shelf, 0, LONG);
     for (offset, size, want) in [
         (0, 4, *b"firs"),
         ((1 << 32) - 4, 4, *b"abcd"),
         ((1 << 32) - 2, 4, *b"cdef"),
         (1 << 32, 4, *b"efgh"),
-        ((5 << 30) - 4, 4, *b"\0\0\0\0"),
-        (5 << 30, 0, *b"????"),
+        (LONG - 4, 4, *b"\0\0\0\0"),
+        (LONG, 0, *b"????"),
     ] {
         let mut buf = *b"????";
         reads(&rt, &mut shelf, offset, &mut buf, Ok(size));
