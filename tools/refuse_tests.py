@@ -6,8 +6,8 @@ usage: refuse_tests.py LIBRARY one|later|none PROGRAM [WORD [SAID,SAID..]]
 LIBRARY is disturb.c, built; PROGRAM is what `rt test` and `rt ci` leave at crates/NAME/out/NAME_tests.
 Of the tests whose names have WORD, each run must pass, or fail and name want of memory: a test that fails
 in any other way saw another answer in its place. What was taken is given back and what was opened is closed,
-also where nothing is refused, and past the last allocation the test passes. A test that takes more than a thousand times memory is refused each
-one hundredth. Each SAID is what some test says that ended so.
+also where nothing is refused, and past the last allocation the test passes. A test that takes more than a
+thousand times memory is refused each one hundredth. Each SAID is what some test says that ended so.
 """
 
 import os
@@ -27,7 +27,7 @@ def run(library, program, test, variable, number, folder):
     try:
         with open(report) as file:
             met, left, unclosed, taken = map(int, file.read().split()[:4])
-        left += unclosed
+        left = abs(left) + abs(unclosed)
         os.remove(report)
     except OSError:
         met, left, taken = 1, None, 0

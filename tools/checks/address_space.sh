@@ -63,6 +63,6 @@ with open("sparse.par2", "wb") as file:
     file.truncate(1 << 30)
 END
 wants "a recovery slice of 64 MiB in 8 MiB" 0 "large.par2 0 67108932 recvslic 00000000000000000000000000000000
-packets 1" "" sh -c 'ulimit -v 8192; exec "$0" packets large.par2' "$parv"
-wants "a file of 1 GiB in 8 MiB" 0 "packets 0" "" sh -c 'ulimit -v 8192; exec "$0" packets sparse.par2' "$parv"
+packets 1" "" sh -c 'ulimit -v 8192 && exec "$0" packets large.par2' "$parv"
+wants "a file of 1 GiB in 8 MiB" 0 "packets 0" "" sh -c 'ulimit -v 8192 && exec "$0" packets sparse.par2' "$parv"
 exit $failed

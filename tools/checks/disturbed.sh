@@ -1,6 +1,6 @@
 #!/usr/bin/env bash
 # Runs that are disturbed at each place in turn, and that each end leaves nothing behind: refused
-# allocations at every kind of end, reads that fail, and files that end while they are read.
+# allocations at every kind of end, openings, reads and writes that fail, and files that end while they are read.
 . "$(dirname "$0")/wants.sh"
 cd "$work" || exit 1
 cp "$top/crates/parv/data/v.par2" v.par2

@@ -1,6 +1,6 @@
 #!/usr/bin/env bash
 # Large input, against independent readings: a packet file of 5 MB, a hundred packet files at once, a set
-# of 3,000 files, twenty files to scan, one of them long, and as many as may be open.
+# of 3,000 files, twenty files to scan, one of them long, and 3,000, or 600 where no more may be open.
 . "$(dirname "$0")/wants.sh"
 cd "$work" || exit 1
 
