@@ -5,6 +5,10 @@
 //! place that comes next. `looking` tells which slice a search sees at its place, and `marking`
 //! marks those that a survey sees at one. `finder` is the search, call by call, and `scanning` the
 //! survey of all files; `laws` adds up what the calls of a search promise.
+//!
+//! A search may be given up and opened again at its cursor. A survey begins at the first file, and ends
+//! once each slice has its mark. Neither takes memory once it has its window, and neither reads a byte
+//! of a file twice.
 #![tactic(auto)]
 
 mod ahead;
