@@ -5,9 +5,9 @@
    opening or a read that fails (EIO). Where SHORT is a number, no read and no write to standard output or
    standard error moves more bytes.
    As the program ends, the file that REPORT names gets one line of seven numbers: 1 where any of that was
-   done, or 0; the allocations that were not given back; the files that were not closed; how many
-   allocations there were; the reads behind the one that failed or ended; the writes to standard output;
-   and the files that were opened for more than reading. */
+   done (where an allocation is to be refused, 1 where it was), or 0; the allocations that were not given
+   back; the files that were not unopened; how many allocations there were; the reads behind the one that
+   failed or ended; the writes to standard output; and the openings for more than reading. */
 #define _GNU_SOURCE
 #include <dlfcn.h>
 #include <errno.h>
@@ -17,11 +17,11 @@
 #include <stdlib.h>
 #include <unistd.h>
 
-static long refused, later, closed, failing, cut, full, empty, most; /* the numbers asked for; 0: none */
+static long refused, later, unopened, failing, cut, full, empty, most; /* the numbers asked for; 0: none */
 static int error;                               /* the number of a fault */
 static long allocations, opens, reads, writes, done; /* how many there were, and whether one was met */
 static long live, opened;                       /* what is taken and not yet given back */
-static long changing;                           /* files opened for more than reading */
+static long changing;                           /* openings for more than reading */
 static char early[4096];                        /* dlsym itself asks for a little */
 
 static void *next_of(const char *name)
@@ -37,6 +37,12 @@ static int is_refused(void)
         errno = ENOMEM;
     }
     return is_met;
+}
+
+/* Something else was disturbed. */
+static void met(void)
+{
+    done |= !refused && !later;
 }
 
 static void *counted(void *place)
@@ -126,14 +132,14 @@ int open(const char *path, int flags, ...)
     va_start(rest, flags);
     mode = flags & (O_CREAT | O_TMPFILE) ? va_arg(rest, int) : 0;
     va_end(rest);
-    if (++opens == closed) {
-        done = 1;
+    if (++opens == unopened) {
+        met();
         errno = error;
         return -1;
     }
     file = next(path, flags, mode);
     opened += file >= 0;
-    changing += file >= 0 && (flags & (O_ACCMODE | O_CREAT | O_TRUNC)) != O_RDONLY;
+    changing += (flags & (O_ACCMODE | O_CREAT | O_TRUNC)) != O_RDONLY;
     return file;
 }
 
@@ -155,16 +161,16 @@ ssize_t pread(int file, void *place, size_t size, off_t offset)
         next = next_of("pread");
     reads++;
     if (most && size > (size_t)most) {
-        done = 1;
+        met();
         size = most;
     }
     if (reads == failing) {
-        done = 1;
+        met();
         errno = error;
         return -1;
     }
     if (reads == cut) {
-        done = 1;
+        met();
         return 0;
     }
     return next(file, place, size, offset);
@@ -178,17 +184,17 @@ ssize_t write(int file, const void *place, size_t size)
     if (file == 1) {
         writes++;
         if (writes == full) {
-            done = 1;
+            met();
             errno = EIO;
             return -1;
         }
         if (writes == empty) {
-            done = 1;
+            met();
             return 0;
         }
     }
     if ((file == 1 || file == 2) && most && size > (size_t)most) {
-        done = 1;
+        met();
         size = most;
     }
     return next(file, place, size);
@@ -209,7 +215,7 @@ __attribute__((constructor)) static void start(void)
 {
     refused = number_in("REFUSE");
     later = number_in("REFUSE_LATER");
-    closed = number_in("FAIL_OPEN");
+    unopened = number_in("FAIL_OPEN");
     failing = number_in("FAIL_READ");
     error = getenv("ERROR") ? number_in("ERROR") : EIO;
     cut = number_in("CUT_READ");

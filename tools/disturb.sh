@@ -7,6 +7,7 @@
 # one by one. Past the last place it is the undisturbed run. Each run gives back every allocation and closes
 # every file, opens none for more than reading, and reads nothing more behind a read that failed or ended.
 # The last line has the lines of openings and reads that failed, each once, in the order in which they came.
+# Where the environment of REFUSE lets a read, an opening or a write fail too, the undisturbed run fails so.
 # SHORT lets every read and every write of a run move at most 1, then 3, then 64 bytes: each is the
 # undisturbed run.
 # Usage: disturb.sh REFUSE|FAIL_OPEN|FAIL_READ|CUT_READ|FAIL_WRITE|EMPTY_WRITE|SHORT ARGUMENTS, in the folder
@@ -44,6 +45,8 @@ ends_so() {
     case $what in
     REFUSE) [ $status -eq 8 ] && [ "$line" = "parv: out of memory" ] ;;
     FAIL_OPEN)
+        # (nothing is written before all files are open)
+        [ -s "$work/text" ] && return 1
         if [ "${ERROR-}" = 12 ]; then
             [ $status -eq 8 ] && [ "$line" = "parv: out of memory" ]
         else
@@ -64,6 +67,7 @@ n=0
 gcc -shared -fPIC -O1 -o "$work/disturb.so" "$tools/disturb.c" -ldl || fail "no compiler"
 run "$@"
 whole=$status
+[ -z "${FAIL_OPEN-}${FAIL_READ-}${CUT_READ-}${FAIL_WRITE-}" ] || [ $whole -eq 6 ] || fail "nothing else failed"
 mv "$work/text" "$work/whole"
 mv "$work/err" "$work/whole.err"
 if [ "$what" = SHORT ]; then
@@ -89,7 +93,9 @@ for ((n = 1; n <= 100000; n++)); do
     ends_so || fail "status $status, $(cat "$work/err")"
     ended=$((ended + 1))
     case $(cat "$work/err") in
-    *"read fault in "* | *"cannot open "*) [[ "$named," == *"$(cat "$work/err"),"* ]] || named+=", $(cat "$work/err")" ;;
+    *"read fault in "* | *"cannot open "*)
+        [[ "$named," == *"$(cat "$work/err"),"* ]] || named+=", $(cat "$work/err")"
+        ;;
     esac
 done
 fail "no end"

@@ -8,7 +8,7 @@ mkdir -p out
 log=out/gate.log
 tee "$log" << END
 The gate: every proof from nothing, every wrong body and test, then checks of the built program.
-It takes about half an hour on four processors. The log is $log.
+It takes half an hour on four processors, and up to an hour where they are shared. The log is $log.
 END
 
 # A program of an earlier run would be taken for the one that was proved now.

@@ -54,7 +54,9 @@ steps find --limit 1 --cursor 617cdc72ba53d94fe713fea2ae18f776:0:2:1 v.par2 x.bi
 steps verify v.par2 x.bin
 steps verify -q v.par2 x.bin
 
-# Neither recovery data nor a file's length is taken as memory: 64 MiB in one packet, and a file of 1 GiB.
+# Neither recovery data nor a file's length is taken as memory: 64 MiB in one packet, and a file of 1 GiB,
+# in 4 MiB more than the least.
+few=$((least + 4096))
 PYTHONPATH=$tools PYTHONDONTWRITEBYTECODE=1 python3 - << 'END'
 from vectors import packet
 with open("large.par2", "wb") as file:
@@ -62,7 +64,7 @@ with open("large.par2", "wb") as file:
 with open("sparse.par2", "wb") as file:
     file.truncate(1 << 30)
 END
-wants "a recovery slice of 64 MiB in 8 MiB" 0 "large.par2 0 67108932 recvslic 00000000000000000000000000000000
-packets 1" "" sh -c 'ulimit -v 8192 && exec "$0" packets large.par2' "$parv"
-wants "a file of 1 GiB in 8 MiB" 0 "packets 0" "" sh -c 'ulimit -v 8192 && exec "$0" packets sparse.par2' "$parv"
+wants "a recovery slice of 64 MiB in $few KiB" 0 "large.par2 0 67108932 recvslic 00000000000000000000000000000000
+packets 1" "" sh -c 'ulimit -v "$1" && exec "$0" packets large.par2' "$parv" $few
+wants "a file of 1 GiB in $few KiB" 0 "packets 0" "" sh -c 'ulimit -v "$1" && exec "$0" packets sparse.par2' "$parv" $few
 exit $failed

@@ -15,18 +15,30 @@ disturb() {
 }
 
 disturb REFUSE packets v.par2
+disturb REFUSE set v.par2
 disturb REFUSE set v.par2 w.par2
+set=617cdc72ba53d94fe713fea2ae18f776
 disturb REFUSE find v.par2 x.bin
-disturb REFUSE find --limit 1 --cursor 617cdc72ba53d94fe713fea2ae18f776:0:2:1 -B d v.par2 x.bin
+disturb REFUSE find --limit 1 v.par2 x.bin
+disturb REFUSE find --limit 2 v.par2 x.bin
+disturb REFUSE find --cursor $set:0:2:1 v.par2 x.bin
+disturb REFUSE find --cursor $set:4294967295:18446744073709551615:4294967295 v.par2 x.bin
+disturb REFUSE find --limit 1 --cursor $set:0:2:1 -B d v.par2 x.bin
 disturb REFUSE verify v.par2 x.bin
 disturb REFUSE verify -q v.par2 y.bin
-# A recovery slice that stands twice, places with equal slices, a set of some hundred packets, and that of
-# the demonstration.
+# A packet inside another, a recovery slice that stands twice and none, places with equal slices, a set of
+# some hundred packets, and that of the demonstration.
 "$tools/packet_files.py" sets > made || exit 1
 printf 'abcd' > a.bin
 printf 'aaaaXaaaa' > e.bin
 "$tools/big_set.py" big 40 3 || exit 1
-disturb REFUSE verify sets/a_with_a_slice_twice.par2 a.bin
+disturb REFUSE packets sets/packet_in_packet.par2
+for words in "" -q "-q -q"; do
+    # shellcheck disable=SC2086
+    disturb REFUSE verify $words sets/a_with_a_slice_twice.par2 a.bin
+    # shellcheck disable=SC2086
+    disturb REFUSE verify $words sets/a.par2 a.bin
+done
 disturb REFUSE find sets/a_and_b.par2 e.bin
 disturb REFUSE packets big/*.par2
 disturb REFUSE set big/*.par2
@@ -39,21 +51,42 @@ disturb REFUSE find v.par2 w.par2 x.bin none.bin
 disturb REFUSE find v.par2 x.bin .
 disturb REFUSE set main.par2
 disturb REFUSE packets x.bin
+disturb REFUSE find x.bin
+disturb REFUSE find --limit 0 v.par2
+disturb REFUSE find --limit 07 v.par2
 disturb REFUSE find --limit 0 v.par2 x.bin
 disturb REFUSE find --cursor 00000000000000000000000000000000:0:0:0 v.par2 x.bin
 disturb REFUSE --help
 disturb REFUSE packets
+disturb REFUSE verify
+disturb REFUSE
+# The same where a read, an opening or a write fails too: memory is then also refused to the line of that.
+FAIL_READ=2 disturb REFUSE packets v.par2 w.par2
+CUT_READ=1 disturb REFUSE set v.par2 w.par2
+FAIL_READ=3 disturb REFUSE find v.par2 x.bin y.bin
+CUT_READ=2 disturb REFUSE verify v.par2 x.bin
+FAIL_OPEN=2 disturb REFUSE find v.par2 x.bin
+for words in "packets v.par2" "set v.par2" "find v.par2 x.bin" "verify v.par2 x.bin"; do
+    # shellcheck disable=SC2086
+    FAIL_WRITE=1 disturb REFUSE $words
+done
+# A disturbance that ends runs, and the lines that it must have made, each once and in this order.
+names() {
+    local named=$1 line
+    shift
+    line=$("$tools/disturb.sh" "$@")
+    case $line in
+    "ok: "*": parv ${*:2}$named") echo "$line" ;;
+    *) fails "it should name$named: $line" ;;
+    esac
+}
+
 # Reads that fail: each file that was being read is named, the packet files before those that are scanned.
 reads() {
-    local named=$1 what line
+    local named=$1
     shift
-    for what in FAIL_READ CUT_READ; do
-        line=$("$tools/disturb.sh" $what "$@")
-        case $line in
-        "ok: "*": parv $*$named") echo "$line" ;;
-        *) fails "$what: it should name$named: $line" ;;
-        esac
-    done
+    names "$named" FAIL_READ "$@"
+    names "$named" CUT_READ "$@"
 }
 
 about() {
@@ -63,21 +96,27 @@ about() {
 reads "$(about v.par2 w.par2)" packets v.par2 w.par2
 "$tools/many_packets.py" 240 long.par2 || exit 1
 reads "$(about long.par2 v.par2)" packets long.par2 v.par2
-# Any error of the system is a fault: a call that was interrupted (4), want of memory (12), a file that is gone (116).
-for number in 4 12 116; do
-    ERROR=$number reads "$(about v.par2 x.bin)" find v.par2 x.bin
-done
 reads "$(about v.par2 w.par2)" set v.par2 w.par2
 reads "$(about v.par2 w.par2 x.bin y.bin)" find v.par2 x.bin w.par2 y.bin
 # All slices are those of y.bin: x.bin has the length of no file of the set, and nothing is left to find.
 reads "$(about v.par2 w.par2 y.bin)" verify x.bin v.par2 w.par2 y.bin
 # z.bin is read for its MD5, and then it is searched for slices, before x.bin.
 reads "$(about v.par2 z.bin x.bin)" verify z.bin x.bin v.par2
-# Openings that fail: by want of memory (12), and by no right to it (13), by too many open files (24).
-disturb FAIL_OPEN find v.par2 x.bin w.par2 y.bin
-for number in 12 13 24; do
-    ERROR=$number disturb FAIL_OPEN find v.par2 x.bin w.par2 y.bin
+# Any error of the system is a fault: a call that was interrupted (4), want of memory (12), a file that is gone (116).
+for number in 4 12 116; do
+    ERROR=$number names "$(about v.par2 x.bin)" FAIL_READ find v.par2 x.bin
 done
+# Openings that fail, by an error of the device, by no right to it (13), by too many open files (24); by want
+# of memory (12) no file is named.
+opens() {
+    names "$(printf ', parv: cannot open %s' "$@")" FAIL_OPEN find v.par2 x.bin w.par2 y.bin
+}
+
+opens v.par2 w.par2 x.bin y.bin
+for number in 13 24; do
+    ERROR=$number opens v.par2 w.par2 x.bin y.bin
+done
+ERROR=12 names "" FAIL_OPEN find v.par2 x.bin w.par2 y.bin
 disturb SHORT packets none.par2
 for words in "packets v.par2 w.par2" "set v.par2 w.par2" "find v.par2 x.bin y.bin" "verify v.par2 x.bin y.bin"; do
     # shellcheck disable=SC2086

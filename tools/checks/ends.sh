@@ -56,6 +56,15 @@ result possible" "" "$parv" verify -q v.par2 x.bin
 wants "no file" 2 "need 2 have 0
 result impossible" "" "$parv" verify -q v.par2
 
+# A limit on the size of files ends the program by its signal; where that is ignored it is a write fault.
+wants "a limit on the size of files" 0 "-25
+6 parv: write fault" "" python3 -c 'import resource, subprocess, sys
+for is_default in True, False:
+    ran = subprocess.run(["sh", "-c", "ulimit -f 0; exec \"$0\" packets v.par2 2>&1 >> limited", sys.argv[1]],
+                         stdout=subprocess.PIPE, text=True, restore_signals=is_default)
+    print(f"{ran.returncode} {ran.stdout}".strip())
+print(open("limited").read(), end="")' "$parv"
+
 wants "lines before a full device" 6 "" "parv: write fault" sh -c '"$0" find v.par2 x.bin > /dev/full' "$parv"
 for words in "packets v.par2" "set v.par2" "verify v.par2 x.bin"; do
     wants "a full device: $words" 6 "" "parv: write fault" sh -c "\"\$0\" $words > /dev/full" "$parv"

@@ -34,10 +34,11 @@ cannot "a FIFO" fifo.par2 packets fifo.par2
 cannot "a device" zero.par2 packets zero.par2
 cannot "a broken link" broken.par2 packets broken.par2
 cannot "a folder behind files that are open" folder.par2 packets v.par2 link.par2 folder.par2
-"$parv" packets v.par2 | sed 's/^v\.par2/link.par2/' > linked
+"$tools/list_packets.py" link.par2 > linked
 gives "a link to a file" 0 linked "" "$parv" packets link.par2
 deep=$(printf 'none\t/%.0s' $(seq 650))
-cannot "a path of 3,900 bytes, each tab of which takes four" "${deep//$'\t'/\\x09}none.par2" packets "${deep}none.par2"
+cannot "a path of 3,909 bytes, each tab of which is shown by four" \
+    "${deep//$'\t'/\\x09}none.par2" packets "${deep}none.par2"
 for command in packets set; do
     "$parv" $command v.par2 > "$said/alone"
     gives "a file that no command scans: $command" 0 "$said/alone" "" "$parv" $command v.par2 none.bin

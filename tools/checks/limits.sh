@@ -62,9 +62,11 @@ wants "the verdict on 3,000 files" 2 "$(tail -n 2 wanted)" "" "$parv" verify -q 
 many=3000
 ulimit -n 3100 2> "$said/limit" || many=600
 mkdir many
-seq -f 'many/%g' "$many" | xargs -I{} sh -c 'printf none > {}'
 others=()
-for i in $(seq "$many"); do others+=("many/$i"); done
+for i in $(seq "$many"); do
+    printf none > "many/$i"
+    others+=("many/$i")
+done
 cp 0000137 "many/$many"
 "$tools/find_slices.py" big/*.par2 "${others[@]}" > wanted
 if [ "$(wc -l < wanted)" -eq 2 ]; then

@@ -1,9 +1,10 @@
 #!/usr/bin/env bash
-# Each allocation of each test of five libraries, and of the tests of parsalvage over bytes, is refused in
-# turn: a test passes, or it fails by want of memory, and where what it says then is named, some test says it.
+# Each allocation of each test of five libraries, and of some tests of two others, is refused in turn: a test
+# passes, or it fails by want of memory, and where what it says then is named, some test says it. With `later`
+# all that come behind are refused too.
 # A crate of tests has its own name before the _tests of its program. The gate leaves these programs; elsewhere
-# there may be none, and then nothing is run. The tests of parfield, parset and parv, whose refusals are tried on
-# the built program, give back what they take.
+# there may be none, and then nothing is run. The other tests, whose refusals are tried on the built program, give
+# back what they take.
 . "$(dirname "$0")/wants.sh"
 gcc -shared -fPIC -O1 -o "$work/disturb.so" "$tools/disturb.c" -ldl || fails "no compiler"
 while IFS='|' read -r crate mode word told; do
@@ -17,16 +18,19 @@ while IFS='|' read -r crate mode word told; do
     fi
 done << 'END'
 parfield_tests|none
+parfield_tests|one|names_are_shown
 parset_tests|none
 parv|none
 parshelf_tests|one
 parsalvage_tests|none
+parsalvage_tests|one|no_packet
 parsalvage_tests|one|packet_inside
 parsalvage_tests|one|many_bytes
 parsalvage_tests|one|bodies_up_to
 parwindow_tests|one
 parcursor_tests|one
 parfind_tests|one
-pardrive_tests|one||OutOfMemory before the first call,NoMemory told at a reopening
+parfind_tests|later|equal_slices
+pardrive_tests|one||OutOfMemory before the first call,NoMemory told at a reopening,NoMemory told at a first reopening
 END
 exit $failed

@@ -108,6 +108,15 @@ fn a_search_goes_on_after_two_faults_and_two_reopenings(rt: HostRuntime) -> Resu
     Ok(())
 }
 
+// A call that failed isn't made again in the place of the next one.
+#[test]
+fn a_fault_is_the_answer_of_the_call_that_met_it(rt: HostRuntime) -> Result<(), Fail> {
+    let calls = [Call::Next, Call::Next];
+    let done = drives(&rt, &ZEROS, &SIX_ZEROS, &[1], cursor(START), &calls)?;
+    gave(&rt, &done, &[FAILED, hit((0, 0, 0))], cursor((0, 0, 1)));
+    Ok(())
+}
+
 #[test]
 fn a_finder_is_given_up_after_each_call(rt: HostRuntime) -> Result<(), Fail> {
     let calls = [

@@ -6,9 +6,9 @@
 //! marks those that a survey sees at one. `finder` is the search, call by call, and `scanning` the
 //! survey of all files; `laws` adds up what the calls of a search promise.
 //!
-//! A search may be given up and opened again at its cursor. A survey begins at the first file, and ends
-//! once each slice has its mark. Neither takes memory once it has its window, and neither reads a byte
-//! of a file twice.
+//! A search may be given up and opened again at its cursor, and then reads its window anew. A survey
+//! begins at the first file, and ends once each slice has its mark. Once it has its window, neither
+//! takes memory or reads a byte of a file twice.
 #![tactic(auto)]
 
 mod ahead;

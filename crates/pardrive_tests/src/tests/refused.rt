@@ -116,3 +116,20 @@ fn refused_memory_is_told_where_it_is_wanted(rt: HostRuntime) -> Result<(), Fail
     is_undisturbed(&rt, &done);
     Ok(())
 }
+
+// Where memory is refused to a reopening before anything was read, that is told in the same way.
+#[test]
+fn refused_memory_is_told_at_a_first_reopening(rt: HostRuntime) -> Result<(), Fail> {
+    let calls = [Call::Reopen, Call::Next];
+    let index = index_of(rt.alloc(), &ZEROS)?;
+    let mut shelf = shelf_of(rt.alloc(), &SIX_ZEROS, 1, &[])?;
+    let done = drive(rt.alloc(), &calls, &index, &mut shelf, cursor(START))?;
+    if done.answers.len() < calls.len() {
+        gave(&rt, &done, &[Answer::NoMemory], cursor(START));
+        is(&rt, &shelf.handed(), &0);
+        return Err("NoMemory told at a first reopening".into());
+    }
+    let wanted = [Answer::Reopened, hit((0, 0, 0))];
+    gave(&rt, &done, &wanted, cursor((0, 0, 1)));
+    Ok(())
+}

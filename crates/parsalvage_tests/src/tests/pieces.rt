@@ -1,5 +1,5 @@
 use super::*;
-use parfixtures::{CREATOR_TYPE, SLICE_TYPE, packet_of};
+use parfixtures::{CREATOR_TYPE, SLICE_TYPE, WORKED, packet_of};
 
 const UNKNOWN: [u8; 16] = *b"PAR 2.0\0Unknown\0";
 
@@ -102,6 +102,33 @@ fn overlapping_packets_are_found(rt: HostRuntime) -> Result<(), Fail> {
     found_at(&rt, &bytes, &[0, 64, 132, 200])
 }
 
+#[test]
+fn packets_of_small_files_are_found(rt: HostRuntime) -> Result<(), Fail> {
+    found_at(&rt, &[], &[])?;
+    found_at(&rt, &CREATOR, &[0])?;
+    found_at(&rt, &odd(), &[])?;
+    found_at(&rt, &changed(), &[])?;
+    let mut bytes = Vec::from_slice(rt.alloc(), &AROUND)?;
+    bytes.extend_from_slice(&CREATOR)?;
+    found_at(&rt, &bytes, &[3, 71])?;
+    found_at(&rt, WORKED.as_slice(), &[0, 92, 220, 340])
+}
+
+// A Creator packet whose length is no multiple of four,
+fn odd() -> [u8; 66] {
+    let mut odd = [0; 66];
+    odd[..64].copy_from_slice(&CREATOR);
+    odd[8] = 66;
+    odd
+}
+
+// and one with another type, so that its hash is wrong.
+fn changed() -> [u8; 64] {
+    let mut changed = CREATOR;
+    changed[63] = 1;
+    changed
+}
+
 // A file of these bytes has no packet. No memory is taken, so the answer is the same where an
 // allocation of the call would be refused.
 fn nothing_in(rt: &(impl Abort + AllocGlobal), bytes: &[u8]) -> Result<(), Fail> {
@@ -113,13 +140,8 @@ fn nothing_in(rt: &(impl Abort + AllocGlobal), bytes: &[u8]) -> Result<(), Fail>
 
 #[test]
 fn no_packet_is_found_where_none_begins(rt: HostRuntime) -> Result<(), Fail> {
-    let mut odd = [0; 66];
-    odd[..64].copy_from_slice(&CREATOR);
-    odd[8] = 66;
-    nothing_in(&rt, &odd)?;
-    let mut changed = CREATOR;
-    changed[63] = 1;
-    nothing_in(&rt, &changed)?;
+    nothing_in(&rt, &odd())?;
+    nothing_in(&rt, &changed())?;
     nothing_in(&rt, &[])
 }
 

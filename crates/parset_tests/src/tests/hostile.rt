@@ -60,6 +60,36 @@ fn is_set(rt: &impl Abort, built: &RecoverySet, set: &Parts<'_>, of: &impl Debug
     are_aside(rt, built.aside(), &set.aside, of);
 }
 
+// What was built is what the model has.
+fn is_answer(
+    rt: &impl Abort,
+    built: Result<RecoverySet, SetFault>,
+    wanted: &Answer<'_>,
+    of: &impl Debug,
+) {
+    match built {
+        Ok(built) => match wanted {
+            Answer::Set(set) => is_set(rt, &built, set, of),
+            other => is_in_row(rt, of, &None, &cause_of(other)),
+        },
+        Err(fault) => is_in_row(rt, of, &Some(fault), &cause_of(wanted)),
+    }
+}
+
+// What the model has of the packets of bytes.
+fn wanted_of<'a>(
+    alloc: Global,
+    bytes: &'a [u8],
+    choice: Option<Hash16>,
+) -> Result<Answer<'a>, AllocError> {
+    let standing = all_standing(alloc, bytes)?;
+    let choice = match choice {
+        Some(set) => Some(set.0),
+        None => None,
+    };
+    answer_of(alloc, &standing, choice)
+}
+
 // The packets of bytes give what the model has; answers with the cause why there is no set, if so.
 fn agrees(
     rt: &(impl Abort + AllocGlobal),
@@ -67,16 +97,10 @@ fn agrees(
     choice: Option<Hash16>,
     of: &impl Debug,
 ) -> Result<Option<SetFault>, Fail> {
-    let wanted = match choice {
-        Some(set) => answer_of(rt.alloc(), &all_standing(rt.alloc(), bytes)?, Some(set.0))?,
-        None => answer_of(rt.alloc(), &all_standing(rt.alloc(), bytes)?, None)?,
-    };
+    let wanted = wanted_of(rt.alloc(), bytes, choice)?;
     let packets = salvage(rt.alloc(), bytes)?;
     let kept = kept_of(rt.alloc(), 0, &packets)?;
-    match (build(rt.alloc(), &kept, choice), &wanted) {
-        (Ok(built), Answer::Set(set)) => is_set(rt, &built, set, of),
-        (answer, _) => is_in_row(rt, of, &answer.err(), &cause_of(&wanted)),
-    }
+    is_answer(rt, build(rt.alloc(), &kept, choice), &wanted, of);
     Ok(cause_of(&wanted))
 }
 

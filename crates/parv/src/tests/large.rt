@@ -179,3 +179,28 @@ fn a_set_behind_more_than_a_thousand_packets_is_found(rt: HostRuntime) -> Result
     let many = behind_many(rt.alloc(), creator, set)?;
     all_end_so(&rt, &many)
 }
+
+// Wants this text of `packets` over a packet file behind some bytes so many times, read by pieces.
+fn packets_are(
+    rt: &(impl Abort + AllocGlobal),
+    before: &[u8],
+    times: u64,
+    name: &str,
+    piece: usize,
+    text: &'static str,
+) -> Result<(), Fail> {
+    let bytes = large_packet(rt.alloc(), b"", before, times, packet_file(name)?)?;
+    let packets = [bytes.as_slice()];
+    let mut files = over(&packets);
+    files.piece = piece;
+    runs_so(rt, &["packets", "p.par2"], files, Ends::Wrote(text, 0))
+}
+
+#[test]
+fn packets_behind_the_first_piece_are_listed(rt: HostRuntime) -> Result<(), Fail> {
+    let creator = "p.par2 65533 64 creator 00000000000000000000000000000000\npackets 1\n";
+    packets_are(&rt, b"x", 65_533, "creator", 65_536, creator)?;
+    let slice = "p.par2 70003 132 recvslic 00000000000000000000000000000000\n\
+                 p.par2 70071 64 creator 00000000000000000000000000000000\npackets 2\n";
+    packets_are(&rt, b"\0", 70_000, "packet_in_packet", 7, slice)
+}
