@@ -14,6 +14,7 @@ use parwindow::{Index, Window};
 /// none.
 pub fn next_missing(found: &[bool], from: usize) -> usize
     requires { from ≤ length found.now }
+    ensures onward { from ≤ result }
     ensures within { result ≤ length found.now }
     ensures missing { result < length found.now → mark_of found.now result ≡ false }
     ensures marked { (n : ℕ) → from ≤ n → n < result → IsTrue (mark_of found.now n) }

@@ -4,6 +4,7 @@ use Rattle.parfind.proofs.marking.next_missing.Given as goal
 
 abbrev pub invariant-loop-number : goal.invariant-loop-number
 invariant-loop-number l = record {
+  onward : l.from ≤ l.number;
   within : l.number ≤ length l.found;
   marked : (n : ℕ) → l.from ≤ n → n < l.number → IsTrue (mark_of l.found n);
 }
