@@ -100,6 +100,21 @@ returns-in_err-fill-clause-ends g c =
       all = rw failed.1 tt;
     }
 
+pub returns-in_err-fill-clause-none : goal.returns-in_err-fill-clause-none
+returns-in_err-fill-clause-none g c = λ all.
+    let set : SliceSet = c.args.index.now in
+    let s : ShelfState = g.H.Shelf.state c.args.shelf.now in
+    let shelf = g.met.H.Shelf.in_order c.args.shelf.now in
+    let mid : ShelfState = g.H.Shelf.state c.loop-missing.shelf in
+    let inv = c.loop-missing.invariant in
+    let t = c.loop-missing.track in
+    let old : SurveyState = record { shelf = s; window = c.args.window.now; found = c.args.found.now; track = c.args.track.now } in
+    let now : SurveyState = record { shelf = mid; window = c.loop-missing.window; found = c.loop-missing.found; track = t } in
+    let lengths : mid.lengths ≡ s.lengths = ap (λ (u : ShelfState). u.lengths) inv.reads in
+    let there : c.loop-missing.missing < length c.args.found.now = omega (arith, c.loop-missing-test.true, c.loop-missing.auto.found) in
+    let unmarked = inv.first (omega (arith, c.loop-missing-test.true)) in
+    absurd (not_all set old now (cursor_to t) inv.surveyed c.loop-missing.missing there unmarked all)
+
 pub returns-in_err-fill-clause-fault : goal.returns-in_err-fill-clause-fault
 returns-in_err-fill-clause-fault g c =
     let s : ShelfState = g.H.Shelf.state c.args.shelf.now in
@@ -219,6 +234,21 @@ returns-in_err-pass-clause-ends g c =
       file_is = sym p.stays.0.file_is;
       all = rw failed.1 tt;
     }
+
+pub returns-in_err-pass-clause-none : goal.returns-in_err-pass-clause-none
+returns-in_err-pass-clause-none g c = λ all.
+    let set : SliceSet = c.args.index.now in
+    let s : ShelfState = g.H.Shelf.state c.args.shelf.now in
+    let shelf = g.met.H.Shelf.in_order c.args.shelf.now in
+    let mid : ShelfState = g.H.Shelf.state c.loop-missing.shelf in
+    let inv = c.loop-missing.invariant in
+    let t = c.loop-missing.track in
+    let old : SurveyState = record { shelf = s; window = c.args.window.now; found = c.args.found.now; track = c.args.track.now } in
+    let now : SurveyState = record { shelf = mid; window = c.loop-missing.window; found = c.loop-missing.found; track = t } in
+    let lengths : mid.lengths ≡ s.lengths = ap (λ (u : ShelfState). u.lengths) inv.reads in
+    let there : c.loop-missing.missing < length c.args.found.now = omega (arith, c.loop-missing-test.true, c.loop-missing.auto.found) in
+    let unmarked = inv.first (omega (arith, c.loop-missing-test.true)) in
+    absurd (not_all set old now (cursor_to t) inv.surveyed c.loop-missing.missing there unmarked all)
 
 pub returns-in_err-pass-clause-fault : goal.returns-in_err-pass-clause-fault
 returns-in_err-pass-clause-fault g c =
