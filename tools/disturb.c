@@ -6,7 +6,7 @@
    standard error moves more bytes.
    As the program ends, the file that REPORT names gets one line of seven numbers: 1 where any of that was
    done (where an allocation is to be refused, 1 where it was), or 0; the allocations that were not given
-   back; the files that were not unopened; how many allocations there were; the reads behind the one that
+   back; the files that were not closed; how many allocations there were; the reads behind the one that
    failed or ended; the writes to standard output; and the openings for more than reading. */
 #define _GNU_SOURCE
 #include <dlfcn.h>
