@@ -1,9 +1,8 @@
 -- What the scanned files show, by their names, lengths and MD5s, and by the marks of a survey.
-use Rattle.std.proofs.Common.{◌≡◌, ℕ, ◌+◌, ◌<◌, ◌∙◌, ◌&&◌, ◌||◌, not, Bool, false, List, [], ◌∷◌, ◌++◌, Option, None, length, map, drop, take, get_or, position, ap, sym, refl, cond, zero-add, append-nil, arith, nat_lt, Some, IsTrue}
+use Rattle.std.proofs.Common.{◌≡◌, ℕ, ◌+◌, ◌<◌, ◌∙◌, ◌&&◌, ◌||◌, not, Bool, false, List, [], ◌∷◌, ◌++◌, Option, None, length, map, drop, take, get_or, position, ap, sym, refl, cond, append-nil, arith, nat_lt, Some, IsTrue}
 use Rattle.std.specs.BTreeSet.{BTreeSet, contains}
 use Rattle.std.specs.List.{list_any, zip, enumerate_from, prefix_len}
 use Rattle.std.proofs.lemmas.List.{ext_get_or, get_or-map, drop_all, length-map, take_all}
-use Rattle.std.proofs.lemmas.List.FromFn.{get_or-enumerate_from, length-enumerate_from}
 use Rattle.parfield.specs.HashOrder.{id_cmp}
 use Rattle.parfield.specs.declared.hash16.Hash16.{Hash16}
 use Rattle.parshelf.specs.Shelf.{ShelfState, IsShelf}
@@ -14,7 +13,7 @@ use Rattle.parset.specs.declared.recovery_set.SetSlice.{SetSlice}
 use Rattle.parwindow.specs.Index.{slice_set_of}
 use Rattle.parfind.specs.Sightings.{Scan}
 use Rattle.parfind.specs.Steps.{scan_of}
-use Rattle.parfind.specs.Surveys.{is_sighted, mark_of, MarksSighted}
+use Rattle.parfind.specs.Surveys.{is_sighted}
 use Rattle.parstates.specs.States.{named_files, length_and_md5, asked_of, has_content_of, shows_content_of, is_content_of, is_name_of, state_by, state_of}
 use Rattle.parstates.specs.Findings.{is_in_whole_file, findings_of}
 use Rattle.parplan.specs.declared.command.Scanned.{Scanned}
@@ -116,22 +115,6 @@ states_read files contents read asked own states sized by_read whole same =
     ∙ (ap (map (state_by files (map (asked_of own) contents))) same ∙ states_same files contents own sized))
 
 -- ---- the marks of a survey
-pub marks_found : (whole : SetSlice → Bool) (scan : Scan) (slices : List SetSlice) (was now : List Bool) → was ≡ map whole slices
-    → length now ≡ length slices → MarksSighted scan was now
-    → now ≡ map (λ slice. whole slice.1 || is_sighted scan slice.0) (enumerate_from 0 slices)
-marks_found whole scan slices was now before sized marked =
-    let f = λ (slice : ℕ × SetSlice). whole slice.1 || is_sighted scan slice.0 in
-    let d : SetSlice = record { id = record { 0 = [] }; number = 0; length = 0; sums = None } in
-    let numbered = length-enumerate_from 0 slices in
-    let counted = length-map (enumerate_from 0 slices) f in
-    ext_get_or false now (map f (enumerate_from 0 slices)) (omega arith) (λ k within.
-    let here : k < length slices = omega arith in
-    let there : k < length (enumerate_from 0 slices) = omega arith in
-    marked k within
-    ∙ (ap (λ b. b || is_sighted scan k) (ap (λ marks. mark_of marks k) before ∙ get_or-map whole slices k d false here)
-    ∙ sym (get_or-map f (enumerate_from 0 slices) k (k, d) false there
-    ∙ (ap f (get_or-enumerate_from 0 slices k (k, d) here) ∙ ap (λ n. whole (get_or slices k d) || is_sighted scan n) (zero-add k)))))
-
 -- a slice that is taken as it was written back
 pub take-all_back : (n : ℕ) (now was : List Bool) → length now ≡ length was → n ≡ length was → take n (now ++ drop (length now) was) ≡ now
 take-all_back n now was same all =

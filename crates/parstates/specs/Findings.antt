@@ -1,7 +1,10 @@
 -- What scanned files show of a recovery set: the state of each file, and which slices are found.
-use Rattle.std.specs.Prelude.{ℕ, ◌&&◌, ◌||◌, not, Bool, List, map, count_by}
+use Rattle.std.specs.Prelude.{ℕ, ◌&&◌, ◌||◌, not, Bool, false, List, map, count_by, is_none, is_some, slice_get}
+use Rattle.std.specs.BTreeSet.{BTreeSet, contains}
 use Rattle.std.specs.List.{list_any, zip, enumerate_from}
+use Rattle.std.specs.Option.{option_map_or}
 use Rattle.std.specs.Str.{bytes_eq}
+use Rattle.parfield.specs.HashOrder.{id_cmp}
 use Rattle.parfield.specs.declared.hash16.Hash16.{Hash16}
 use Rattle.parset.specs.RecoverySet.{SetView}
 use Rattle.parset.specs.declared.recovery_set.SetSlice.{SetSlice}
@@ -28,6 +31,16 @@ scan_for set scanned = scan_in set (map (λ one. one.content) scanned)
 abbrev pub is_found : SetView → List NamedFile → ℕ × SetSlice → Bool
 is_found set scanned (n, slice) =
     is_in_whole_file set scanned slice.id || is_sighted (scan_for set scanned) n
+
+-- a search can't change whether a slice is found: its file is one of these, or it has no sums
+abbrev pub is_settled : BTreeSet Hash16 → SetSlice → Bool
+is_settled whole slice = contains id_cmp whole slice.id || is_none slice.sums
+
+-- a mark of slice n says that it is found: its file is one of these, or it has sums to be found by
+abbrev pub stays_found : List SetSlice → BTreeSet Hash16 → ℕ → Bool
+stays_found slices whole n =
+    option_map_or (λ slice. contains id_cmp whole slice.id || is_some slice.sums)
+    (slice_get slices n) false
 
 -- what the scanned files show of the set
 abbrev pub findings_of : SetView → List NamedFile → Findings

@@ -1,13 +1,13 @@
-ghost use Rattle.std.specs.Prelude.{◌≡◌, ◌||◌, map, length, IsTrue, IfOk, OnOk, IfErr};
+ghost use Rattle.std.specs.Prelude.{◌≡◌, ◌&&◌, ◌||◌, map, length, All, EachIndex, IsTrue, IfOk, OnOk, IfErr};
 ghost use Rattle.std.specs.BTreeSet.{contains};
 ghost use Rattle.std.specs.List.{enumerate_from};
 ghost use Rattle.parfield.specs.HashOrder.{id_cmp};
 ghost use Rattle.parshelf.specs.Reads.{ReadsOnly};
 ghost use Rattle.parwindow.specs.Index.{slice_set_of};
 ghost use Rattle.parfind.specs.Steps.{scan_of};
-ghost use Rattle.parfind.specs.Surveys.{is_sighted};
+ghost use Rattle.parfind.specs.Surveys.{is_sighted, mark_of};
 ghost use Rattle.parstates.specs.Files.{FilesLeave};
-ghost use Rattle.parstates.specs.Findings.{need_of};
+ghost use Rattle.parstates.specs.Findings.{need_of, is_settled, stays_found};
 
 use crate::faults::FilesFault;
 use parfield::Hash16;
@@ -18,7 +18,8 @@ use parwindow::Index;
 use std::alloc::{AllocError, Global};
 use std::collections::BTreeSet;
 
-/// Which slices are found: those of these files, and those that have a sighting.
+/// Which slices are found: those of these files, and those that have a sighting. Nothing is read
+/// where every other slice lacks its sums, by which alone it could be found.
 pub fn found_slices<Q: Shelf>(
     alloc: Global,
     set: &RecoverySet,
@@ -30,28 +31,43 @@ pub fn found_slices<Q: Shelf>(
         (scan_of (slice_set_of set.now.size set.now.slices) (Q.state shelf.old)) slice.0)
         (enumerate_from 0 set.now.slices)) }
     ensures slices { IfOk result (λ found. length found.items ≡ length set.now.slices) }
+    ensures none { All (λ slice. IsTrue (is_settled whole.now slice)) set.now.slices →
+        Q.state shelf.new ≡ Q.state shelf.old }
     ensures ok { OnOk result (ReadsOnly (Q.state shelf.old) (Q.state shelf.new)) }
     ensures fault { IfErr result (FilesLeave (Q.state shelf.old) (Q.state shelf.new)) }
 {
     let index = Index::new(alloc, set)?;
-    let mut found = marks(alloc, set.slices(), whole)?;
+    let mut found = settled(alloc, set.slices(), whole)?;
     survey(alloc, &index, shelf, &mut found)?;
+    take_back(set.slices(), whole, &mut found);
     Ok(found)
 }
 
-// Marks the slices of these files.
-fn marks(
+// Marks the slices that need no search: those of these files, and those that none can find.
+fn settled(
     alloc: Global,
     slices: &[SetSlice],
     whole: &BTreeSet<Hash16>,
 ) -> Result<Vec<bool>, AllocError>
-    ensures { IfOk result (λ marks. marks.items
-        ≡ map (λ slice. contains id_cmp whole.now slice.id) slices.now) }
+    ensures { IfOk result (λ marks. marks.items ≡ map (is_settled whole.now) slices.now) }
 {
     slices
         .iter()
-        .map(|slice| whole.contains(&slice.id))
+        .map(|slice| whole.contains(&slice.id) || slice.sums.is_none())
         .collect(alloc)
+}
+
+// Takes the marks back of those that no search can find.
+fn take_back(slices: &[SetSlice], whole: &BTreeSet<Hash16>, found: &mut [bool])
+    requires { length found.old ≡ length slices.now }
+    ensures { EachIndex found.new (λ n. mark_of found.new n
+        ≡ (mark_of found.old n && stays_found slices.now whole.now n)) }
+{
+    for (index, slice) in slices.iter().enumerate() {
+        if slice.sums.is_none() && !whole.contains(&slice.id) {
+            found[index] = false;
+        }
+    }
 }
 
 /// How many slices are not found.

@@ -1,26 +1,45 @@
-use Rattle.std.proofs.Common.{◌≡◌, ◌∙◌, ◌||◌, ap, arith, length, map}
-use Rattle.std.specs.BTreeSet.{contains}
-use Rattle.std.specs.List.{enumerate_from}
+use Rattle.std.proofs.Common.{◌≡◌, ◌∙◌, ◌&&◌, ap, arith, length, map, subst}
 use Rattle.std.proofs.lemmas.List.{length-map}
-use Rattle.parfield.specs.HashOrder.{id_cmp}
-use Rattle.parset.specs.declared.recovery_set.SetSlice.{SetSlice}
 use Rattle.parshelf.specs.Shelf.{ShelfState}
-use Rattle.parwindow.specs.Index.{SliceSet}
+use Rattle.parwindow.specs.Index.{slice_set_of}
 use Rattle.parfind.specs.Steps.{scan_of}
-use Rattle.parfind.specs.Surveys.{is_sighted}
-use Rattle.parstates.proofs.StateLaws.{marks_found, take-all_back}
+use Rattle.parfind.specs.Surveys.{mark_of, MarksSighted}
+use Rattle.parstates.specs.Findings.{is_settled, stays_found}
+use Rattle.parstates.proofs.StateLaws.{take-all_back}
+use Rattle.parstates.proofs.SumLaws.{marks_found, all_settled}
 use Rattle.parstates.proofs.found.found_slices.Goals as goal
 
 pub returns-clause-found : goal.returns-clause-found
 returns-clause-found g c = λ steady.
     let slices = c.args.set.now.slices in
+    let whole = c.args.whole.now in
     let shelf : ShelfState = g.Q.Shelf.state c.args.shelf.now in
-    let whole = λ (slice : SetSlice). contains id_cmp c.args.whole.now slice.id in
-    let was : c.deref_mut.result.now ≡ map whole slices
-    = c.deref_mut.ensures.value ∙ (c.in_ok-found.ensures ∙ ap (map whole) c.slices.ensures.field) in
+    let own = slice_set_of c.args.set.now.size slices in
+    let was : c.deref_mut.result.now ≡ map (is_settled whole) slices
+    = c.deref_mut.ensures.value ∙ (c.in_ok-found.ensures ∙ ap (map (is_settled whole)) c.slices.ensures.field) in
     let same : length c.survey.new.found ≡ length c.in_ok-found.found.items
     = omega (arith, c.survey.auto.found, ap length c.deref_mut.ensures.value) in
-    let sized : length c.survey.new.found ≡ length slices = omega (arith, c.survey.auto.found, ap length was, length-map slices whole) in
-    take-all_back c.in_ok-found.found.len c.survey.new.found c.in_ok-found.found.items same (omega arith)
-    ∙ (marks_found whole (scan_of c.in_ok-index.index shelf) slices c.deref_mut.result.now c.survey.new.found was sized (c.in_ok-survey.ensures.found steady)
-    ∙ ap (λ (index : SliceSet). map (λ slice. whole slice.1 || is_sighted (scan_of index shelf) slice.0) (enumerate_from 0 slices)) c.in_ok-index.ensures)
+    let back = take-all_back c.in_ok-found.found.len c.survey.new.found c.in_ok-found.found.items same (omega arith) in
+    let now : c.deref_mut-2.result.now ≡ c.survey.new.found = c.deref_mut-2.ensures.value ∙ back in
+    let sized : length c.survey.new.found ≡ length slices = omega (arith, c.survey.auto.found, ap length was, length-map slices (is_settled whole)) in
+    let kept : length c.take_back.new.found ≡ length slices = omega (arith, c.take_back.auto.found, ap length now, sized) in
+    let marked : MarksSighted (scan_of own shelf) c.deref_mut.result.now c.survey.new.found
+    = subst (λ set. MarksSighted (scan_of set shelf) c.deref_mut.result.now c.survey.new.found) c.in_ok-index.ensures (c.in_ok-survey.ensures.found steady) in
+    take-all_back c.in_ok-found.found.len c.take_back.new.found _ (omega (arith, c.take_back.auto.found, ap length c.deref_mut-2.ensures.value))
+    (omega (arith, ap length back, same))
+    ∙ marks_found whole (scan_of own shelf) c.deref_mut.result.now c.survey.new.found c.take_back.new.found was sized kept marked (λ n within.
+    c.take_back.ensures n within
+    ∙ (ap (λ marks. mark_of marks n && stays_found c.slices-2.result.now whole n) now
+    ∙ ap (λ xs. mark_of c.survey.new.found n && stays_found xs whole n) c.slices-2.ensures.field))
+
+pub returns-clause-none : goal.returns-clause-none
+returns-clause-none g c = λ settled.
+    let was : c.deref_mut.result.now ≡ map (is_settled c.args.whole.now) c.args.set.now.slices
+    = c.deref_mut.ensures.value ∙ (c.in_ok-found.ensures ∙ ap (map (is_settled c.args.whole.now)) c.slices.ensures.field) in
+    c.survey.ensures.none (all_settled c.args.whole.now c.args.set.now.slices c.deref_mut.result.now was settled)
+
+pub returns-in_err-survey-clause-none : goal.returns-in_err-survey-clause-none
+returns-in_err-survey-clause-none g c = λ settled.
+    let was : c.deref_mut.result.now ≡ map (is_settled c.args.whole.now) c.args.set.now.slices
+    = c.deref_mut.ensures.value ∙ (c.in_ok-found.ensures ∙ ap (map (is_settled c.args.whole.now)) c.slices.ensures.field) in
+    c.survey.ensures.none (all_settled c.args.whole.now c.args.set.now.slices c.deref_mut.result.now was settled)
