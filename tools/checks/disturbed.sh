@@ -102,6 +102,9 @@ reads "$(about v.par2 w.par2 x.bin y.bin)" find v.par2 x.bin w.par2 y.bin
 reads "$(about v.par2 w.par2 y.bin)" verify x.bin v.par2 w.par2 y.bin
 # z.bin is read for its MD5, and then it is searched for slices, before x.bin.
 reads "$(about v.par2 z.bin x.bin)" verify z.bin x.bin v.par2
+# Without the sums of a.bin's one slice: all others are those of y.bin, and x.bin can't tell of that one.
+{ head -c 236 sets/a_and_b.par2; tail -c +337 sets/a_and_b.par2; } > some_sums.par2
+reads "$(about some_sums.par2 y.bin)" verify x.bin y.bin some_sums.par2
 # Any error of the system is a fault: a call that was interrupted (4), want of memory (12), a file that is gone (116).
 for number in 4 12 116; do
     ERROR=$number names "$(about v.par2 x.bin)" FAIL_READ find v.par2 x.bin
