@@ -35,7 +35,8 @@ impl Findings {
 }
 
 /// The findings of the files on the shelf, of these names. Those of a length of the set are read
-/// whole, and then all are searched for slices that are not found yet.
+/// whole, and then all are searched for slices that are not found yet, unless none of these has
+/// its sums.
 pub fn findings_on<Q: Shelf>(
     alloc: Global,
     files: &[Scanned],
