@@ -324,3 +324,6 @@ returns-then-missing-found-clause-none g c = λ all.
     let there : c.loop-missing.missing < length c.args.found.now = omega (arith, c.loop-missing-test.true, c.loop-missing.auto.found) in
     let unmarked = inv.first (omega (arith, c.loop-missing-test.true)) in
     absurd (not_all set old now (cursor_to t) inv.surveyed c.loop-missing.missing there unmarked all)
+
+pub fill-requires-clause-tied : goal.fill-requires-clause-tied
+fill-requires-clause-tied g c = search rules steps 300000

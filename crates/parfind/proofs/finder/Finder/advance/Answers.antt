@@ -219,3 +219,9 @@ returns-then-eq-clause-advances g c =
     then_advances set old mid so_far.reads c.args.budget c.loop-step.left c.args.self.now.cursor c.loop-step.self.cursor so_far.passed.0
     so_far.passed.1 so_far.passed.2 c.visit.new.self.cursor c.in_ok-step.count c.in_ok-step.ensures.within.1 none
     so_far.nearer (rw c.in-Spent.is at c.in_ok-step.ensures.advances)
+
+pub returns-then-eq-clause-belongs : goal.returns-then-eq-clause-belongs
+returns-then-eq-clause-belongs g c = search rules steps 300000
+
+pub returns-then-eq-clause-ok : goal.returns-then-eq-clause-ok
+returns-then-eq-clause-ok g c = search rules steps 300000

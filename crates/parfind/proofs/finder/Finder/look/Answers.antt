@@ -1,4 +1,4 @@
-use Rattle.std.proofs.Common.{◌≡◌, ℕ, ◌+◌, ◌≤◌, slice_index, sym, ap, ◌∙◌, subst, arith, Some, None, refl, length, ◌<◌}
+use Rattle.std.proofs.Common.{rules, ◌≡◌, ℕ, ◌+◌, ◌≤◌, slice_index, sym, ap, ◌∙◌, subst, arith, Some, None, refl, length, ◌<◌}
 use Rattle.std.proofs.lemmas.Result.{err_from_is_err_and}
 use Rattle.parshelf.specs.Shelf.{ShelfState}
 use Rattle.parwindow.specs.Index.{SliceSet}
@@ -210,3 +210,6 @@ overflow_add-self-2 g c =
     ∙ c.requires.stands.held_is in
     let inside = rw (held, file) at passes.inside in
     rw same (omega (arith, inside, (g.met.H.Shelf.in_order c.args.shelf.now).short at.file 0 c.requires.file))
+
+pub overflow_add-self : goal.overflow_add-self
+overflow_add-self g c = search rules steps 300000

@@ -19,3 +19,9 @@ returns-in-Err-clause-on g c = record {
   end_fits = omega arith;
   small = search rules;
 }
+
+pub returns-in-Ok-eq0-clause-some : goal.returns-in-Ok-eq0-clause-some
+returns-in-Ok-eq0-clause-some g c = search rules steps 300000
+
+pub returns-in-Ok-eq0-clause-ok : goal.returns-in-Ok-eq0-clause-ok
+returns-in-Ok-eq0-clause-ok g c = search rules steps 300000
