@@ -1,20 +1,24 @@
 -- Slices without sums: no search finds them, and their marks are taken back after it.
-use Rattle.std.proofs.Common.{◌≡◌, ℕ, zero, suc, ◌<◌, ◌∙◌, ◌&&◌, ◌||◌, ◌==◌, Bool, true, false, List, [], ◌∷◌, Option, None, Some, length, map, get_or, ap, sym, refl, cond, arith, slice_get, inl, inr, IsTrue, is_none, is_some, zero-add, bytes_eq, ◌≤◌}
+use Rattle.std.proofs.Common.{◌≡◌, ℕ, zero, suc, ◌<◌, ◌∙◌, ◌&&◌, ◌||◌, ◌==◌, Bool, true, false, List, [], ◌∷◌, Option, None, Some, length, map, get_or, ap, sym, refl, cond, arith, slice_get, slice_index, inl, inr, IsTrue, is_none, is_some, zero-add, bytes_eq, ◌≤◌}
 use Rattle.std.specs.Prelude.{All, EachIndex, filter}
 use Rattle.std.specs.BTreeSet.{BTreeSet, contains}
 use Rattle.std.specs.List.{list_any, enumerate_from}
 use Rattle.std.specs.Option.{option_map_or}
 use Rattle.std.proofs.lemmas.Bool.{cases_Bool, eqb-true}
+use Rattle.std.proofs.lemmas.Option.{slice_get-get_or}
 use Rattle.std.proofs.lemmas.List.{ext_get_or, get_or-map, length-map}
 use Rattle.std.proofs.lemmas.List.FromFn.{get_or-enumerate_from, length-enumerate_from}
 use Rattle.parfield.specs.HashOrder.{id_cmp}
 use Rattle.parfield.specs.declared.hash16.Hash16.{Hash16}
 use Rattle.parset.specs.declared.recovery_set.SetSlice.{SetSlice}
+use Rattle.parset.specs.declared.recovery_set.SetFile.{SetFile}
+use Rattle.parshelf.specs.Shelf.{ShelfState}
 use Rattle.parwindow.specs.Index.{slice_passes, sums_of}
 use Rattle.parwindow.specs.Window.{window_at}
 use Rattle.parfind.specs.Sightings.{Scan, content_of, is_seen, is_sighting, sightings_of, triples_of}
 use Rattle.parfind.specs.Surveys.{is_sighted, mark_of, MarksSighted, IsAllMarked}
-use Rattle.parstates.specs.Findings.{is_settled, stays_found}
+use Rattle.parstates.specs.Contents.{HandsAsked, bytes_asked}
+use Rattle.parstates.specs.Findings.{is_settled, can_be_found}
 
 -- ---- no sighting without sums
 none_of : {A : Type 0} (p q : A → Bool) → ((x : A) → q x ≡ true → p x ≡ false) → (xs : List A) → list_any q (filter p xs) ≡ false
@@ -63,43 +67,38 @@ stays false false None unseen = refl
 stays false true (Some known) unseen = refl
 stays false false (Some known) unseen = refl
 
-got : {A : Type 0} (xs : List A) (k : ℕ) (d : A) → k < length xs → slice_get xs k ≡ Some (get_or xs k d)
-got [] k d within = absurd (omega (arith, within))
-got (x ∷ xs) zero d within = refl
-got (x ∷ xs) (suc k) d within = got xs k d (omega (arith, within))
-
-d : SetSlice
-d = record { id = record { 0 = [] }; number = 0; length = 0; sums = None }
+no_slice : SetSlice
+no_slice = record { id = record { 0 = [] }; number = 0; length = 0; sums = None }
 
 -- the marks before slice i are taken back where they must be, and the others are as they were
 pub record TakenBack (slices : List SetSlice) (whole : BTreeSet Hash16) (was now : List Bool) (i : ℕ) : Type 0 where
   pub sized : length now ≡ length was
-  pub done : (n : ℕ) → n < i → mark_of now n ≡ (mark_of was n && stays_found slices whole n)
+  pub done : (n : ℕ) → n < i → mark_of now n ≡ (mark_of was n && can_be_found whole slices n)
   pub left : (n : ℕ) → i ≤ n → mark_of now n ≡ mark_of was n
 
 -- the mark of a slice once those of slices that none can find are taken back
 mark_taken_back : (whole : BTreeSet Hash16) (scan : Scan) (was now last : List Bool) (k : ℕ) → k < length scan.set.slices
     → was ≡ map (is_settled whole) scan.set.slices
     → mark_of now k ≡ (mark_of was k || is_sighted scan k)
-    → mark_of last k ≡ (mark_of now k && stays_found scan.set.slices whole k)
-    → mark_of last k ≡ (contains id_cmp whole (get_or scan.set.slices k d).id || is_sighted scan k)
+    → mark_of last k ≡ (mark_of now k && can_be_found whole scan.set.slices k)
+    → mark_of last k ≡ (contains id_cmp whole (get_or scan.set.slices k no_slice).id || is_sighted scan k)
 mark_taken_back whole scan was now last k here before marked back =
     let slices = scan.set.slices in
-    let slice = get_or slices k d in
-    let there : slice_get slices k ≡ Some slice = got slices k d here in
+    let slice = get_or slices k no_slice in
+    let there : slice_get slices k ≡ Some slice = slice_get-get_or slices k no_slice here in
     let whole_is = contains id_cmp whole slice.id in
-    let settled : mark_of was k ≡ (whole_is || is_none slice.sums) = ap (λ marks. mark_of marks k) before ∙ get_or-map (is_settled whole) slices k d false here in
-    let known : stays_found slices whole k ≡ (whole_is || is_some slice.sums)
+    let settled : mark_of was k ≡ (whole_is || is_none slice.sums) = ap (λ marks. mark_of marks k) before ∙ get_or-map (is_settled whole) slices k no_slice false here in
+    let known : can_be_found whole slices k ≡ (whole_is || is_some slice.sums)
     = ap (λ one. option_map_or (λ slice. contains id_cmp whole slice.id || is_some slice.sums) one false) there in
     let unseen : is_some slice.sums ≡ false → is_sighted scan k ≡ false
     = λ e. unknown_unseen scan k (ap (λ one. option_map_or (λ slice. is_some slice.sums) one false) there ∙ e) in
     back
-    ∙ (ap (λ b. b && stays_found slices whole k) (marked ∙ ap (λ b. b || is_sighted scan k) settled)
+    ∙ (ap (λ b. b && can_be_found whole slices k) (marked ∙ ap (λ b. b || is_sighted scan k) settled)
     ∙ (ap (λ b. ((whole_is || is_none slice.sums) || is_sighted scan k) && b) known ∙ stays whole_is (is_sighted scan k) slice.sums unseen))
 
 pub marks_found : (whole : BTreeSet Hash16) (scan : Scan) (was now last : List Bool) → was ≡ map (is_settled whole) scan.set.slices
     → length now ≡ length scan.set.slices → length last ≡ length scan.set.slices → MarksSighted scan was now
-    → EachIndex last (λ n. mark_of last n ≡ (mark_of now n && stays_found scan.set.slices whole n))
+    → EachIndex last (λ n. mark_of last n ≡ (mark_of now n && can_be_found whole scan.set.slices n))
     → last ≡ map (λ slice. contains id_cmp whole slice.1.id || is_sighted scan slice.0) (enumerate_from 0 scan.set.slices)
 marks_found whole scan was now last before sized same marked back =
     let slices = scan.set.slices in
@@ -111,8 +110,8 @@ marks_found whole scan was now last before sized same marked back =
     let there : k < length (enumerate_from 0 slices) = omega arith in
     let in_now : k < length now = omega arith in
     mark_taken_back whole scan was now last k here before (marked k in_now) (back k within)
-    ∙ sym (get_or-map f (enumerate_from 0 slices) k (k, d) false there
-    ∙ (ap f (get_or-enumerate_from 0 slices k (k, d) here) ∙ ap (λ n. contains id_cmp whole (get_or slices k d).id || is_sighted scan n) (zero-add k))))
+    ∙ sym (get_or-map f (enumerate_from 0 slices) k (k, no_slice) false there
+    ∙ (ap f (get_or-enumerate_from 0 slices k (k, no_slice) here) ∙ ap (λ n. contains id_cmp whole (get_or slices k no_slice).id || is_sighted scan n) (zero-add k))))
 
 -- where no search can change what is found, each slice is marked before it
 pub all_settled : (whole : BTreeSet Hash16) (slices : List SetSlice) (was : List Bool) → was ≡ map (is_settled whole) slices
@@ -120,4 +119,16 @@ pub all_settled : (whole : BTreeSet Hash16) (slices : List SetSlice) (was : List
 all_settled whole slices was before all k within =
     let sized = length-map slices (is_settled whole) in
     let here : k < length slices = omega (arith, within, ap length before, sized) in
-    ap (λ marks. mark_of marks k) before ∙ (get_or-map (is_settled whole) slices k d false here ∙ all k d here)
+    ap (λ marks. mark_of marks k) before ∙ (get_or-map (is_settled whole) slices k no_slice false here ∙ all k no_slice here)
+
+-- where no slice has its sums, a search that reads nothing for slices without sums adds nothing to what was asked for
+or_true : (a b : Bool) → b ≡ true → (a || b) ≡ true
+or_true false b is = is
+or_true true b is = refl
+
+pub unsearched : (files : List SetFile) (whole : BTreeSet Hash16) (slices : List SetSlice) (old mid new : ShelfState)
+    → HandsAsked files old mid → (All (λ slice. IsTrue (is_settled whole slice)) slices → new ≡ mid)
+    → All (λ slice. IsTrue (is_none slice.sums)) slices → HandsAsked files old new
+unsearched files whole slices old mid new asked none all = λ file.
+    let kept = none (λ k slice within. or_true (contains id_cmp whole (get_or slices k slice).id) _ (all k slice within)) in
+    omega (arith, ap (λ (s : ShelfState). slice_index s.handed file) kept, asked file)

@@ -1,4 +1,5 @@
--- How much of the files is handed over while those are read whole that may be files of the set.
+-- How much of the files is handed over while those are read whole that may be files of the set, and
+-- by the search after it.
 use Rattle.std.specs.Prelude.{◌≡◌, ◌≢◌, ◌+◌, ◌≤◌, ℕ, List, slice_index, if◌then◌else◌}
 use Rattle.parset.specs.declared.recovery_set.SetFile.{SetFile}
 use Rattle.parshelf.specs.Shelf.{ShelfState}
@@ -20,3 +21,11 @@ HandsAsked files old new =
     (file : ℕ)
     → slice_index new.handed file
     ≤ slice_index old.handed file + bytes_asked files (slice_index old.lengths file)
+
+-- at most what is asked for of each file, and its length once more
+abbrev pub HandsSearched : List SetFile → ShelfState → ShelfState → Type 0
+HandsSearched files old new =
+    (file : ℕ)
+    → slice_index new.handed file
+    ≤ slice_index old.handed file + bytes_asked files (slice_index old.lengths file)
+    + slice_index old.lengths file

@@ -32,13 +32,13 @@ abbrev pub is_found : SetView → List NamedFile → ℕ × SetSlice → Bool
 is_found set scanned (n, slice) =
     is_in_whole_file set scanned slice.id || is_sighted (scan_for set scanned) n
 
--- a search can't change whether a slice is found: its file is one of these, or it has no sums
+-- no search is needed for a slice: its file is one of these, or it has no sums to be found by
 abbrev pub is_settled : BTreeSet Hash16 → SetSlice → Bool
 is_settled whole slice = contains id_cmp whole slice.id || is_none slice.sums
 
--- a mark of slice n says that it is found: its file is one of these, or it has sums to be found by
-abbrev pub stays_found : List SetSlice → BTreeSet Hash16 → ℕ → Bool
-stays_found slices whole n =
+-- there is a slice n that can be found: its file is one of these, or it has sums to be found by
+abbrev pub can_be_found : BTreeSet Hash16 → List SetSlice → ℕ → Bool
+can_be_found whole slices n =
     option_map_or (λ slice. contains id_cmp whole slice.id || is_some slice.sums)
     (slice_get slices n) false
 

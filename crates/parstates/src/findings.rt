@@ -1,5 +1,6 @@
-ghost use Rattle.std.specs.Prelude.{◌≡◌, length, IsTrue, IfOk, OnOk, IfErr};
+ghost use Rattle.std.specs.Prelude.{◌≡◌, length, is_none, All, IsTrue, IfOk, OnOk, IfErr};
 ghost use Rattle.parshelf.specs.Reads.{ReadsOnly};
+ghost use Rattle.parstates.specs.Contents.{HandsAsked, HandsSearched};
 ghost use Rattle.parstates.specs.Files.{FilesLeave};
 ghost use Rattle.parstates.specs.States.{named_files};
 ghost use Rattle.parstates.specs.Findings.{findings_of};
@@ -48,6 +49,9 @@ pub fn findings_on<Q: Shelf>(
         findings ≡ findings_of set.now (named_files files.now (Q.state shelf.old).files)) }
     ensures states { IfOk result (λ findings. length findings.states ≡ length set.now.files) }
     ensures slices { IfOk result (λ findings. length findings.found ≡ length set.now.slices) }
+    ensures handed { HandsSearched set.now.files (Q.state shelf.old) (Q.state shelf.new) }
+    ensures unsearched { All (λ slice. IsTrue (is_none slice.sums)) set.now.slices →
+        HandsAsked set.now.files (Q.state shelf.old) (Q.state shelf.new) }
     ensures ok { OnOk result (ReadsOnly (Q.state shelf.old) (Q.state shelf.new)) }
     ensures fault { IfErr result (FilesLeave (Q.state shelf.old) (Q.state shelf.new)) }
 {

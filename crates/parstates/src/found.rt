@@ -5,9 +5,10 @@ ghost use Rattle.parfield.specs.HashOrder.{id_cmp};
 ghost use Rattle.parshelf.specs.Reads.{ReadsOnly};
 ghost use Rattle.parwindow.specs.Index.{slice_set_of};
 ghost use Rattle.parfind.specs.Steps.{scan_of};
-ghost use Rattle.parfind.specs.Surveys.{is_sighted, mark_of};
+ghost use Rattle.parfind.specs.Handed.{HandsEachOnce};
+ghost use Rattle.parfind.specs.Surveys.{is_sighted, mark_of, StopsOnceFound};
 ghost use Rattle.parstates.specs.Files.{FilesLeave};
-ghost use Rattle.parstates.specs.Findings.{need_of, is_settled, stays_found};
+ghost use Rattle.parstates.specs.Findings.{need_of, is_settled, can_be_found};
 
 use crate::faults::FilesFault;
 use parfield::Hash16;
@@ -18,8 +19,9 @@ use parwindow::Index;
 use std::alloc::{AllocError, Global};
 use std::collections::BTreeSet;
 
-/// Which slices are found: those of these files, and those that have a sighting. Nothing is read
-/// where every other slice lacks its sums, by which alone it could be found.
+/// Which slices are found: those of these files, and those that have a sighting. Files are searched
+/// until each slice of another file that has its sums is found; where none is left to be found so,
+/// nothing is read.
 pub fn found_slices<Q: Shelf>(
     alloc: Global,
     set: &RecoverySet,
@@ -31,6 +33,10 @@ pub fn found_slices<Q: Shelf>(
         (scan_of (slice_set_of set.now.size set.now.slices) (Q.state shelf.old)) slice.0)
         (enumerate_from 0 set.now.slices)) }
     ensures slices { IfOk result (λ found. length found.items ≡ length set.now.slices) }
+    ensures stops { IsTrue (Q.state shelf.old).is_steady → StopsOnceFound
+        (slice_set_of set.now.size set.now.slices) (Q.state shelf.old) (Q.state shelf.new)
+        (map (is_settled whole.now) set.now.slices) }
+    ensures handed { HandsEachOnce (Q.state shelf.old) (Q.state shelf.new) }
     ensures none { All (λ slice. IsTrue (is_settled whole.now slice)) set.now.slices →
         Q.state shelf.new ≡ Q.state shelf.old }
     ensures ok { OnOk result (ReadsOnly (Q.state shelf.old) (Q.state shelf.new)) }
@@ -57,11 +63,11 @@ fn settled(
         .collect(alloc)
 }
 
-// Takes the marks back of those that no search can find.
+// Takes the marks back of slices of other files that lack their sums.
 fn take_back(slices: &[SetSlice], whole: &BTreeSet<Hash16>, found: &mut [bool])
     requires { length found.old ≡ length slices.now }
     ensures { EachIndex found.new (λ n. mark_of found.new n
-        ≡ (mark_of found.old n && stays_found slices.now whole.now n)) }
+        ≡ (mark_of found.old n && can_be_found whole.now slices.now n)) }
 {
     for (index, slice) in slices.iter().enumerate() {
         if slice.sums.is_none() && !whole.contains(&slice.id) {

@@ -8,7 +8,7 @@ use std::process::Abort;
 use std::test::Fail;
 
 // Rows where the read of this number of the scanned files fails.
-static FAULTY: [(u64, Row); 7] = [
+static FAULTY: [(u64, Row); 8] = [
     // Without a set no scanned file is read.
     (
         1,
@@ -89,6 +89,20 @@ static FAULTY: [(u64, Row); 7] = [
                 "set 2b5d19a47ee4561a2c85b51d7f6d65c4 size 4 slices 2\n\
                  renamed a.bin from b.bin\nneed 0 have 1\nresult possible\n",
                 1,
+            ),
+        },
+    ),
+    // The first file has both slices with checksums; the third has none, and nothing is read for it.
+    (
+        2,
+        Row {
+            words: &["verify", "v.par2", "x.bin", "y.bin"],
+            packets: &["one_and_two"],
+            scanned: &[b"abcdefghij", b"12345678"],
+            ends: Ends::Wrote(
+                "set cfa91808f68b4796138410b4823efbee size 4 slices 3\nmissing one 0/1\n\
+                 missing two 2/2\nneed 1 have 0\nresult impossible\n",
+                2,
             ),
         },
     ),

@@ -1,4 +1,4 @@
-use Rattle.std.proofs.Common.{◌≡◌, ◌∙◌, ◌&&◌, IsTrue, ap, map, sym}
+use Rattle.std.proofs.Common.{◌≡◌, ◌∙◌, ◌&&◌, IsTrue, ap, map, subst, sym}
 use Rattle.std.specs.BTreeSet.{contains}
 use Rattle.std.specs.List.{list_any}
 use Rattle.std.specs.Str.{bytes_eq}
@@ -7,6 +7,8 @@ use Rattle.parset.specs.declared.recovery_set.SetFile.{SetFile}
 use Rattle.parset.specs.declared.recovery_set.SetSlice.{SetSlice}
 use Rattle.parshelf.specs.Shelf.{ShelfState}
 use Rattle.parstates.specs.States.{named_files, asked_of, is_whole, state_of}
+use Rattle.parstates.specs.Contents.{HandsAsked}
+use Rattle.parstates.proofs.SumLaws.{unsearched}
 use Rattle.parstates.proofs.StateLaws.{contents_sized, findings_made, found_read, states_read}
 use Rattle.parstates.proofs.findings.findings_on.Goals as goal
 
@@ -31,3 +33,19 @@ returns-clause-findings g c = λ steady.
     ∙ ap (list_any (λ (file : SetFile). bytes_eq file.id.0 id.0 && is_whole (state file))) c.files-set_files.ensures.field)
     (c.from_vec-2.ensures ∙ found_read set old now (λ (slice : SetSlice). contains id_cmp c.in_ok-whole.whole slice.id) c.in_ok-found.found.items reads
     (c.in_ok-found.ensures.found still))
+
+pub returns-clause-unsearched : goal.returns-clause-unsearched
+returns-clause-unsearched g c =
+    let old : ShelfState = g.Q.Shelf.state c.args.shelf.now in
+    let now : ShelfState = g.Q.Shelf.state c.contents.new.shelf in
+    unsearched c.args.set.now.files c.in_ok-whole.whole c.args.set.now.slices old now _
+    (subst (λ files. HandsAsked files old now) c.files-set_files.ensures.field c.in_ok-contents.ensures.bytes)
+    c.found_slices.ensures.none
+
+pub returns-in_err-found-clause-unsearched : goal.returns-in_err-found-clause-unsearched
+returns-in_err-found-clause-unsearched g c =
+    let old : ShelfState = g.Q.Shelf.state c.args.shelf.now in
+    let now : ShelfState = g.Q.Shelf.state c.contents.new.shelf in
+    unsearched c.args.set.now.files c.in_ok-whole.whole c.args.set.now.slices old now _
+    (subst (λ files. HandsAsked files old now) c.files-set_files.ensures.field c.in_ok-contents.ensures.bytes)
+    c.found_slices.ensures.none

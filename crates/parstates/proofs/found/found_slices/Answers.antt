@@ -4,7 +4,7 @@ use Rattle.parshelf.specs.Shelf.{ShelfState}
 use Rattle.parwindow.specs.Index.{slice_set_of}
 use Rattle.parfind.specs.Steps.{scan_of}
 use Rattle.parfind.specs.Surveys.{mark_of, MarksSighted}
-use Rattle.parstates.specs.Findings.{is_settled, stays_found}
+use Rattle.parstates.specs.Findings.{is_settled, can_be_found}
 use Rattle.parstates.proofs.StateLaws.{take-all_back}
 use Rattle.parstates.proofs.SumLaws.{marks_found, all_settled}
 use Rattle.parstates.proofs.found.found_slices.Goals as goal
@@ -29,8 +29,8 @@ returns-clause-found g c = λ steady.
     (omega (arith, ap length back, same))
     ∙ marks_found whole (scan_of own shelf) c.deref_mut.result.now c.survey.new.found c.take_back.new.found was sized kept marked (λ n within.
     c.take_back.ensures n within
-    ∙ (ap (λ marks. mark_of marks n && stays_found c.slices-2.result.now whole n) now
-    ∙ ap (λ xs. mark_of c.survey.new.found n && stays_found xs whole n) c.slices-2.ensures.field))
+    ∙ (ap (λ marks. mark_of marks n && can_be_found whole c.slices-2.result.now n) now
+    ∙ ap (λ xs. mark_of c.survey.new.found n && can_be_found whole xs n) c.slices-2.ensures.field))
 
 pub returns-clause-none : goal.returns-clause-none
 returns-clause-none g c = λ settled.
