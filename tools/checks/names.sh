@@ -50,7 +50,7 @@ result complete" "" "$parv" verify that.par2 "$name"
     waits=$!
     sleep 0.2
     passes "a FIFO"
-    sleep 0.2
+    sleep 2
     if kill "$waits" 2> "$said/kill"; then
         echo "ok: the FIFO at $place was not opened"
     else

@@ -9,6 +9,7 @@ trap 'rm -rf "$work"' EXIT
 said=$work/.said
 mkdir "$said"
 failed=0
+export PYTHONDONTWRITEBYTECODE=1
 
 fails() {
     echo "FAILED: $*"

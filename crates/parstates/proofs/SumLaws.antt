@@ -113,7 +113,7 @@ marks_found whole scan was now last before sized same marked back =
     ∙ sym (get_or-map f (enumerate_from 0 slices) k (k, no_slice) false there
     ∙ (ap f (get_or-enumerate_from 0 slices k (k, no_slice) here) ∙ ap (λ n. contains id_cmp whole (get_or slices k no_slice).id || is_sighted scan n) (zero-add k))))
 
--- where no search can change what is found, each slice is marked before it
+-- where no search is needed for any slice, each is marked before it
 pub all_settled : (whole : BTreeSet Hash16) (slices : List SetSlice) (was : List Bool) → was ≡ map (is_settled whole) slices
     → All (λ slice. IsTrue (is_settled whole slice)) slices → IsAllMarked was
 all_settled whole slices was before all k within =
@@ -121,11 +121,11 @@ all_settled whole slices was before all k within =
     let here : k < length slices = omega (arith, within, ap length before, sized) in
     ap (λ marks. mark_of marks k) before ∙ (get_or-map (is_settled whole) slices k no_slice false here ∙ all k no_slice here)
 
--- where no slice has its sums, a search that reads nothing for slices without sums adds nothing to what was asked for
 or_true : (a b : Bool) → b ≡ true → (a || b) ≡ true
 or_true false b is = is
 or_true true b is = refl
 
+-- where no slice has its sums, no search adds to what was asked for
 pub unsearched : (files : List SetFile) (whole : BTreeSet Hash16) (slices : List SetSlice) (old mid new : ShelfState)
     → HandsAsked files old mid → (All (λ slice. IsTrue (is_settled whole slice)) slices → new ≡ mid)
     → All (λ slice. IsTrue (is_none slice.sums)) slices → HandsAsked files old new

@@ -22,9 +22,9 @@ HandsAsked files old new =
     → slice_index new.handed file
     ≤ slice_index old.handed file + bytes_asked files (slice_index old.lengths file)
 
--- at most what is asked for of each file, and its length once more
-abbrev pub HandsSearched : List SetFile → ShelfState → ShelfState → Type 0
-HandsSearched files old new =
+-- of each file at most what is asked for of it, and its length once more
+abbrev pub HandsAskedAndOnce : List SetFile → ShelfState → ShelfState → Type 0
+HandsAskedAndOnce files old new =
     (file : ℕ)
     → slice_index new.handed file
     ≤ slice_index old.handed file + bytes_asked files (slice_index old.lengths file)

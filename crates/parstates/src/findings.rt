@@ -1,6 +1,6 @@
 ghost use Rattle.std.specs.Prelude.{◌≡◌, length, is_none, All, IsTrue, IfOk, OnOk, IfErr};
 ghost use Rattle.parshelf.specs.Reads.{ReadsOnly};
-ghost use Rattle.parstates.specs.Contents.{HandsAsked, HandsSearched};
+ghost use Rattle.parstates.specs.Contents.{HandsAsked, HandsAskedAndOnce};
 ghost use Rattle.parstates.specs.Files.{FilesLeave};
 ghost use Rattle.parstates.specs.States.{named_files};
 ghost use Rattle.parstates.specs.Findings.{findings_of};
@@ -45,11 +45,15 @@ pub fn findings_on<Q: Shelf>(
     shelf: &mut Q,
 ) -> Result<Findings, FilesFault>
     requires { length (Q.state shelf.old).lengths ≡ length files.now }
+
+    // On a steady shelf.
     ensures findings { IsTrue (Q.state shelf.old).is_steady → IfOk result (λ findings.
         findings ≡ findings_of set.now (named_files files.now (Q.state shelf.old).files)) }
+
+    // On any shelf.
     ensures states { IfOk result (λ findings. length findings.states ≡ length set.now.files) }
     ensures slices { IfOk result (λ findings. length findings.found ≡ length set.now.slices) }
-    ensures handed { HandsSearched set.now.files (Q.state shelf.old) (Q.state shelf.new) }
+    ensures handed { HandsAskedAndOnce set.now.files (Q.state shelf.old) (Q.state shelf.new) }
     ensures unsearched { All (λ slice. IsTrue (is_none slice.sums)) set.now.slices →
         HandsAsked set.now.files (Q.state shelf.old) (Q.state shelf.new) }
     ensures ok { OnOk result (ReadsOnly (Q.state shelf.old) (Q.state shelf.new)) }

@@ -28,14 +28,18 @@ pub fn found_slices<Q: Shelf>(
     whole: &BTreeSet<Hash16>,
     shelf: &mut Q,
 ) -> Result<Vec<bool>, FilesFault>
+
+    // On a steady shelf.
     ensures found { IsTrue (Q.state shelf.old).is_steady → IfOk result (λ found. found.items
         ≡ map (λ slice. contains id_cmp whole.now slice.1.id || is_sighted
         (scan_of (slice_set_of set.now.size set.now.slices) (Q.state shelf.old)) slice.0)
         (enumerate_from 0 set.now.slices)) }
-    ensures slices { IfOk result (λ found. length found.items ≡ length set.now.slices) }
     ensures stops { IsTrue (Q.state shelf.old).is_steady → StopsOnceFound
         (slice_set_of set.now.size set.now.slices) (Q.state shelf.old) (Q.state shelf.new)
         (map (is_settled whole.now) set.now.slices) }
+
+    // On any shelf.
+    ensures slices { IfOk result (λ found. length found.items ≡ length set.now.slices) }
     ensures handed { HandsEachOnce (Q.state shelf.old) (Q.state shelf.new) }
     ensures none { All (λ slice. IsTrue (is_settled whole.now slice)) set.now.slices →
         Q.state shelf.new ≡ Q.state shelf.old }

@@ -8,7 +8,7 @@ use std::process::Abort;
 use std::test::Fail;
 
 // Rows where the read of this number of the scanned files fails.
-static FAULTY: [(u64, Row); 8] = [
+static FAULTY: [(u64, Row); 10] = [
     // Without a set no scanned file is read.
     (
         1,
@@ -92,7 +92,7 @@ static FAULTY: [(u64, Row); 8] = [
             ),
         },
     ),
-    // The first file has both slices with checksums; the third has none, and nothing is read for it.
+    // x.bin has both slices with checksums; that of one has none, and y.bin isn't read for it.
     (
         2,
         Row {
@@ -103,6 +103,34 @@ static FAULTY: [(u64, Row); 8] = [
                 "set cfa91808f68b4796138410b4823efbee size 4 slices 3\nmissing one 0/1\n\
                  missing two 2/2\nneed 1 have 0\nresult impossible\n",
                 2,
+            ),
+        },
+    ),
+    // y.bin is b.bin, so x.bin alone is searched, and it has the slice that is left.
+    (
+        3,
+        Row {
+            words: &["verify", "v.par2", "x.bin", "y.bin"],
+            packets: &["a_and_b"],
+            scanned: &[b"Xabcd", b"abcdefgh"],
+            ends: Ends::Wrote(
+                "set bfbb8cc347c88c9b3dd072ec0e2f6a1d size 4 slices 3\nmissing a.bin 1/1\n\
+                 renamed b.bin from y.bin\nneed 0 have 0\nresult possible\n",
+                1,
+            ),
+        },
+    ),
+    // Both files are read for their MD5, and nothing is searched.
+    (
+        3,
+        Row {
+            words: &["verify", "v.par2", "x.bin", "y.bin"],
+            packets: &["g"],
+            scanned: &[b"abcdefgX", b"abcdefgh"],
+            ends: Ends::Wrote(
+                "set 617cdc72ba53d94fe713fea2ae18f776 size 4 slices 2\nrenamed g.bin from y.bin\n\
+                 need 0 have 0\nresult possible\n",
+                1,
             ),
         },
     ),
