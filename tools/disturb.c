@@ -1,13 +1,13 @@
 /* Preloaded into a program: refuses the allocation whose number stands in REFUSE, or that in REFUSE_LATER
-   and all later ones, fails the opening whose number stands in FAIL_OPEN and the read in FAIL_READ, lets
-   the file end at the read in CUT_READ, and of the writes to standard output fails the one in FAIL_WRITE
-   and takes nothing at the one in EMPTY_WRITE, each counted from 1. ERROR is the error's number for an
-   opening or a read that fails (EIO). Where SHORT is a number, no read and no write to standard output or
-   standard error moves more bytes.
-   As the program ends, the file that REPORT names gets one line of seven numbers: 1 where any of that was
+   and all later ones, fails the opening whose number stands in FAIL_OPEN, the question for a file's kind and
+   length in FAIL_STAT and the read in FAIL_READ, lets the file end at the read in CUT_READ, and of the writes
+   to standard output fails the one in FAIL_WRITE and takes nothing at the one in EMPTY_WRITE, each counted
+   from 1. ERROR is the error's number for an opening, a question or a read that fails (EIO). Where SHORT is a
+   number, no read and no write to standard output or standard error moves more bytes.
+   As the program ends, the file that REPORT names gets one line of eight numbers: 1 where any of that was
    done (where an allocation is to be refused, 1 where it was), or 0; the allocations that were not given
    back; the files that were not closed; how many allocations there were; the reads behind the one that
-   failed or ended; the writes to standard output; and the openings for more than reading. */
+   failed or ended; the writes to standard output; the openings for more than reading; and the reads. */
 #define _GNU_SOURCE
 #include <dlfcn.h>
 #include <errno.h>
@@ -15,11 +15,12 @@
 #include <stdarg.h>
 #include <stdio.h>
 #include <stdlib.h>
+#include <sys/stat.h>
 #include <unistd.h>
 
-static long refused, later, unopened, failing, cut, full, empty, most; /* the numbers asked for; 0: none */
+static long refused, later, unopened, unknown, failing, cut, full, empty, most; /* the numbers asked for; 0: none */
 static int error;                               /* the number of a fault */
-static long allocations, opens, reads, writes, done; /* how many there were, and whether one was met */
+static long allocations, opens, stats, reads, writes, done; /* how many there were, and whether one was met */
 static long live, opened;                       /* what is taken and not yet given back */
 static long changing;                           /* openings for more than reading */
 static char early[4096];                        /* dlsym itself asks for a little */
@@ -143,6 +144,19 @@ int open(const char *path, int flags, ...)
     return file;
 }
 
+int statx(int folder, const char *path, int flags, unsigned mask, struct statx *answer)
+{
+    static int (*next)(int, const char *, int, unsigned, struct statx *);
+    if (!next)
+        next = next_of("statx");
+    if (++stats == unknown) {
+        met();
+        errno = error;
+        return -1;
+    }
+    return next(folder, path, flags, mask, answer);
+}
+
 int close(int file)
 {
     static int (*next)(int);
@@ -216,13 +230,14 @@ __attribute__((constructor)) static void start(void)
     refused = number_in("REFUSE");
     later = number_in("REFUSE_LATER");
     unopened = number_in("FAIL_OPEN");
+    unknown = number_in("FAIL_STAT");
     failing = number_in("FAIL_READ");
     error = getenv("ERROR") ? number_in("ERROR") : EIO;
     cut = number_in("CUT_READ");
     full = number_in("FAIL_WRITE");
     empty = number_in("EMPTY_WRITE");
     most = number_in("SHORT");
-    allocations = opens = reads = writes = done = live = opened = changing = 0;
+    allocations = opens = stats = reads = writes = done = live = opened = changing = 0;
 }
 
 __attribute__((destructor)) static void end(void)
@@ -234,8 +249,8 @@ __attribute__((destructor)) static void end(void)
     FILE *file;
     refused = later = 0;
     if (name && (file = fopen(name, "w"))) {
-        fprintf(file, "%ld %ld %ld %ld %ld %ld %ld\n", done, left, unclosed, taken, behind, writes,
-                changed);
+        fprintf(file, "%ld %ld %ld %ld %ld %ld %ld %ld\n", done, left, unclosed, taken, behind, writes,
+                changed, reads);
         fclose(file);
     }
 }

@@ -1,7 +1,7 @@
 #!/usr/bin/env bash
 # Disturbs a run of the built program once at each place in turn: REFUSE refuses an allocation, FAIL_OPEN
-# fails an opening and FAIL_READ a read (by the error ERROR), CUT_READ ends the file at a read, FAIL_WRITE
-# fails a write and EMPTY_WRITE takes nothing at one.
+# fails an opening, FAIL_STAT a question for a file's kind and length and FAIL_READ a read (by the error
+# ERROR), CUT_READ ends the file at a read, FAIL_WRITE fails a write and EMPTY_WRITE takes nothing at one.
 # The run must end with 8, or with 6 and its line, and what it wrote must be a beginning of the undisturbed
 # text; after a refusal it may also be the undisturbed run, where room was only asked for ahead and then had
 # one by one. Past the last place it is the undisturbed run. Each run gives back every allocation and closes
@@ -10,8 +10,8 @@
 # Where the environment of REFUSE lets a read, an opening or a write fail too, the undisturbed run fails so.
 # SHORT lets every read and every write of a run move at most 1, then 3, then 64 bytes: each is the
 # undisturbed run.
-# Usage: disturb.sh REFUSE|FAIL_OPEN|FAIL_READ|CUT_READ|FAIL_WRITE|EMPTY_WRITE|SHORT ARGUMENTS, in the folder
-# of the files.
+# Usage: disturb.sh REFUSE|FAIL_OPEN|FAIL_STAT|FAIL_READ|CUT_READ|FAIL_WRITE|EMPTY_WRITE|SHORT ARGUMENTS, in the
+# folder of the files.
 set -uo pipefail
 tools=$(cd "$(dirname "$0")" && pwd)
 parv=${PARV:-$tools/../crates/parv/out/parv}
@@ -32,7 +32,7 @@ run() {
         > "$work/text" 2> "$work/err" < /dev/null
     status=$?
     [ -e "$work/report" ] || fail "status $status, and no report"
-    read -r met live opened _ behind _ changing < "$work/report"
+    read -r met live opened _ behind _ changing _ < "$work/report"
     [ "$changing" = 0 ] || fail "$changing files opened for more than reading"
     [ "$behind" = 0 ] || fail "$behind reads behind the one that was disturbed"
     [ "$live $opened" = "0 0" ] || fail "$live allocations not given back, $opened files not closed, status $status"
@@ -44,7 +44,7 @@ ends_so() {
     line=$(cat "$work/err")
     case $what in
     REFUSE) [ $status -eq 8 ] && [ "$line" = "parv: out of memory" ] ;;
-    FAIL_OPEN)
+    FAIL_OPEN | FAIL_STAT)
         # (nothing is written before all files are open)
         [ -s "$work/text" ] && return 1
         if [ "${ERROR-}" = 12 ]; then
@@ -67,7 +67,7 @@ n=0
 gcc -shared -fPIC -O1 -o "$work/disturb.so" "$tools/disturb.c" -ldl || fail "no compiler"
 run "$@"
 whole=$status
-[ -z "${FAIL_OPEN-}${FAIL_READ-}${CUT_READ-}${FAIL_WRITE-}" ] || [ $whole -eq 6 ] || fail "nothing else failed"
+[ -z "${FAIL_OPEN-}${FAIL_STAT-}${FAIL_READ-}${CUT_READ-}${FAIL_WRITE-}" ] || [ $whole -eq 6 ] || fail "nothing else failed"
 mv "$work/text" "$work/whole"
 mv "$work/err" "$work/whole.err"
 if [ "$what" = SHORT ]; then

@@ -66,6 +66,7 @@ CUT_READ=1 disturb REFUSE set v.par2 w.par2
 FAIL_READ=3 disturb REFUSE find v.par2 x.bin y.bin
 CUT_READ=2 disturb REFUSE verify v.par2 x.bin
 FAIL_OPEN=2 disturb REFUSE find v.par2 x.bin
+FAIL_STAT=2 disturb REFUSE find v.par2 x.bin
 for words in "packets v.par2" "set v.par2" "find v.par2 x.bin" "verify v.par2 x.bin"; do
     # shellcheck disable=SC2086
     FAIL_WRITE=1 disturb REFUSE $words
@@ -110,16 +111,18 @@ for number in 4 12 116; do
     ERROR=$number names "$(about v.par2 x.bin)" FAIL_READ find v.par2 x.bin
 done
 # Openings that fail, by an error of the device, by no right to it (13), by too many open files (24); by want
-# of memory (12) no file is named.
+# of memory (12) no file is named. The same where a file, by its path or open, doesn't tell its kind and length.
 opens() {
-    names "$(printf ', parv: cannot open %s' "$@")" FAIL_OPEN find v.par2 x.bin w.par2 y.bin
+    names "$(printf ', parv: cannot open %s' v.par2 w.par2 x.bin y.bin)" "$1" find v.par2 x.bin w.par2 y.bin
 }
 
-opens v.par2 w.par2 x.bin y.bin
-for number in 13 24; do
-    ERROR=$number opens v.par2 w.par2 x.bin y.bin
+for what in FAIL_OPEN FAIL_STAT; do
+    opens $what
+    for number in 13 24; do
+        ERROR=$number opens $what
+    done
+    ERROR=12 names "" $what find v.par2 x.bin w.par2 y.bin
 done
-ERROR=12 names "" FAIL_OPEN find v.par2 x.bin w.par2 y.bin
 disturb SHORT packets none.par2
 for words in "packets v.par2 w.par2" "set v.par2 w.par2" "find v.par2 x.bin y.bin" "verify v.par2 x.bin y.bin"; do
     # shellcheck disable=SC2086
