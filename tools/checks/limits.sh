@@ -1,6 +1,7 @@
 #!/usr/bin/env bash
-# Large input, against independent readings: a packet file of 5 MB, a hundred packet files at once, a set
-# of 3,000 files, twenty files to scan, one of them long, and 3,000, or 600 where no more may be open.
+# Large input, against independent readings: a packet file of 5 MB, a hundred and three hundred packet files at
+# once, sets of 3,000 and of 32,768 files, 40,000 recovery slices, twenty files to scan, one of them long, and
+# 3,000, or 600 where no more may be open, and what stands behind 4 GiB. How often a file is read, and a list written.
 . "$(dirname "$0")/wants.sh"
 cd "$work" || exit 1
 
@@ -18,10 +19,39 @@ for i in $(seq 100); do files+=("few$i.par2"); done
 "$tools/many_packets.py" 4 "${files[@]}"
 "$tools/list_packets.py" "${files[@]}" > wanted
 gives "the packets of a hundred files" 0 wanted "" "$parv" packets "${files[@]}"
+files=()
+for i in $(seq 300); do files+=("three$i.par2"); done
+"$tools/many_packets.py" 3 "${files[@]}"
+"$tools/list_packets.py" "${files[@]}" > wanted
+gives "the packets of three hundred files" 0 wanted "" "$parv" packets "${files[@]}"
 
 "$tools/big_set.py" big 3000 2
 "$tools/describe_set.py" big/*.par2 > set
 gives "a set of 3,000 files" 0 set "" "$parv" set big/*.par2
+"$tools/big_set.py" full 32768 1
+"$tools/describe_set.py" full/*.par2 > wanted
+gives "a set of 32,768 files" 0 wanted "" "$parv" set full/*.par2
+"$tools/list_packets.py" full/*.par2 > wanted
+gives "the packets of a set of 32,768 files" 0 wanted "" "$parv" packets full/*.par2
+
+# The set of g.bin with 40,000 recovery slices, no two alike and in no order, of which some stand twice, and
+# some have an exponent above the limit.
+PYTHONPATH=$tools python3 - << 'END'
+import random
+from packet_files import DESC_OF_G, G_SET, MAIN_OF_G, SUMS_OF_G
+from vectors import packet, recvslic_body
+exponents = [*range(25535, 65545), *range(30000, 32000)]
+random.Random(1).shuffle(exponents)
+with open("exponents.par2", "wb") as out:
+    out.write(MAIN_OF_G + DESC_OF_G + SUMS_OF_G)
+    for exponent in exponents:
+        out.write(packet(G_SET, "recvslic", recvslic_body(exponent, b"data")))
+END
+"$tools/describe_set.py" exponents.par2 > wanted
+[ "$(grep '^have' wanted)" = "have 40000" ] || fails "the exponents are not as they should be: $(grep '^have' wanted)"
+gives "a set with 40,000 exponents" 0 wanted "" "$parv" set exponents.par2
+wants "the verdict with 40,000 exponents" 1 "need 2 have 40000
+result possible" "" "$parv" verify -q exponents.par2
 
 # Lists are written in blocks of 65,536 bytes as they are made, and a block ends with a line.
 gcc -shared -fPIC -O1 -o disturb.so "$tools/disturb.c" -ldl || exit 1
@@ -38,6 +68,44 @@ in_blocks() {
 }
 in_blocks packets long.par2
 in_blocks set big/*.par2
+in_blocks verify full/*.par2
+
+# How often the files are read and the text is written, by disturb.c's account.
+counts() {
+    local name=$1 least=$2 most=$3 what=$4 count writes reads
+    shift 4
+    REPORT=report LD_PRELOAD=$PWD/disturb.so "$parv" "$@" > text
+    read -r _ _ _ _ _ writes _ reads < report
+    count=${!what}
+    if [ "$count" -ge "$least" ] && [ "$count" -le "$most" ]; then
+        echo "ok: $name: $count $what"
+    else
+        fails "$name: $count $what, and not $least to $most: $(tail -n 1 text)"
+    fi
+}
+
+cp "$top/crates/parv/data/v.par2" v.par2
+printf 'XXabcdefgh' > x.bin
+# A line is written before the search goes on.
+counts "two sightings and the end" 3 3 writes find v.par2 x.bin
+# 8 MiB are 2,048 pieces of 4,096 bytes for the search of slices, 129 of 65,536 for that of packets, of which
+# two share seven bytes, and 256 of 32,768 for an MD5; beside them a packet file is read.
+PYTHONPATH=$tools python3 - << 'END'
+from hostile_cost import set_of
+from hostile_packets import desc_of
+from vectors import main_body
+owner, content = bytes(16), bytes(8 << 20)
+with open("zeros.bin", "wb") as out:
+    out.write(content)
+with open("zeros.par2", "wb") as out:
+    out.write(set_of(main_body(65536, [owner]), ("filedesc", desc_of(owner, b"zeros.bin", content))))
+with open("padded.par2", "wb") as out:
+    out.write(content)
+END
+dd if=v.par2 of=padded.par2 conv=notrunc status=none
+counts "a search of 8 MiB for slices" 2049 2060 reads find v.par2 zeros.bin
+counts "a search of 8 MiB for packets" 129 140 reads packets padded.par2
+counts "the MD5 of 8 MiB" 257 270 reads verify zeros.par2 zeros.bin
 
 scanned=()
 for i in $(seq 0 137 2700); do
@@ -57,6 +125,8 @@ awk -v names="${scanned[*]}" 'BEGIN { n = split(names, given, " "); for (i in gi
     $1 == "have" { print "need", 3000 - n, "have", $2; print "result impossible" }' set > wanted
 gives "the states of 3,000 files" 2 wanted "" "$parv" verify big/*.par2 "${scanned[@]}"
 wants "the verdict on 3,000 files" 2 "$(tail -n 2 wanted)" "" "$parv" verify -q big/*.par2 "${scanned[@]}"
+wants "the verdict on 32,768 files" 2 "need $((32768 - ${#scanned[@]})) have 1
+result impossible" "" "$parv" verify -q full/*.par2 "${scanned[@]}"
 
 # Of many files to scan the last alone has something, and of many the last alone is missing.
 many=3000
@@ -71,9 +141,32 @@ cp 0000137 "many/$many"
 "$tools/find_slices.py" big/*.par2 "${others[@]}" > wanted
 if [ "$(wc -l < wanted)" -eq 2 ]; then
     gives "the last of $many files to scan" 0 wanted "" "$parv" find big/*.par2 "${others[@]}"
+    # Its one file is renamed, and each other one is missing.
+    awk -v last="many/$many" '$1 == "set" { print }
+        $1 == "file" { print ($6 == "0000137" ? "renamed " $6 " from " last : "missing " $6 " 0/1") }
+        $1 == "have" { print "need 2999 have", $2; print "result impossible" }' set > wanted
+    gives "the states by $many files to scan" 2 wanted "" "$parv" verify big/*.par2 "${others[@]}"
 else
     fails "the last of $many files is not as it should be: $(head -3 wanted)"
 fi
 wants "a missing one behind $many files to scan" 6 "" "parv: cannot open many/none" \
     "$parv" find big/*.par2 "${others[@]}" many/none
+
+# Packets, and slices, behind 4 GiB of zeros, which a folder in memory doesn't keep.
+far=$work
+[ -w /dev/shm ] && far=$(mktemp -d -p /dev/shm) && trap 'rm -rf "$work" "$far"' EXIT
+cd "$far" || exit 1
+set=617cdc72ba53d94fe713fea2ae18f776
+file=e345eacbe656c0e6fd20ed63cb7b062c
+truncate -s 4G far.par2 far.bin
+cat "$work/v.par2" >> far.par2
+cat "$work/x.bin" >> far.bin
+wants "packets behind 4 GiB" 0 "far.par2 4294967296 92 main $set
+far.par2 4294967388 128 filedesc $set
+far.par2 4294967516 120 ifsc $set
+far.par2 4294967636 76 recvslic $set
+packets 4" "" "$parv" packets far.par2
+wants "slices behind 4 GiB" 0 "far.bin 4294967298 $file 0
+far.bin 4294967302 $file 1
+end" "" "$parv" find --cursor "$set:0:4294967290:0" "$work/v.par2" far.bin
 exit $failed
