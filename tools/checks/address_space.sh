@@ -54,17 +54,35 @@ steps find --limit 1 --cursor 617cdc72ba53d94fe713fea2ae18f776:0:2:1 v.par2 x.bi
 steps verify v.par2 x.bin
 steps verify -q v.par2 x.bin
 
-# Neither recovery data nor a file's length is taken as memory: 64 MiB in one packet, and a file of 1 GiB,
-# in 4 MiB more than the least.
+# Neither recovery data nor a file's length is taken as memory: 64 MiB in one packet, a file of 1 GiB, and 64 MiB
+# to scan, in 4 MiB more than the least. Nor are bodies held more than once that lie in one another.
 few=$((least + 4096))
-PYTHONPATH=$tools PYTHONDONTWRITEBYTECODE=1 python3 - << 'END'
-from vectors import packet
+PYTHONPATH=$tools python3 - << 'END'
+from hostile_cost import nested_creators, set_of
+from hostile_packets import desc_of
+from vectors import main_body, packet
+owner, content = bytes(16), bytes(64 << 20)
 with open("large.par2", "wb") as file:
-    file.write(packet(bytes(16), "recvslic", bytes(4) + bytes(64 << 20)))
+    file.write(packet(owner, "recvslic", bytes(4) + content))
 with open("sparse.par2", "wb") as file:
     file.truncate(1 << 30)
+with open("zeros.bin", "wb") as file:
+    file.truncate(len(content))
+with open("zeros.par2", "wb") as file:
+    file.write(set_of(main_body(65536, [owner]), ("filedesc", desc_of(owner, b"zeros.bin", content))))
+with open("nested.par2", "wb") as file:
+    file.write(nested_creators(128 << 10))
 END
+in_few=(sh -c 'ulimit -v "$0" && exec "$@"' $few "$parv")
 wants "a recovery slice of 64 MiB in $few KiB" 0 "large.par2 0 67108932 recvslic 00000000000000000000000000000000
-packets 1" "" sh -c 'ulimit -v "$1" && exec "$0" packets large.par2' "$parv" $few
-wants "a file of 1 GiB in $few KiB" 0 "packets 0" "" sh -c 'ulimit -v "$1" && exec "$0" packets sparse.par2' "$parv" $few
+packets 1" "" "${in_few[@]}" packets large.par2
+wants "a file of 1 GiB in $few KiB" 0 "packets 0" "" "${in_few[@]}" packets sparse.par2
+{ "$tools/describe_set.py" zeros.par2 | grep '^set'; printf '%s\n' "complete zeros.bin" "need 0 have 0" \
+    "result complete"; } > wanted
+gives "the verdict on 64 MiB in $few KiB" 0 wanted "" "${in_few[@]}" verify zeros.par2 zeros.bin
+wants "no slice in 64 MiB in $few KiB" 0 end "" "${in_few[@]}" find zeros.par2 zeros.bin
+"$tools/list_packets.py" nested.par2 > wanted
+gives "packets in one another in $few KiB" 0 wanted "" "${in_few[@]}" packets nested.par2
+"$tools/describe_set.py" nested.par2 > wanted
+gives "a set of packets in one another in $few KiB" 0 wanted "" "${in_few[@]}" set nested.par2
 exit $failed
