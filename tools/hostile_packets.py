@@ -54,6 +54,7 @@ def changed_main(chance, size, ids, others):
         lambda: main_body(size, ids + ids_twice * 2, others),
         lambda: main_body(size, ids, others + ids_twice * 2),
         lambda: main_body(size, ids + ids_twice, others + ids_twice),
+        lambda: main_body(size, ids, others + ids_twice),
         lambda: whole + bytes(chance.choice([4, 8, 12])),
         lambda: whole[:chance.choice([0, 4, 8, 12, len(whole) - 4])],
         lambda: main_body(size, ids[::-1], others),

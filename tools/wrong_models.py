@@ -53,6 +53,9 @@ EDITS = [
     ("describe_set.py", "len(set(ids)) < len(ids)", "len(set(ids[1:])) < len(ids[1:])"),
     ("describe_set.py", "if len(set(ids)) <",
      "ids = ids[:number(body[8:12])]\n    if len(set(ids)) <"),
+    ("describe_set.py", "if len(set(ids)) < len(ids)",
+     "if any(len(set(part)) < len(part) for count in [number(body[8:12])]\n"
+     "           for part in (ids[:count], ids[count:]))"),
     ("describe_set.py", "hashlib.md5(body).hexdigest() != owner", "False"),
     ("describe_set.py", "len(body) < 56 or", "len(body) < 60 or"),
     ("describe_set.py", "1 <= len(name) <= 4096", "len(name) <= 4096"),
