@@ -15,8 +15,8 @@ run() {
     flock "$logs" cat "$logs/$1"
 }
 export -f run
-printf '%s\n' disturbed refused_tests hostile ends address_space readings verdicts limits files \
-    names hand_proofs manual examples completions installed \
+printf '%s\n' disturbed refused_tests hostile costs ends address_space readings verdicts limits \
+    files names hand_proofs manual examples completions installed \
     | xargs -P "${RT_JOBS:-$(nproc)}" -I{} bash -c 'run {}' \
     || echo "FAILED: not every check was run" | tee "$logs/xargs"
 failed=$(grep -h '^FAILED: ' "$logs"/* | wc -l)

@@ -1,0 +1,65 @@
+#!/usr/bin/env bash
+# What a search costs, in processor time: sets whose slices are equal or nearly all filling, over files that are
+# full of them, and a large set over 64 MiB in which nothing stands, beside md5sum.
+. "$(dirname "$0")/wants.sh"
+cd "$work" || exit 1
+
+PYTHONPATH=$tools python3 - << 'END'
+import random
+from hostile_cost import set_of
+from hostile_packets import desc_of, ids_of, sums_of
+from vectors import main_body
+
+def write(name, data):
+    with open(name, "wb") as out:
+        out.write(data)
+
+def whole_set(name, size, *files):
+    ids = ids_of(len(files), 1)
+    bodies = [body for owner, (of, content) in zip(ids, files)
+              for body in (("filedesc", desc_of(owner, of, content)), ("ifsc", sums_of(owner, content, size)))]
+    write(name, set_of(main_body(size, ids), *bodies))
+
+# 32,767 slices of zeros, and one that stands nowhere.
+zeros = bytes(131068)
+whole_set("equal.par2", 4, (b"zero", zeros), (b"four", b"abcd"))
+write("zero", zeros)
+write("odd", (bytes(4) + b"x" * 4996) * 100)
+
+# A slice of zeros that is longer than the file, and one of two letters before as many.
+whole_set("tail.par2", 1 << 20, (b"zeros", bytes(1 << 20) + b"ab"))
+write("tail", b"x" * 5000 + bytes(60000))
+
+# 32,768 slices of 64 bytes, and others.
+chance = random.Random(1)
+owner, length = bytes(16), 64 * 32768
+write("many.par2", set_of(main_body(64, [owner]), ("filedesc", desc_of(owner, b"many", b"", length)),
+                          ("ifsc", owner + chance.randbytes(20 * 32768))))
+write("random", chance.randbytes(64 << 20))
+END
+
+# At most ten seconds of the processor.
+ten=(sh -c 'ulimit -S -t 10 && exec "$0" "$@"' "$parv")
+wants "the verdict on 32,767 equal slices" 2 "need 1 have 0
+result impossible" "" "${ten[@]}" verify -q equal.par2 zero odd
+wants "the verdict on slices longer than a tail of zeros" 2 "need 2 have 0
+result impossible" "" "${ten[@]}" verify -q tail.par2 tail
+wants "no slice in a tail of zeros" 0 end "" "${ten[@]}" find tail.par2 tail
+
+# The least time of three, in milliseconds of the processor.
+TIMEFORMAT='%U %S'
+least_of_three() {
+    for _ in 1 2 3; do
+        { time "$@" > "$said/text" 2> "$said/line" < /dev/null; } 2>&1
+    done | awk '{ spent = 1000 * ($1 + $2); if (NR == 1 || spent < least) least = spent } END { print least }'
+}
+
+wants "no slice of 32,768 in 64 MiB" 0 end "" "$parv" find many.par2 random
+found=$(least_of_three "$parv" find many.par2 random)
+hashed=$(least_of_three md5sum random)
+if [ "$found" -le $((8 * hashed + 300)) ]; then
+    echo "ok: a search of 64 MiB takes $found ms, and their MD5 $hashed ms"
+else
+    fails "a search of 64 MiB takes $found ms, and their MD5 $hashed ms"
+fi
+exit $failed
