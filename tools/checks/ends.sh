@@ -65,6 +65,18 @@ for is_default in True, False:
     print(f"{ran.returncode} {ran.stdout}".strip())
 print(open("limited").read(), end="")' "$parv"
 
+# Words and the environment lie on the stack too.
+for words in "packets v.par2" "set v.par2" "find v.par2 x.bin" "verify v.par2 g.bin"; do
+    # shellcheck disable=SC2086
+    "$parv" $words > "$said/alone"
+    gives "a stack of 128 KiB: $words" 0 "$said/alone" "" \
+        env -i sh -c "ulimit -s 128; exec \"\$0\" $words" "$parv"
+done
+# Zeros are searched for the program's slices until its time is spent.
+truncate -s 64G endless.bin
+wants "a limit on the time of the processor" 0 -24 "" python3 -c 'import subprocess, sys
+print(subprocess.run(["sh", "-c", "ulimit -S -t 1; exec \"$0\" find v.par2 endless.bin", sys.argv[1]]).returncode)' "$parv"
+
 wants "lines before a full device" 6 "" "parv: write fault" sh -c '"$0" find v.par2 x.bin > /dev/full' "$parv"
 for words in "packets v.par2" "set v.par2" "verify v.par2 x.bin"; do
     wants "a full device: $words" 6 "" "parv: write fault" sh -c "\"\$0\" $words > /dev/full" "$parv"
