@@ -57,6 +57,7 @@ result possible" "" "$parv" verify -q exponents.par2
 gcc -shared -fPIC -O1 -o disturb.so "$tools/disturb.c" -ldl || exit 1
 in_blocks() {
     local size writes
+    rm -f report
     REPORT=report LD_PRELOAD=$PWD/disturb.so "$parv" "$@" > text
     size=$(stat -c %s text)
     read -r _ _ _ _ _ writes _ < report
@@ -74,6 +75,7 @@ in_blocks verify full/*.par2
 counts() {
     local name=$1 least=$2 most=$3 what=$4 count writes reads
     shift 4
+    rm -f report
     REPORT=report LD_PRELOAD=$PWD/disturb.so "$parv" "$@" > text
     read -r _ _ _ _ _ writes _ reads < report
     count=${!what}
