@@ -229,3 +229,16 @@ fn a_reopening_reads_its_window_again(rt: HostRuntime) -> Result<(), Fail> {
     is(&rt, &shelf.handed(), &18);
     Ok(())
 }
+
+// A call for the next sighting gives no finder up, so what was read once isn't read again.
+#[test]
+fn no_call_reopens_unasked(rt: HostRuntime) -> Result<(), Fail> {
+    let index = index_of(rt.alloc(), b"abcdefgh")?;
+    let mut shelf = shelf_of(rt.alloc(), &[b"XXabcdefgh"], 64, &[])?;
+    let calls = [Call::Next, Call::Next, Call::Reopen];
+    let done = all_made(drive(rt.alloc(), &calls, &index, &mut shelf, cursor(START))?)?;
+    let wanted = [hit((0, 2, 0)), hit((0, 6, 1)), Answer::Reopened];
+    gave(&rt, &done, &wanted, cursor((0, 6, 2)));
+    is(&rt, &shelf.handed(), &10);
+    Ok(())
+}
