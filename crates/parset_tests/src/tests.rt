@@ -183,7 +183,7 @@ fn the_text_of_a_creator_body_is_read(rt: HostRuntime) -> Result<(), Fail> {
 }
 
 // The first four bytes of a recovery slice's body, its length, the slice size, and the answer.
-static SLICES: [([u8; 4], u64, u64, Result<u32, Aside>); 14] = [
+static SLICES: [([u8; 4], u64, u64, Result<u32, Aside>); 15] = [
     ([0, 0, 0, 0], 12, 8, Ok(0)),
     ([1, 2, 0, 0], 8, 4, Ok(513)),
     ([0xfe, 0xff, 0, 0], 8, 4, Ok(65_534)),
@@ -194,6 +194,7 @@ static SLICES: [([u8; 4], u64, u64, Result<u32, Aside>); 14] = [
     ([0, 0, 0, 0], 12, 4, Err(Aside::WrongLength)),
     ([0, 0, 0, 0], 0, 4, Err(Aside::WrongLength)),
     ([0, 0, 0, 0], 4, 4, Err(Aside::WrongLength)),
+    ([0, 0, 0, 0], 4, 0, Ok(0)),
     ([0, 0, 0, 0], 3, u64::MAX, Err(Aside::WrongLength)),
     ([0, 0, 0, 0], u64::MAX, u64::MAX, Err(Aside::WrongLength)),
     ([9, 0, 0, 0], u64::MAX, u64::MAX - 4, Ok(9)),

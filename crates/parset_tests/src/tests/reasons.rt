@@ -270,6 +270,26 @@ fn ifsc_number(alloc: Global, length: usize) -> Result<u8, AllocError> {
     Ok(number_of(ifsc_body(alloc, &body)))
 }
 
+// How many pairs an IFSC body of zeros has.
+fn pairs_of_zeros(alloc: Global, length: usize) -> Result<usize, Fail> {
+    let body = zeros(alloc, length)?;
+    let Ok(checksums) = ifsc_body(alloc, &body) else {
+        return Err("Memory, or a reason".into());
+    };
+    Ok(checksums.sums.len())
+}
+
+// Lengths of usable IFSC bodies of zeros, and how many pairs those have.
+static IFSC_PAIRS: [(usize, usize); 3] = [(16, 0), (36, 1), (655_376, 32_768)];
+
+#[test]
+fn checksums_have_a_pair_for_each_twenty_bytes(rt: HostRuntime) -> Result<(), Fail> {
+    for row in &IFSC_PAIRS {
+        is_in_row(&rt, row, &pairs_of_zeros(rt.alloc(), row.0)?, &row.1);
+    }
+    Ok(())
+}
+
 // Lengths of Creator bodies of zeros, and the reasons.
 static CREATOR_ZEROS: [(usize, u8); 3] = [(0, 0), (1_048_576, 0), (1_048_577, 7)];
 
