@@ -5,13 +5,15 @@ usage: wrong_models.py [CASES]
 
 Each edit is made in a copy of the tools, and hostile.py runs its first 200 cases there; those that
 no case notices then run the first CASES (4000). An edit after which every case still agrees shows
-that no case comes to that bound.
+that no case comes to that bound. One whose model takes more than 2 GiB is noticed too: it goes on
+with a set of more slices than there may be.
 
 PARV is the program (crates/parv/out/parv).
 """
 
 import glob
 import os
+import resource
 import shutil
 import subprocess
 import sys
@@ -19,6 +21,8 @@ import tempfile
 from concurrent.futures import ThreadPoolExecutor
 
 from runs import HERE, PARV
+
+MOST_MEMORY = 2 << 30   # of each process, in bytes
 
 EDITS = [
     ("list_packets.py", "length < 64", "length < 68"),
@@ -101,6 +105,8 @@ def notices(edit, cases):
             file.write(text.replace(old, new))
         ran = subprocess.run([sys.executable, "hostile.py", "--cases", str(cases)], cwd=folder,
                              env={**os.environ, "PARV": PARV}, capture_output=True, text=True)
+        if "MemoryError" in ran.stderr:
+            return "its model takes more memory than there is"
         if ran.stderr or ran.returncode not in (0, 1):
             sys.exit(f"{edit}: {ran.stderr}")
         return ran.stdout.splitlines()[0] if ran.returncode else None
@@ -108,6 +114,7 @@ def notices(edit, cases):
 
 def main():
     cases = int(sys.argv[1]) if len(sys.argv) > 1 else 4000
+    resource.setrlimit(resource.RLIMIT_AS, (MOST_MEMORY, MOST_MEMORY))
     left = EDITS
     for count in (200, cases):
         unnoticed = []
