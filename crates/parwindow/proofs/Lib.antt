@@ -12,3 +12,5 @@ pub mod SumLaws
 pub mod SearchLaws
 pub mod EntryLaws
 pub mod LeastLaws
+pub mod MissingLaws
+pub mod LengthLaws

@@ -2,8 +2,10 @@ pub mod Crc32
 pub mod Entries
 pub mod FilterBits
 pub mod Filtered
+pub mod OwnLengths
 pub mod Index
 pub mod Least
+pub mod Missing
 pub mod Rolled
 pub mod Slide
 pub mod Tables

@@ -1,9 +1,10 @@
-ghost use Rattle.std.specs.Prelude.{◌≡◌, ◌≤◌, List, length, IfOk, IsSorted};
+ghost use Rattle.std.specs.Prelude.{◌≡◌, ◌<◌, ◌≤◌, All, List, length, IfOk, IsSorted};
 ghost use Rattle.std.specs.List.{list_any};
 ghost use Rattle.parset.specs.declared.recovery_set.SetSlice.{SetSlice};
 ghost use Rattle.parwindow.specs.Index.{has_crc_of, has_sums};
 ghost use Rattle.parwindow.specs.Least.{IsLeastFrom};
 ghost use Rattle.parwindow.specs.Entries.{entry_cmp, AreWithCrc, IsFloor, IsIndexOf, IsLeastOf, lesser, passes_at};
+ghost use Rattle.parwindow.specs.OwnLengths.{is_missing_of, is_open};
 
 use crate::entry::Entry;
 use parfield::Hash16;
@@ -50,6 +51,15 @@ impl Entries {
             → IsLeastFrom (passes_at slices (has_sums (digest, crc))) from result }
     {
         next_match_in(&self.list, crc, digest, from)
+    }
+
+    /// Whether some slice has this CRC-32, at most so many bytes of its file, and no mark.
+    pub fn is_missing(&self, slices: &[SetSlice], crc: u32, left: u64, found: &[bool]) -> bool
+        requires indexed { IsIndexOf slices.now self.now.list.items }
+        requires each { length found.now ≡ length slices.now }
+        ensures { result ≡ is_missing_of slices.now found.now crc left }
+    {
+        has_open(with_crc(&self.list, crc), slices, left, found)
     }
 }
 
@@ -140,4 +150,19 @@ fn lesser(from: u32, least: Option<u32>, number: u32) -> Option<u32>
         Some(other) => Some(other.min(number)),
         None => Some(number),
     }
+}
+
+// Whether the slice of one of these entries has at most so many bytes of its file, and no mark.
+fn has_open(entries: &[Entry], slices: &[SetSlice], left: u64, found: &[bool]) -> bool
+    requires there { All (λ e. e.slice < length slices.now) entries.now }
+    requires each { length found.now ≡ length slices.now }
+    ensures { result ≡ list_any (is_open slices.now found.now left) entries.now }
+{
+    for entry in entries {
+        let slice = entry.slice as usize;
+        if !found[slice] && slices[slice].length <= left {
+            return true;
+        }
+    }
+    false
 }

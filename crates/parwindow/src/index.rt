@@ -3,10 +3,12 @@ ghost use Rattle.std.specs.Option.{IsSomeAnd};
 ghost use Rattle.parwindow.specs.Index.{slice_set_of, slice_passes, has_sums, has_crc_of, has_crc_in, has_fit_in};
 ghost use Rattle.parwindow.specs.Filtered.{IsShortest};
 ghost use Rattle.parwindow.specs.Least.{IsLeastFrom};
+ghost use Rattle.parwindow.specs.Missing.{has_fit_crc_in, is_missing_in};
 ghost use Rattle.parwindow.specs.Slide.{HasRegister};
 
 use crate::entries::Entries;
 use crate::filter::Filter;
+use crate::own_lengths::OwnLengths;
 use parfield::{Hash16, Sequence};
 use parset::{RecoverySet, SetSlice};
 use std::alloc::{AllocError, Global};
@@ -19,6 +21,7 @@ pub struct Index {
     slices: Sequence<SetSlice>,
     filter: Filter,
     entries: Entries,
+    lengths: OwnLengths,
     shortest: Option<u64>,
 }
 
@@ -45,6 +48,7 @@ impl Index {
             slices: Sequence::from_vec(slices),
             filter: Filter::of(alloc, set.slices())?,
             entries: Entries::of(alloc, set.slices())?,
+            lengths: OwnLengths::of(alloc, set.slices())?,
             shortest: shortest_of(set.slices()),
         })
     }
@@ -89,6 +93,23 @@ impl Index {
         ensures { result ≡ has_crc_in self.now crc }
     {
         self.filter.is_marked(crc ^ 0xFFFF_FFFF) && self.entries.has_crc(crc)
+    }
+
+    /// Whether some slice has this CRC-32 and at most so many bytes of its file.
+    pub fn has_fit_crc(&self, crc: u32, left: u64) -> bool
+        ensures { result ≡ has_fit_crc_in self.now crc left }
+    {
+        self.has_crc(crc) && self.lengths.has(crc, left)
+    }
+
+    /// Whether some slice without a mark has this CRC-32 and at most so many bytes of its file;
+    /// `found` has a mark for each slice, by number. Goes over the slices with this CRC-32 once.
+    pub fn is_missing(&self, crc: u32, left: u64, found: &[bool]) -> bool
+        requires { length found.now ≡ length self.now.slices }
+        ensures { result ≡ is_missing_in self.now found.now crc left }
+    {
+        self.entries
+            .is_missing(self.slices.as_slice(), crc, left, found)
     }
 
     /// The first slice from a number on that has this CRC-32.

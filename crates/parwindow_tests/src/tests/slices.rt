@@ -139,3 +139,71 @@ fn a_slice_fits_into_what_its_own_bytes_need(rt: HostRuntime) -> Result<(), Fail
     }
     Ok(())
 }
+
+// Both sums of the slices of `ab`, two zeros and `ab`: they are those of both.
+const EQUAL_BYTES: [u8; 40] =
+    *b"\x66\x27\x1d\x2e\x70\x37\x2c\x1b\x4d\xc5\xb4\x6e\x79\xa6\xf0\x01\x34\x50\x8d\xe9\
+      \x66\x27\x1d\x2e\x70\x37\x2c\x1b\x4d\xc5\xb4\x6e\x79\xa6\xf0\x01\x34\x50\x8d\xe9";
+
+// Where so many bytes are left, a slice with this CRC-32 fits in or none does.
+fn crc_fits(rt: &impl Abort, index: &Index, crc: u32, rows: &[(u64, bool)]) {
+    for (left, fits) in rows {
+        assert_eq!(rt; index.has_fit_crc(crc, *left), *fits);
+    }
+}
+
+#[test]
+fn a_slice_with_a_crc_fits_by_its_own_bytes(rt: HostRuntime) -> Result<(), Fail> {
+    let index = index_with(rt.alloc(), 10, &TEN_BYTES)?;
+    let fours = [(0, false), (3, false), (4, true), (u64::MAX, true)];
+    let twos = [(0, false), (1, false), (2, true), (u64::MAX, true)];
+    crc_fits(&rt, &index, ABCD_CRC, &fours);
+    crc_fits(&rt, &index, AB_CRC, &twos);
+    crc_fits(&rt, &index, 0, &[(u64::MAX, false)]);
+    let equal = index_with(rt.alloc(), 6, &EQUAL_BYTES)?;
+    crc_fits(&rt, &equal, AB_CRC, &twos);
+    let unknown = index_with(rt.alloc(), 10, &ABCD)?;
+    crc_fits(&rt, &unknown, ABCD_CRC, &[(u64::MAX, false)]);
+    Ok(())
+}
+
+// With these marks, a slice with this CRC-32 that fits into so many bytes has none, or each has one.
+fn misses(rt: &impl Abort, index: &Index, crc: u32, found: &[bool], rows: &[(u64, bool)]) {
+    assert_eq!(rt; index.slices() as usize, found.len());
+    for (left, missing) in rows {
+        assert_eq!(rt; index.is_missing(crc, *left, found), *missing);
+    }
+}
+
+#[test]
+fn a_slice_is_missing_that_fits_and_has_no_mark(rt: HostRuntime) -> Result<(), Fail> {
+    let index = index_with(rt.alloc(), 10, &TEN_BYTES)?;
+    let fours = [(3, false), (4, true), (u64::MAX, true)];
+    misses(&rt, &index, ABCD_CRC, &[false, true, true], &fours);
+    misses(&rt, &index, ABCD_CRC, &[true, false, true], &fours);
+    misses(
+        &rt,
+        &index,
+        ABCD_CRC,
+        &[true, true, false],
+        &[(u64::MAX, false)],
+    );
+    misses(
+        &rt,
+        &index,
+        AB_CRC,
+        &[true, true, false],
+        &[(1, false), (2, true)],
+    );
+    misses(&rt, &index, 0, &[false, false, false], &[(u64::MAX, false)]);
+    let equal = index_with(rt.alloc(), 6, &EQUAL_BYTES)?;
+    misses(&rt, &equal, AB_CRC, &[false, true], &fours);
+    misses(
+        &rt,
+        &equal,
+        AB_CRC,
+        &[true, false],
+        &[(1, false), (2, true)],
+    );
+    Ok(())
+}

@@ -1,0 +1,68 @@
+ghost use Rattle.std.specs.Prelude.{◌≡◌, List, IfOk, IsSorted};
+ghost use Rattle.std.specs.List.{list_any};
+ghost use Rattle.parset.specs.declared.recovery_set.SetSlice.{SetSlice};
+ghost use Rattle.parwindow.specs.OwnLengths.{length_cmp, AreLengthsOf, is_within};
+ghost use Rattle.parwindow.specs.Missing.{has_fit_crc_of};
+
+use parset::SetSlice;
+use std::alloc::{AllocError, Global};
+
+/// The CRC-32 of a slice, and how many of its bytes are its file's.
+#[derive(Clone, Copy, PartialEq, Eq, PartialOrd, Ord)]
+pub struct OwnLength {
+    pub crc: u32,
+    pub length: u64,
+}
+
+/// The CRC-32s of the slices with sums, in order, the shortest slice of each first.
+#[derive(Drop)]
+pub struct OwnLengths {
+    pub list: Vec<OwnLength>,
+    ghost rises: { IsSorted length_cmp list.items },
+}
+
+impl OwnLengths {
+    /// Those of these slices.
+    pub fn of(alloc: Global, slices: &[SetSlice]) -> Result<OwnLengths, AllocError>
+        ensures { IfOk result (λ lengths. AreLengthsOf slices.now lengths.list.items) }
+    {
+        let mut list = listed(alloc, slices)?;
+        list.sort_unstable();
+        Ok(OwnLengths { list })
+    }
+
+    /// Whether some slice has this CRC-32 and at most so many bytes of its file.
+    pub fn has(&self, crc: u32, left: u64) -> bool
+        ensures { (slices : List SetSlice) → AreLengthsOf slices self.now.list.items
+            → result ≡ list_any (has_fit_crc_of crc left) slices }
+    {
+        has_within(&self.list, crc, left)
+    }
+}
+
+// Those of these slices, in the order of the slices.
+fn listed(alloc: Global, slices: &[SetSlice]) -> Result<Vec<OwnLength>, AllocError>
+    ensures { IfOk result (λ list. AreLengthsOf slices.now list.items) }
+{
+    let mut list = Vec::with_capacity(alloc, slices.len())?;
+    for slice in slices {
+        if let Some((_, crc)) = slice.sums {
+            list.push(OwnLength {
+                crc,
+                length: slice.length,
+            })?;
+        }
+    }
+    Ok(list)
+}
+
+// Whether one of them has this CRC-32 and at most this length.
+fn has_within(lengths: &[OwnLength], crc: u32, left: u64) -> bool
+    requires { IsSorted length_cmp lengths.now }
+    ensures { result ≡ list_any (is_within crc left) lengths.now }
+{
+    match lengths.get(lengths.partition_point(|own| own.crc < crc)) {
+        Some(shortest) => shortest.crc == crc && shortest.length <= left,
+        None => false,
+    }
+}
