@@ -5,7 +5,9 @@ use Rattle.parshelf.specs.Reads.{ReadsOnly, FaultsIn}
 use Rattle.parshelf.specs.declared.reading.ReadFault.{ReadFault}
 use Rattle.parshelf.specs.declared.reading.ReadFault.TheVariants.{Failed, Ended}
 use Rattle.parwindow.specs.Crc32.{crc_of}
-use Rattle.parwindow.specs.Index.{SliceSet, has_crc_in}
+use Rattle.parwindow.specs.Index.{SliceSet}
+use Rattle.parwindow.specs.Missing.{has_fit_crc_in}
+use Rattle.parfind.proofs.SeenLaws.{fit_crc_has}
 use Rattle.parwindow.specs.Window.{WindowState}
 use Rattle.parcursor.specs.declared.cursor.Cursor.{Cursor}
 use Rattle.parfind.specs.declared.track.Track.{Track}
@@ -146,7 +148,7 @@ module _ (f : FinderState) (set : SliceSet) (s : ShelfState) (shelf : IsShelf s)
     (stands : StandsAt f.track f.cursor) (full : length f.window.content ≡ f.window.capacity)
     (counted : f.cursor.file < length s.lengths) (there : f.cursor.offset < slice_index s.lengths f.cursor.file)
     (w : WindowState) (b : Track) (looks : Looks f.window f.track w b) (remembers : Remembers w b)
-    (marked : remembered f.track.digest < remembered b.digest → IsTrue (has_crc_in set (crc_of f.window.content))) where
+    (left : ℕ) (marked : remembered f.track.digest < remembered b.digest → IsTrue (has_fit_crc_in set (crc_of f.window.content) left)) where
   tied_look : IsTied s w b
   tied_look =
       let t = belongs.tied in
@@ -181,7 +183,7 @@ module _ (f : FinderState) (set : SliceSet) (s : ShelfState) (shelf : IsShelf s)
       counted_look (scan_of set s) f.opening f.track b f.window.digests w.digests
       (From-by_test (start_of f.opening) (hashed_of f.track) belongs.onward) look_file look_held looks.counted looks.kept
       (rw (lengths, stands.file_is) counted) (rw (lengths, stands.file_is, stands.held_is) there)
-      (λ more. rw (stands.file_is, stands.held_is) (rw window at (marked more)))
+      (λ more. rw (stands.file_is, stands.held_is) (rw window at (fit_crc_has set (crc_of f.window.content) left (marked more))))
       (belongs.counted steady)
 
   pub look_belongs : (d : Cursor) → d.file ≡ f.cursor.file → d.offset ≡ f.cursor.offset → BelongsTo (with_window f d w b) set s

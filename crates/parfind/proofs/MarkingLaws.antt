@@ -3,14 +3,13 @@ use Rattle.std.proofs.Common.{◌≡◌, ℕ, ◌+◌, ◌<◌, ◌≤◌, Bool,
 use Rattle.std.specs.List.{list_any, range_with_len}
 use Rattle.std.proofs.lemmas.Bool.{cases_Bool, cases_eq, cases_lt, eq-eqb, ne_eqb, or_cases, or_left, or_right, lt-ltb, le-ltb, false_from_ne_true, and_parts, and_from, not-true, not_from_false}
 use Rattle.std.proofs.Math.Bool.{or-false, or_assoc}
-use Rattle.parset.specs.declared.recovery_set.SetSlice.{SetSlice}
 use Rattle.parfind.proofs.ListLaws.{Has, Has-range}
-use Rattle.parfind.proofs.SeenLaws.{passes_there, fit_passes}
-use Rattle.parwindow.specs.Index.{SliceSet, slice_passes, has_crc_of}
+use Rattle.parfind.proofs.SeenLaws.{passes_there, fit_passes, fits_on}
+use Rattle.parwindow.specs.Index.{SliceSet, slice_passes}
+use Rattle.parwindow.specs.Missing.{has_fit_crc_of, is_missing_in}
 use Rattle.parwindow.specs.Least.{IsLeastFrom}
 use Rattle.parfield.specs.declared.hash16.Hash16.{Hash16}
 use Rattle.parfind.specs.Looking.{is_fit}
-use Rattle.parfind.specs.Marks.{is_missing_crc}
 use Rattle.parfind.specs.Marking.{MarksMore, IsSettled}
 use Rattle.parfind.specs.Surveys.{mark_of}
 
@@ -40,40 +39,37 @@ has_any p (y ∷ ys) x has h = elim has [
 none_range : (p : ℕ → Bool) (n : ℕ) → ((k : ℕ) → p k ≡ true → ⊥) → list_any p (range_with_len 0 n) ≡ false
 none_range p n f = false_from_ne_true _ (λ h. let some = any_has p (range_with_len 0 n) h in f some.0 some.2)
 
--- the slices with a CRC-32 that have no mark
+-- the slices with a CRC-32 that fit and have no mark
 
-pub missing_some : (set : SliceSet) (found : List Bool) (crc n : ℕ) → n < length set.slices
-    → slice_passes set (has_crc_of crc) n ≡ true → mark_of found n ≡ false → is_missing_crc set found crc ≡ true
-missing_some set found crc n there has none =
-    has_any (λ k. slice_passes set (has_crc_of crc) k && not (mark_of found k)) (range_with_len 0 (length set.slices)) n
+missing_some : (set : SliceSet) (found : List Bool) (crc left n : ℕ) → slice_passes set (has_fit_crc_of crc left) n ≡ true
+    → mark_of found n ≡ false → is_missing_in set found crc left ≡ true
+missing_some set found crc left n has none =
+    let there : n < length set.slices = passes_there set (has_fit_crc_of crc left) n has in
+    has_any (λ k. slice_passes set (has_fit_crc_of crc left) k && not (mark_of found k)) (range_with_len 0 (length set.slices)) n
     (Has-range 0 (length set.slices) n (omega arith) (omega arith)) (and_from _ _ has (not_from_false _ none))
 
-pub missing_none : (set : SliceSet) (found : List Bool) (crc : ℕ)
-    → ((k : ℕ) → slice_passes set (has_crc_of crc) k ≡ true → mark_of found k ≡ true) → is_missing_crc set found crc ≡ false
-missing_none set found crc all =
-    none_range (λ k. slice_passes set (has_crc_of crc) k && not (mark_of found k)) (length set.slices) (λ k h.
-    let parts = and_parts (slice_passes set (has_crc_of crc) k) (not (mark_of found k)) h in
+missing_none : (set : SliceSet) (found : List Bool) (crc left : ℕ)
+    → ((k : ℕ) → slice_passes set (has_fit_crc_of crc left) k ≡ true → mark_of found k ≡ true) → is_missing_in set found crc left ≡ false
+missing_none set found crc left all =
+    none_range (λ k. slice_passes set (has_fit_crc_of crc left) k && not (mark_of found k)) (length set.slices) (λ k h.
+    let parts = and_parts (slice_passes set (has_fit_crc_of crc left) k) (not (mark_of found k)) h in
     let both : true ≡ false = sym (all k parts.0) ∙ not-true (mark_of found k) parts.1 in cc)
 
-pub passes_past : (set : SliceSet) (test : SetSlice → Bool) (n : ℕ) → length set.slices ≤ n → slice_passes set test n ≡ false
-passes_past set test n past = false_from_ne_true _ (λ h. absurd (omega (arith, passes_there set test n h)))
-
 -- a slice that has no mark had none before, as no mark is taken away
-pub missing_was : (set : SliceSet) (was now : List Bool) (crc : ℕ) → ((k : ℕ) → mark_of was k ≡ true → mark_of now k ≡ true)
-    → is_missing_crc set now crc ≡ true → is_missing_crc set was crc ≡ true
-missing_was set was now crc kept missing = elim (cases_Bool (is_missing_crc set was crc)) [
+pub missing_was : (set : SliceSet) (was now : List Bool) (crc left : ℕ) → ((k : ℕ) → mark_of was k ≡ true → mark_of now k ≡ true)
+    → is_missing_in set now crc left ≡ true → is_missing_in set was crc left ≡ true
+missing_was set was now crc left kept missing = elim (cases_Bool (is_missing_in set was crc left)) [
   | inl is ↦ is
   | inr known ↦
-      let nowhere : is_missing_crc set now crc ≡ false = missing_none set now crc (λ k has. elim (cases_Bool (mark_of was k)) [
+      let nowhere : is_missing_in set now crc left ≡ false = missing_none set now crc left (λ k has. elim (cases_Bool (mark_of was k)) [
         | inl marked ↦ kept k marked
-        | inr none ↦
-            let both : true ≡ false = sym (missing_some set was crc k (passes_there set (has_crc_of crc) k has) has none) ∙ known in cc
+        | inr none ↦ let both : true ≡ false = sym (missing_some set was crc left k has none) ∙ known in cc
       ]) in
       let both : true ≡ false = sym missing ∙ nowhere in cc
 ]
 
 -- where each of them has its mark, none of the slices that fit is without
-pub fits_marked : (set : SliceSet) (found : List Bool) (sums : Hash16 × ℕ) (left : ℕ) → is_missing_crc set found sums.1 ≡ false
+pub fits_marked : (set : SliceSet) (found : List Bool) (sums : Hash16 × ℕ) (left : ℕ) → is_missing_in set found sums.1 left ≡ false
     → MarksMore (slice_passes set (is_fit sums left)) found found
 fits_marked set found sums left known n =
     let fit : Bool = slice_passes set (is_fit sums left) n in
@@ -83,21 +79,31 @@ fits_marked set found sums left known n =
       | inr fits ↦ elim (cases_Bool (mark_of found n)) [
         | inl marked ↦ marked
         | inr none ↦
-            let missing : is_missing_crc set found sums.1 ≡ true =
-            missing_some set found sums.1 n (passes_there set (is_fit sums left) n fits) (fit_passes set sums left n fits) none in
+            let missing : is_missing_in set found sums.1 left ≡ true =
+            missing_some set found sums.1 left n (fit_passes set sums left n fits) none in
             let both : true ≡ false = sym missing ∙ known in cc
       ]
     ])
 
 -- what is settled stays so as marks are set
-pub settled_more : (set : SliceSet) (was now : List Bool) (test : ℕ → Bool) (settled : Option ℕ) → MarksMore test was now
-    → IfSome settled (IsSettled set was) → IfSome settled (IsSettled set now)
-settled_more set was now test None marks h = tt
-settled_more set was now test (Some crc) marks h =
-    false_from_ne_true (is_missing_crc set now crc) (λ missing.
-    let before : is_missing_crc set was crc ≡ true =
-    missing_was set was now crc (λ k marked. marks k ∙ or_left (mark_of was k) (test k) marked) missing in
+pub settled_more : (set : SliceSet) (was now : List Bool) (left : ℕ) (test : ℕ → Bool) (settled : Option ℕ) → MarksMore test was now
+    → IfSome settled (IsSettled set was left) → IfSome settled (IsSettled set now left)
+settled_more set was now left test None marks h = tt
+settled_more set was now left test (Some crc) marks h =
+    false_from_ne_true (is_missing_in set now crc left) (λ missing.
+    let before : is_missing_in set was crc left ≡ true =
+    missing_was set was now crc left (λ k marked. marks k ∙ or_left (mark_of was k) (test k) marked) missing in
     let both : true ≡ false = sym before ∙ h in cc)
+
+-- and as less is left of the file
+pub settled_on : (set : SliceSet) (found : List Bool) (more less : ℕ) (settled : Option ℕ) → less ≤ more
+    → IfSome settled (IsSettled set found more) → IfSome settled (IsSettled set found less)
+settled_on set found more less None up h = tt
+settled_on set found more less (Some crc) up h =
+    missing_none set found crc less (λ k has. elim (cases_Bool (mark_of found k)) [
+      | inl marked ↦ marked
+      | inr none ↦ let both : true ≡ false = sym (missing_some set found crc more k (fits_on set crc less more k up has) none) ∙ h in cc
+    ])
 
 -- one more mark
 

@@ -1,6 +1,6 @@
 -- A window, and the slices that are seen in it.
-use Rattle.std.proofs.Common.{◌≡◌, ℕ, zero, suc, ◌+◌, ◌<◌, true, List, [], ◌∷◌, length, refl, sym, ap, ◌∙◌, arith, slice_get, Bool, false, ◌&&◌, ◌==◌, nat_le, Option, Some, None}
-use Rattle.std.proofs.lemmas.Bool.{and_parts, or_left, or_right, ltb-true, lt-ltb}
+use Rattle.std.proofs.Common.{◌≡◌, ℕ, zero, suc, ◌+◌, ◌<◌, ◌≤◌, true, List, [], ◌∷◌, length, refl, sym, ap, ◌∙◌, arith, inl, inr, slice_get, Bool, false, ◌&&◌, ◌==◌, nat_le, Option, Some, None}
+use Rattle.std.proofs.lemmas.Bool.{and_parts, and_from, cases_Bool, le-leb, leb-true, or_left, or_right, ltb-true, lt-ltb}
 use Rattle.std.specs.List.{list_any}
 use Rattle.std.specs.Str.{bytes_eq}
 use Rattle.std.specs.Option.{option_map_or}
@@ -10,7 +10,9 @@ use Rattle.parfield.specs.declared.hash16.Hash16.{Hash16}
 use Rattle.parset.specs.declared.recovery_set.SetSlice.{SetSlice}
 use Rattle.parwindow.specs.Window.{window_at}
 use Rattle.parwindow.specs.Crc32.{crc_of}
-use Rattle.parwindow.specs.Index.{SliceSet, slice_passes, sums_of, has_crc_of, has_crc_in}
+use Rattle.parwindow.specs.Index.{SliceSet, slice_passes, sums_of, has_sums, has_crc_of, has_crc_in}
+use Rattle.parwindow.specs.Missing.{has_fit_crc_of, has_fit_crc_in}
+use Rattle.parwindow.proofs.MissingLaws.{no_fit}
 use Rattle.parwindow.specs.Least.{IsLeastFrom}
 use Rattle.parfind.specs.Sightings.{is_seen, is_seen_in}
 use Rattle.parfind.specs.Looking.{is_fit}
@@ -83,16 +85,35 @@ has_both : (sums : Hash16 × ℕ) (known : Option (Hash16 × ℕ)) → option_ma
 has_both sums None h = h
 has_both sums (Some k) h = (and_parts _ _ h).0
 
-pub fit_has_crc : (set : SliceSet) (sums : Hash16 × ℕ) (left n : ℕ) → slice_passes set (is_fit sums left) n ≡ true → has_crc_in set sums.1 ≡ true
-fit_has_crc set sums left n fits =
-    let slice = passing (is_fit sums left) (slice_get set.slices n) fits in
-    passing_has (has_crc_of sums.1) set.slices n slice.0 slice.1 (has_both sums slice.0.sums (and_parts _ _ slice.2).1)
+module _ (set : SliceSet) (sums : Hash16 × ℕ) (left n : ℕ) (fits : slice_passes set (is_fit sums left) n ≡ true) where
+  pub fit_has_crc : has_fit_crc_in set sums.1 left ≡ true
+  fit_has_crc =
+      let slice = passing (is_fit sums left) (slice_get set.slices n) fits in
+      let parts = and_parts (nat_le slice.0.length left) (has_sums sums slice.0) slice.2 in
+      passing_has (has_fit_crc_of sums.1 left) set.slices n slice.0 slice.1
+      (and_from (has_crc_of sums.1 slice.0) (nat_le slice.0.length left) (has_both sums slice.0.sums parts.1) parts.0)
 
-pub fit_passes : (set : SliceSet) (sums : Hash16 × ℕ) (left n : ℕ) → slice_passes set (is_fit sums left) n ≡ true
-    → slice_passes set (has_crc_of sums.1) n ≡ true
-fit_passes set sums left n fits =
-    let slice = passing (is_fit sums left) (slice_get set.slices n) fits in
-    rw slice.1 (has_both sums slice.0.sums (and_parts _ _ slice.2).1)
+  pub fit_passes : slice_passes set (has_fit_crc_of sums.1 left) n ≡ true
+  fit_passes =
+      let slice = passing (is_fit sums left) (slice_get set.slices n) fits in
+      let parts = and_parts (nat_le slice.0.length left) (has_sums sums slice.0) slice.2 in
+      rw slice.1 (and_from (has_crc_of sums.1 slice.0) (nat_le slice.0.length left) (has_both sums slice.0.sums parts.1) parts.0)
+
+-- a slice that fits into less fits into more
+pub fits_on : (set : SliceSet) (crc less more n : ℕ) → less ≤ more → slice_passes set (has_fit_crc_of crc less) n ≡ true
+    → slice_passes set (has_fit_crc_of crc more) n ≡ true
+fits_on set crc less more n up fits =
+    let slice = passing (has_fit_crc_of crc less) (slice_get set.slices n) fits in
+    let parts = and_parts (has_crc_of crc slice.0) (nat_le slice.0.length less) slice.2 in
+    let short : slice.0.length ≤ less = leb-true slice.0.length less parts.1 in
+    rw slice.1 (and_from (has_crc_of crc slice.0) (nat_le slice.0.length more) parts.0 (le-leb slice.0.length more (omega arith)))
+
+-- one that fits has the CRC-32
+pub fit_crc_has : (set : SliceSet) (crc left : ℕ) → has_fit_crc_in set crc left ≡ true → has_crc_in set crc ≡ true
+fit_crc_has set crc left fits = elim (cases_Bool (has_crc_in set crc)) [
+  | inl has ↦ has
+  | inr none ↦ let both : true ≡ false = sym fits ∙ no_fit set.slices crc left none in cc
+]
 
 pub seen_has_crc : (set : SliceSet) (file : List ℕ) (offset n : ℕ) → is_seen_in set file offset n ≡ true
     → has_crc_in set (crc_of (window_at set.slice_size file offset)) ≡ true

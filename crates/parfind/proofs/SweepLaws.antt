@@ -7,12 +7,12 @@ use Rattle.parshelf.proofs.ReadLaws.{ReadsOnly_more}
 use Rattle.parshelf.proofs.ShelfLaws.{length-file_of}
 use Rattle.parwindow.specs.Crc32.{crc_of}
 use Rattle.parwindow.specs.Index.{SliceSet, slice_passes, sums_of, has_fit_in}
+use Rattle.parwindow.specs.Missing.{is_missing_in}
 use Rattle.parwindow.specs.Window.{WindowState, window_at}
 use Rattle.parcursor.specs.declared.cursor.Cursor.{Cursor}
 use Rattle.parfind.specs.declared.track.Track.{Track}
 use Rattle.parfind.specs.Looking.{is_fit}
 use Rattle.parfind.specs.Marking.{MarksMore, TakesDigest}
-use Rattle.parfind.specs.Marks.{is_missing_crc}
 use Rattle.parcursor.specs.Order.{cursor_of}
 use Rattle.parfind.specs.Reach.{ReadsUpTo}
 use Rattle.parfind.specs.Sightings.{is_seen_in, sightings_of, sightings_between}
@@ -145,18 +145,23 @@ module _ (set : SliceSet) (old now : SurveyState) (shelf : IsShelf old.shelf) (r
 
     pub swept_here : (next : SurveyState) → next.shelf ≡ now.shelf → next.track ≡ now.track
         → MarksMore (slice_passes set (is_fit (sums_of now.window.content) left)) now.found next.found
-        → TakesDigest (is_missing_crc set now.found (crc_of now.window.content)) now.window next.window
+        → TakesDigest (is_missing_in set now.found (crc_of now.window.content) left) now.window next.window
         → Surveyed set old next (cursor_on (cursor_to now.track) 1)
     swept_here next still track marks takes =
         surveyed_here set old now (cursor_to now.track) so_far refl shelf counted (omega arith) next still track
-        (slice_passes set (is_fit (sums_of now.window.content) left)) (is_missing_crc set now.found (crc_of now.window.content))
+        (slice_passes set (is_fit (sums_of now.window.content) left)) (is_missing_in set now.found (crc_of now.window.content) left)
         (λ steady n.
         let file : List ℕ = file_of old.shelf now.track.file in
         let whole : length file ≡ slice_index old.shelf.lengths now.track.file = length-file_of old.shelf now.track.file shelf steady in
         fit_seen set file now.track.held left (sums_of now.window.content) (omega arith) (omega arith) (ap sums_of (whole_there steady)) n)
         (λ steady wanted.
-        let here = missing_was set old.found now.found (crc_of now.window.content) so_far.kept wanted in
-        subst (λ (content : List ℕ). is_missing_crc set old.found (crc_of content) ≡ true) (whole_there steady) here)
+        let file : List ℕ = file_of old.shelf now.track.file in
+        let whole : length file ≡ slice_index old.shelf.lengths now.track.file = length-file_of old.shelf now.track.file shelf steady in
+        let rest : left ≡ length file - now.track.held = omega (arith, room) in
+        let here = missing_was set old.found now.found (crc_of now.window.content) left so_far.kept wanted in
+        let there : is_missing_in set old.found (crc_of (window_at set.slice_size file now.track.held)) left ≡ true =
+        subst (λ (content : List ℕ). is_missing_in set old.found (crc_of content) left ≡ true) (whole_there steady) here in
+        subst (λ (n : ℕ). is_missing_in set old.found (crc_of (window_at set.slice_size file now.track.held)) n ≡ true) rest there)
         marks takes
 
 -- the window keeps its capacity
@@ -201,7 +206,7 @@ module _ (set : SliceSet) (old now : SurveyState) (shelf : IsShelf old.shelf) (r
   pub swept_look : ReadsOnly now.shelf next.shelf → length next.window.content ≡ next.window.capacity → now.track.file < length old.shelf.lengths
       → 0 < left → (last : SurveyState) → last.shelf ≡ next.shelf → last.track ≡ next.track
       → MarksMore (slice_passes set (is_fit (sums_of next.window.content) left)) next.found last.found
-      → TakesDigest (is_missing_crc set next.found (crc_of next.window.content)) next.window last.window
+      → TakesDigest (is_missing_in set next.found (crc_of next.window.content) left) next.window last.window
       → Surveyed set old last (cursor_on (cursor_to next.track) 1)
   swept_look only full counted some last still track marks takes =
       swept_here set old next shelf (ReadsOnly_more old.shelf now.shelf next.shelf reads only) tied

@@ -16,3 +16,4 @@ pub use Rattle.parshelf.specs.Reads
 pub use Rattle.parshelf.specs.Shelf
 pub use Rattle.parwindow.specs.Index
 pub use Rattle.parwindow.specs.Least
+pub use Rattle.parwindow.specs.Missing

@@ -1,8 +1,8 @@
 -- What a survey does at one place: the marks that it sets, and the digest that it takes.
 use Rattle.std.specs.Prelude.{◌≡◌, ℕ, ◌+◌, ◌||◌, Bool, false, List, if◌then◌else◌}
 use Rattle.parwindow.specs.Index.{SliceSet}
+use Rattle.parwindow.specs.Missing.{is_missing_in}
 use Rattle.parwindow.specs.Window.{WindowState}
-use Rattle.parfind.specs.Marks.{is_missing_crc}
 use Rattle.parfind.specs.Surveys.{mark_of}
 
 -- those slices are marked too whose numbers pass a test, and no other
@@ -14,6 +14,6 @@ abbrev pub TakesDigest : Bool → WindowState → WindowState → Type 0
 TakesDigest wanted old new =
     new ≡ record old { digests = old.digests + (if wanted then 1 else 0) }
 
--- each slice with this CRC-32 has its mark
-abbrev pub IsSettled : SliceSet → List Bool → ℕ → Type 0
-IsSettled set found crc = is_missing_crc set found crc ≡ false
+-- each slice with this CRC-32 that fits into what is left of the file has its mark
+abbrev pub IsSettled : SliceSet → List Bool → ℕ → ℕ → Type 0
+IsSettled set found left crc = is_missing_in set found crc left ≡ false

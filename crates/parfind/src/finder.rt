@@ -71,6 +71,7 @@ impl Finder {
         ensures digests { IfOk result (λ finder. finder.digests ≡ 0) }
         ensures belongs { IfOk result (λ finder. BelongsTo finder index.now (H.state shelf.now)) }
     {
+        // Only the contract speaks of it.
         let _ = shelf;
         let window = Window::new(alloc, index.size() as usize)?;
         Ok(Finder {
@@ -275,6 +276,7 @@ impl Finder {
         ensures within { IsWithin result left }
         ensures stays { self.new ≡ record self.old { cursor = self.new.cursor } }
     {
+        // Only the contract speaks of it.
         let _ = index;
         let count = rest_of(shelf, at).min(left.unwrap_or(u64::MAX));
         self.cursor = Cursor {
@@ -307,6 +309,7 @@ impl Finder {
         ensures opening { self.new.opening ≡ self.old.opening }
         ensures no_fewer { self.old.digests ≤ self.new.digests }
     {
+        // Only the contract speaks of it.
         let _ = index;
         self.cursor = at;
         self.track.enter(&mut self.window, at.file, at.offset);

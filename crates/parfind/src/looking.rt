@@ -1,8 +1,9 @@
 ghost use Rattle.std.specs.Prelude.{◌≡◌, ◌<◌, ◌≤◌, ◌+◌, length, IfSome, IsTrue};
 ghost use Rattle.parfield.specs.Md5.{md5};
 ghost use Rattle.parwindow.specs.Crc32.{crc_of};
-ghost use Rattle.parwindow.specs.Index.{slice_passes, sums_of, has_crc_in};
+ghost use Rattle.parwindow.specs.Index.{slice_passes, sums_of};
 ghost use Rattle.parwindow.specs.Least.{IsLeastFrom};
+ghost use Rattle.parwindow.specs.Missing.{has_fit_crc_in};
 ghost use Rattle.parfind.specs.Looking.{is_fit};
 ghost use Rattle.parfind.specs.Tracks.{Looks, Remembers, remembered};
 
@@ -12,7 +13,7 @@ use parwindow::{Index, Window};
 
 impl Track {
     /// The first slice from a number on that has both sums of a full window and fits into what is
-    /// left of the file. The MD5 is taken only where some slice has the CRC-32, and once.
+    /// left of the file. The MD5 is taken only where some slice with the CRC-32 fits, and once.
     pub fn first_seen(
         &mut self,
         window: &mut Window,
@@ -28,11 +29,11 @@ impl Track {
             × (length index.now.slices ≤ 32768)) }
         ensures looks { Looks window.old self.old window.new self.new }
         ensures marked { remembered self.old.digest < remembered self.new.digest
-            → IsTrue (has_crc_in index.now (crc_of window.old.content)) }
+            → IsTrue (has_fit_crc_in index.now (crc_of window.old.content) left) }
         ensures remembers { Remembers window.new self.new }
     {
         let crc = window.crc();
-        if !index.has_crc(crc) {
+        if !index.has_fit_crc(crc, left) {
             return None;
         }
         let digest = self.digest_of(window);

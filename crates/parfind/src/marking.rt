@@ -1,8 +1,8 @@
 ghost use Rattle.std.specs.Prelude.{◌≡◌, ◌<◌, ◌≤◌, ◌||◌, ℕ, length, false, IfSome, IsTrue};
 ghost use Rattle.parwindow.specs.Index.{slice_passes, sums_of};
 ghost use Rattle.parwindow.specs.Crc32.{crc_of};
+ghost use Rattle.parwindow.specs.Missing.{is_missing_in};
 ghost use Rattle.parfind.specs.Looking.{is_fit};
-ghost use Rattle.parfind.specs.Marks.{is_missing_crc};
 ghost use Rattle.parfind.specs.Marking.{MarksMore, TakesDigest, IsSettled};
 ghost use Rattle.parfind.specs.Surveys.{mark_of};
 
@@ -27,9 +27,9 @@ pub fn next_missing(found: &[bool], from: usize) -> usize
 }
 
 /// Marks each slice that has both sums of a full window and fits into what is left of the file. The
-/// MD5 is taken only where some slice with the CRC-32 has no mark. `settled` keeps a CRC-32 of
-/// which each slice has its mark, so that in a run of equal windows, as of zeros, that is asked
-/// once.
+/// MD5 is taken only where some slice with the CRC-32 fits and has no mark. `settled` keeps a CRC-32
+/// of which each slice that fits has its mark, so that in a run of equal windows, as of zeros, that
+/// is asked once a file.
 pub fn mark_seen(
     window: &mut Window,
     index: &Index,
@@ -38,41 +38,23 @@ pub fn mark_seen(
     settled: &mut Option<u32>,
 )
     requires each { length found.old ≡ length index.now.slices }
-    requires settled { IfSome settled.old (IsSettled index.now found.old) }
-    ensures settled { IfSome settled.new (IsSettled index.now found.new) }
+    requires settled { IfSome settled.old (IsSettled index.now found.old left) }
+    ensures settled { IfSome settled.new (IsSettled index.now found.new left) }
     ensures marks { MarksMore
         (slice_passes index.now (is_fit (sums_of window.old.content) left)) found.old found.new }
     ensures digest { TakesDigest
-        (is_missing_crc index.now found.old (crc_of window.old.content)) window.old window.new }
+        (is_missing_in index.now found.old (crc_of window.old.content) left) window.old window.new }
 {
     let crc = window.crc();
     if *settled == Some(crc) {
         return;
     }
-    if is_missing(index, crc, found) {
+    if index.is_missing(crc, left, found) {
         let digest = window.digest();
         mark_matches(index, crc, digest, left, found);
     } else {
         *settled = Some(crc);
     }
-}
-
-// Whether some slice with this CRC-32 has no mark.
-fn is_missing(index: &Index, crc: u32, found: &[bool]) -> bool
-    requires { length found.now ≡ length index.now.slices }
-    ensures { result ≡ is_missing_crc index.now found.now crc }
-{
-    let mut from = 0;
-    while from < index.slices() {
-        let Some(slice) = index.next_crc(crc, from) else {
-            return false;
-        };
-        if !found[slice as usize] {
-            return true;
-        }
-        from = slice + 1;
-    }
-    false
 }
 
 // Marks each slice that has both sums and fits into what is left of the file.

@@ -65,8 +65,8 @@ pub fn survey<H: Shelf>(
 
 /// Marks each slice of the set that has a sighting, by a window that is handed in and without
 /// memory; a fault comes with its file's number. MD5s are taken no more often than there are places
-/// where a slice that has no mark at the call has the CRC-32, and no more is read than around the
-/// place by which each slice has its mark.
+/// where a slice that fits and has no mark at the call has the CRC-32, and no more is read than
+/// around the place by which each slice has its mark.
 pub fn survey_in<H: Shelf>(
     index: &Index,
     shelf: &mut H,
@@ -146,6 +146,7 @@ fn sweep<H: Shelf>(
         if left == 0 || !index.fits(left) {
             let next = track.file + 1;
             track.enter(window, next, 0);
+            settled = None;
             continue;
         }
         track.fill(window, shelf)?;

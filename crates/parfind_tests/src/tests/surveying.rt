@@ -126,7 +126,7 @@ fn each_slice_that_is_seen_is_marked(rt: HostRuntime) -> Result<(), Fail> {
     mark_each(&rt, &SEEN)
 }
 
-static EQUAL: [Marks<'static>; 3] = [
+static EQUAL: [Marks<'static>; 4] = [
     Marks {
         content: b"\0\0\0\0\0\0\0\0",
         files: &[b"\0\0\0\0\0\0"],
@@ -144,6 +144,12 @@ static EQUAL: [Marks<'static>; 3] = [
         files: &[b"\0\0\0\0\0\0\0\0abcd\0\0\0\0"],
         wanted: &[true, true, true, false],
         most: 16,
+    },
+    Marks {
+        content: b"\0\0\0\0\0\0\0\0ab",
+        files: &[b"\0\0\0", b"\0\0\0\0\0"],
+        wanted: &[true, true, false],
+        most: 8,
     },
 ];
 
@@ -356,7 +362,7 @@ fn missing_law()
     ensures none { missing_places two_slices (false ∷ false ∷ []) ≡ 2 }
     ensures one { missing_places two_slices (true ∷ false ∷ []) ≡ 1 }
     ensures all { missing_places two_slices (true ∷ true ∷ []) ≡ 0 }
-    ensures equal { missing_places equal_slices (true ∷ false ∷ []) ≡ 6 }
+    ensures equal { missing_places equal_slices (true ∷ false ∷ []) ≡ 3 }
     ensures both { missing_places equal_slices (true ∷ true ∷ []) ≡ 0 }
 {}
 

@@ -7,6 +7,7 @@ use Rattle.parwindow.specs.Index.{SliceSet, has_fit_in}
 use Rattle.parwindow.specs.Window.{WindowState}
 use Rattle.parfind.specs.Surveying.{SurveyState, Surveyed, cursor_to}
 use Rattle.parfind.proofs.EnterLaws.{unread_follows}
+use Rattle.parfind.proofs.MarkingLaws.{settled_on}
 use Rattle.parfind.proofs.StepLaws.{faults_before}
 use Rattle.parfind.proofs.SurveyLaws.{surveyed_none, not_all}
 use Rattle.parfind.proofs.PassLaws.{cursor_on}
@@ -63,7 +64,7 @@ loop-missing-preserved-then-left-eq0 g c =
       within = inv.within;
       first = inv.first;
       marked = inv.marked;
-      settled = inv.settled;
+      settled = tt;
       none = inv.none;
       window_is = kept_capacity c.args.window.now c.loop-missing.window c.enter.new.window inv.window_is (ap (λ (w : WindowState). w.capacity) entered.1);
       surveyed = swept_enter set old now shelf inv.reads c.loop-missing.missing there unmarked left room none inv.surveyed next refl refl entered.0 entered.1;
@@ -124,6 +125,9 @@ returns-in_err-fill-clause-fault g c =
     rw (failed.1, failed.2, c.fill.ensures.same.file_is)
     (faults_before s mid full c.loop-missing.track.file c.in_err-fill.field-0.0 c.loop-missing.invariant.reads c.in_err-fill.ensures.fault)
 
+pub mark_seen-requires-clause-settled : goal.mark_seen-requires-clause-settled
+mark_seen-requires-clause-settled g c = rw c.length.ensures.value c.loop-missing.invariant.settled
+
 pub pass-requires-clause-tied : goal.pass-requires-clause-tied
 pass-requires-clause-tied g c =
     tied_digest (g.H.Shelf.state c.fill.new.shelf) c.fill.new.window c.mark_seen.new.window c.fill.new.self _ c.fill.ensures.tied c.mark_seen.ensures.digest
@@ -163,6 +167,16 @@ loop-missing-preserved g c =
     let next : SurveyState = record { shelf = new; window = c.pass.new.window; found = c.mark_seen.new.found; track = c.pass.new.self } in
     let more : last.result < length c.mark_seen.new.found = omega (arith, last.ensures.within, c.if-missing-found.false) in
     let still : last.result < length c.args.found.now = omega (arith, more, c.mark_seen.auto.found, c.loop-missing.auto.found) in
+    let less : slice_index new.lengths c.pass.new.self.file - c.pass.new.self.held ≤ left = omega (
+      arith,
+      room,
+      p.passes.held_is,
+      r.same.held_is,
+      ap (λ (f : ℕ). slice_index new.lengths f) p.same,
+      ap (λ (u : ShelfState). slice_index u.lengths c.fill.new.self.file) p.ok,
+      ap (λ (u : ShelfState). slice_index u.lengths c.fill.new.self.file) only,
+      ap (λ (f : ℕ). slice_index s.lengths f) r.same.file_is,
+    ) in
     record {
       reads = ReadsOnly_more s full new only p.ok;
       tied = p.tied;
@@ -179,7 +193,8 @@ loop-missing-preserved g c =
         | inl early ↦ c.mark_seen.ensures.marks k ∙ or_left _ _ (inv.marked k early)
         | inr late ↦ last.ensures.marked k late less
       ];
-      settled = c.mark_seen.ensures.settled;
+      settled = settled_on set c.mark_seen.new.found left (slice_index new.lengths c.pass.new.self.file - c.pass.new.self.held) c.mark_seen.new.settled less
+          c.mark_seen.ensures.settled;
       none = λ all. absurd (not_all set old now (cursor_to t) inv.surveyed c.loop-missing.missing there unmarked all);
       window_is = kept_capacity c.args.window.now c.loop-missing.window c.pass.new.window inv.window_is
           (ap (λ (w : WindowState). w.capacity) p.window ∙ ap (λ (w : WindowState). w.capacity) c.mark_seen.ensures.digest

@@ -14,7 +14,8 @@ invariant-loop-missing g l = record {
   within : l.missing ≤ length l.found;
   first : l.missing < length l.found → mark_of l.found l.missing ≡ false;
   marked : (n : ℕ) → n < l.missing → mark_of l.found n ≡ true;
-  settled : IfSome l.settled (IsSettled l.index l.found);
+  settled : IfSome l.settled
+      (IsSettled l.index l.found (slice_index (g.H.Shelf.state l.shelf).lengths l.track.file - l.track.held));
   none : IsAllMarked l.fn.found → g.H.Shelf.state l.shelf ≡ g.H.Shelf.state l.fn.shelf;
   window_is : l.window ≡ record l.fn.window { content = l.window.content; digests = l.window.digests };
   surveyed : Surveyed l.index

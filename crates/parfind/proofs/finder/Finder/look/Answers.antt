@@ -141,7 +141,7 @@ returns-in-Some-clause-belongs g c =
     let counted : f.cursor.file < length s.lengths = subst (λ (x : FinderState). x.cursor.file < length s.lengths) (sym is) c.requires.file in
     let there : IsAtPlace s.lengths f.cursor = subst (λ (x : FinderState). IsAtPlace s.lengths x.cursor) (sym is) c.requires.there in
     look_belongs f set s (g.met.H.Shelf.in_order c.args.shelf.now) belongs stands full counted there c.first_seen.new.window c.first_seen.new.self
-    c.first_seen.ensures.looks c.first_seen.ensures.remembers c.first_seen.ensures.marked
+    c.first_seen.ensures.looks c.first_seen.ensures.remembers c.rest_of-rest.result c.first_seen.ensures.marked
     (record i.cursor { slice = c.in-Some.slice + 1 }) refl refl
 
 pub returns-in_err-count-clause-belongs : goal.returns-in_err-count-clause-belongs
@@ -159,7 +159,7 @@ returns-in_err-count-clause-belongs g c =
     let there : IsAtPlace s.lengths f.cursor = subst (λ (x : FinderState). IsAtPlace s.lengths x.cursor) (sym is) c.requires.there in
     let f1 : FinderState = with_window f i.cursor c.first_seen.new.window c.first_seen.new.self in
     let belongs1 : BelongsTo f1 set s = look_belongs f set s (g.met.H.Shelf.in_order c.args.shelf.now) belongs stands full counted there c.first_seen.new.window c.first_seen.new.self
-    c.first_seen.ensures.looks c.first_seen.ensures.remembers c.first_seen.ensures.marked
+    c.first_seen.ensures.looks c.first_seen.ensures.remembers c.rest_of-rest.result c.first_seen.ensures.marked
     i.cursor refl refl in
     let t : ShelfState = g.H.Shelf.state c.pass.new.shelf in
     let stays = c.in_err-count.ensures.stays in
@@ -184,7 +184,7 @@ returns-clause-belongs g c =
     let there : IsAtPlace s.lengths f.cursor = subst (λ (x : FinderState). IsAtPlace s.lengths x.cursor) (sym is) c.requires.there in
     let f1 : FinderState = with_window f i.cursor c.first_seen.new.window c.first_seen.new.self in
     let belongs1 : BelongsTo f1 set s = look_belongs f set s (g.met.H.Shelf.in_order c.args.shelf.now) belongs stands full counted there c.first_seen.new.window c.first_seen.new.self
-    c.first_seen.ensures.looks c.first_seen.ensures.remembers c.first_seen.ensures.marked
+    c.first_seen.ensures.looks c.first_seen.ensures.remembers c.rest_of-rest.result c.first_seen.ensures.marked
     i.cursor refl refl in
     let t : ShelfState = g.H.Shelf.state c.pass.new.shelf in
     let r = c.in_ok-count.ensures in
