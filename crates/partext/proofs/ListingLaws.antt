@@ -1,13 +1,15 @@
 -- Lists that are written in blocks, part after part.
-use Rattle.std.proofs.Common.{◌≡◌, ◌<◌, ◌+◌, ◌∙◌, ℕ, Bool, true, false, List, [], ◌∷◌, ◌++◌, length, drop, filter, get_or, Result, Ok, Err, OnOk, IfErr, ap, sym, subst, append_assoc, append-nil, if◌then◌else◌}
+use Rattle.std.proofs.Common.{◌≡◌, ◌<◌, ◌+◌, ◌∙◌, ℕ, Bool, true, false, List, [], ◌∷◌, ◌++◌, length, drop, filter, get_or, Result, Ok, Err, OnOk, IfErr, ap, sym, subst, append_assoc, append-nil, arith, if◌then◌else◌}
+use Rattle.std.proofs.lemmas.Bool.{leb-false}
 use Rattle.std.proofs.lemmas.List.{drop_more}
-use Rattle.std.specs.List.{flat_map}
-use Rattle.parshelf.proofs.BlockLaws.{Waits_all, Waits_ends, Waits_pushed, Waits_more, Waits_refused, Begins_front}
-use Rattle.parshelf.specs.Blocks.{Waits}
+use Rattle.std.specs.List.{flat_map, zip}
+use Rattle.parshelf.proofs.BlockLaws.{Waits_all, Waits_ends, Waits_pushed, Waits_more, Waits_refused, Begins_front, Begins_silent}
+use Rattle.parshelf.specs.Blocks.{block, Waits}
 use Rattle.parshelf.specs.SinkState.{SinkState, RefusesFront}
+use Rattle.parstates.proofs.CountLaws.{zip-drop_more}
 use Rattle.partext.specs.Listing.{Breaks}
-use Rattle.partext.specs.Outcomes.{Answers}
-use Rattle.partext.specs.Report.{listed}
+use Rattle.parplan.specs.declared.command.Command.TheVariants as command
+use Rattle.partext.specs.Outcomes.{Answers, follows_text, written}
 use Rattle.partext.specs.declared.status.Status.{Status}
 use Rattle.partext.specs.declared.faults.RunFault.{RunFault}
 use Rattle.partext.specs.declared.faults.RunFault.TheVariants as fault
@@ -25,24 +27,36 @@ Breaks_later (fault.Set cause) a b c text waiting part rest before breaks = absu
 Breaks_later fault.OtherSet a b c text waiting part rest before breaks = absurd breaks
 
 -- a list that broke is answered so
-pub breaks_answer : (why : RunFault) (a c : SinkState) (text : List ℕ) → Breaks why a c text → Answers (listed text) (Err why) a c
-breaks_answer fault.Write a c text breaks = breaks
-breaks_answer fault.Memory a c text breaks = Begins_front a c text breaks
-breaks_answer (fault.Read packet file cause) a c text breaks = absurd breaks
-breaks_answer (fault.Set cause) a c text breaks = absurd breaks
-breaks_answer fault.OtherSet a c text breaks = absurd breaks
+pub breaks_answer : (why : RunFault) (a c : SinkState) (text : List ℕ) (answer : Result Status RunFault) → Breaks why a c text
+    → Answers (record { text = text; answer = answer }) (Err why) a c
+breaks_answer fault.Write a c text answer breaks = breaks
+breaks_answer fault.Memory a c text answer breaks = Begins_front a c text breaks
+breaks_answer (fault.Read packet file cause) a c text answer breaks = absurd breaks
+breaks_answer (fault.Set cause) a c text answer breaks = absurd breaks
+breaks_answer fault.OtherSet a c text answer breaks = absurd breaks
+
+-- what a list that broke leaves of a verification: nothing where less than a block was written
+pub breaks_silent : (why : RunFault) (quiet : ℕ) (a c : SinkState) (text : List ℕ) → Breaks why a c text
+    → follows_text (command.Verify quiet) (written a c) why ≡ false → c ≡ a
+breaks_silent fault.Write quiet a c text breaks silent = absurd (cc)
+breaks_silent fault.Memory quiet a c text breaks silent =
+    Begins_silent a c text breaks (omega (arith, leb-false block (written a c) silent))
+breaks_silent (fault.Read packet file cause) quiet a c text breaks silent = absurd breaks
+breaks_silent (fault.Set cause) quiet a c text breaks silent = absurd breaks
+breaks_silent fault.OtherSet quiet a c text breaks silent = absurd breaks
 
 -- all that waited was written, or the sink failed in it
-pub listed_ends : (result : Result Status RunFault) (a b c : SinkState) (text waiting : List ℕ) → Waits a b text waiting
-    → Answers (listed waiting) result b c → IfErr result (λ why. why ≡ fault.Write) → Answers (listed text) result a c
-listed_ends (Ok status) a b c text waiting before (is, all) write = (is, Waits_ends a b c text waiting before all)
-listed_ends (Err why) a b c text waiting before after write =
-    let refuses : RefusesFront b c waiting = subst (λ w. Answers (listed waiting) (Err w) b c) write after in
-    subst (λ w. Answers (listed text) (Err w) a c) (sym write)
+pub listed_ends : (result : Result Status RunFault) (answer : Result Status RunFault) (a b c : SinkState) (text waiting : List ℕ) → Waits a b text waiting
+    → Answers (record { text = waiting; answer = answer }) result b c → IfErr result (λ why. why ≡ fault.Write)
+    → Answers (record { text = text; answer = answer }) result a c
+listed_ends (Ok status) answer a b c text waiting before (is, all) write = (is, Waits_ends a b c text waiting before all)
+listed_ends (Err why) answer a b c text waiting before after write =
+    let refuses : RefusesFront b c waiting = subst (λ w. Answers (record { text = waiting; answer = answer }) (Err w) b c) write after in
+    subst (λ w. Answers (record { text = text; answer = answer }) (Err w) a c) (sym write)
     (Waits_refused a b c text waiting [] [] (subst (λ ys. Waits a b text ys) (sym (append-nil waiting)) before)
     (subst (λ ys. RefusesFront b c ys) (sym (append-nil waiting)) refuses))
 
--- the lines, and a last one behind them
+-- the lines, and a last part behind them
 module _ (lines last : List ℕ) (start mid : SinkState) where
   all_waits : Waits start start (lines ++ last) (lines ++ last)
   all_waits = Waits_all start (lines ++ last)
@@ -53,9 +67,27 @@ module _ (lines last : List ℕ) (start mid : SinkState) where
   pub last_waits : (waiting : List ℕ) → Waits start mid lines waiting → Waits start mid (lines ++ last) (waiting ++ last)
   last_waits waiting before = Waits_more start start mid (lines ++ last) [] lines last waiting all_waits before
 
+  -- the last part waited with what waits of the lines
+  module _ (waiting : List ℕ) (before : Waits start mid lines waiting) (new : SinkState) where
+    last_part : Waits start mid (lines ++ last) (waiting ++ (last ++ []))
+    last_part = subst (λ ys. Waits start mid (lines ++ last) (waiting ++ ys)) (sym (append-nil last)) (last_waits waiting before)
+
+    pub last_breaks : (why : RunFault) → Breaks why mid new (waiting ++ last) → Breaks why start new (lines ++ last)
+    last_breaks why breaks = Breaks_later why start mid new (lines ++ last) waiting last [] last_part breaks
+
+    pub last_more : (next : List ℕ) → Waits mid new (waiting ++ last) next → Waits start new (lines ++ last) next
+    last_more next taken =
+        subst (λ ys. Waits start new (lines ++ last) ys) (append-nil next) (Waits_more start mid new (lines ++ last) waiting last [] next last_part taken)
+
 -- ---- lines, one after the other
 pub rest_more : {X : Type 0} (xs : List X) (i : ℕ) (x : X) → i < length xs → x ≡ get_or xs i x → drop i xs ≡ x ∷ drop (i + 1) xs
 rest_more xs i x below item = drop_more xs i x below ∙ ap (λ y. y ∷ drop (i + 1) xs) (sym item)
+
+-- two lists side by side
+pub pairs_more : {X Y : Type 0} (xs : List X) (ys : List Y) (i : ℕ) (x : X) (y : Y) → i < length xs → i < length ys → x ≡ get_or xs i x
+    → zip (drop i xs) (drop i ys) ≡ (x, get_or ys i y) ∷ zip (drop (i + 1) xs) (drop (i + 1) ys)
+pairs_more xs ys i x y here there item =
+    zip-drop_more xs ys i x y here there ∙ ap (λ z. (z, get_or ys i y) ∷ zip (drop (i + 1) xs) (drop (i + 1) ys)) (sym item)
 
 chosen_more : {X : Type 0} (p : X → Bool) (xs : List X) (i : ℕ) (x : X) → i < length xs → x ≡ get_or xs i x
     → filter p (drop i xs) ≡ (if p x then x ∷ filter p (drop (i + 1) xs) else filter p (drop (i + 1) xs))

@@ -8,7 +8,7 @@ use Rattle.parset.specs.RecoverySet.{SetView, set_of}
 use Rattle.parset.specs.declared.recovery_set.SetFault.{SetFault}
 use Rattle.parcursor.specs.declared.cursor.Cursor.{Cursor}
 use Rattle.partext.specs.FindText.{names_of, WritesLinesBefore}
-use Rattle.parplan.specs.Commands.{is_find, reads_scanned}
+use Rattle.parplan.specs.Commands.{is_find}
 use Rattle.partext.specs.Report.{Report, report_with_set, start_in}
 use Rattle.parshelf.specs.Blocks.{block}
 use Rattle.parshelf.specs.SinkState.{SinkState, appended, WritesFront, RefusesFront}
@@ -68,12 +68,12 @@ abbrev pub written : SinkState → SinkState → ℕ
 written old new = length new.bytes - length old.bytes
 
 -- some text may stand before a fault: one of writing, or in the midst of a search; or want of
--- memory in a list, once a block of it was written
+-- memory, once a block of the text was written
 abbrev pub follows_text : Command → ℕ → RunFault → Bool
 follows_text asked n (fault.Read packet file why) = is_find asked && not packet
 follows_text asked n (fault.Set why) = false
 follows_text asked n fault.Write = true
-follows_text asked n fault.Memory = is_find asked || not (reads_scanned asked) && nat_le block n
+follows_text asked n fault.Memory = is_find asked || nat_le block n
 follows_text asked n fault.OtherSet = false
 
 -- the set, or the cause that every report over it has, or want of memory

@@ -1,9 +1,12 @@
-ghost use Rattle.std.specs.Prelude.{◌≡◌, ◌++◌, ◌<◌, map, length, unwrap_or, string_bytes, IfOk, OnOk};
+ghost use Rattle.std.specs.Prelude.{◌≡◌, ◌++◌, ◌<◌, map, length, unwrap_or, string_bytes, OnOk, IfErr};
 ghost use Rattle.std.specs.BTreeMap.{get};
 ghost use Rattle.std.specs.List.{flat_map, zip};
 ghost use Rattle.parfield.specs.HashOrder.{id_cmp};
+ghost use Rattle.parshelf.specs.Blocks.{block, Waits};
+ghost use Rattle.partext.specs.Listing.{Breaks};
 ghost use Rattle.partext.specs.VerifyText.{state_line, counted_line, complete_line, renamed_line, damaged_line, missing_line, need_line, result_line, status_word, states_text, result_text, text_by};
 
+use crate::faults::RunFault;
 use crate::names::scanned_name;
 use crate::set::lines::push_set;
 use crate::status::Status;
@@ -11,75 +14,129 @@ use crate::verify::status::status_by;
 use parfield::{Hash16, Shown};
 use parplan::Scanned;
 use parset::{RecoverySet, SetFile};
+use parshelf::{Sink, write_block};
 use parstates::{Findings, State, count_at, found_counts};
 use std::alloc::{AllocError, Global};
 use std::collections::BTreeMap;
 
-/// The text: all lines with `quiet` 0, the last two with 1, else none.
-#[tactic(auto, unfolding(crate::specs::VerifyText::text_by))]
-pub fn text_by(
+/// Puts the text behind what waits, and writes each block of it: all lines with `quiet` 0, the last
+/// two with 1, else none.
+pub fn put_verify<W: Sink>(
     alloc: Global,
     quiet: u8,
     files: &[Scanned],
     set: &RecoverySet,
     findings: &Findings,
-) -> Result<String, AllocError>
+    waiting: &mut String,
+    out: &mut W,
+) -> Result<(), RunFault>
     requires states { length findings.now.states ≡ length set.now.files }
     requires slices { length findings.now.found ≡ length set.now.slices }
-    ensures { IfOk result (λ text. string_bytes text
-        ≡ text_by quiet set.now (map (λ file. file.name) files.now) findings.now) }
+    ensures text { OnOk result (Waits (W.state out.old) (W.state out.new)
+        (string_bytes waiting.old
+        ++ text_by quiet set.now (map (λ file. file.name) files.now) findings.now)
+        (string_bytes waiting.new)) }
+    ensures fault { IfErr result (λ fault. Breaks fault (W.state out.old) (W.state out.new)
+        (string_bytes waiting.old
+        ++ text_by quiet set.now (map (λ file. file.name) files.now) findings.now)) }
+    ensures less { OnOk result (length (string_bytes waiting.old) < block
+        → length (string_bytes waiting.new) < block) }
 {
-    let mut text = String::new(alloc);
-    if quiet == 0 {
-        push_states(alloc, &mut text, files, set, findings)?;
+    match quiet {
+        0 => {
+            put_states(alloc, files, set, findings, waiting, out)?;
+            put_results(set, findings, waiting, out)
+        }
+        1 => put_results(set, findings, waiting, out),
+        _ => Ok(()),
     }
-    if quiet < 2 {
-        push_results(&mut text, set, findings)?;
-    }
-    Ok(text)
 }
 
-// Appends the line of the set, and one for each file.
-#[tactic(auto, unfolding(crate::specs::VerifyText::states_text))]
-fn push_states(
+// Puts the line of the set and one for each file behind what waits, and writes each block of them.
+fn put_states<W: Sink>(
     alloc: Global,
-    text: &mut String,
     files: &[Scanned],
     set: &RecoverySet,
     findings: &Findings,
-) -> Result<(), AllocError>
+    waiting: &mut String,
+    out: &mut W,
+) -> Result<(), RunFault>
     requires states { length findings.now.states ≡ length set.now.files }
     requires slices { length findings.now.found ≡ length set.now.slices }
-    ensures { OnOk result (string_bytes text.new ≡ string_bytes text.old
-        ++ states_text set.now (map (λ file. file.name) files.now) findings.now) }
+    ensures lines { OnOk result (Waits (W.state out.old) (W.state out.new)
+        (string_bytes waiting.old
+        ++ states_text set.now (map (λ file. file.name) files.now) findings.now)
+        (string_bytes waiting.new)) }
+    ensures fault { IfErr result (λ fault. Breaks fault (W.state out.old) (W.state out.new)
+        (string_bytes waiting.old
+        ++ states_text set.now (map (λ file. file.name) files.now) findings.now)) }
 {
     let counts = found_counts(alloc, set.slices(), findings.found.as_slice())?;
-    push_set(text, set)?;
+    push_set(waiting, set)?;
     let states = findings.states.as_slice();
-    push_files(text, files, set.size(), set.files(), states, &counts)
+    put_files(
+        files,
+        set.size(),
+        set.files(),
+        states,
+        &counts,
+        waiting,
+        out,
+    )
 }
 
-// Appends a line for each file.
-fn push_files(
-    text: &mut String,
+// Puts a line for each file behind what waits, and writes each block of them.
+fn put_files<W: Sink>(
     names: &[Scanned],
     size: u64,
     files: &[SetFile],
     states: &[State],
     counts: &BTreeMap<Hash16, u64>,
-) -> Result<(), AllocError>
+    waiting: &mut String,
+    out: &mut W,
+) -> Result<(), RunFault>
     requires size { 0 < size }
     requires states { length states.now ≡ length files.now }
-    ensures { OnOk result (string_bytes text.new ≡ string_bytes text.old
-        ++ flat_map (counted_line size (map (λ file. file.name) names.now)
-        (λ id. unwrap_or (get id_cmp counts.now id) 0)) (zip files.now states.now)) }
+    ensures lines { OnOk result (Waits (W.state out.old) (W.state out.new)
+        (string_bytes waiting.old ++ flat_map (counted_line size (map (λ file. file.name) names.now)
+        (λ id. unwrap_or (get id_cmp counts.now id) 0)) (zip files.now states.now))
+        (string_bytes waiting.new)) }
+    ensures fault { IfErr result (λ fault. Breaks fault (W.state out.old) (W.state out.new)
+        (string_bytes waiting.old ++ flat_map (counted_line size (map (λ file. file.name) names.now)
+        (λ id. unwrap_or (get id_cmp counts.now id) 0)) (zip files.now states.now))) }
+    ensures less { OnOk result (length (string_bytes waiting.old) < block
+        → length (string_bytes waiting.new) < block) }
 {
     for (index, file) in files.iter().enumerate() {
-        let found = count_at(counts, file.id);
-        let all = file.length.div_ceil(size);
-        push_file(text, names, file.name.as_slice(), found, all, states[index])?;
+        put_file(names, size, file, states[index], counts, waiting, out)?;
     }
     Ok(())
+}
+
+// Puts the line of a file in this state behind what waits, and writes that once it is a block.
+fn put_file<W: Sink>(
+    names: &[Scanned],
+    size: u64,
+    file: &SetFile,
+    state: State,
+    counts: &BTreeMap<Hash16, u64>,
+    waiting: &mut String,
+    out: &mut W,
+) -> Result<(), RunFault>
+    requires { 0 < size }
+    ensures line { OnOk result (Waits (W.state out.old) (W.state out.new)
+        (string_bytes waiting.old ++ counted_line size (map (λ file. file.name) names.now)
+        (λ id. unwrap_or (get id_cmp counts.now id) 0) (file.now, state))
+        (string_bytes waiting.new)) }
+    ensures fault { IfErr result (λ fault. Breaks fault (W.state out.old) (W.state out.new)
+        (string_bytes waiting.old ++ counted_line size (map (λ file. file.name) names.now)
+        (λ id. unwrap_or (get id_cmp counts.now id) 0) (file.now, state))) }
+    ensures less { OnOk result (length (string_bytes waiting.new) < block) }
+{
+    let found = count_at(counts, file.id);
+    let all = file.length.div_ceil(size);
+    push_file(waiting, names, file.name.as_slice(), found, all, state)?;
+    Ok(write_block(out, waiting)?)
 }
 
 // Appends the line of a file of this name, of whose slices so many are found.
@@ -136,6 +193,24 @@ fn push_missing(text: &mut String, name: &[u8], found: u64, all: u64) -> Result<
         ≡ string_bytes text.old ++ missing_line name.now found all) }
 {
     writeln!(text, "missing {} {found}/{all}", Shown(name))
+}
+
+// Puts the last two lines behind what waits, and writes that once it is a block.
+fn put_results<W: Sink>(
+    set: &RecoverySet,
+    findings: &Findings,
+    waiting: &mut String,
+    out: &mut W,
+) -> Result<(), RunFault>
+    ensures lines { OnOk result (Waits (W.state out.old) (W.state out.new)
+        (string_bytes waiting.old ++ result_text set.now findings.now)
+        (string_bytes waiting.new)) }
+    ensures fault { IfErr result (λ fault. Breaks fault (W.state out.old) (W.state out.new)
+        (string_bytes waiting.old ++ result_text set.now findings.now)) }
+    ensures less { OnOk result (length (string_bytes waiting.new) < block) }
+{
+    push_results(waiting, set, findings)?;
+    Ok(write_block(out, waiting)?)
 }
 
 // Appends the last two lines.

@@ -1,4 +1,4 @@
-// Lists of more than a block of 65,536 bytes.
+// Texts of more than a block of 65,536 bytes.
 use crate::tests::fixtures::{Files, Outcome, Room, joined, packet_file, ran_with, repeated};
 use parreport::RunFault;
 use std::alloc::{AllocError, Global};
@@ -11,8 +11,13 @@ const PACKETS: u64 = 1300;
 // How many packets are put aside behind the set of g, the first of them at 340.
 const ASIDES: u64 = 3200;
 
-// So many bytes of a list are taken, and then the sink fails.
-static ROOMS: [usize; 7] = [0, 1, 65_535, 65_536, 65_600, 66_500, 1_000_000];
+// How many bytes the name of a scanned file has, so that a line with it is longer than a block.
+const NAME: u64 = 70_000;
+
+// So many bytes of a text are taken, and then the sink fails.
+static ROOMS: [usize; 8] = [
+    0, 1, 65_535, 65_536, 65_600, 66_500, 70_100, 1_000_000,
+];
 
 // The list of so many Creator packets of 68 bytes.
 fn packets_list(alloc: Global) -> Result<String, AllocError> {
@@ -43,6 +48,25 @@ fn set_list(alloc: Global, length: u64) -> Result<String, AllocError> {
     Ok(text)
 }
 
+// A name of one letter, so many times.
+fn long_name(alloc: Global, letter: &str) -> Result<String, AllocError> {
+    let mut name = String::new(alloc);
+    for _ in 0..NAME {
+        name.push_str(letter)?;
+    }
+    Ok(name)
+}
+
+// The text of `verify` where a.bin and b.bin are there under these names.
+fn renamed_list(alloc: Global, first: &str, second: &str) -> Result<String, AllocError> {
+    let mut text = String::new(alloc);
+    text.push_str("set bfbb8cc347c88c9b3dd072ec0e2f6a1d size 4 slices 3\n")?;
+    writeln!(text, "renamed a.bin from {first}")?;
+    writeln!(text, "renamed b.bin from {second}")?;
+    text.push_str("need 0 have 0\nresult possible\n")?;
+    Ok(text)
+}
+
 // Wants as many bytes of the list as there was room for, and a fault where it was less.
 fn shows(rt: &impl Abort, ran: &Outcome, list: &[u8], room: usize) {
     let size = room.min(list.len());
@@ -55,18 +79,19 @@ fn shows(rt: &impl Abort, ran: &Outcome, list: &[u8], room: usize) {
     assert_eq!(rt; ran.fault, fault);
 }
 
-// Wants the list of a command over one packet file, by sinks of each room.
+// Wants the list of a command line over one packet file and scanned files, by sinks of each room.
 fn lists(
     rt: &(impl Abort + AllocGlobal),
-    command: &str,
+    words: &[&str],
     packets: &[u8],
+    scanned: &[&[u8]],
     list: &[u8],
 ) -> Result<(), Fail> {
     assert!(rt; list.len() > 66_500);
     for bytes in &ROOMS {
         let files = Files {
             packets: &[packets],
-            scanned: &[],
+            scanned,
             piece: 65_536,
             failing_packet: 0,
             failing_scanned: 0,
@@ -76,7 +101,7 @@ fn lists(
             piece: 4096,
             takes_zero: false,
         };
-        let ran = ran_with(rt, &[command, "v.par2"], files, room)?;
+        let ran = ran_with(rt, words, files, room)?;
         shows(rt, &ran, list, *bytes);
     }
     Ok(())
@@ -87,7 +112,7 @@ fn packets_writes_each_block_once(rt: HostRuntime) -> Result<(), Fail> {
     let creator = packet_file("creator_of_g")?;
     let packets = repeated(rt.alloc(), creator, PACKETS)?;
     let list = packets_list(rt.alloc())?;
-    lists(&rt, "packets", &packets, list.as_bytes())
+    lists(&rt, &["packets", "v.par2"], &packets, &[], list.as_bytes())
 }
 
 // The packets of the set of g, and the one behind them that is put aside.
@@ -109,5 +134,14 @@ fn set_writes_each_block_once(rt: HostRuntime) -> Result<(), Fail> {
     let (front, aside) = parted(packet_file("g")?)?;
     let packets = with_asides(rt.alloc(), front, aside)?;
     let list = set_list(rt.alloc(), aside.len() as u64)?;
-    lists(&rt, "set", &packets, list.as_bytes())
+    lists(&rt, &["set", "v.par2"], &packets, &[], list.as_bytes())
+}
+
+#[test]
+fn verify_writes_each_block_once(rt: HostRuntime) -> Result<(), Fail> {
+    let first = long_name(rt.alloc(), "x")?;
+    let second = long_name(rt.alloc(), "y")?;
+    let words = ["verify", "v.par2", first.as_str(), second.as_str()];
+    let list = renamed_list(rt.alloc(), first.as_str(), second.as_str())?;
+    lists(&rt, &words, packet_file("a_and_b")?, &[b"abcd", b"abcdefgh"], list.as_bytes())
 }

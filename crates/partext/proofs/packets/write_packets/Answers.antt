@@ -1,9 +1,10 @@
-use Rattle.std.proofs.Common.{◌++◌, string_bytes, length}
+use Rattle.std.proofs.Common.{◌++◌, string_bytes, length, Ok}
 use Rattle.std.proofs.lemmas.Result.{err_from_is_err_and}
 use Rattle.std.specs.List.{flat_map}
 use Rattle.parshelf.proofs.BlockLaws.{Begins_front}
 use Rattle.partext.specs.Lines.{count_line}
 use Rattle.partext.specs.PacketsText.{packets_text, chosen_of, line_among}
+use Rattle.partext.specs.declared.status.Status.TheVariants.{Listed}
 use Rattle.partext.proofs.ListingLaws.{listed_ends, lines_break, last_waits, breaks_answer}
 use Rattle.partext.proofs.packets.write_packets.Goals as goal
 
@@ -15,7 +16,7 @@ returns-in_err-count-clause-text g c =
     let start = g.W.Sink.state c.args.out.now in let mid = g.W.Sink.state c.put_packets.new.out in
     let breaks = rw (c.new-waiting.ensures.bytes, c.as_slice.ensures) at c.in_err-count.ensures.fault in
     let failed = err_from_is_err_and c.from_residual.result c.from_residual.ensures.1 in
-    rw (failed.1, failed.2) (breaks_answer _ start mid (lines ++ last) (lines_break lines last start mid _ breaks))
+    rw (failed.1, failed.2) (breaks_answer _ start mid (lines ++ last) _ (lines_break lines last start mid _ breaks))
 
 pub returns-in_err-push_count-clause-text : goal.returns-in_err-push_count-clause-text
 unfolding packets_text
@@ -40,5 +41,5 @@ returns-clause-text g c =
     let waits = rw (c.new-waiting.ensures.bytes, c.as_slice.ensures) at c.in_ok-count.ensures.lines in
     let waiting = string_bytes c.put_packets.new.waiting in
     let after = rw (c.as_bytes.ensures.value, c.in_ok-push_count.ensures, c.in_ok-count.ensures.count) at c.write_whole.ensures.text in
-    listed_ends c.write_whole.result start mid (g.W.Sink.state c.write_whole.new.out) (lines ++ last) (waiting ++ last)
+    listed_ends c.write_whole.result (Ok Listed) start mid (g.W.Sink.state c.write_whole.new.out) (lines ++ last) (waiting ++ last)
     (last_waits lines last start mid waiting waits) after c.write_whole.ensures.fault

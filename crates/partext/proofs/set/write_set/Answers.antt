@@ -1,8 +1,9 @@
-use Rattle.std.proofs.Common.{string_bytes, subst, sym, Err}
+use Rattle.std.proofs.Common.{string_bytes, subst, sym, Ok, Err}
 use Rattle.std.proofs.lemmas.Result.{err_from_is_err_and}
 use Rattle.partext.specs.Outcomes.{Answers}
 use Rattle.partext.specs.Report.{report_with_set, set_report}
 use Rattle.partext.specs.SetText.{set_text}
+use Rattle.partext.specs.declared.status.Status.TheVariants.{Listed}
 use Rattle.partext.proofs.ListingLaws.{listed_ends, breaks_answer}
 use Rattle.partext.proofs.set.write_set.Goals as goal
 
@@ -14,7 +15,7 @@ returns-in_err-put_set-clause-text g c =
     let failed = err_from_is_err_and c.from_residual-in_err-put_set.result c.from_residual-in_err-put_set.ensures.1 in
     rw (failed.1, failed.2)
     (subst (λ made. Answers (report_with_set made (set_report c.args.plan.now)) (Err c.in_err-put_set.field-0.0) start mid) (sym c.in_ok-set.ensures)
-    (breaks_answer c.in_err-put_set.field-0.0 start mid text breaks))
+    (breaks_answer c.in_err-put_set.field-0.0 start mid text (Ok Listed) breaks))
 
 pub returns-clause-text : goal.returns-clause-text
 returns-clause-text g c =
@@ -23,4 +24,4 @@ returns-clause-text g c =
     let waits = rw (c.new-waiting.ensures.bytes, c.as_slice.ensures) at c.in_ok-put_set.ensures.text in
     let after = rw c.as_bytes.ensures.value at c.write_whole.ensures.text in
     rw c.in_ok-set.ensures
-    (listed_ends c.write_whole.result start mid (g.W.Sink.state c.write_whole.new.out) text (string_bytes c.put_set.new.waiting) waits after c.write_whole.ensures.fault)
+    (listed_ends c.write_whole.result (Ok Listed) start mid (g.W.Sink.state c.write_whole.new.out) text (string_bytes c.put_set.new.waiting) waits after c.write_whole.ensures.fault)
