@@ -14,10 +14,11 @@ const ASIDES: u64 = 3200;
 // How many bytes the name of a scanned file has, so that a line with it is longer than a block.
 const NAME: u64 = 70_000;
 
+// What a.bin and b.bin hold.
+static CONTENTS: [&[u8]; 2] = [b"abcd", b"abcdefgh"];
+
 // So many bytes of a text are taken, and then the sink fails.
-static ROOMS: [usize; 8] = [
-    0, 1, 65_535, 65_536, 65_600, 66_500, 70_100, 1_000_000,
-];
+static ROOMS: [usize; 8] = [0, 1, 65_535, 65_536, 65_600, 66_500, 70_100, 1_000_000];
 
 // The list of so many Creator packets of 68 bytes.
 fn packets_list(alloc: Global) -> Result<String, AllocError> {
@@ -84,7 +85,7 @@ fn lists(
     rt: &(impl Abort + AllocGlobal),
     words: &[&str],
     packets: &[u8],
-    scanned: &[&[u8]],
+    scanned: &'static [&'static [u8]],
     list: &[u8],
 ) -> Result<(), Fail> {
     assert!(rt; list.len() > 66_500);
@@ -143,5 +144,11 @@ fn verify_writes_each_block_once(rt: HostRuntime) -> Result<(), Fail> {
     let second = long_name(rt.alloc(), "y")?;
     let words = ["verify", "v.par2", first.as_str(), second.as_str()];
     let list = renamed_list(rt.alloc(), first.as_str(), second.as_str())?;
-    lists(&rt, &words, packet_file("a_and_b")?, &[b"abcd", b"abcdefgh"], list.as_bytes())
+    lists(
+        &rt,
+        &words,
+        packet_file("a_and_b")?,
+        &CONTENTS,
+        list.as_bytes(),
+    )
 }
