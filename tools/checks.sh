@@ -15,7 +15,7 @@ run() {
     flock "$logs" cat "$logs/$1"
 }
 export -f run
-printf '%s\n' disturbed refused_tests hostile costs ends address_space readings verdicts limits \
+printf '%s\n' disturbed limits refused_tests hostile costs ends address_space readings verdicts \
     files names hand_proofs manual examples completions installed \
     | xargs -P "${RT_JOBS:-$(nproc)}" -I{} bash -c 'run {}' \
     || echo "FAILED: not every check was run" | tee "$logs/xargs"

@@ -106,7 +106,7 @@ def notices(edit, cases):
         ran = subprocess.run([sys.executable, "hostile.py", "--cases", str(cases)], cwd=folder,
                              env={**os.environ, "PARV": PARV}, capture_output=True, text=True)
         if "MemoryError" in ran.stderr:
-            return "its model takes more memory than there is"
+            return "its model takes more than 2 GiB"
         if ran.stderr or ran.returncode not in (0, 1):
             sys.exit(f"{edit}: {ran.stderr}")
         return ran.stdout.splitlines()[0] if ran.returncode else None
@@ -115,6 +115,10 @@ def notices(edit, cases):
 def main():
     cases = int(sys.argv[1]) if len(sys.argv) > 1 else 4000
     resource.setrlimit(resource.RLIMIT_AS, (MOST_MEMORY, MOST_MEMORY))
+    ran = subprocess.run([sys.executable, os.path.join(HERE, "hostile.py"), "--cases", str(cases)],
+                         env={**os.environ, "PARV": PARV}, capture_output=True, text=True)
+    if ran.returncode:
+        sys.exit(f"the model itself: {ran.stdout}{ran.stderr}")
     left = EDITS
     for count in (200, cases):
         unnoticed = []

@@ -73,7 +73,7 @@ for words in "packets v.par2" "set v.par2" "find v.par2 x.bin" "verify v.par2 g.
         env -i sh -c "ulimit -s 128; exec \"\$0\" $words" "$parv"
 done
 # Zeros are searched for the program's slices until its time is spent.
-truncate -s 64G endless.bin
+truncate -s 16G endless.bin
 wants "a limit on the time of the processor" 0 -24 "" python3 -c 'import subprocess, sys
 print(subprocess.run(["sh", "-c", "ulimit -S -t 1; exec \"$0\" find v.par2 endless.bin", sys.argv[1]]).returncode)' "$parv"
 

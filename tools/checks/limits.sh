@@ -31,6 +31,9 @@ gives "a set of 3,000 files" 0 set "" "$parv" set big/*.par2
 "$tools/big_set.py" full 32768 1
 "$tools/describe_set.py" full/*.par2 > wanted
 gives "a set of 32,768 files" 0 wanted "" "$parv" set full/*.par2
+awk '$1 == "set" { print } $1 == "file" { print "missing " $6 " 0/1" }
+    $1 == "have" { print "need 32768 have", $2; print "result impossible" }' wanted > states
+gives "the states of 32,768 files, none of them there" 2 states "" "$parv" verify full/*.par2
 "$tools/list_packets.py" full/*.par2 > wanted
 gives "the packets of a set of 32,768 files" 0 wanted "" "$parv" packets full/*.par2
 
@@ -53,7 +56,7 @@ gives "a set with 40,000 exponents" 0 wanted "" "$parv" set exponents.par2
 wants "the verdict with 40,000 exponents" 1 "need 2 have 40000
 result possible" "" "$parv" verify -q exponents.par2
 
-# Lists are written in blocks of 65,536 bytes as they are made, and a block ends with a line.
+# Texts are written in blocks of 65,536 bytes as they are made, and a block ends with a line.
 gcc -shared -fPIC -O1 -o disturb.so "$tools/disturb.c" -ldl || exit 1
 in_blocks() {
     local size writes
@@ -163,12 +166,12 @@ file=e345eacbe656c0e6fd20ed63cb7b062c
 truncate -s 4G far.par2 far.bin
 cat "$work/v.par2" >> far.par2
 cat "$work/x.bin" >> far.bin
-wants "packets behind 4 GiB" 0 "far.par2 4294967296 92 main $set
+most=300 wants "packets behind 4 GiB" 0 "far.par2 4294967296 92 main $set
 far.par2 4294967388 128 filedesc $set
 far.par2 4294967516 120 ifsc $set
 far.par2 4294967636 76 recvslic $set
 packets 4" "" "$parv" packets far.par2
-wants "slices behind 4 GiB" 0 "far.bin 4294967298 $file 0
+most=300 wants "slices behind 4 GiB" 0 "far.bin 4294967298 $file 0
 far.bin 4294967302 $file 1
 end" "" "$parv" find --cursor "$set:0:4294967290:0" "$work/v.par2" far.bin
 exit $failed

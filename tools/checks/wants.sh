@@ -16,11 +16,12 @@ fails() {
     failed=1
 }
 
-# gives NAME STATUS FILE LINE COMMAND..: the exit status, standard output as in FILE, and standard error.
+# gives NAME STATUS FILE LINE COMMAND..: the exit status, standard output as in FILE, and standard error, within
+# 60 seconds, or $most.
 gives() {
     local name=$1 status=$2 text=$3 line=$4
     shift 4
-    timeout 60 "$@" > "$said/text" 2> "$said/line" < /dev/null
+    timeout "${most:-60}" "$@" > "$said/text" 2> "$said/line" < /dev/null
     local got=$?
     if [ $got -eq "$status" ] && cmp -s "$said/text" "$text" && [ "$(cat "$said/line")" = "$line" ]; then
         echo "ok: $name"
