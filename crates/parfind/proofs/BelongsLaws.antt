@@ -7,17 +7,18 @@ use Rattle.parshelf.specs.declared.reading.ReadFault.TheVariants.{Failed, Ended}
 use Rattle.parwindow.specs.Crc32.{crc_of}
 use Rattle.parwindow.specs.Index.{SliceSet}
 use Rattle.parwindow.specs.Missing.{has_fit_crc_in}
+use Rattle.partrack.specs.declared.track.Track.{Track}
+use Rattle.partrack.specs.Fetched.{ReadsUpTo, Place}
+use Rattle.partrack.specs.Tracks.{IsTied, Looks, Remembers, SameTrack, remembered, fetched_of}
 use Rattle.parfind.proofs.SeenLaws.{fit_crc_has}
 use Rattle.parwindow.specs.Window.{WindowState}
 use Rattle.parcursor.specs.declared.cursor.Cursor.{Cursor}
-use Rattle.parfind.specs.declared.track.Track.{Track}
-use Rattle.parfind.specs.Finders.{FinderState, BelongsTo, search_of}
+use Rattle.parfind.specs.Finders.{FinderState, BelongsTo, search_of, StandsAt, hashed_of}
 use Rattle.parfind.specs.Marks.{marked_between, marks}
-use Rattle.parfind.specs.Reach.{CallReads, IsNear, ReadsUpTo}
-use Rattle.parfind.specs.Places.{Place, cursor_past, place_at, start_of}
+use Rattle.parfind.specs.Reach.{CallReads, IsNear}
+use Rattle.parfind.specs.Places.{cursor_past, place_at, start_of}
 use Rattle.parfind.specs.Sightings.{Scan}
 use Rattle.parfind.specs.Steps.{scan_of, lengths_of}
-use Rattle.parfind.specs.Tracks.{IsTied, Looks, StandsAt, Remembers, SameTrack, remembered, hashed_of, fetched_of}
 use Rattle.parfind.proofs.LookLaws.{window_there}
 use Rattle.parfind.proofs.MarkLaws.{From-further, counted_look, marked_rises, remembered-most}
 use Rattle.parcursor.proofs.OrderLaws.{From, From-by_test, From-trans, is_from-true}

@@ -10,6 +10,7 @@ use Rattle.parfield.specs.declared.hash16.Hash16.{Hash16}
 use Rattle.parwindow.specs.Index.{SliceSet, sums_of, has_sums, has_fit_of, has_fit_in}
 use Rattle.parwindow.specs.Window.{window_at}
 use Rattle.parcursor.specs.declared.cursor.Cursor.{Cursor}
+use Rattle.partrack.proofs.FittingLaws.{passing, passing_has}
 use Rattle.parfind.specs.declared.finder.Step.TheVariants.{Spent}
 use Rattle.parcursor.specs.Order.{cursor_of}
 use Rattle.parfind.specs.Sightings.{Scan, content_of, is_seen, is_seen_in, sightings_of, sightings_between}
@@ -22,7 +23,6 @@ use Rattle.parfind.proofs.RisingLaws.{none_between}
 use Rattle.parfind.proofs.PlaceLaws.{sighting_seen}
 use Rattle.parfind.proofs.PassLaws.{cursor_on, From-on, passes_some, then_look_moves, then_look_sees}
 use Rattle.parfind.proofs.AdvanceLaws.{fewer_past, no_more}
-use Rattle.parfind.proofs.SeenLaws.{passing, passing_has}
 
 any_weaker : {A : Type 0} (p q : A → Bool) → ((x : A) → p x ≡ true → q x ≡ true) → (xs : List A)
     → list_any p xs ≡ true → list_any q xs ≡ true

@@ -6,9 +6,10 @@ use Rattle.std.proofs.lemmas.List.Elements.{All-contains}
 use Rattle.parshelf.specs.declared.reading.ReadFault.TheVariants.{Failed, Ended}
 use Rattle.parcursor.specs.declared.cursor.Cursor.{Cursor}
 use Rattle.parcursor.specs.declared.sighting.Sighting.{Sighting}
+use Rattle.partrack.specs.Fetched.{Place}
 use Rattle.parfind.specs.declared.finder.Step.TheVariants.{Hit, Spent, Done}
 use Rattle.parcursor.specs.Order.{is_before, is_from, cursor_of}
-use Rattle.parfind.specs.Places.{Place, cursor_at, cursor_past, place_of, start_of, places_of, places_ahead, places_between}
+use Rattle.parfind.specs.Places.{cursor_at, cursor_past, place_of, start_of, places_of, places_ahead, places_between}
 use Rattle.parfind.specs.Sightings.{Scan, sightings_of, sightings_from, sightings_between}
 use Rattle.parfind.specs.Moves.{end_of, PassesAll}
 use Rattle.parfind.specs.Steps.{scan_of, lengths_of, HitsNext, SpendsAll, IsDone, StepHandsOut}

@@ -8,8 +8,6 @@ pub mod WalkLaws
 pub mod VisitLaws
 pub mod StepLaws
 pub mod AdvanceLaws
-pub mod TrackLaws
-pub mod SlideLaws
 pub mod ReachLaws
 pub mod PassLaws
 pub mod LookLaws

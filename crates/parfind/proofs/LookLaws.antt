@@ -6,13 +6,13 @@ use Rattle.parshelf.proofs.ShelfLaws.{length-file_of}
 use Rattle.parwindow.specs.Index.{SliceSet, slice_passes, sums_of}
 use Rattle.parwindow.specs.Least.{IsLeastFrom}
 use Rattle.parwindow.specs.Window.{window_at}
-use Rattle.parfind.specs.Finders.{FinderState, BelongsTo}
-use Rattle.parfind.specs.Looking.{is_fit}
+use Rattle.partrack.specs.Fitting.{is_fit}
+use Rattle.partrack.specs.Tracks.{HasNoCrc}
+use Rattle.partrack.proofs.TrackLaws.{whole_window}
+use Rattle.parfind.specs.Finders.{FinderState, BelongsTo, StandsAt}
 use Rattle.parfind.specs.Moves.{IsWithin}
 use Rattle.parfind.specs.Sightings.{is_seen_in}
-use Rattle.parfind.specs.Tracks.{HasNoCrc, StandsAt}
 use Rattle.parfind.proofs.SeenLaws.{first_seen}
-use Rattle.parfind.proofs.TrackLaws.{whole_window}
 
 module _ (f : FinderState) (set : SliceSet) (s : ShelfState) (belongs : BelongsTo f set s) (shelf : IsShelf s) (steady : IsTrue s.is_steady)
     (stands : StandsAt f.track f.cursor) where

@@ -3,13 +3,14 @@ use Rattle.std.proofs.Common.{◌≡◌, ℕ, ◌+◌, ◌<◌, ◌≤◌, Bool,
 use Rattle.std.specs.List.{list_any, range_with_len}
 use Rattle.std.proofs.lemmas.Bool.{cases_Bool, cases_eq, cases_lt, eq-eqb, ne_eqb, or_cases, or_left, or_right, lt-ltb, le-ltb, false_from_ne_true, and_parts, and_from, not-true, not_from_false}
 use Rattle.std.proofs.Math.Bool.{or-false, or_assoc}
+use Rattle.partrack.specs.Fitting.{is_fit}
+use Rattle.partrack.proofs.FittingLaws.{fit_passes}
 use Rattle.parfind.proofs.ListLaws.{Has, Has-range}
-use Rattle.parfind.proofs.SeenLaws.{passes_there, fit_passes, fits_on}
+use Rattle.parfind.proofs.SeenLaws.{passes_there, fits_on}
 use Rattle.parwindow.specs.Index.{SliceSet, slice_passes}
 use Rattle.parwindow.specs.Missing.{has_fit_crc_of, is_missing_in}
 use Rattle.parwindow.specs.Least.{IsLeastFrom}
 use Rattle.parfield.specs.declared.hash16.Hash16.{Hash16}
-use Rattle.parfind.specs.Looking.{is_fit}
 use Rattle.parfind.specs.Marking.{MarksMore, IsSettled}
 use Rattle.parfind.specs.Surveys.{mark_of}
 

@@ -10,10 +10,11 @@ use Rattle.std.proofs.lemmas.List.Elements.{Contains-append_left, Contains-appen
 use Rattle.parshelf.specs.declared.reading.ReadFault.{ReadFault}
 use Rattle.parcursor.specs.declared.cursor.Cursor.{Cursor}
 use Rattle.parcursor.specs.declared.sighting.Sighting.{Sighting}
+use Rattle.partrack.specs.Fetched.{Place}
 use Rattle.parfind.specs.declared.finder.Step.{Step}
 use Rattle.parfind.specs.declared.finder.Step.TheVariants.{Hit, Spent, Done}
 use Rattle.parcursor.specs.Order.{is_before, is_from, cursor_of, cursor_after}
-use Rattle.parfind.specs.Places.{Place, cursor_at, cursor_past, place_of, start_of, places_of, places_ahead, places_between}
+use Rattle.parfind.specs.Places.{cursor_at, cursor_past, place_of, start_of, places_of, places_ahead, places_between}
 use Rattle.parfind.specs.Moves.{covered, IsWithin, IsBelow, end_of, greater_of, HitsWithin, PassesAll, ComesToEnd, StaysWithin, StepMoves}
 use Rattle.parcursor.proofs.OrderLaws.{From, Before-by_test, From-by_test, is_before-true, is_before-false, is_from-true, From-refl, From-trans, From-before, Before-after}
 use Rattle.parfind.proofs.ListLaws.{Each-from_has, Each-filter, Each-slice_get, Each-passes}

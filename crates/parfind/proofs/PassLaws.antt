@@ -7,6 +7,7 @@ use Rattle.parshelf.specs.declared.reading.ReadFault.{ReadFault}
 use Rattle.parwindow.specs.Index.{SliceSet}
 use Rattle.parwindow.specs.Least.{IsLeastFrom}
 use Rattle.parcursor.specs.declared.cursor.Cursor.{Cursor}
+use Rattle.partrack.specs.Tracks.{HasNoCrc}
 use Rattle.parfind.specs.declared.finder.Step.{Step}
 use Rattle.parfind.specs.declared.finder.Step.TheVariants.{Hit, Spent, Done}
 use Rattle.parcursor.specs.Order.{cursor_of}
@@ -15,7 +16,6 @@ use Rattle.parfind.specs.Sightings.{Scan, content_of, is_seen_in, sightings_of, 
 use Rattle.parfind.specs.Moves.{PassesAll, StepMoves, Advances}
 use Rattle.parfind.specs.Steps.{scan_of}
 use Rattle.parfind.specs.Looking.{IsAtPlace, IsNextPlace}
-use Rattle.parfind.specs.Tracks.{HasNoCrc}
 use Rattle.parfind.specs.Visits.{StepSees, step_of, count_of}
 use Rattle.parcursor.proofs.OrderLaws.{From, is_from-true, From-by_test, From-refl}
 use Rattle.parfind.proofs.RisingLaws.{between_and_between, none_between}

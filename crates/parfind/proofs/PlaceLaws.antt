@@ -8,7 +8,8 @@ use Rattle.parwindow.specs.Index.{SliceSet}
 use Rattle.parcursor.specs.declared.cursor.Cursor.{Cursor}
 use Rattle.parcursor.specs.declared.sighting.Sighting.{Sighting}
 use Rattle.parcursor.specs.Order.{is_from, cursor_of}
-use Rattle.parfind.specs.Places.{Place, place_at, cursor_at, cursor_past, place_of, start_of, places_in, places_of, places_ahead, places_between}
+use Rattle.partrack.specs.Fetched.{Place}
+use Rattle.parfind.specs.Places.{place_at, cursor_at, cursor_past, place_of, start_of, places_in, places_of, places_ahead, places_between}
 use Rattle.parfind.specs.Sightings.{Scan, content_of, is_sighting, triples_at, triples_of, sightings_of}
 use Rattle.parfind.specs.Steps.{lengths_of}
 use Rattle.parfind.specs.Looking.{IsAtPlace, IsNextPlace}

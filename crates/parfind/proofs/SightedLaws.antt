@@ -4,7 +4,8 @@ use Rattle.std.proofs.lemmas.Bool.{cases_Bool, cases_lt, eq-eqb, eqb-true, or_ca
 use Rattle.parcursor.specs.declared.cursor.Cursor.{Cursor}
 use Rattle.parcursor.specs.declared.sighting.Sighting.{Sighting}
 use Rattle.parcursor.specs.Order.{is_before, cursor_of, origin}
-use Rattle.parfind.specs.Places.{Place, cursor_past, place_at}
+use Rattle.partrack.specs.Fetched.{Place}
+use Rattle.parfind.specs.Places.{cursor_past, place_at}
 use Rattle.parfind.specs.Sightings.{Scan, content_of, is_seen_in, sightings_of, sightings_between}
 use Rattle.parfind.specs.Steps.{lengths_of}
 use Rattle.parfind.specs.Surveys.{is_sighted, is_sighted_before, mark_of, AllSightedBy}

@@ -13,10 +13,11 @@ use Rattle.parshelf.proofs.ReadLaws.{ReadsOnly_more}
 use Rattle.parwindow.specs.Index.{SliceSet}
 use Rattle.parcursor.specs.declared.cursor.Cursor.{Cursor}
 use Rattle.parcursor.specs.declared.sighting.Sighting.{Sighting}
+use Rattle.partrack.specs.Fetched.{Place}
 use Rattle.parfind.specs.declared.finder.Step.{Step}
 use Rattle.parfind.specs.declared.finder.Step.TheVariants.{Hit, Spent, Done}
 use Rattle.parcursor.specs.Order.{is_before, is_from, cursor_of}
-use Rattle.parfind.specs.Places.{Place, cursor_at, place_of, start_of, places_ahead, places_between}
+use Rattle.parfind.specs.Places.{cursor_at, place_of, start_of, places_ahead, places_between}
 use Rattle.parfind.specs.Sightings.{Scan, sightings_of, sightings_from, sightings_between}
 use Rattle.parfind.specs.Moves.{IsWithin, PassesAll, StepMoves, steps_left, Advances}
 use Rattle.parfind.specs.Steps.{scan_of, lengths_of, HitsNext, SpendsAll, IsDone, GoesOn, StepGives}

@@ -1,17 +1,27 @@
 -- A search that stands at a cursor.
-use Rattle.std.specs.Prelude.{◌≡◌, ◌≤◌, ℕ, IsTrue}
+use Rattle.std.specs.Prelude.{◌≡◌, ◌≤◌, ◌+◌, ℕ, IsTrue}
 use Rattle.parshelf.specs.Shelf.{ShelfState}
 use Rattle.parwindow.specs.Index.{SliceSet}
 use Rattle.parwindow.specs.Window.{WindowState}
 use Rattle.parcursor.specs.declared.cursor.Cursor.{Cursor}
-use Rattle.parfind.specs.declared.track.Track.{Track}
+use Rattle.partrack.specs.declared.track.Track.{Track}
+use Rattle.partrack.specs.Fetched.{Place}
+use Rattle.partrack.specs.Tracks.{IsTied, fetched_of, remembered}
 use Rattle.parfind.specs.Looking.{HasFit}
 use Rattle.parfind.specs.Marks.{marked_between}
 use Rattle.parcursor.specs.Order.{is_from}
-use Rattle.parfind.specs.Places.{Place, start_of}
+use Rattle.parfind.specs.Places.{start_of}
 use Rattle.parfind.specs.Reach.{SearchState}
 use Rattle.parfind.specs.Steps.{scan_of}
-use Rattle.parfind.specs.Tracks.{IsTied, fetched_of, hashed_of}
+
+-- the cursor behind the places whose windows may have been hashed
+abbrev pub hashed_of : Track → Cursor
+hashed_of t = record { file = t.file; offset = t.held + remembered t.digest; slice = 0 }
+
+-- the window is that of the cursor's place, or is being filled for it
+pub record StandsAt (t : Track) (c : Cursor) : Type 0 where
+  pub file_is : t.file ≡ c.file
+  pub held_is : t.held ≡ c.offset
 
 -- a finder, as contracts see it
 pub record FinderState : Type 0 where

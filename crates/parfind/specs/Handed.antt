@@ -2,8 +2,7 @@
 use Rattle.std.specs.Prelude.{◌≡◌, ◌+◌, ◌≤◌, ℕ, false, slice_index}
 use Rattle.parshelf.specs.Shelf.{ShelfState}
 use Rattle.parwindow.specs.Index.{SliceSet, has_fit_in}
-use Rattle.parfind.specs.Places.{Place}
-use Rattle.parfind.specs.Reach.{upto}
+use Rattle.partrack.specs.Fetched.{Place, upto}
 
 -- of each file at most its length
 abbrev pub HandsEachOnce : ShelfState → ShelfState → Type 0

@@ -4,7 +4,6 @@ pub mod Moves
 pub mod Steps
 pub mod Reach
 pub mod Handed
-pub mod Tracks
 pub mod Marks
 pub mod Finders
 pub mod Looking
@@ -14,6 +13,8 @@ pub mod Marking
 pub mod Surveying
 pub use Rattle.parshelf.specs.Reads
 pub use Rattle.parshelf.specs.Shelf
+pub use Rattle.partrack.specs.Fetched
+pub use Rattle.partrack.specs.Tracks
 pub use Rattle.parwindow.specs.Index
 pub use Rattle.parwindow.specs.Least
 pub use Rattle.parwindow.specs.Missing

@@ -1,8 +1,6 @@
--- The place that a search comes to next, and the slices that may be seen there.
-use Rattle.std.specs.Prelude.{ℕ, ◌-◌, ◌<◌, ◌&&◌, nat_le, Bool, List, length, slice_index, IsTrue}
-use Rattle.parfield.specs.declared.hash16.Hash16.{Hash16}
-use Rattle.parset.specs.declared.recovery_set.SetSlice.{SetSlice}
-use Rattle.parwindow.specs.Index.{SliceSet, has_sums, has_fit_in}
+-- The place that a search comes to next, and whether a slice has room there.
+use Rattle.std.specs.Prelude.{ℕ, ◌-◌, ◌<◌, List, length, slice_index, IsTrue}
+use Rattle.parwindow.specs.Index.{SliceSet, has_fit_in}
 use Rattle.parcursor.specs.declared.cursor.Cursor.{Cursor}
 use Rattle.parcursor.specs.Order.{is_from}
 
@@ -28,7 +26,3 @@ pub record IsNextPlace (lengths : List ℕ) (c d : Cursor) : Type 0 where
 -- no cursor from c on stands at a place
 abbrev pub NoPlaceFrom : List ℕ → Cursor → Type 0
 NoPlaceFrom lengths c = (e : Cursor) → IsTrue (is_from c e) → ¬ IsAtPlace lengths e
-
--- the slice has these sums, and fits into what is left of the file
-abbrev pub is_fit : Hash16 × ℕ → ℕ → SetSlice → Bool
-is_fit sums left slice = nat_le slice.length left && has_sums sums slice

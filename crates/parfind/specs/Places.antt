@@ -4,11 +4,7 @@ use Rattle.std.specs.List.{flat_map, range_with_len}
 use Rattle.parcursor.specs.declared.cursor.Cursor.{Cursor}
 use Rattle.parcursor.specs.declared.sighting.Sighting.{Sighting}
 use Rattle.parcursor.specs.Order.{is_before, is_from}
-
--- an offset of a file
-pub record Place : Type 0 where
-  pub file : ℕ
-  pub offset : ℕ
+use Rattle.partrack.specs.Fetched.{Place}
 
 -- the cursor at a place, before all slices
 abbrev pub cursor_at : Place → Cursor

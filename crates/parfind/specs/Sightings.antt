@@ -7,7 +7,8 @@ use Rattle.parwindow.specs.Window.{window_at}
 use Rattle.parcursor.specs.declared.cursor.Cursor.{Cursor}
 use Rattle.parcursor.specs.declared.sighting.Sighting.{Sighting}
 use Rattle.parcursor.specs.Order.{is_before, is_from, origin, cursor_of, cursor_after}
-use Rattle.parfind.specs.Places.{Place, places_of}
+use Rattle.partrack.specs.Fetched.{Place}
+use Rattle.parfind.specs.Places.{places_of}
 
 -- the slices that are looked for, and the contents of the files that are scanned for them
 pub record Scan : Type 0 where

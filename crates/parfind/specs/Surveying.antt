@@ -5,16 +5,17 @@ use Rattle.parshelf.specs.declared.reading.ReadFault.{ReadFault}
 use Rattle.parwindow.specs.Index.{SliceSet}
 use Rattle.parwindow.specs.Window.{WindowState}
 use Rattle.parcursor.specs.declared.cursor.Cursor.{Cursor}
-use Rattle.parfind.specs.declared.track.Track.{Track}
+use Rattle.partrack.specs.declared.track.Track.{Track}
+use Rattle.partrack.specs.Fetched.{Place, ReadsUpTo}
+use Rattle.partrack.specs.Tracks.{fetched_of}
 use Rattle.parfind.specs.Handed.{SkipsUnfit}
 use Rattle.parfind.specs.Marks.{is_missing_at}
 use Rattle.parcursor.specs.Order.{origin}
-use Rattle.parfind.specs.Places.{Place, cursor_at, places_between}
-use Rattle.parfind.specs.Reach.{ReadsUpTo, IsNear}
+use Rattle.parfind.specs.Places.{cursor_at, places_between}
+use Rattle.parfind.specs.Reach.{IsNear}
 use Rattle.parfind.specs.Sightings.{Scan}
 use Rattle.parfind.specs.Steps.{scan_of}
 use Rattle.parfind.specs.Surveys.{is_sighted_before, mark_of, IsAllMarked, AllSightedBy}
-use Rattle.parfind.specs.Tracks.{fetched_of}
 
 -- where a survey is: its shelf and its window, the marks, and how the window goes along a file
 pub record SurveyState : Type 0 where

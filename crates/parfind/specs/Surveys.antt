@@ -5,10 +5,11 @@ use Rattle.parshelf.specs.Shelf.{ShelfState}
 use Rattle.parshelf.specs.Reads.{FaultsIn}
 use Rattle.parwindow.specs.Index.{SliceSet}
 use Rattle.parcursor.specs.declared.cursor.Cursor.{Cursor}
+use Rattle.partrack.specs.Fetched.{Place}
 use Rattle.parfind.specs.declared.scanning.SurveyFault.{SurveyFault}
 use Rattle.parfind.specs.declared.scanning.SurveyFault.TheVariants.{Read, Memory}
 use Rattle.parcursor.specs.Order.{is_before, cursor_of}
-use Rattle.parfind.specs.Places.{Place, cursor_at, cursor_past}
+use Rattle.parfind.specs.Places.{cursor_at, cursor_past}
 use Rattle.parfind.specs.Handed.{HandsAround}
 use Rattle.parfind.specs.Sightings.{Scan, sightings_of}
 use Rattle.parfind.specs.Steps.{scan_of}

@@ -1,21 +1,21 @@
 ghost use Rattle.std.specs.Prelude.{◌≡◌, ◌≢◌, ◌-◌, ◌<◌, ◌≤◌, None, Some, Ok, length, option_map, IsTrue, OnOk, IfOk, IfErr};
 ghost use Rattle.parshelf.specs.Reads.{ReadsOnly, FaultsIn};
-ghost use Rattle.parfind.specs.Finders.{BelongsTo, search_of};
+ghost use Rattle.partrack.specs.Fetched.{ReadsUpTo};
+ghost use Rattle.parfind.specs.Finders.{BelongsTo, search_of, StandsAt};
 ghost use Rattle.parfind.specs.declared.finder.Step.TheVariants.{Spent};
 ghost use Rattle.parfind.specs.Looking.{HasFit, IsAtPlace, IsNextPlace};
 ghost use Rattle.parfind.specs.Marks.{marks};
 ghost use Rattle.parfind.specs.Moves.{StepMoves, PassesAll, IsWithin, Advances, steps_left};
 ghost use Rattle.parfind.specs.Places.{place_at};
-ghost use Rattle.parfind.specs.Reach.{CallReads, ReadsUpTo};
+ghost use Rattle.parfind.specs.Reach.{CallReads};
 ghost use Rattle.parfind.specs.Steps.{StepGives, scan_of};
-ghost use Rattle.parfind.specs.Tracks.{StandsAt};
 ghost use Rattle.parfind.specs.Visits.{StepSees, step_of, count_of};
 
 use crate::places::{next_place, rest_of};
-use crate::track::Track;
 use parcursor::{Cursor, Sighting};
 use parfield::Tally;
 use parshelf::{ReadFault, Shelf};
+use partrack::Track;
 use parwindow::{Index, Window};
 use std::alloc::{AllocError, Global};
 use std::marker::Model;
@@ -43,7 +43,7 @@ pub struct Finder {
 
 impl Model for Finder {
     ghost use Rattle.parfind.specs.Finders.{FinderState};
-    ghost use Rattle.parfind.specs.Tracks.{fetched_of};
+    ghost use Rattle.partrack.specs.Tracks.{fetched_of};
 
     ghost Value = { FinderState };
 

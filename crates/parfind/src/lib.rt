@@ -1,25 +1,19 @@
 //! The search for a set's slices at every place of the scanned files. Cursors are passed on.
 //!
-//! From below: `track` is where a window goes along a file, with the bytes read ahead of it, `ahead`
-//! reads these, and `sliding` brings the window from place to place over them. `places` names the
-//! place that comes next. `looking` tells which slice a search sees at its place, and `marking`
-//! marks those that a survey sees at one. `finder` is the search, call by call, and `scanning` the
-//! survey of all files; `laws` adds up what the calls of a search promise.
+//! From below: `places` names the place that comes next, and `marking` marks the slices that a survey
+//! sees at one. `finder` is the search, call by call, and `scanning` the survey of all files; both go
+//! by a track of `partrack`. `laws` adds up what the calls of a search promise.
 //!
 //! A search may be given up and opened again at its cursor, and then reads its window anew. A survey
 //! begins at the first file, and ends once each slice has its mark. Once it has its window, neither
 //! takes memory, or is handed more bytes of a file than it has.
 #![tactic(auto)]
 
-mod ahead;
 mod finder;
 mod laws;
-mod looking;
 mod marking;
 mod places;
 mod scanning;
-mod sliding;
-mod track;
 
 pub use crate::finder::{Finder, Step};
 pub use crate::laws::{reach_law, sighting_laws, step_law};

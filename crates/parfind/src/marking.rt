@@ -2,12 +2,12 @@ ghost use Rattle.std.specs.Prelude.{◌≡◌, ◌<◌, ◌≤◌, ◌||◌, ℕ
 ghost use Rattle.parwindow.specs.Index.{slice_passes, sums_of};
 ghost use Rattle.parwindow.specs.Crc32.{crc_of};
 ghost use Rattle.parwindow.specs.Missing.{is_missing_in};
-ghost use Rattle.parfind.specs.Looking.{is_fit};
+ghost use Rattle.partrack.specs.Fitting.{is_fit};
 ghost use Rattle.parfind.specs.Marking.{MarksMore, TakesDigest, IsSettled};
 ghost use Rattle.parfind.specs.Surveys.{mark_of};
 
-use crate::looking::first_fit;
 use parfield::Hash16;
+use partrack::first_fit;
 use parwindow::{Index, Window};
 
 /// The first slice from a number on that has no mark; the number of all slices, where there is

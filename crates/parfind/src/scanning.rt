@@ -1,16 +1,16 @@
 ghost use Rattle.std.specs.Prelude.{◌≡◌, ◌+◌, ◌≤◌, [], length, IsTrue, OnOk, OnErr, IfErr};
 ghost use Rattle.parshelf.specs.Reads.{ReadsOnly, FaultsIn};
+ghost use Rattle.partrack.specs.Tracks.{IsUnread};
 ghost use Rattle.parfind.specs.Handed.{HandsEachOnce, SkipsUnfit};
 ghost use Rattle.parfind.specs.Marks.{missing_places};
 ghost use Rattle.parfind.specs.Steps.{scan_of};
 ghost use Rattle.parfind.specs.Surveys.{MarksSighted, MarksNoOther, MarksUpToFault, KeepsMarks, IsAllMarked, StopsOnceFound, SurveyLeaves};
 ghost use Rattle.parfind.specs.Surveying.{SurveyEnds, survey_at};
-ghost use Rattle.parfind.specs.Tracks.{IsUnread};
 ghost use Rattle.parfind.specs.declared.scanning.SurveyFault.TheVariants.{Memory};
 
 use crate::marking::{mark_seen, next_missing};
-use crate::track::Track;
 use parshelf::{ReadFault, Shelf};
+use partrack::Track;
 use parwindow::{Index, Window};
 use std::alloc::{AllocError, Global};
 

@@ -1,6 +1,6 @@
 use Rattle.std.proofs.Common.{◌-◌, length}
 use Rattle.parwindow.specs.Index.{slice_passes}
-use Rattle.parfind.specs.Looking.{is_fit}
+use Rattle.partrack.specs.Fitting.{is_fit}
 use Rattle.parfind.proofs.MarkingLaws.{MarksBelow}
 use Rattle.parfind.proofs.marking.mark_matches.Given as goal
 

@@ -1,9 +1,9 @@
 use Rattle.std.proofs.Common.{◌≡◌, ℕ, ◌*◌, ◌-◌, ◌<◌, ◌≤◌, true, false, length, slice_index, IfSome}
 use Rattle.parshelf.specs.Reads.{ReadsOnly}
+use Rattle.partrack.specs.Tracks.{IsTied}
 use Rattle.parfind.specs.Marking.{IsSettled}
 use Rattle.parfind.specs.Surveying.{Surveyed, cursor_to}
 use Rattle.parfind.specs.Surveys.{mark_of, IsAllMarked}
-use Rattle.parfind.specs.Tracks.{IsTied}
 use Rattle.parfind.proofs.scanning.sweep.Given as goal
 
 abbrev pub invariant-loop-missing : goal.invariant-loop-missing

@@ -3,11 +3,11 @@ use Rattle.std.proofs.lemmas.Result.{err_from_is_err_and}
 use Rattle.parshelf.specs.Shelf.{ShelfState}
 use Rattle.parshelf.proofs.ReadLaws.{ReadsOnly_more}
 use Rattle.parwindow.specs.Index.{SliceSet}
+use Rattle.partrack.proofs.FetchedLaws.{hands_none, hands_more}
 use Rattle.parfind.specs.declared.finder.Step.TheVariants.{Spent}
 use Rattle.parfind.specs.Moves.{StepMoves}
 use Rattle.parfind.specs.Steps.{scan_of, StepGives}
 use Rattle.parfind.proofs.MoveLaws.{passed_none}
-use Rattle.parfind.proofs.ReachLaws.{hands_none, hands_more}
 use Rattle.parfind.proofs.WalkLaws.{none_seen}
 use Rattle.parfind.proofs.StepLaws.{none_left, leaves_all, leaves_one, leaves_some, leaves_more, fewer, still_steady, faults_before, nearer, advances, then_moves, then_spent, then_advances, then_passed, then_sees, then_gives}
 use Rattle.parfind.proofs.finder.Finder.advance.Goals as goal

@@ -1,8 +1,8 @@
 use Rattle.std.proofs.Common.{◌≡◌, ℕ, [], ◌≤◌, IsTrue}
 use Rattle.parshelf.specs.Reads.{ReadsOnly}
+use Rattle.partrack.specs.Fetched.{ReadsUpTo}
 use Rattle.parfind.specs.Finders.{BelongsTo}
 use Rattle.parfind.specs.Moves.{steps_left}
-use Rattle.parfind.specs.Reach.{ReadsUpTo}
 use Rattle.parfind.specs.Sightings.{sightings_between}
 use Rattle.parfind.specs.Steps.{scan_of}
 use Rattle.parfind.proofs.MoveLaws.{PassedTo}

@@ -3,11 +3,11 @@ use Rattle.parshelf.specs.Reads.{FaultsIn}
 use Rattle.parshelf.specs.Shelf.{ShelfState}
 use Rattle.parwindow.specs.Index.{SliceSet}
 use Rattle.parwindow.specs.Window.{WindowState}
-use Rattle.parfind.specs.Finders.{FinderState}
-use Rattle.parfind.specs.Tracks.{StandsAt, fetched_of}
+use Rattle.partrack.specs.Tracks.{fetched_of}
+use Rattle.partrack.proofs.FetchedLaws.{hands_more}
+use Rattle.parfind.specs.Finders.{FinderState, StandsAt}
 use Rattle.parfind.proofs.EnterLaws.{enter_tied, enter_sized, enter_file, enter_held, enter_stands, enter_hands, enter_onward, enter_digests}
 use Rattle.parfind.proofs.BelongsLaws.{with_window, arrives_belongs, call_files}
-use Rattle.parfind.proofs.ReachLaws.{hands_more}
 use Rattle.parfind.proofs.finder.Finder.arrive.Goals as goal
 
 pub fill-requires-clause-tied : goal.fill-requires-clause-tied

@@ -3,14 +3,14 @@ use Rattle.std.proofs.lemmas.Result.{err_from_is_err_and}
 use Rattle.parshelf.specs.Shelf.{ShelfState}
 use Rattle.parwindow.specs.Index.{SliceSet}
 use Rattle.parcursor.specs.declared.cursor.Cursor.{Cursor}
-use Rattle.parfind.specs.declared.track.Track.{Track}
-use Rattle.parfind.specs.Finders.{FinderState, BelongsTo}
+use Rattle.partrack.specs.declared.track.Track.{Track}
+use Rattle.partrack.specs.Tracks.{remembered}
+use Rattle.parfind.specs.Finders.{FinderState, BelongsTo, StandsAt}
 use Rattle.parfind.specs.Looking.{IsAtPlace, IsNextPlace}
 use Rattle.parfind.specs.Moves.{StepMoves}
 use Rattle.parfind.specs.Steps.{scan_of}
 use Rattle.parfind.specs.Visits.{StepSees, step_of, count_of}
 use Rattle.parfind.proofs.AdvanceLaws.{fewer_after, fewer_past, no_more}
-use Rattle.parfind.specs.Tracks.{StandsAt, remembered}
 use Rattle.parfind.proofs.BelongsLaws.{with_window, look_belongs, goes_on_belongs, fault_files, read_files}
 use Rattle.parfind.proofs.MarkLaws.{From-further, remembered-most}
 use Rattle.parfind.proofs.LookLaws.{look_seen, within_left}

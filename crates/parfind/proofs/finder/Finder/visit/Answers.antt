@@ -2,6 +2,7 @@ use Rattle.std.proofs.Common.{sym, ap, subst, arith, Some}
 use Rattle.std.proofs.lemmas.Result.{err_from_is_err_and}
 use Rattle.parshelf.specs.Shelf.{ShelfState}
 use Rattle.parwindow.specs.Index.{SliceSet}
+use Rattle.partrack.proofs.FetchedLaws.{hands_more}
 use Rattle.parfind.specs.Finders.{FinderState}
 use Rattle.parfind.specs.Moves.{StepMoves}
 use Rattle.parfind.specs.Steps.{scan_of}
@@ -9,7 +10,6 @@ use Rattle.parfind.specs.Visits.{StepSees, step_of, count_of}
 use Rattle.parfind.specs.Looking.{IsNextPlace}
 use Rattle.parfind.proofs.MoveLaws.{greater-end, greater-same}
 use Rattle.parfind.proofs.PassLaws.{look_moves, look_sees, look_advances, look_faults}
-use Rattle.parfind.proofs.ReachLaws.{hands_more}
 use Rattle.parfind.proofs.StepLaws.{still_steady}
 use Rattle.parfind.proofs.VisitLaws.{visit_ended, visit_stopped, visit_stays, visit_ends}
 use Rattle.parfind.proofs.finder.Finder.visit.Goals as goal

@@ -1,5 +1,0 @@
-use Rattle.std.proofs.Common.{rules}
-use Rattle.parfind.proofs.track.Track.digest_of.Goals as goal
-
-pub returns-clause-looks : goal.returns-clause-looks
-returns-clause-looks c = search rules steps 1000000

@@ -1,0 +1,4 @@
+pub mod FetchedLaws
+pub mod FittingLaws
+pub mod TrackLaws
+pub mod SlideLaws

@@ -1,0 +1,37 @@
+use Rattle.std.proofs.Common.{◌≡◌, slice_index, ap, sym, ◌∙◌, subst, arith}
+use Rattle.parshelf.specs.Shelf.{ShelfState, file_of}
+use Rattle.parshelf.proofs.ReadLaws.{ReadsOnly_more}
+use Rattle.parshelf.proofs.ShelfLaws.{length-file_of}
+use Rattle.parwindow.specs.Window.{WindowState}
+use Rattle.partrack.specs.Tracks.{IsTied, fetched_of}
+use Rattle.partrack.proofs.FetchedLaws.{hands_more}
+use Rattle.partrack.proofs.SlideLaws.{follows_more, kept_window}
+use Rattle.partrack.proofs.track.Track.fill.Goals as goal
+
+pub loop-self-preserved : goal.loop-self-preserved
+loop-self-preserved g c =
+    let s : ShelfState = g.H.Shelf.state c.args.shelf.now in
+    let mid : ShelfState = g.H.Shelf.state c.loop-self.shelf in
+    let new : ShelfState = g.H.Shelf.state c.ready.new.shelf in
+    let v : WindowState = c.loop-self.window in
+    let t = c.ready.new.self in
+    let so_far = c.loop-self.invariant in
+    let r = c.in_ok-ready.ensures in
+    let file_end : c.length.result ≡ slice_index new.lengths t.file = c.length.ensures.value in
+    let lengths : mid.lengths ≡ s.lengths = ap (λ (u : ShelfState). u.lengths) so_far.only in
+    record {
+      tied = subst (λ (w : WindowState). IsTied new w t) (sym c.append.ensures)
+          (follows_more (slice_index new.lengths t.file) new.is_steady (file_of new t.file) v t r.tied
+          (length-file_of new t.file (g.met.H.Shelf.in_order c.ready.new.shelf))
+          c.piece.result.now (rw file_end at c.piece.ensures.bytes) (λ before. c.piece.ensures.hand (rw file_end before))
+          c.piece.ensures.some (omega (arith, c.piece.ensures.within, c.size.ensures, c.len.ensures.len, r.tied.within)));
+      same = record {
+        file_is = r.same.file_is ∙ so_far.same.file_is;
+        held_is = r.same.held_is ∙ so_far.same.held_is;
+        digest_is = r.same.digest_is ∙ so_far.same.digest_is;
+      };
+      window_is = kept_window c.args.window.now v c.append.new.window _ so_far.window_is c.append.ensures;
+      only = ReadsOnly_more s mid new so_far.only r.ok;
+      reads = hands_more s.lengths s.handed mid.handed new.handed (fetched_of c.args.self.now) (fetched_of c.loop-self.self) (fetched_of t)
+          so_far.reads (rw lengths at r.reads);
+    }

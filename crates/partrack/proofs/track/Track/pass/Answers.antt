@@ -1,0 +1,37 @@
+use Rattle.std.proofs.Common.{◌≡◌, ℕ, ◌+◌, slice_index, ap, sym, ◌∙◌, subst, None}
+use Rattle.parshelf.specs.Shelf.{ShelfState, file_of}
+use Rattle.parshelf.proofs.ShelfLaws.{length-file_of}
+use Rattle.parwindow.specs.Window.{WindowState}
+use Rattle.partrack.specs.Tracks.{IsTied, HasNoCrc}
+use Rattle.partrack.proofs.SlideLaws.{follows_on, none_on}
+use Rattle.partrack.proofs.track.Track.pass.Goals as goal
+
+pub returns-clause-tied : goal.returns-clause-tied
+returns-clause-tied g c =
+    let new : ShelfState = g.H.Shelf.state c.ready.new.shelf in
+    let w : WindowState = c.args.window.now in
+    let t = c.ready.new.self in
+    let r = c.in_ok-ready.ensures in
+    let n : ℕ = c.push_until-count.result in
+    let file_end : c.length-file_end.result ≡ slice_index new.lengths t.file = c.length-file_end.ensures.value in
+    subst (λ (v : WindowState). IsTied new v (record t { held = t.held + n; digest = None })) (sym c.push_until-count.ensures.content)
+    (follows_on (slice_index new.lengths t.file) new.is_steady (file_of new t.file) w t r.tied
+    (length-file_of new t.file (g.met.H.Shelf.in_order c.ready.new.shelf))
+    c.piece-piece.result.now (rw file_end at c.piece-piece.ensures.bytes) (λ before. c.piece-piece.ensures.hand (rw file_end before)) n c.push_until-count.ensures.until.within)
+
+pub returns-clause-none : goal.returns-clause-none
+returns-clause-none g c = λ steady.
+    let s : ShelfState = g.H.Shelf.state c.args.shelf.now in
+    let new : ShelfState = g.H.Shelf.state c.ready.new.shelf in
+    let w : WindowState = c.args.window.now in
+    let t = c.ready.new.self in
+    let r = c.in_ok-ready.ensures in
+    let n : ℕ = c.push_until-count.result in
+    let file_end : c.length-file_end.result ≡ slice_index new.lengths t.file = c.length-file_end.ensures.value in
+    let none : HasNoCrc c.args.index.now (file_of new t.file) t.held n =
+    none_on (slice_index new.lengths t.file) new.is_steady (file_of new t.file) w t r.tied
+    (length-file_of new t.file (g.met.H.Shelf.in_order c.ready.new.shelf))
+    c.piece-piece.result.now (rw file_end at c.piece-piece.ensures.bytes) (λ before. c.piece-piece.ensures.hand (rw file_end before))
+    c.args.index.now n c.requires.sized c.requires.full c.push_until-count.ensures.until (ap (λ (u : ShelfState). u.is_steady) r.ok ∙ steady) in
+    let files : file_of new t.file ≡ file_of s c.args.self.now.file = ap (λ (u : ShelfState). file_of u t.file) r.ok ∙ ap (file_of s) r.same.file_is in
+    rw (files, r.same.held_is) at none

@@ -1,0 +1,27 @@
+use Rattle.std.proofs.Common.{ap, ◌+◌, ◌∙◌, arith, refl, rules}
+use Rattle.parshelf.specs.Shelf.{ShelfState}
+use Rattle.parshelf.proofs.ShelfLaws.{after_read-some}
+use Rattle.partrack.proofs.FetchedLaws.{hands_read}
+use Rattle.partrack.proofs.track.Track.refill.Goals as goal
+
+pub returns-in-Ok-clause-reads : goal.returns-in-Ok-clause-reads
+returns-in-Ok-clause-reads g c =
+    let s : ShelfState = g.H.Shelf.state c.args.shelf.now in
+    let t = c.args.self.now in
+    hands_read s.lengths s.handed (g.H.Shelf.state c.read_at.new.self).handed t.file (t.base + t.end) c.in-Ok.count
+    (ap (λ (u : ShelfState). u.handed) (c.in-Ok.ensures.ok ∙ after_read-some s t.file (t.base + t.end) _ c.in-Ok.count (omega (arith, c.in-Ok.count-test.1))))
+    (λ some. omega (arith, c.in-Ok.ensures.bound, c.length-file_end.ensures.value, c.min-size.ensures))
+
+pub returns-in-Err-clause-on : goal.returns-in-Err-clause-on
+returns-in-Err-clause-on g c = record {
+  same = record { file_is = refl; held_is = refl; digest_is = refl };
+  base_is = refl;
+  end_fits = omega arith;
+  small = search rules;
+}
+
+pub returns-in-Ok-eq0-clause-some : goal.returns-in-Ok-eq0-clause-some
+returns-in-Ok-eq0-clause-some g c = search rules steps 300000
+
+pub returns-in-Ok-eq0-clause-ok : goal.returns-in-Ok-eq0-clause-ok
+returns-in-Ok-eq0-clause-ok g c = search rules steps 300000
