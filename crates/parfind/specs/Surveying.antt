@@ -32,7 +32,7 @@ survey_at shelf window found track =
 abbrev pub cursor_to : Track → Cursor
 cursor_to t = record { file = t.file; offset = t.held; slice = 0 }
 
--- how many places before a cursor have the CRC-32 of a slice that has no mark
+-- how many places before a cursor have the CRC-32 of a slice that fits there and has no mark
 abbrev pub missing_to : Scan → List Bool → Cursor → ℕ
 missing_to scan found c =
     length (filter (is_missing_at scan found) (places_between (map length scan.contents) origin c))

@@ -6,7 +6,7 @@
 //!
 //! A search may be given up and opened again at its cursor, and then reads its window anew. A survey
 //! begins at the first file, and ends once each slice has its mark. Once it has its window, neither
-//! takes memory, or is handed more bytes of a file than it has.
+//! takes memory, nor is either handed more bytes of a file than the file has.
 #![tactic(auto)]
 
 mod finder;

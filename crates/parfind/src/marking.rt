@@ -29,7 +29,7 @@ pub fn next_missing(found: &[bool], from: usize) -> usize
 /// Marks each slice that has both sums of a full window and fits into what is left of the file. The
 /// MD5 is taken only where some slice with the CRC-32 fits and has no mark. `settled` keeps a CRC-32
 /// of which each slice that fits has its mark, so that in a run of equal windows, as of zeros, that
-/// is asked once a file.
+/// is asked once.
 pub fn mark_seen(
     window: &mut Window,
     index: &Index,

@@ -1,6 +1,6 @@
 -- Two lists side by side, step by step, and what is counted or put in at an ID.
-use Rattle.std.proofs.Common.{◌≡◌, ℕ, ◌+◌, ◌<◌, ◌≤◌, ◌∙◌, ◌&&◌, ◌||◌, Bool, true, false, List, ◌∷◌, ◌++◌, Option, Some, length, drop, get_or, ap, sym, refl, cond, unwrap_or, if◌then◌else◌, append_assoc, arith}
-use Rattle.std.specs.List.{flat_map, sum_by, zip}
+use Rattle.std.proofs.Common.{◌≡◌, ℕ, ◌+◌, ◌<◌, ◌≤◌, ◌∙◌, ◌&&◌, ◌||◌, Bool, true, false, List, ◌∷◌, Option, Some, length, drop, get_or, ap, sym, refl, cond, unwrap_or, if◌then◌else◌, arith}
+use Rattle.std.specs.List.{sum_by, zip}
 use Rattle.std.specs.Str.{bytes_eq}
 use Rattle.std.proofs.lemmas.List.{drop_all, drop_more}
 use Rattle.std.proofs.lemmas.List.Sums.{sum_by-cons}
@@ -14,18 +14,6 @@ pub zip-drop_more : {A B : Type 0} (xs : List A) (ys : List B) (i : ℕ) (d : A)
     → zip (drop i xs) (drop i ys) ≡ (get_or xs i d, get_or ys i e) ∷ zip (drop (i + 1) xs) (drop (i + 1) ys)
 zip-drop_more xs ys i d e here there =
     ap (λ zs. zip zs (drop i ys)) (drop_more xs i d here) ∙ ap (zip (get_or xs i d ∷ drop (i + 1) xs)) (drop_more ys i e there)
-
--- the text of one more pair
-pub lines_more : {A B : Type 0} (line : A × B → List ℕ) (before now after : List ℕ) (xs : List A) (ys : List B) (i : ℕ) (d : A) (e : B)
-    → i < length xs → i < length ys
-    → before ++ flat_map line (zip (drop i xs) (drop i ys)) ≡ now ++ flat_map line (zip xs ys)
-    → after ≡ before ++ line (get_or xs i d, get_or ys i e)
-    → after ++ flat_map line (zip (drop (i + 1) xs) (drop (i + 1) ys)) ≡ now ++ flat_map line (zip xs ys)
-lines_more line before now after xs ys i d e here there so_far one =
-    let rest = flat_map line (zip (drop (i + 1) xs) (drop (i + 1) ys)) in
-    ap (λ text. text ++ rest) one
-    ∙ (append_assoc before (line (get_or xs i d, get_or ys i e)) rest
-    ∙ (sym (ap (λ pairs. before ++ flat_map line pairs) (zip-drop_more xs ys i d e here there)) ∙ so_far))
 
 -- the count of one more slice
 pub found_count_of-drop_more : (slices : List SetSlice) (found : List Bool) (i : ℕ) (d : SetSlice) (e : Bool) (id : Hash16)
