@@ -17,7 +17,7 @@ length_cmp = then_cmp (on (λ (f : OwnLength). f.crc) nat_cmp) (on (λ (f : OwnL
 abbrev pub is_within : ℕ → ℕ → OwnLength → Bool
 is_within crc left own = own.crc == crc && nat_le own.length left
 
--- some slice with sums has a CRC-32 and at most a length where one of these has
+-- some slice with sums has a CRC-32 and at most a length exactly where one of these has
 abbrev pub AreLengthsOf : List SetSlice → List OwnLength → Type 0
 AreLengthsOf slices own =
     (crc left : ℕ) → list_any (is_within crc left) own ≡ list_any (has_fit_crc_of crc left) slices
