@@ -8,7 +8,6 @@ pub mod IdLaws
 pub mod LimitLaws
 pub mod MainLaws
 pub mod NameLaws
-pub mod RepeatLaws
 pub mod RisingLaws
 pub mod SetLaws
 pub mod SharedNameLaws

@@ -3,8 +3,8 @@ ghost use Rattle.parset.specs.RecoverySet.{AnswersSet, descriptions_of, names_ch
 ghost use Rattle.parset.specs.SharedNames.{repeated_name};
 
 use crate::choosing::descriptions;
-use crate::description::Desc;
 use crate::recovery_set::SetFault;
+use parbody::Desc;
 use parfield::{Hash16, Sequence};
 use parsalvage::Kept;
 use std::alloc::{AllocError, Global};

@@ -1,27 +1,21 @@
-//! Bodies of PAR2 packets, with the first reason why one is not usable, and the recovery set that
-//! they describe.
+//! The recovery set that kept packets describe. The readers of packet bodies are passed on.
+//!
+//! From below: `reading` reads a kept packet by its kind, with the readers of `parbody`. `choosing`
+//! takes of each thing the first packet that is usable, `in_order` puts file IDs into their order,
+//! `describing` finds the description of each file, and `slicing` has the slices of the files.
+//! `building` puts the set together, and `recovery_set` is the set with its readers.
 #![tactic(auto)]
 
-mod aside;
 mod building;
-mod checksums;
 mod choosing;
-mod creator;
 mod describing;
-mod description;
-mod fields;
 mod in_order;
-mod main_packet;
 mod reading;
 mod recovery_set;
-mod recovery_slice;
 mod slicing;
 
-pub use crate::aside::{Aside, BodyFault};
 pub use crate::building::build;
-pub use crate::checksums::{Ifsc, ifsc_body};
-pub use crate::creator::creator_body;
-pub use crate::description::{Desc, desc_body};
-pub use crate::main_packet::{Main, main_body};
 pub use crate::recovery_set::{RecoverySet, SetAside, SetFault, SetFile, SetSlice};
-pub use crate::recovery_slice::slice_body;
+pub use parbody::{
+    Aside, BodyFault, Desc, Ifsc, Main, creator_body, desc_body, ifsc_body, main_body, slice_body,
+};

@@ -1,0 +1,5 @@
+pub mod Bodies
+pub mod BodyAnswers
+pub mod Reasons
+pub use Rattle.parfield.specs.Bytes
+pub use Rattle.parfield.specs.Md5
