@@ -3,9 +3,10 @@ ghost use Rattle.md5.specs.Md5.{md5};
 ghost use Rattle.parshelf.specs.Shelf.{handed_over, bytes_at, file_of, failure_count, early_end_count};
 ghost use Rattle.parshelf.specs.Reads.{FaultsWithin};
 
-use crate::shelf::{Failed, Shelf};
+use crate::shelf::Shelf;
 use md5::{Digest, Md5};
 use parfield::Hash16;
+use parsink::Failed;
 
 /// Why a part of a file could not be read.
 #[derive(Clone, Copy, Debug, PartialEq, Eq)]

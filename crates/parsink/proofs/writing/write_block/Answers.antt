@@ -1,0 +1,18 @@
+use Rattle.std.proofs.Common.{length, string_bytes, ◌≤◌, arith}
+use Rattle.std.proofs.lemmas.Result.{err_from_is_err_and}
+use Rattle.parsink.specs.Blocks.{block}
+use Rattle.parsink.proofs.BlockLaws.{Waits_written}
+use Rattle.parsink.proofs.writing.write_block.Goals as goal
+
+pub returns-in_err-write_text-clause-err : goal.returns-in_err-write_text-clause-err
+returns-in_err-write_text-clause-err g c =
+    let failed = err_from_is_err_and c.from_residual.result c.from_residual.ensures.1 in
+    let refuses = rw c.as_bytes.ensures.value at c.in_err-write_text.ensures.err in
+    rw failed.1 refuses
+
+pub returns-in_ok-write_text-clause-ok : goal.returns-in_ok-write_text-clause-ok
+returns-in_ok-write_text-clause-ok g c =
+    let text = string_bytes c.args.waiting.now in
+    let after = rw c.as_bytes.ensures.value at c.in_ok-write_text.ensures.ok in
+    let long : block ≤ length text = omega (arith, c.len.ensures, c.if-len-ge-BLOCK.true) in
+    rw c.clear.ensures.bytes (Waits_written (g.W.Sink.state c.args.out.now) (g.W.Sink.state c.write_text.new.out) text after long)

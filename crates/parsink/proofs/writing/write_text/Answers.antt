@@ -1,0 +1,19 @@
+use Rattle.std.proofs.Common.{arith, length-drop}
+use Rattle.std.proofs.lemmas.List.{take_rest}
+use Rattle.parsink.proofs.FrontLaws.{appended_more, RefusesFront_after}
+use Rattle.parsink.proofs.writing.write_text.Goals as goal
+
+pub loop-done-preserved : goal.loop-done-preserved
+loop-done-preserved g c = record {
+  within = omega (arith, c.in-Ok.ensures.bound);
+  so_far = appended_more _ _ _ c.args.text.now _ c.in-Ok.n c.loop-done.invariant.so_far (rw take_rest at (c.in-Ok.ensures.taken (omega (arith, c.in-Ok.n-test.1))));
+}
+
+pub returns-in-Ok-eq0-clause-err : goal.returns-in-Ok-eq0-clause-err
+returns-in-Ok-eq0-clause-err g c =
+    RefusesFront_after _ _ _ c.args.text.now c.loop-done.done c.loop-done.invariant.so_far
+    (c.in-Ok-eq0.ensures.full c.in-Ok-eq0.field-0-test (simp (take_rest, length-drop) (omega arith)))
+
+pub returns-in-Err-clause-err : goal.returns-in-Err-clause-err
+returns-in-Err-clause-err g c =
+    RefusesFront_after _ _ _ c.args.text.now c.loop-done.done c.loop-done.invariant.so_far c.in-Err.ensures.failed

@@ -1,0 +1,4 @@
+pub mod Blocks
+pub mod MemorySink
+pub mod SinkState
+pub mod WriterSink
