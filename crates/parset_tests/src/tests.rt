@@ -20,33 +20,22 @@ const FILE: Hash16 = Hash16(*b"\xe3E\xea\xcb\xe6V\xc0\xe6\xfd \xedc\xcb{\x06,");
 
 const CONTENT: Hash16 = Hash16(*b"\xe8\xdc@\x81\xb144\xb4Q\x89\xa7 \xb7{h\x18");
 
-const MAIN: [u8; 28] =
-    *b"\x04\0\0\0\0\0\0\0\x01\0\0\0\xe3E\xea\xcb\xe6V\xc0\xe6\xfd \xedc\xcb{\x06,";
+const MAIN: &[u8] = b"\x04\0\0\0\0\0\0\0\x01\0\0\0\xe3E\xea\xcb\xe6V\xc0\xe6\xfd \xedc\xcb{\x06,";
 
-const DESC: [u8; 64] =
-    *b"\xe3E\xea\xcb\xe6V\xc0\xe6\xfd \xedc\xcb{\x06,\xe8\xdc@\x81\xb144\xb4Q\x89\xa7 \xb7{h\x18\xe8\xdc@\x81\xb144\xb4Q\x89\xa7 \xb7{h\x18\x08\0\0\0\0\0\0\0g.bin\0\0\0";
+const DESC: &[u8] =
+    b"\xe3E\xea\xcb\xe6V\xc0\xe6\xfd \xedc\xcb{\x06,\xe8\xdc@\x81\xb144\xb4Q\x89\xa7 \xb7{h\x18\xe8\xdc@\x81\xb144\xb4Q\x89\xa7 \xb7{h\x18\x08\0\0\0\0\0\0\0g.bin\0\0\0";
 
 // The description of a file `l.bin` of 16,385 letters `a`, whose first 16,384 bytes have another
 // MD5, as Python's `hashlib` has them.
-const LONG_DESC: [u8; 64] =
-    *b"\x10\xa1\xa0\xe8\xa38\x16\xd0RjVdEU\xa3\xe7\x8d\x07_r5V\xe7v\xf6\xf5\xdc\xf2\x8eh\x89\xa7\t\xb4|\xf0|\x9d\x0e\xa5\x89\xe0\xe2\xaa}\r5P\x01@\0\0\0\0\0\0l.bin\0\0\0";
+const LONG_DESC: &[u8] =
+    b"\x10\xa1\xa0\xe8\xa38\x16\xd0RjVdEU\xa3\xe7\x8d\x07_r5V\xe7v\xf6\xf5\xdc\xf2\x8eh\x89\xa7\t\xb4|\xf0|\x9d\x0e\xa5\x89\xe0\xe2\xaa}\r5P\x01@\0\0\0\0\0\0l.bin\0\0\0";
 
-const IFSC: [u8; 56] =
-    *b"\xe3E\xea\xcb\xe6V\xc0\xe6\xfd \xedc\xcb{\x06,\xe2\xfcqLG'\xee\x93\x95\xf3$\xcd.\x7f3\x1f\x11\xcd\x82\xed\x1fv\x90\xeb\xdd\x9bL\xaf\x8f\xabI\xca\x17W\xbf'\xb5{3\x08";
-
-// The value is the one that is wanted.
-fn is<T: Debug + PartialEq>(rt: &impl Abort, got: &T, wanted: &T) {
-    assert_eq!(rt; got, wanted);
-}
+const IFSC: &[u8] =
+    b"\xe3E\xea\xcb\xe6V\xc0\xe6\xfd \xedc\xcb{\x06,\xe2\xfcqLG'\xee\x93\x95\xf3$\xcd.\x7f3\x1f\x11\xcd\x82\xed\x1fv\x90\xeb\xdd\x9bL\xaf\x8f\xabI\xca\x17W\xbf'\xb5{3\x08";
 
 // The value is the one that is wanted in this row.
-fn is_in_row<R: Debug, T: Debug + PartialEq>(rt: &impl Abort, row: &R, got: &T, wanted: &T) {
+fn is<R: Debug, T: Debug + PartialEq>(rt: &impl Abort, row: &R, got: &T, wanted: &T) {
     assert_eq!(rt; got, wanted, "{row:?}");
-}
-
-// The values are those that are wanted.
-fn are<T: Debug + PartialEq>(rt: &impl Abort, got: &[T], wanted: &[T]) {
-    assert_eq!(rt; got, wanted);
 }
 
 // The MD5 of bytes.
@@ -54,97 +43,69 @@ fn digest_of(bytes: &[u8]) -> Hash16 {
     Hash16(Md5::digest(bytes))
 }
 
-// A Main body with an ID for each byte, of sixteen such bytes.
-fn main_bytes(alloc: Global, size: u64, count: u32, ids: &[u8]) -> Result<Vec<u8>, AllocError> {
-    let mut body = Vec::new(alloc);
-    body.extend_from_slice(&size.to_le_bytes())?;
-    body.extend_from_slice(&count.to_le_bytes())?;
-    for id in ids {
-        body.extend_from_slice(&[*id; 16])?;
-    }
-    Ok(body)
-}
+// Bytes by their runs: a byte, and how often it stands.
+type Runs = &'static [(u8, usize)];
 
-// So many letters, and then so many zeros.
-fn letters_and_zeros(
-    alloc: Global,
-    letter: u8,
-    letters: usize,
-    zeros: usize,
-) -> Result<Vec<u8>, AllocError> {
-    let mut bytes = vec![in alloc; letter; letters]?;
-    for _ in 0..zeros {
-        bytes.push(0)?;
+// The bytes of these runs.
+fn bytes_of(alloc: Global, runs: &[(u8, usize)]) -> Result<Vec<u8>, AllocError> {
+    let mut bytes = Vec::new(alloc);
+    for (byte, count) in runs {
+        let size = bytes.len().saturating_add(*count);
+        bytes.resize(size, *byte)?;
     }
     Ok(bytes)
 }
 
-// An ID that begins with these two bytes.
-fn id_of(low: u8, high: u8) -> [u8; 16] {
-    [low, high, 1, 1, 0, 0, 0, 0, 0, 0, 0, 0, 0, 0, 0, 0]
-}
+// Main bodies and their MD5s, with the slice sizes, the recovery IDs and the others.
+static MAINS: [(&[u8], Hash16, u64, &[Hash16], &[Hash16]); 2] = [
+    (MAIN, SET, 4, &[FILE], &[]),
+    (
+        b"\x08\0\0\0\0\0\0\0\x01\0\0\0\x01\x01\x01\x01\x01\x01\x01\x01\x01\x01\x01\x01\x01\x01\x01\x01\x02\x02\x02\x02\x02\x02\x02\x02\x02\x02\x02\x02\x02\x02\x02\x02",
+        Hash16(*b"Z\xa4\xe0\x8c-\x8c\x8a\xe7\xbd\xa6\xa1\xc1\xe4!\xcf\xa0"),
+        8,
+        &[Hash16([1; 16])],
+        &[Hash16([2; 16])],
+    ),
+];
 
-// A Main body with 1,100 IDs.
-fn main_of_1100(alloc: Global) -> Result<Vec<u8>, AllocError> {
-    let mut main = main_bytes(alloc, 4, 1_100, &[])?;
-    for high in 1..11_u8 {
-        for low in 1..111_u8 {
-            main.extend_from_slice(&id_of(low, high))?;
-        }
+#[test]
+fn the_fields_of_main_bodies_are_read(rt: HostRuntime) -> Result<(), BodyFault> {
+    for row in &MAINS {
+        let (body, set, size, recovery, others) = *row;
+        let main = main_body(rt.alloc(), body, set)?;
+        let fields = (main.size, main.recovery.as_slice(), main.others.as_slice());
+        is(&rt, row, &fields, &(size, recovery, others));
     }
-    Ok(main)
-}
-
-// A Main body has this slice size, these recovery IDs and these others.
-fn has_ids(rt: &impl Abort, main: &Main, size: u64, recovery: &[Hash16], others: &[Hash16]) {
-    is(rt, &main.size, &size);
-    are(rt, main.recovery.as_slice(), recovery);
-    are(rt, main.others.as_slice(), others);
-}
-
-#[test]
-fn the_fields_of_a_main_body_are_read(rt: HostRuntime) -> Result<(), Fail> {
-    let main = main_body(rt.alloc(), &MAIN, SET)?;
-    has_ids(&rt, &main, 4, &[FILE], &[]);
     Ok(())
 }
 
-#[test]
-fn the_fields_of_a_main_body_with_two_ids_are_read(rt: HostRuntime) -> Result<(), Fail> {
-    let body = main_bytes(rt.alloc(), 8, 1, &[1, 2])?;
-    let set = Hash16(*b"Z\xa4\xe0\x8c-\x8c\x8a\xe7\xbd\xa6\xa1\xc1\xe4!\xcf\xa0");
-    let main = main_body(rt.alloc(), &body, set)?;
-    has_ids(&rt, &main, 8, &[Hash16([1; 16])], &[Hash16([2; 16])]);
-    Ok(())
-}
-
-// A description has this ID, these MD5s of the whole file and of its front, this length and name.
-fn describes(
-    rt: &impl Abort,
-    desc: &Desc,
-    sums: (Hash16, Hash16, Hash16),
-    length: u64,
-    name: &str,
-) {
-    is(rt, &(desc.id, desc.whole, desc.front), &sums);
-    is(rt, &desc.length, &length);
-    are(rt, desc.name.as_slice(), name.as_bytes());
-}
+// Descriptions, with the ID, the MD5s of the whole file and of its front, the length and the name.
+static DESCS: [(&[u8], [Hash16; 3], u64, &[u8]); 2] = [
+    (DESC, [FILE, CONTENT, CONTENT], 8, b"g.bin"),
+    (
+        LONG_DESC,
+        [
+            Hash16(*b"\x10\xa1\xa0\xe8\xa38\x16\xd0RjVdEU\xa3\xe7"),
+            Hash16(*b"\x8d\x07_r5V\xe7v\xf6\xf5\xdc\xf2\x8eh\x89\xa7"),
+            Hash16(*b"\t\xb4|\xf0|\x9d\x0e\xa5\x89\xe0\xe2\xaa}\r5P"),
+        ],
+        16_385,
+        b"l.bin",
+    ),
+];
 
 #[test]
-fn the_fields_of_a_description_are_read(rt: HostRuntime) -> Result<(), Fail> {
-    let desc = desc_body(rt.alloc(), &DESC)?;
-    describes(&rt, &desc, (FILE, CONTENT, CONTENT), 8, "g.bin");
-    Ok(())
-}
-
-#[test]
-fn the_fields_of_a_description_of_a_long_file_are_read(rt: HostRuntime) -> Result<(), Fail> {
-    let long = desc_body(rt.alloc(), &LONG_DESC)?;
-    let id = Hash16(*b"\x10\xa1\xa0\xe8\xa38\x16\xd0RjVdEU\xa3\xe7");
-    let whole = Hash16(*b"\x8d\x07_r5V\xe7v\xf6\xf5\xdc\xf2\x8eh\x89\xa7");
-    let front = Hash16(*b"\t\xb4|\xf0|\x9d\x0e\xa5\x89\xe0\xe2\xaa}\r5P");
-    describes(&rt, &long, (id, whole, front), 16_385, "l.bin");
+fn the_fields_of_descriptions_are_read(rt: HostRuntime) -> Result<(), BodyFault> {
+    for row in &DESCS {
+        let (body, sums, length, name) = *row;
+        let desc = desc_body(rt.alloc(), body)?;
+        let fields = (
+            [desc.id, desc.whole, desc.front],
+            desc.length,
+            desc.name.as_slice(),
+        );
+        is(&rt, row, &fields, &(sums, length, name));
+    }
     Ok(())
 }
 
@@ -160,25 +121,26 @@ static SUMS: [(Hash16, u32); 2] = [
 ];
 
 #[test]
-fn the_fields_of_a_checksum_body_are_read(rt: HostRuntime) -> Result<(), Fail> {
-    let ifsc = ifsc_body(rt.alloc(), &IFSC)?;
-    is(&rt, &ifsc.id, &FILE);
-    are(&rt, ifsc.sums.as_slice(), SUMS.as_slice());
+fn the_fields_of_a_checksum_body_are_read(rt: HostRuntime) -> Result<(), BodyFault> {
+    let ifsc = ifsc_body(rt.alloc(), IFSC)?;
+    let fields = (ifsc.id, ifsc.sums.as_slice());
+    is(&rt, &"sums", &fields, &(FILE, SUMS.as_slice()));
     Ok(())
 }
 
-// The text of a Creator body is this.
-fn has_text(rt: &(impl Abort + AllocGlobal), body: &[u8], wanted: &[u8]) -> Result<(), BodyFault> {
-    let text = creator_body(rt.alloc(), body)?;
-    are(rt, text.as_slice(), wanted);
-    Ok(())
-}
+// Creator bodies and their texts.
+static TEXTS: [(&[u8], &[u8]); 3] = [
+    (b"a\0b\0\0\0\0\0", b"a\0b"),
+    (b"a\nb\\", b"a\nb\\"),
+    (b"\0\0\0\0", b""),
+];
 
 #[test]
-fn the_text_of_a_creator_body_is_read(rt: HostRuntime) -> Result<(), Fail> {
-    has_text(&rt, b"a\0b\0\0\0\0\0", b"a\0b")?;
-    has_text(&rt, b"a\nb\\", b"a\nb\\")?;
-    has_text(&rt, b"\0\0\0\0", b"")?;
+fn the_texts_of_creator_bodies_are_read(rt: HostRuntime) -> Result<(), BodyFault> {
+    for row in &TEXTS {
+        let text = creator_body(rt.alloc(), row.0)?;
+        is(&rt, row, &text.as_slice(), &row.1);
+    }
     Ok(())
 }
 
@@ -201,16 +163,11 @@ static SLICES: [([u8; 4], u64, u64, Result<u32, Aside>); 15] = [
     ([0xff, 0xff, 0, 0], 12, 4, Err(Aside::WrongLength)),
 ];
 
-// The exponent or the reason of a recovery slice packet whose body begins so and is so long.
-fn slice_answer(first: [u8; 4], len: u64, size: u64) -> Result<u32, Aside> {
-    slice_body(first, len, size)
-}
-
 #[test]
 fn recovery_slices_have_their_exponent_or_a_reason(rt: HostRuntime) {
     for row in &SLICES {
         let (first, len, size, wanted) = *row;
-        is_in_row(&rt, row, &slice_answer(first, len, size), &wanted);
+        is(&rt, row, &slice_body(first, len, size), &wanted);
     }
 }
 
@@ -226,6 +183,6 @@ static NUMBERS: [(Aside, u8); 6] = [
 #[test]
 fn each_reason_has_its_number(rt: HostRuntime) {
     for row in &NUMBERS {
-        is_in_row(&rt, row, &row.0.number(), &row.1);
+        is(&rt, row, &row.0.number(), &row.1);
     }
 }

@@ -1,42 +1,32 @@
 // The fields of the bodies of packets, as their definition has them.
+use parfield::Hash16;
 use parfixtures::field;
 
 /// The number of eight bytes, or 0 where they are not there.
 pub fn long_at(bytes: &[u8], at: usize) -> u64 {
-    match field::<8>(bytes, at) {
-        Some(found) => u64::from_le_bytes(found),
-        None => 0,
-    }
+    u64::from_le_bytes(field::<8>(bytes, at).unwrap_or([0; 8]))
 }
 
 /// The number of four bytes, or 0 where they are not there.
 pub fn word_at(bytes: &[u8], at: usize) -> u32 {
-    match field::<4>(bytes, at) {
-        Some(found) => u32::from_le_bytes(found),
-        None => 0,
-    }
+    u32::from_le_bytes(field::<4>(bytes, at).unwrap_or([0; 4]))
+}
+
+/// The ID or MD5 of sixteen bytes, or zeros where they are not there.
+pub fn id_at(bytes: &[u8], at: usize) -> Hash16 {
+    Hash16(field::<16>(bytes, at).unwrap_or([0; 16]))
 }
 
 /// The IDs of a Main body.
 pub fn ids_in(body: &[u8]) -> &[[u8; 16]] {
-    match body.get(12..) {
-        Some(rest) => {
-            let (ids, _) = rest.as_chunks::<16>();
-            ids
-        }
-        None => &[],
-    }
+    let (ids, _) = body.get(12..).unwrap_or(&[]).as_chunks::<16>();
+    ids
 }
 
 /// The sums in an IFSC body, each an MD5 and a CRC-32.
 pub fn sums_in(body: &[u8]) -> &[[u8; 20]] {
-    match body.get(16..) {
-        Some(rest) => {
-            let (sums, _) = rest.as_chunks::<20>();
-            sums
-        }
-        None => &[],
-    }
+    let (sums, _) = body.get(16..).unwrap_or(&[]).as_chunks::<20>();
+    sums
 }
 
 /// The bytes from a place on, without the zeros at their end.
