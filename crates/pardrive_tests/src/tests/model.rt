@@ -6,7 +6,6 @@ use parcursor::Cursor;
 use pardrive::{Answer, Call, Drive, drive};
 use parfind::Step;
 use parfixtures::{cursor, shelf_of, sighting};
-use std::alloc::Global;
 use std::process::Abort;
 use std::test::Fail;
 
@@ -18,19 +17,19 @@ fn byte_at(bytes: &[u8], place: usize) -> u8 {
     }
 }
 
+// Four bytes, the first of these with zeros behind them.
+fn padded(bytes: &[u8]) -> [u8; 4] {
+    let (first, second) = (byte_at(bytes, 0), byte_at(bytes, 1));
+    [first, second, byte_at(bytes, 2), byte_at(bytes, 3)]
+}
+
 // Whether a slice of these bytes stands there: they lie in the file, and with zeros behind both,
 // four bytes are the same.
 fn stands(file: &[u8], offset: usize, own: &[u8]) -> bool {
-    let rest = file.get(offset..).unwrap_or(&[]);
-    if own.len() > rest.len() {
-        return false;
+    match file.get(offset..) {
+        Some(rest) => own.len() <= rest.len() && padded(rest) == padded(own),
+        None => false,
     }
-    for place in 0..4 {
-        if byte_at(rest, place) != byte_at(own, place) {
-            return false;
-        }
-    }
-    true
 }
 
 // The first slice from a number on that stands there.
@@ -113,13 +112,15 @@ fn follows(
     content: &[u8],
     files: &[&[u8]],
     start: Cursor,
-    calls: &[(Call, Answer)],
+    calls: &[Call],
+    answers: &[Answer],
     to: Cursor,
 ) -> Option<Cursor> {
     let mut at = start;
     let mut failed = false;
-    for &(call, answer) in calls {
-        match budget_of(call) {
+    for (call, answer) in calls.iter().zip(answers) {
+        let answer = *answer;
+        match budget_of(*call) {
             None => {
                 if answer != Answer::Reopened && answer != Answer::NoMemory {
                     return None;
@@ -149,14 +150,15 @@ fn is_right(
     content: &[u8],
     files: &[&[u8]],
     start: Cursor,
-    calls: &[(Call, Answer)],
+    calls: &[Call],
+    answers: &[Answer],
     end: Cursor,
 ) -> bool {
     for file in 0..4 {
         for offset in 0..10 {
             for slice in 0..3 {
                 let to = cursor((file, offset, slice));
-                if follows(content, files, start, calls, to) == Some(end) {
+                if follows(content, files, start, calls, answers, to) == Some(end) {
                     return true;
                 }
             }
@@ -165,29 +167,35 @@ fn is_right(
     false
 }
 
-// A content of a set of one file.
+// Contents of a set of one file.
+static CONTENTS: [&[u8]; 5] = [
+    b"\0\0\0\0\0\0\0\0",
+    b"aaaaa",
+    b"abcdabcd",
+    b"abcdef",
+    b"aaaa\0\0\0",
+];
+
+// One of them.
 fn some_content(number: u64) -> &'static [u8] {
-    match number % 5 {
-        0 => b"\0\0\0\0\0\0\0\0",
-        1 => b"aaaaa",
-        2 => b"abcdabcd",
-        3 => b"abcdef",
-        _ => b"aaaa\0\0\0",
-    }
+    CONTENTS[(number % 5) as usize]
 }
 
-// A scanned file.
+// Scanned files.
+static FILES: [&[u8]; 8] = [
+    b"",
+    b"ef",
+    b"aaaaaa",
+    b"a\0\0\0\0",
+    b"\0\0\0\0\0\0",
+    b"Xabcdefab",
+    b"abcdabcd",
+    b"baaaaa\0\0",
+];
+
+// One of them.
 fn some_file(number: u64) -> &'static [u8] {
-    match number % 8 {
-        0 => b"",
-        1 => b"ef",
-        2 => b"aaaaaa",
-        3 => b"a\0\0\0\0",
-        4 => b"\0\0\0\0\0\0",
-        5 => b"Xabcdefab",
-        6 => b"abcdabcd",
-        _ => b"baaaaa\0\0",
-    }
+    FILES[(number % 8) as usize]
 }
 
 // The number that follows on another one that isn't 0.
@@ -212,19 +220,6 @@ fn some_calls(rt: &(impl Abort + AllocGlobal), seed: u64) -> Result<Vec<Call>, F
         })?;
     }
     Ok(calls)
-}
-
-// The calls, each with its answer.
-fn answered(
-    alloc: Global,
-    calls: &[Call],
-    answers: &[Answer],
-) -> Result<Vec<(Call, Answer)>, Fail> {
-    let mut pairs = Vec::new(alloc);
-    for (call, answer) in calls.iter().zip(answers) {
-        pairs.push((*call, *answer))?;
-    }
-    Ok(pairs)
 }
 
 // A cursor by chance.
@@ -260,11 +255,11 @@ fn drives_by_chance(rt: &(impl Abort + AllocGlobal), seed: u64) -> Result<bool, 
     let answers = done.answers.as_slice();
     let refused = answers.last() == Some(&Answer::NoMemory);
     holds(rt, refused || answers.len() == calls.len());
-    let pairs = answered(rt.alloc(), &calls, answers)?;
+    let content = some_content(seed >> 3);
     let start = some_cursor(seed);
     holds(
         rt,
-        is_right(some_content(seed >> 3), &files, start, &pairs, done.cursor),
+        is_right(content, &files, start, &calls, answers, done.cursor),
     );
     if refused {
         return Err("NoMemory at a reopening".into());

@@ -1,82 +1,77 @@
 ghost use Rattle.std.specs.Prelude.{All};
 ghost use Rattle.pardrive.specs.Runs.{HasBudget};
 
-use super::{FAILED, SIX_ZEROS, ZEROS, gave, hit, holds, index_of, is};
-use parcursor::Cursor;
+use super::{Told, ZEROS, are_told, behind, index_of, is, six_zeros};
 use pardrive::{Answer, Call, Drive, drive};
-use parfind::Step;
-use parfixtures::{START, cursor, shelf_of};
+use parfixtures::{START, Spot, cursor};
 use parshelf::MemShelf;
 use parwindow::Index;
 use std::process::Abort;
 use std::test::Fail;
 
-// Where the search stands at each reopening: behind how many answers, and what it finds next.
-fn stops() -> [(usize, Cursor, Answer); 3] {
-    [
-        (1, cursor(START), hit((0, 0, 0))),
-        (3, cursor((0, 0, 1)), hit((0, 0, 1))),
-        (6, cursor((0, 1, 0)), hit((0, 1, 0))),
-    ]
-}
+// The answers where no memory is refused.
+static UNDISTURBED: [Told; 8] = [
+    Told::Failed,
+    Told::Reopened,
+    Told::Hit((0, 0, 0)),
+    Told::Reopened,
+    Told::Hit((0, 0, 1)),
+    Told::Spent,
+    Told::Reopened,
+    Told::Hit((0, 1, 0)),
+];
 
-// Wants this answer of a search that goes on from a cursor.
-fn finds_next(
-    rt: &(impl Abort + AllocGlobal),
-    index: &Index,
-    shelf: &mut MemShelf,
-    at: Cursor,
-    next: Answer,
-) -> Result<(), Fail> {
-    let later = drive(rt.alloc(), &[Call::Next], index, shelf, at)?;
-    is(rt, &later.answers.as_slice(), &[next].as_slice());
-    Ok(())
-}
+// Where the search stands at each reopening: behind how many answers, and at which spot, where it
+// finds the next sighting.
+static STOPS: [(usize, Spot); 3] = [(1, START), (3, (0, 0, 1)), (6, (0, 1, 0))];
 
 // Wants the answers up to a reopening that was refused, its own behind them, and the cursor where
-// the search stood, from which another one goes on.
-fn stops_at_a_reopening(
-    rt: &(impl Abort + AllocGlobal),
-    done: &Drive,
-    wanted: &[Answer],
-    index: &Index,
-    shelf: &mut MemShelf,
-) -> Result<(), Fail> {
-    let (last, before) = done.answers.as_slice().split_last().ok_or("no answer")?;
+// the search stood; gives its spot.
+fn stopped_at(rt: &impl Abort, done: &Drive) -> Result<Spot, Fail> {
+    let Some((last, before)) = done.answers.as_slice().split_last() else {
+        return Err("no answer".into());
+    };
     is(rt, last, &Answer::NoMemory);
-    let mut stood = false;
-    for (count, at, next) in stops() {
-        if before.len() == count {
-            stood = true;
-            is(rt, &(Some(before), done.cursor), &(wanted.get(..count), at));
-            finds_next(rt, index, shelf, at, next)?;
+    for (count, at) in &STOPS {
+        if before.len() == *count {
+            are_told(rt, before, UNDISTURBED.get(..*count).unwrap_or(&[]));
+            is(rt, &done.cursor, &cursor(*at));
+            return Ok(*at);
         }
     }
-    holds(rt, stood);
+    Err("no reopening stands there".into())
+}
+
+// Wants that another search goes on from where one stopped.
+fn goes_on(
+    rt: &(impl Abort + AllocGlobal),
+    index: &Index,
+    shelf: &mut MemShelf,
+    at: Spot,
+) -> Result<(), Fail> {
+    let later = drive(rt.alloc(), &[Call::Next], index, shelf, cursor(at))?;
+    are_told(rt, later.answers.as_slice(), &[Told::Hit(at)]);
     Ok(())
 }
 
-// The answers where no memory is refused.
-fn undisturbed() -> [Answer; 8] {
-    [
-        FAILED,
-        Answer::Reopened,
-        hit((0, 0, 0)),
-        Answer::Reopened,
-        hit((0, 0, 1)),
-        Answer::Step(Ok(Step::Spent)),
-        Answer::Reopened,
-        hit((0, 1, 0)),
-    ]
+// Wants what calls came to, a reopening being refused or none.
+fn came_to(
+    rt: &(impl Abort + AllocGlobal),
+    done: &Drive,
+    index: &Index,
+    shelf: &mut MemShelf,
+) -> Result<(), Fail> {
+    if done.answers.len() < UNDISTURBED.len() {
+        goes_on(rt, index, shelf, stopped_at(rt, done)?)?;
+        return Err("NoMemory told at a reopening".into());
+    }
+    is(rt, &behind(rt, done, &UNDISTURBED)?, &cursor((0, 1, 1)));
+    Ok(())
 }
 
-// Wants the answers and the cursor of a list of calls in which no memory was refused.
-fn is_undisturbed(rt: &impl Abort, done: &Drive) {
-    gave(rt, done, &undisturbed(), cursor((0, 1, 1)));
-}
-
-// Wants that no read was made, so that the first one is still to fail.
-fn begins_anew(
+// Makes these calls. Where memory is refused before the first, wants that no read was made, so
+// that the first one is still to fail.
+fn comes_to(
     rt: &(impl Abort + AllocGlobal),
     calls: &[Call],
     index: &Index,
@@ -84,9 +79,13 @@ fn begins_anew(
 ) -> Result<(), Fail>
     requires { All HasBudget calls.now }
 {
+    if let Ok(done) = drive(rt.alloc(), calls, index, shelf, cursor(START)) {
+        return came_to(rt, &done, index, shelf);
+    }
     is(rt, &shelf.handed(), &0);
-    is_undisturbed(rt, &drive(rt.alloc(), calls, index, shelf, cursor(START))?);
-    Ok(())
+    let done = drive(rt.alloc(), calls, index, shelf, cursor(START))?;
+    came_to(rt, &done, index, shelf)?;
+    Err("OutOfMemory before the first call".into())
 }
 
 // The first read fails. Where memory is refused the test ends by that, once it has seen what was
@@ -104,16 +103,21 @@ fn refused_memory_is_told_where_it_is_wanted(rt: HostRuntime) -> Result<(), Fail
         Call::Next,
     ];
     let index = index_of(rt.alloc(), &ZEROS)?;
-    let mut shelf = shelf_of(rt.alloc(), &SIX_ZEROS, 1, &[1])?;
-    let Ok(done) = drive(rt.alloc(), &calls, &index, &mut shelf, cursor(START)) else {
-        begins_anew(&rt, &calls, &index, &mut shelf)?;
-        return Err("OutOfMemory before the first call".into());
-    };
-    if done.answers.len() < calls.len() {
-        stops_at_a_reopening(&rt, &done, &undisturbed(), &index, &mut shelf)?;
-        return Err("NoMemory told at a reopening".into());
+    let mut shelf = six_zeros(rt.alloc(), &[1])?;
+    comes_to(&rt, &calls, &index, &mut shelf)
+}
+
+// Wants what two calls came to, of which a reopening is the first.
+fn reopens(rt: &impl Abort, done: &Drive, handed: u64) -> Result<(), Fail> {
+    if done.answers.len() < 2 {
+        let answer = done.answers.as_slice().last();
+        is(rt, &answer.copied(), &Some(Answer::NoMemory));
+        is(rt, &done.cursor, &cursor(START));
+        is(rt, &handed, &0);
+        return Err("NoMemory told at a first reopening".into());
     }
-    is_undisturbed(&rt, &done);
+    let end = behind(rt, done, &[Told::Reopened, Told::Hit(START)])?;
+    is(rt, &end, &cursor((0, 0, 1)));
     Ok(())
 }
 
@@ -122,14 +126,7 @@ fn refused_memory_is_told_where_it_is_wanted(rt: HostRuntime) -> Result<(), Fail
 fn refused_memory_is_told_at_a_first_reopening(rt: HostRuntime) -> Result<(), Fail> {
     let calls = [Call::Reopen, Call::Next];
     let index = index_of(rt.alloc(), &ZEROS)?;
-    let mut shelf = shelf_of(rt.alloc(), &SIX_ZEROS, 1, &[])?;
+    let mut shelf = six_zeros(rt.alloc(), &[])?;
     let done = drive(rt.alloc(), &calls, &index, &mut shelf, cursor(START))?;
-    if done.answers.len() < calls.len() {
-        gave(&rt, &done, &[Answer::NoMemory], cursor(START));
-        is(&rt, &shelf.handed(), &0);
-        return Err("NoMemory told at a first reopening".into());
-    }
-    let wanted = [Answer::Reopened, hit((0, 0, 0))];
-    gave(&rt, &done, &wanted, cursor((0, 0, 1)));
-    Ok(())
+    reopens(&rt, &done, shelf.handed())
 }
