@@ -1,48 +1,30 @@
 // Sightings that a search finds.
-use crate::tests::fixtures::index_of;
-use crate::tests::searching::{Search, cursor_of, gives, handed_in, is_answer, next_of, opened};
-use parfind::Cursor;
+use crate::tests::fixtures::{index_of, is};
+use crate::tests::searching::{Search, gives, handed_in, next_of, opened};
 use parfixtures::{START, cursor, shelf_of};
 use parshelf::{MemShelf, ReadFault};
 use parwindow::Index;
 use std::process::Abort;
 use std::test::Fail;
 
-// Goes through searches; wants what they want.
-fn find(rt: &(impl Abort + AllocGlobal), searches: &[Search]) -> Result<(), Fail> {
-    for search in searches {
-        let _bytes = handed_in(rt, search, 64)?;
-    }
-    Ok(())
-}
-
-static TWO_SLICES: [Search; 1] = [Search {
-    content: b"abcdefgh",
-    files: &[b"XXabcdefgh"],
-    at: START,
-    sightings: &[(0, 2, 0), (0, 6, 1)],
-    end: (1, 0, 0),
-}];
-
-#[test]
-fn two_slices_one_after_the_other_are_both_seen(rt: HostRuntime) -> Result<(), Fail> {
-    find(&rt, &TWO_SLICES)
-}
-
-static CUT_OFF: [Search; 1] = [Search {
-    content: b"abcdefgh",
-    files: &[b"abcXabcdef"],
-    at: START,
-    sightings: &[(0, 4, 0)],
-    end: (1, 0, 0),
-}];
-
-#[test]
-fn a_slice_that_is_cut_off_is_not_seen(rt: HostRuntime) -> Result<(), Fail> {
-    find(&rt, &CUT_OFF)
-}
-
-static SHORT: [Search; 3] = [
+static SEEN: [Search; 11] = [
+    // Two slices one after the other are both seen.
+    Search {
+        content: b"abcdefgh",
+        files: &[b"XXabcdefgh"],
+        at: START,
+        sightings: &[(0, 2, 0), (0, 6, 1)],
+        end: (1, 0, 0),
+    },
+    // A slice that is cut off is not seen.
+    Search {
+        content: b"abcdefgh",
+        files: &[b"abcXabcdef"],
+        at: START,
+        sightings: &[(0, 4, 0)],
+        end: (1, 0, 0),
+    },
+    // A short slice is seen where the file ends or goes on with zeros.
     Search {
         content: b"ij",
         files: &[b"ij"],
@@ -64,62 +46,23 @@ static SHORT: [Search; 3] = [
         sightings: &[],
         end: (1, 0, 0),
     },
-];
-
-#[test]
-fn a_short_slice_is_seen_where_the_file_ends_or_goes_on_with_zeros(
-    rt: HostRuntime,
-) -> Result<(), Fail> {
-    find(&rt, &SHORT)
-}
-
-static OWN_BYTES: [Search; 1] = [Search {
-    content: b"i\0",
-    files: &[b"i"],
-    at: START,
-    sightings: &[],
-    end: (1, 0, 0),
-}];
-
-#[test]
-fn own_bytes_must_lie_in_the_file(rt: HostRuntime) -> Result<(), Fail> {
-    find(&rt, &OWN_BYTES)
-}
-
-static EQUAL: [Search; 1] = [Search {
-    content: b"\0\0\0\0\0\0\0\0",
-    files: &[b"\0\0\0\0\0\0"],
-    at: START,
-    sightings: &[
-        (0, 0, 0),
-        (0, 0, 1),
-        (0, 1, 0),
-        (0, 1, 1),
-        (0, 2, 0),
-        (0, 2, 1),
-    ],
-    end: (1, 0, 0),
-}];
-
-#[test]
-fn equal_slices_are_seen_at_every_offset(rt: HostRuntime) -> Result<(), Fail> {
-    find(&rt, &EQUAL)
-}
-
-static FROM_A_CURSOR: [Search; 1] = [Search {
-    content: b"\0\0\0\0\0\0\0\0",
-    files: &[b"\0\0\0\0\0\0"],
-    at: (0, 1, 1),
-    sightings: &[(0, 1, 1), (0, 2, 0), (0, 2, 1)],
-    end: (1, 0, 0),
-}];
-
-#[test]
-fn a_search_goes_on_from_a_cursor(rt: HostRuntime) -> Result<(), Fail> {
-    find(&rt, &FROM_A_CURSOR)
-}
-
-static BEHIND_THE_LAST: [Search; 3] = [
+    // Own bytes must lie in the file.
+    Search {
+        content: b"i\0",
+        files: &[b"i"],
+        at: START,
+        sightings: &[],
+        end: (1, 0, 0),
+    },
+    // A search goes on from a cursor.
+    Search {
+        content: b"\0\0\0\0\0\0\0\0",
+        files: &[b"\0\0\0\0\0\0"],
+        at: (0, 1, 1),
+        sightings: &[(0, 1, 1), (0, 2, 0), (0, 2, 1)],
+        end: (1, 0, 0),
+    },
+    // Nothing is left behind the last sighting.
     Search {
         content: b"\0\0\0\0\0\0\0\0",
         files: &[b"\0\0\0\0\0\0"],
@@ -141,44 +84,56 @@ static BEHIND_THE_LAST: [Search; 3] = [
         sightings: &[],
         end: (u32::MAX, u64::MAX, u32::MAX),
     },
+    // Files without a sighting are passed.
+    Search {
+        content: b"abcdefgh",
+        files: &[b"", b"ab", b"abcd"],
+        at: START,
+        sightings: &[(2, 0, 0)],
+        end: (3, 0, 0),
+    },
 ];
 
 #[test]
-fn nothing_is_left_behind_the_last_sighting(rt: HostRuntime) -> Result<(), Fail> {
-    find(&rt, &BEHIND_THE_LAST)
+fn a_search_finds_each_sighting_in_order(rt: HostRuntime) -> Result<(), Fail> {
+    for search in &SEEN {
+        let _bytes = handed_in(&rt, search, 64)?;
+    }
+    Ok(())
 }
 
-static PASSED: [Search; 1] = [Search {
-    content: b"abcdefgh",
-    files: &[b"", b"ab", b"abcd"],
+static EQUAL: Search = Search {
+    content: b"\0\0\0\0\0\0\0\0",
+    files: &[b"\0\0\0\0\0\0"],
     at: START,
-    sightings: &[(2, 0, 0)],
-    end: (3, 0, 0),
-}];
+    sightings: &[
+        (0, 0, 0),
+        (0, 0, 1),
+        (0, 1, 0),
+        (0, 1, 1),
+        (0, 2, 0),
+        (0, 2, 1),
+    ],
+    end: (1, 0, 0),
+};
 
 #[test]
-fn files_without_a_sighting_are_passed(rt: HostRuntime) -> Result<(), Fail> {
-    find(&rt, &PASSED)
+fn equal_slices_are_seen_at_every_offset(rt: HostRuntime) -> Result<(), Fail> {
+    let _bytes = handed_in(&rt, &EQUAL, 64)?;
+    Ok(())
 }
 
-// Wants a cursor no further than this.
-fn is_at_most(rt: &impl Abort, at: Cursor, most: Cursor) {
-    assert!(rt; at <= most);
-}
-
-// Looks for two slices in a file where a read fails before the first is seen; wants both after it.
+// Looks for two slices in a file where a read fails before the first is seen; wants a cursor no
+// further than that one, and both after it.
 fn goes_on(
     rt: &(impl Abort + AllocGlobal),
     index: &Index,
     shelf: &mut MemShelf,
 ) -> Result<(), Fail> {
     let mut finder = opened(rt.alloc(), index, &*shelf, cursor(START))?;
-    is_answer(
-        rt,
-        next_of(&mut finder, index, shelf),
-        Err(ReadFault::Failed),
-    );
-    is_at_most(rt, cursor_of(&finder), cursor((0, 2, 0)));
+    let failed = next_of(&mut finder, index, shelf);
+    is(rt, &failed, &Err(ReadFault::Failed));
+    assert!(rt; finder.cursor() <= cursor((0, 2, 0)));
     gives(rt, &mut finder, index, shelf, &[(0, 2, 0), (0, 6, 1)]);
     Ok(())
 }

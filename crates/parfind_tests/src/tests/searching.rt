@@ -3,7 +3,7 @@ ghost use Rattle.std.specs.Prelude.{◌<◌, IfOk};
 ghost use Rattle.parshelf.specs.Memory.{shelf_state_of};
 ghost use Rattle.parfind.specs.Finders.{BelongsTo};
 
-use crate::tests::fixtures::{handed, hit, index_of};
+use crate::tests::fixtures::{hit, index_of, is};
 use parfind::{Cursor, Finder, Step};
 use parfixtures::{Spot, cursor, shelf_of};
 use parshelf::{MemShelf, ReadFault};
@@ -46,25 +46,6 @@ fn step_of(
     finder.step(index, shelf, budget)
 }
 
-/// Where a search stands.
-pub fn cursor_of(finder: &Finder) -> Cursor {
-    finder.cursor()
-}
-
-// Wants this cursor.
-fn is_cursor(rt: &impl Abort, at: Cursor, wanted: Cursor) {
-    assert_eq!(rt; at, wanted);
-}
-
-/// Wants this answer of a call.
-pub fn is_answer(
-    rt: &impl Abort,
-    answer: Result<Step, ReadFault>,
-    wanted: Result<Step, ReadFault>,
-) {
-    assert_eq!(rt; answer, wanted);
-}
-
 /// Calls `next`; wants these sightings in order, and `Done` behind them.
 pub fn gives(
     rt: &impl Abort,
@@ -76,9 +57,9 @@ pub fn gives(
     requires { BelongsTo finder.old index.now (shelf_state_of shelf.old) }
 {
     for at in sightings {
-        is_answer(rt, next_of(finder, index, shelf), Ok(hit(*at)));
+        is(rt, &next_of(finder, index, shelf), &Ok(hit(*at)));
     }
-    is_answer(rt, next_of(finder, index, shelf), Ok(Step::Done));
+    is(rt, &next_of(finder, index, shelf), &Ok(Step::Done));
 }
 
 /// A search for the slices of a file of these bytes: the files, where it begins, the sightings that
@@ -101,7 +82,7 @@ fn searches(
 ) -> Result<(), Fail> {
     let mut finder = opened(rt.alloc(), index, &*shelf, cursor(search.at))?;
     gives(rt, &mut finder, index, shelf, search.sightings);
-    is_cursor(rt, cursor_of(&finder), cursor(search.end));
+    is(rt, &finder.cursor(), &cursor(search.end));
     Ok(())
 }
 
@@ -115,7 +96,7 @@ pub fn handed_in(
     let index = index_of(rt.alloc(), search.content)?;
     let mut shelf = shelf_of(rt.alloc(), search.files, piece, &[])?;
     searches(rt, &index, &mut shelf, search)?;
-    Ok(handed(&shelf))
+    Ok(shelf.handed())
 }
 
 /// The answer of a step.
@@ -135,10 +116,11 @@ fn step_wanted(wanted: Wanted) -> Step {
     }
 }
 
-/// Steps through files: the files, where a search begins, and for each step its budget, the answer
-/// that is wanted and the cursor then.
+/// Steps through files for the slices of a file of these bytes: the files, where a search begins,
+/// and for each step its budget, the answer that is wanted and the cursor then.
 #[derive(Clone, Copy)]
 pub struct Walk<'f> {
+    pub content: &'static [u8],
     pub files: &'f [&'f [u8]],
     pub at: Spot,
     pub steps: &'static [(u64, Wanted, Spot)],
@@ -156,12 +138,9 @@ fn steps_give(
 {
     for (budget, step, end) in steps {
         assert!(rt; *budget > 0);
-        is_answer(
-            rt,
-            step_of(finder, index, shelf, *budget),
-            Ok(step_wanted(*step)),
-        );
-        is_cursor(rt, cursor_of(finder), cursor(*end));
+        let answer = step_of(finder, index, shelf, *budget);
+        is(rt, &answer, &Ok(step_wanted(*step)));
+        is(rt, &finder.cursor(), &cursor(*end));
     }
 }
 
@@ -177,9 +156,9 @@ fn steps_through(
     Ok(())
 }
 
-/// The same in files that are read `piece` bytes at a time, where the read of one number fails, or
-/// none of number 0; the answer is how many bytes were handed over.
-pub fn handed_along(
+/// The same over another index, in files that are read `piece` bytes at a time, where the read of
+/// one number fails, or none of number 0; the answer is how many bytes were handed over.
+pub fn handed_by(
     rt: &(impl Abort + AllocGlobal),
     index: &Index,
     walk: &Walk<'_>,
@@ -188,5 +167,21 @@ pub fn handed_along(
 ) -> Result<u64, Fail> {
     let mut shelf = shelf_of(rt.alloc(), walk.files, piece, &[failing])?;
     steps_through(rt, index, &mut shelf, walk)?;
-    Ok(handed(&shelf))
+    Ok(shelf.handed())
+}
+
+/// The same over the index of the walk's own slices.
+pub fn handed_along(
+    rt: &(impl Abort + AllocGlobal),
+    walk: &Walk<'_>,
+    piece: usize,
+    failing: u64,
+) -> Result<u64, Fail> {
+    handed_by(
+        rt,
+        &index_of(rt.alloc(), walk.content)?,
+        walk,
+        piece,
+        failing,
+    )
 }

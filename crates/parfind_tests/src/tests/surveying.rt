@@ -3,13 +3,12 @@ ghost use Rattle.std.specs.Prelude.{◌≡◌, ◌∷◌, [], true, false};
 ghost use Rattle.parfind.specs.Marks.{missing_places};
 ghost use Rattle.parfind_tests.specs.Worked.{two_slices, equal_slices};
 
-use crate::tests::fixtures::{handed, index_of};
-use crate::tests::reading::{is_handed, is_handed_at_most};
+use crate::tests::fixtures::{index_of, is, is_at_most};
 use parfind::{SurveyFault, survey, survey_in};
 use parfixtures::shelf_of;
 use parshelf::{MemShelf, ReadFault};
 use parwindow::{Index, Window};
-use std::alloc::{AllocError, Global};
+use std::alloc::AllocError;
 use std::process::Abort;
 use std::test::Fail;
 
@@ -22,20 +21,10 @@ fn surveyed_in(
     shelf: &mut MemShelf,
     found: &mut [bool],
 ) -> Result<Answer, AllocError> {
-    assert_eq!(rt; index.slices() as usize, found.len());
+    assert!(rt; index.slices() as usize == found.len());
     let mut window = Window::new(rt.alloc(), index.size() as usize)?;
     let _ = window.push(b'a');
     Ok(survey_in(index, shelf, &mut window, found))
-}
-
-// Wants these marks.
-fn are_marks(rt: &impl Abort, found: &[bool], wanted: &[bool]) {
-    assert_eq!(rt; *found, *wanted);
-}
-
-// Wants this answer of a survey in a window of the caller's.
-fn is_answer(rt: &impl Abort, answer: Answer, wanted: Answer) {
-    assert_eq!(rt; answer, wanted);
 }
 
 // Surveys files for the slices of these bytes, in a window that was used before; wants this answer
@@ -49,8 +38,8 @@ fn surveys(
     wanted: &[bool],
 ) -> Result<(), Fail> {
     let index = index_of(rt.alloc(), content)?;
-    is_answer(rt, surveyed_in(rt, &index, shelf, found)?, answer);
-    are_marks(rt, found, wanted);
+    is(rt, &surveyed_in(rt, &index, shelf, found)?, &answer);
+    is(rt, &&*found, &wanted);
     Ok(())
 }
 
@@ -66,17 +55,13 @@ struct Marks<'f> {
 
 // Surveys files that are read `piece` bytes at a time.
 fn mark_by(rt: &(impl Abort + AllocGlobal), marks: &Marks<'_>, piece: usize) -> Result<(), Fail> {
-    let mut found = vec![in rt.alloc(); false; marks.wanted.len()]?;
+    let mut marked = [false; 4];
+    let found = marked
+        .get_mut(..marks.wanted.len())
+        .ok_or("more than four slices")?;
     let mut shelf = shelf_of(rt.alloc(), marks.files, piece, &[])?;
-    surveys(
-        rt,
-        marks.content,
-        &mut shelf,
-        found.as_mut_slice(),
-        Ok(()),
-        marks.wanted,
-    )?;
-    is_handed_at_most(rt, handed(&shelf), marks.most);
+    surveys(rt, marks.content, &mut shelf, found, Ok(()), marks.wanted)?;
+    is_at_most(rt, shelf.handed(), marks.most);
     Ok(())
 }
 
@@ -86,15 +71,8 @@ fn mark(rt: &(impl Abort + AllocGlobal), marks: &Marks<'_>) -> Result<(), Fail> 
     mark_by(rt, marks, 64)
 }
 
-// The same of each.
-fn mark_each(rt: &(impl Abort + AllocGlobal), rows: &[Marks<'static>]) -> Result<(), Fail> {
-    for marks in rows {
-        mark(rt, marks)?;
-    }
-    Ok(())
-}
-
-static SEEN: [Marks<'static>; 4] = [
+static SEEN: [Marks<'static>; 9] = [
+    // Each slice that is seen is marked.
     Marks {
         content: b"abcdefghijkl",
         files: &[b"ab", b"XXabcdefgh"],
@@ -119,11 +97,46 @@ static SEEN: [Marks<'static>; 4] = [
         wanted: &[false, false],
         most: 0,
     },
+    // A short slice is marked where the file ends or goes on with zeros.
+    Marks {
+        content: b"ij",
+        files: &[b"ij"],
+        wanted: &[true],
+        most: 2,
+    },
+    Marks {
+        content: b"ij",
+        files: &[b"XXij\0"],
+        wanted: &[true],
+        most: 5,
+    },
+    Marks {
+        content: b"ij",
+        files: &[b"ijk"],
+        wanted: &[false],
+        most: 3,
+    },
+    Marks {
+        content: b"i\0",
+        files: &[b"i"],
+        wanted: &[false],
+        most: 0,
+    },
+    // Files into which no slice fits are not read.
+    Marks {
+        content: b"abcdefgh",
+        files: &[b"", b"a", b"ab", b"abc"],
+        wanted: &[false, false],
+        most: 0,
+    },
 ];
 
 #[test]
 fn each_slice_that_is_seen_is_marked(rt: HostRuntime) -> Result<(), Fail> {
-    mark_each(&rt, &SEEN)
+    for marks in &SEEN {
+        mark(&rt, marks)?;
+    }
+    Ok(())
 }
 
 static EQUAL: [Marks<'static>; 4] = [
@@ -155,63 +168,21 @@ static EQUAL: [Marks<'static>; 4] = [
 
 #[test]
 fn equal_slices_are_marked_together(rt: HostRuntime) -> Result<(), Fail> {
-    mark_each(&rt, &EQUAL)
-}
-
-static SHORT: [Marks<'static>; 4] = [
-    Marks {
-        content: b"ij",
-        files: &[b"ij"],
-        wanted: &[true],
-        most: 2,
-    },
-    Marks {
-        content: b"ij",
-        files: &[b"XXij\0"],
-        wanted: &[true],
-        most: 5,
-    },
-    Marks {
-        content: b"ij",
-        files: &[b"ijk"],
-        wanted: &[false],
-        most: 3,
-    },
-    Marks {
-        content: b"i\0",
-        files: &[b"i"],
-        wanted: &[false],
-        most: 0,
-    },
-];
-
-#[test]
-fn a_short_slice_is_marked_where_the_file_ends_or_goes_on_with_zeros(
-    rt: HostRuntime,
-) -> Result<(), Fail> {
-    mark_each(&rt, &SHORT)
-}
-
-static NO_FIT: [Marks<'static>; 1] = [Marks {
-    content: b"abcdefgh",
-    files: &[b"", b"a", b"ab", b"abc"],
-    wanted: &[false, false],
-    most: 0,
-}];
-
-#[test]
-fn files_into_which_no_slice_fits_are_not_read(rt: HostRuntime) -> Result<(), Fail> {
-    mark_each(&rt, &NO_FIT)
+    for marks in &EQUAL {
+        mark(&rt, marks)?;
+    }
+    Ok(())
 }
 
 // Surveys files for two slices, of which those with these marks are found before; wants both
-// found. The answer is how many bytes were handed over.
-fn handed_for(
+// found, and no more bytes handed over than this.
+fn finds_both(
     rt: &(impl Abort + AllocGlobal),
     files: &[&[u8]],
     failing: u64,
     marks: [bool; 2],
-) -> Result<u64, Fail> {
+    most: u64,
+) -> Result<(), Fail> {
     let mut found = marks;
     let mut shelf = shelf_of(rt.alloc(), files, 64, &[failing])?;
     surveys(
@@ -222,50 +193,29 @@ fn handed_for(
         Ok(()),
         &[true, true],
     )?;
-    Ok(handed(&shelf))
+    is_at_most(rt, shelf.handed(), most);
+    Ok(())
 }
 
 #[test]
 fn nothing_is_read_where_each_slice_has_its_mark(rt: HostRuntime) -> Result<(), Fail> {
-    is_handed(&rt, handed_for(&rt, &[b"abcdefgh"], 1, [true, true])?, 0);
-    Ok(())
+    finds_both(&rt, &[b"abcdefgh"], 1, [true, true], 0)
 }
 
-// A file with two slices near its beginning, and much behind them.
-fn long_file(alloc: Global) -> Result<Vec<u8>, AllocError> {
-    let mut file = Vec::from_slice(alloc, b"XXabcdefgh")?;
-    file.extend_from_slice(&[b'x'; 20_000])?;
-    Ok(file)
-}
-
-// Surveys that file, and one behind it that has both slices.
-fn mark_long(rt: &(impl Abort + AllocGlobal), long: &[u8]) -> Result<(), Fail> {
+// A file with two slices near its beginning, and much behind them; behind it another file has both
+// slices.
+#[test]
+fn reading_stops_once_each_slice_without_a_mark_is_found(rt: HostRuntime) -> Result<(), Fail> {
+    let mut long = [b'x'; 20_010];
+    long[2..10].copy_from_slice(b"abcdefgh");
     let marks = Marks {
         content: b"abcdefgh",
-        files: &[long, b"abcdefgh"],
+        files: &[&long, b"abcdefgh"],
         wanted: &[true, true],
         most: 6 + 4 + 4_096,
     };
-    mark(rt, &marks)
-}
-
-#[test]
-fn reading_stops_once_each_slice_is_found(rt: HostRuntime) -> Result<(), Fail> {
-    let long = long_file(rt.alloc())?;
-    mark_long(&rt, long.as_slice())
-}
-
-// The same where the second slice has its mark.
-fn mark_first(rt: &(impl Abort + AllocGlobal), long: &[u8]) -> Result<(), Fail> {
-    let bytes = handed_for(rt, &[long, b"abcdefgh"], 0, [false, true])?;
-    is_handed_at_most(rt, bytes, 2 + 4 + 4_096);
-    Ok(())
-}
-
-#[test]
-fn reading_stops_once_the_slice_without_a_mark_is_found(rt: HostRuntime) -> Result<(), Fail> {
-    let long = long_file(rt.alloc())?;
-    mark_first(&rt, long.as_slice())
+    mark(&rt, &marks)?;
+    finds_both(&rt, marks.files, 0, [false, true], 2 + 4 + 4_096)
 }
 
 // Surveys two files, of which the read of one number fails.
@@ -303,58 +253,31 @@ fn after_a_failed_read_the_marks_before_it_stand(rt: HostRuntime) -> Result<(), 
     Ok(())
 }
 
-// The answer of a survey for three slices, in a window of its own.
-fn surveyed(
-    rt: &(impl Abort + AllocGlobal),
-    index: &Index,
-    shelf: &mut MemShelf,
-    found: &mut [bool],
-) -> Result<(), SurveyFault> {
-    assert_eq!(rt; (index.slices(), found.len()), (3, 3));
-    survey(rt.alloc(), index, shelf, found)
-}
-
-// Wants this answer of a survey in a window of its own.
-fn is_own_answer(
-    rt: &impl Abort,
-    answer: Result<(), SurveyFault>,
-    wanted: Result<(), SurveyFault>,
-) {
-    assert_eq!(rt; answer, wanted);
-}
-
-// Surveys files for three slices, the third of which has its mark; wants this answer and these
-// marks.
+// Surveys files for three slices, the third of which has its mark, in a window of the survey's
+// own; wants this answer and these marks.
 fn surveys_three(
     rt: &(impl Abort + AllocGlobal),
     index: &Index,
     shelf: &mut MemShelf,
     answer: Result<(), SurveyFault>,
-    wanted: &[bool],
+    wanted: [bool; 3],
 ) {
     let mut found = [false, false, true];
-    is_own_answer(rt, surveyed(rt, index, shelf, &mut found), answer);
-    are_marks(rt, &found, wanted);
+    assert!(rt; index.slices() == 3);
+    is(rt, &survey(rt.alloc(), index, shelf, &mut found), &answer);
+    is(rt, &found, &wanted);
 }
 
-// Surveys files of which the first read fails, and others.
-fn surveys_both(
-    rt: &(impl Abort + AllocGlobal),
-    failing: &mut MemShelf,
-    shelf: &mut MemShelf,
-) -> Result<(), Fail> {
-    let index = index_of(rt.alloc(), b"abcdefghijkl")?;
-    let fault = Err(SurveyFault::Read(1, ReadFault::Failed));
-    surveys_three(rt, &index, failing, fault, &[false, false, true]);
-    surveys_three(rt, &index, shelf, Ok(()), &[true, false, true]);
-    Ok(())
-}
-
+// Files of which the first read fails, and others.
 #[test]
 fn a_survey_marks_what_a_search_finds(rt: HostRuntime) -> Result<(), Fail> {
+    let index = index_of(rt.alloc(), b"abcdefghijkl")?;
     let mut failing = shelf_of(rt.alloc(), &[b"ab", b"XXabcdefgh"], 64, &[1])?;
     let mut shelf = shelf_of(rt.alloc(), &[b"XXabcd"], 64, &[])?;
-    surveys_both(&rt, &mut failing, &mut shelf)
+    let fault = Err(SurveyFault::Read(1, ReadFault::Failed));
+    surveys_three(&rt, &index, &mut failing, fault, [false, false, true]);
+    surveys_three(&rt, &index, &mut shelf, Ok(()), [true, false, true]);
+    Ok(())
 }
 
 // What the word counts that bounds the digests of a survey. Does nothing.
