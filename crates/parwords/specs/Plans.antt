@@ -41,11 +41,9 @@ packet_files_of files =
     if length (filter is_packet_file files) == 0 then Err NoPacketFile
     else Ok (filter is_packet_file files)
 
--- the plan of the words after the program's name
-abbrev pub plan_of : List (List ℕ) → Result Plan PlanFault
-plan_of words = do
-  verb ← verb_in words
-  rows ← rows_in verb words
+-- the plan of what the words give a verb
+abbrev pub plan_in : Verb → List Row → Result Plan PlanFault
+plan_in verb rows = do
   command ← command_of verb rows
   set ← set_option_of rows
   base ← base_option_of rows
@@ -57,6 +55,13 @@ plan_of words = do
     packets = packets;
     scanned = map (scanned_as (front_under base)) (filter is_scanned_file files);
   })
+
+-- the plan of the words after the program's name
+abbrev pub plan_of : List (List ℕ) → Result Plan PlanFault
+plan_of words = do
+  verb ← verb_in words
+  rows ← rows_in verb words
+  plan_in verb rows
 
 -- the answer is this plan or this fault, or want of memory
 abbrev pub AnswersPlan : Result Plan PlanFault → Result Plan PlanFault → Type 0

@@ -65,7 +65,7 @@ fn front(alloc: Global, base: Option<&str>) -> Result<String, AllocError>
 {
     match base {
         None => Ok(String::new(alloc)),
-        Some(dir) => Ok(folder(alloc, dir)?),
+        Some(dir) => folder(alloc, dir),
     }
 }
 

@@ -1,6 +1,6 @@
 ghost use Rattle.std.specs.Prelude.{◌≡◌, IfOk, false};
 ghost use Rattle.clap.specs.Words.{app_of, rule_of, with_rule};
-ghost use Rattle.parwords.specs.Grammar.{empty_grammar, grammar_of, option_rule, base_rule, files_rule, quiet_rule};
+ghost use Rattle.parwords.specs.Grammar.{empty_grammar, shared_grammar, grammar_of, option_rule, base_rule, files_rule, quiet_rule};
 
 use clap::{Arg, ArgAction, Command};
 use std::alloc::{AllocError, Global};
@@ -22,17 +22,24 @@ pub enum Verb {
 pub fn command_line<'a>(alloc: Global, verb: Verb) -> Result<Command<'a>, AllocError>
     ensures { IfOk result (λ command. app_of command ≡ grammar_of verb) }
 {
-    let chosen = with(empty(alloc), option(alloc, "set"))?;
-    let based = with(chosen, base(alloc))?;
-    let shared = with(based, files(alloc))?;
+    let shared = shared(alloc)?;
     match verb {
         Verb::Packets | Verb::Set => Ok(shared),
         Verb::Find => {
             let limited = with(shared, option(alloc, "limit"))?;
-            Ok(with(limited, option(alloc, "cursor"))?)
+            with(limited, option(alloc, "cursor"))
         }
-        Verb::Verify => Ok(with(shared, quiet(alloc))?),
+        Verb::Verify => with(shared, quiet(alloc)),
     }
+}
+
+// The command line of what all verbs take.
+fn shared<'a>(alloc: Global) -> Result<Command<'a>, AllocError>
+    ensures { IfOk result (λ command. app_of command ≡ shared_grammar) }
+{
+    let chosen = with(empty(alloc), option(alloc, "set"))?;
+    let based = with(chosen, base(alloc))?;
+    with(based, files(alloc))
 }
 
 // A command line without arguments, which knows no `--help`.

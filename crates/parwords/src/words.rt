@@ -1,7 +1,7 @@
-ghost use Rattle.std.specs.Prelude.{◌≡◌, ◌≤◌, ◌<◌, drop, map, length, string_bytes, IfOk, IfErr, Ok, Err};
+ghost use Rattle.std.specs.Prelude.{◌≡◌, ◌≢◌, ◌≤◌, ◌<◌, drop, map, length, string_bytes, IfOk, IfErr, Ok, Err};
 ghost use Rattle.clap.specs.Words.{found_of, rows_of};
 ghost use Rattle.parplan.specs.Commands.{HasLimit};
-ghost use Rattle.parwords.specs.Plans.{plan_of, verb_of, verb_in, files_of, AnswersPlan, TellsTaken};
+ghost use Rattle.parwords.specs.Plans.{plan_of, plan_in, verb_of, verb_in, files_of, AnswersPlan, TellsTaken};
 
 use crate::files::{packet_files, scanned_files};
 use crate::grammar::Verb;
@@ -36,10 +36,22 @@ pub fn plan(alloc: Global, words: &[String]) -> Result<Plan, PlanFault>
 {
     let verb = first_verb(words)?;
     let matches = matches_for(alloc, verb, words)?;
-    let command = command_given(verb, &matches)?;
-    let set = set_given(&matches)?;
-    let base = base_given(&matches)?;
-    let files = files_given(&matches)?;
+    plan_by(alloc, verb, &matches)
+}
+
+// The plan of what the words give a verb, which takes them.
+fn plan_by(alloc: Global, verb: Verb, matches: &ArgMatches<'_>) -> Result<Plan, PlanFault>
+    ensures plan { AnswersPlan (plan_in verb (rows_of (found_of matches.now))) result }
+    ensures taken { IfErr result (λ fault. fault ≢ PlanFault.Usage) }
+    ensures few { IfOk result (λ plan.
+        (length plan.packets ≤ 65535) × (length plan.scanned ≤ 65535)) }
+    ensures some_packets { IfOk result (λ plan. 0 < length plan.packets) }
+    ensures limit { IfOk result (λ plan. HasLimit plan.command) }
+{
+    let command = command_given(verb, matches)?;
+    let set = set_given(matches)?;
+    let base = base_given(matches)?;
+    let files = files_given(matches)?;
     let packets = packet_files(alloc, files)?;
     if packets.is_empty() {
         return Err(PlanFault::NoPacketFile);
@@ -67,16 +79,12 @@ fn first_verb(words: &[String]) -> Result<Verb, PlanFault>
 fn verb_named(word: &str) -> Result<Verb, PlanFault>
     ensures { result ≡ verb_of word.now }
 {
-    if word == "packets" {
-        Ok(Verb::Packets)
-    } else if word == "set" {
-        Ok(Verb::Set)
-    } else if word == "find" {
-        Ok(Verb::Find)
-    } else if word == "verify" {
-        Ok(Verb::Verify)
-    } else {
-        Err(PlanFault::Usage)
+    match word {
+        "packets" => Ok(Verb::Packets),
+        "set" => Ok(Verb::Set),
+        "find" => Ok(Verb::Find),
+        "verify" => Ok(Verb::Verify),
+        _ => Err(PlanFault::Usage),
     }
 }
 
