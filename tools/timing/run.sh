@@ -1,7 +1,7 @@
 #!/usr/bin/env bash
 # Times the window beside `md5`: proves main.rt.txt as src/main.rt of a crate of its own over the
 # libraries that `make test` left, builds it and runs it, in picoseconds a byte of the processor. It
-# takes a minute or two, and is no part of the gate, which takes a .rt file in a crate alone.
+# takes some three minutes, and is no part of the gate, which takes a .rt file in a crate alone.
 set -euo pipefail
 here=$(cd "$(dirname "$0")" && pwd)
 crates=$(cd "$here/../../crates" && pwd)
