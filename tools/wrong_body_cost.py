@@ -7,7 +7,8 @@ It begins with what `rt check` in the crate's folder kept, as the gate begins wi
 and checks a copy of the crate with each wrong body whose name has WORD, as many at once as there are
 processors. Seconds are of a processor, and of the clock for the stages: `front-end` reads the crate and
 its libraries, `session` proves what was turned and all that calls it, and `offers` does that once more where
-a goal that stays open has no answer in proofs/. Nothing is written to the repository, and nothing is a test.
+a goal that stays open has no answer in proofs/. Its copies stand in the crate's out/ while it runs. It is no
+test: a text that can't be read isn't told from a wrong body that is refused, as `rt must-fail` does.
 """
 
 import os
@@ -22,6 +23,7 @@ ROOT = os.path.dirname(os.path.dirname(os.path.abspath(__file__)))
 RT = os.path.realpath(shutil.which("rt") or sys.exit("wrong_body_cost.py: no rt in the PATH"))
 KIT = os.path.dirname(os.path.dirname(RT))
 STAGES = ("front-end", "session", "offers")
+SHOWN = {0: "  (still proved)", 1: ""}
 
 
 def libraries(path):
@@ -74,7 +76,7 @@ def link(one, other):
 
 
 def cost(folder, words, edit):
-    """The processor's seconds of the check with a wrong body, those of its stages, and whether it was refused."""
+    """The processor's seconds of the check with a wrong body, those of its stages, and its exit status."""
     with tempfile.TemporaryDirectory(dir=f"{folder}/out") as room:
         for part in ("src", "specs", "proofs"):
             if os.path.isdir(f"{folder}/{part}"):
@@ -87,7 +89,7 @@ def cost(folder, words, edit):
             _, status, used = os.wait4(check.pid, 0)
             check.returncode = os.waitstatus_to_exitcode(status)
         stages = dict(re.findall(r"^stage (\S+) (\S+)", open(f"{room}/stages").read(), re.M))
-        return used.ru_utime + used.ru_stime, [float(stages.get(it, 0)) for it in STAGES], check.returncode == 1
+        return used.ru_utime + used.ru_stime, [float(stages.get(it, 0)) for it in STAGES], check.returncode
 
 
 def main():
@@ -102,8 +104,8 @@ def main():
     with ThreadPoolExecutor(os.cpu_count()) as pool:
         costs = list(pool.map(lambda edit: cost(folder, words, f"{folder}/must-fail/{edit}"), edits))
     print("seconds", *STAGES, sep="\t")
-    for (seconds, stages, refused), edit in sorted(zip(costs, edits), reverse=True):
-        shown = "" if refused else "  (not refused)"
+    for (seconds, stages, status), edit in sorted(zip(costs, edits), reverse=True):
+        shown = SHOWN.get(status, "  (no verdict)")
         print(*(f"{it:.1f}" for it in (seconds, *stages)), edit.removesuffix(".edit") + shown, sep="\t")
     print(f"{sum(it[0] for it in costs):.0f} seconds of a processor for {len(edits)} wrong bodies of {crate}")
 
