@@ -30,32 +30,32 @@ const SIX_BYTES: [u8; 40] =
 
 // There are so many slices of 4 bytes.
 fn has_slices(rt: &impl Abort, index: &Index, slices: u32) {
-    assert_eq!(rt; index.size(), 4);
-    assert_eq!(rt; index.slices(), slices);
+    is(rt, &index.size(), &4);
+    is(rt, &index.slices(), &slices);
 }
 
 // So many bytes of a slice are the file's.
 fn has_own_length(rt: &impl Abort, index: &Index, slice: u32, length: u64) {
     assert!(rt; slice < index.slices());
-    assert_eq!(rt; index.own_length(slice), length);
+    is(rt, &index.own_length(slice), &length);
 }
 
 // Whether some slice has this CRC-32.
 fn has_crc(rt: &impl Abort, index: &Index, crc: u32, seen: bool) {
-    assert_eq!(rt; index.has_crc(crc), seen);
+    is(rt, &index.has_crc(crc), &seen);
 }
 
 // From each number on, this is the first slice with both sums.
 fn finds(rt: &impl Abort, index: &Index, crc: u32, digest: [u8; 16], rows: &[(u32, Option<u32>)]) {
     for (from, found) in rows {
-        assert_eq!(rt; index.next_match(crc, Hash16(digest), *from), *found);
+        is(rt, &index.next_match(crc, Hash16(digest), *from), found);
     }
 }
 
 // From each number on, this is the first slice with this CRC-32.
 fn finds_crc(rt: &impl Abort, index: &Index, crc: u32, rows: &[(u32, Option<u32>)]) {
     for (from, found) in rows {
-        assert_eq!(rt; index.next_crc(crc, *from), *found);
+        is(rt, &index.next_crc(crc, *from), found);
     }
 }
 
@@ -81,32 +81,30 @@ fn equal_slices_are_found_by_number(rt: HostRuntime) -> Result<(), Fail> {
     Ok(())
 }
 
-// The text of a table has a row on each line, and commas between what a row has.
-fn fields(line: &str) -> Option<(&str, &str, &str)> {
-    let (first, rest) = line.split_once(',')?;
-    let (second, third) = rest.split_once(',')?;
-    Some((first, second, third))
-}
-
-// A full window takes so many bytes of a piece, and then has the CRC-32 of a slice or of none.
-fn takes(rt: &impl Abort, window: &mut Window, index: &Index, line: &str) {
-    let (piece, count, seen) = fields(line).unwrap_or(("", "", ""));
+// A full window takes so many of the bytes, and then has the CRC-32 of a slice or of none.
+fn takes(
+    rt: &impl Abort,
+    window: &mut Window,
+    index: &Index,
+    bytes: &[u8],
+    count: usize,
+    seen: bool,
+) {
     assert!(rt; window.is_full());
-    assert_eq!(rt;
-        Ok(window.push_until(index, piece.as_bytes())),
-        count.parse::<usize>()
-    );
-    has_crc(rt, index, window.crc(), seen == "yes");
+    is(rt, &window.push_until(index, bytes), &count);
+    has_crc(rt, index, window.crc(), seen);
 }
 
-// A piece, how many of its bytes are taken, and whether a slice ends there.
-static PIECES: &str = "cdxx,2,yes
-,0,yes
-xabcdab\0\0xx,5,yes
-ab\0\0xx,4,yes
-xx,2,no
-a stream without a slic,23,no
-abcd,4,yes";
+// Pieces, how many of their bytes are taken, and whether a slice ends there.
+static PIECES: [(&[u8], usize, bool); 7] = [
+    (b"cdxx", 2, true),
+    (b"", 0, true),
+    (b"xabcdab\0\0xx", 5, true),
+    (b"ab\0\0xx", 4, true),
+    (b"xx", 2, false),
+    (b"a stream without a slic", 23, false),
+    (b"abcd", 4, true),
+];
 
 // A window that holds `xyab`.
 fn full_window(alloc: Global) -> Result<Window, AllocError> {
@@ -121,8 +119,8 @@ fn full_window(alloc: Global) -> Result<Window, AllocError> {
 fn pieces_stop_where_a_slice_ends(rt: HostRuntime) -> Result<(), Fail> {
     let index = index_with(rt.alloc(), 6, &SIX_BYTES)?;
     let mut window = full_window(rt.alloc())?;
-    for line in PIECES.lines() {
-        takes(&rt, &mut window, &index, line);
+    for (bytes, count, seen) in &PIECES {
+        takes(&rt, &mut window, &index, bytes, *count, *seen);
     }
     Ok(())
 }
@@ -144,7 +142,7 @@ fn fits_into(
 ) -> Result<(), Fail> {
     let index = index_with(rt.alloc(), 6, sums)?;
     for (left, fits) in rows {
-        assert_eq!(rt; index.fits(*left), *fits);
+        is(rt, &index.fits(*left), fits);
     }
     Ok(())
 }
@@ -185,7 +183,7 @@ fn crc_fits(
 ) -> Result<(), Fail> {
     let index = index_with(rt.alloc(), length, sums)?;
     for (crc, left, fits) in rows {
-        assert_eq!(rt; index.has_fit_crc(*crc, *left), *fits);
+        is(rt, &index.has_fit_crc(*crc, *left), fits);
     }
     Ok(())
 }
@@ -224,9 +222,9 @@ fn misses<const N: usize>(
     rows: &[(u32, [bool; N], u64, bool)],
 ) -> Result<(), Fail> {
     let index = index_with(rt.alloc(), length, sums)?;
-    assert_eq!(rt; index.slices() as usize, N);
+    assert!(rt; index.slices() as usize == N);
     for (crc, found, left, missing) in rows {
-        assert_eq!(rt; index.is_missing(*crc, *left, found), *missing);
+        is(rt, &index.is_missing(*crc, *left, found), missing);
     }
     Ok(())
 }
