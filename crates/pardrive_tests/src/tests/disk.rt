@@ -1,6 +1,4 @@
-use super::{Told, driven, is};
-use parcursor::Cursor;
-use pardrive::Call;
+use super::{driven, is};
 use parfixtures::{START, cursor};
 use parshelf::DiskShelf;
 use std::process::Abort;
@@ -11,20 +9,6 @@ use std::{fs, process};
 fn own_path(rt: &HostRuntime) -> Result<String, Fail> {
     let number = process::id(rt.process());
     Ok(format!(in rt.alloc(); "/tmp/pardrive_{number}")?)
-}
-
-// Makes three calls over the one file of a shelf, a reopening between two; wants this answer
-// before it and this one behind it.
-fn tells(
-    rt: &(impl Abort + AllocGlobal),
-    shelf: &mut DiskShelf,
-    start: Cursor,
-    first: Told,
-    second: Told,
-) -> Result<Cursor, Fail> {
-    let calls = [Call::Next, Call::Reopen, Call::Next];
-    let wanted = [first, Told::Reopened, second];
-    driven(rt, b"abcdefgh", shelf, start, &calls, &wanted)
 }
 
 // The shelf of a file of ten bytes, of which five are left once it is open.
@@ -46,10 +30,11 @@ fn lengthened(rt: &HostRuntime, path: &str) -> Result<(), Fail> {
 fn a_search_goes_on_where_a_shortened_file_ended(rt: HostRuntime) -> Result<(), Fail> {
     let path = own_path(&rt)?;
     let mut shelf = shortened(&rt, path.as_str())?;
-    let at = tells(&rt, &mut shelf, cursor(START), Told::Ended, Told::Ended)?;
+    let ended = "next: ended\nreopen: reopened\nnext: ended\n";
+    let at = driven(&rt, b"abcdefgh", &mut shelf, cursor(START), ended)?;
     lengthened(&rt, path.as_str())?;
-    let (first, second) = (Told::Hit((0, 2, 0)), Told::Hit((0, 6, 1)));
-    let end = tells(&rt, &mut shelf, at, first, second)?;
+    let found = "next: 0 2 0\nreopen: reopened\nnext: 0 6 1\n";
+    let end = driven(&rt, b"abcdefgh", &mut shelf, at, found)?;
     is(&rt, &end, &cursor((0, 6, 2)));
     Ok(())
 }

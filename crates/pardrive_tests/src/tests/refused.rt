@@ -1,25 +1,26 @@
 ghost use Rattle.std.specs.Prelude.{All};
 ghost use Rattle.pardrive.specs.Runs.{HasBudget};
 
-use super::{Told, ZEROS, are_told, behind, index_of, is, six_zeros};
+use super::{ZEROS, are_told, behind, calls_of, index_of, is, six_zeros};
 use pardrive::{Answer, Call, Drive, drive};
-use parfixtures::{START, Spot, cursor};
+use parfind::Step;
+use parfixtures::{START, Spot, cursor, sighting};
 use parshelf::MemShelf;
 use parwindow::Index;
 use std::process::Abort;
 use std::test::Fail;
 
 // The answers where no memory is refused.
-static UNDISTURBED: [Told; 8] = [
-    Told::Failed,
-    Told::Reopened,
-    Told::Hit((0, 0, 0)),
-    Told::Reopened,
-    Told::Hit((0, 0, 1)),
-    Told::Spent,
-    Told::Reopened,
-    Told::Hit((0, 1, 0)),
-];
+static UNDISTURBED: &str = "\
+next: failed
+reopen: reopened
+next: 0 0 0
+reopen: reopened
+step 2: 0 0 1
+step 1: spent
+reopen: reopened
+next: 0 1 0
+";
 
 // Where the search stands at each reopening: behind how many answers, and at which spot, where it
 // finds the next sighting.
@@ -34,7 +35,7 @@ fn stopped_at(rt: &impl Abort, done: &Drive) -> Result<Spot, Fail> {
     is(rt, last, &Answer::NoMemory);
     for (count, at) in &STOPS {
         if before.len() == *count {
-            are_told(rt, before, UNDISTURBED.get(..*count).unwrap_or(&[]));
+            are_told(rt, before, UNDISTURBED);
             is(rt, &done.cursor, &cursor(*at));
             return Ok(*at);
         }
@@ -50,7 +51,8 @@ fn goes_on(
     at: Spot,
 ) -> Result<(), Fail> {
     let later = drive(rt.alloc(), &[Call::Next], index, shelf, cursor(at))?;
-    are_told(rt, later.answers.as_slice(), &[Told::Hit(at)]);
+    let hit = Answer::Step(Ok(Step::Hit(sighting(at))));
+    is(rt, &later.answers.as_slice(), &[hit].as_slice());
     Ok(())
 }
 
@@ -61,11 +63,11 @@ fn came_to(
     index: &Index,
     shelf: &mut MemShelf,
 ) -> Result<(), Fail> {
-    if done.answers.len() < UNDISTURBED.len() {
+    if done.answers.len() < UNDISTURBED.lines().count() {
         goes_on(rt, index, shelf, stopped_at(rt, done)?)?;
         return Err("NoMemory told at a reopening".into());
     }
-    is(rt, &behind(rt, done, &UNDISTURBED)?, &cursor((0, 1, 1)));
+    is(rt, &behind(rt, done, UNDISTURBED)?, &cursor((0, 1, 1)));
     Ok(())
 }
 
@@ -92,16 +94,7 @@ fn comes_to(
 // left; `tools/checks/refused_tests.sh` refuses it.
 #[test]
 fn refused_memory_is_told_where_it_is_wanted(rt: HostRuntime) -> Result<(), Fail> {
-    let calls = [
-        Call::Next,
-        Call::Reopen,
-        Call::Next,
-        Call::Reopen,
-        Call::Step(2),
-        Call::Step(1),
-        Call::Reopen,
-        Call::Next,
-    ];
+    let calls = calls_of(rt.alloc(), UNDISTURBED)?;
     let index = index_of(rt.alloc(), &ZEROS)?;
     let mut shelf = six_zeros(rt.alloc(), &[1])?;
     comes_to(&rt, &calls, &index, &mut shelf)
@@ -116,7 +109,7 @@ fn reopens(rt: &impl Abort, done: &Drive, handed: u64) -> Result<(), Fail> {
         is(rt, &handed, &0);
         return Err("NoMemory told at a first reopening".into());
     }
-    let end = behind(rt, done, &[Told::Reopened, Told::Hit(START)])?;
+    let end = behind(rt, done, "reopen: reopened\nnext: 0 0 0\n")?;
     is(rt, &end, &cursor((0, 0, 1)));
     Ok(())
 }

@@ -1,125 +1,49 @@
 // Sightings that a search finds.
-use crate::tests::fixtures::{index_of, is};
-use crate::tests::searching::{Search, gives, handed_in, next_of, opened};
+use crate::tests::fixtures::{index_of, is, is_row};
+use crate::tests::searching::{gives, handed_in, next_of, opened};
 use parfixtures::{START, cursor, shelf_of};
 use parshelf::{MemShelf, ReadFault};
 use parwindow::Index;
 use std::process::Abort;
 use std::test::Fail;
 
-static SEEN: [Search; 11] = [
-    // Two slices one after the other are both seen.
-    Search {
-        content: b"abcdefgh",
-        files: &[b"XXabcdefgh"],
-        at: START,
-        sightings: &[(0, 2, 0), (0, 6, 1)],
-        end: (1, 0, 0),
-    },
-    // A slice that is cut off is not seen.
-    Search {
-        content: b"abcdefgh",
-        files: &[b"abcXabcdef"],
-        at: START,
-        sightings: &[(0, 4, 0)],
-        end: (1, 0, 0),
-    },
-    // A short slice is seen where the file ends or goes on with zeros.
-    Search {
-        content: b"ij",
-        files: &[b"ij"],
-        at: START,
-        sightings: &[(0, 0, 0)],
-        end: (1, 0, 0),
-    },
-    Search {
-        content: b"ij",
-        files: &[b"ij\0"],
-        at: START,
-        sightings: &[(0, 0, 0)],
-        end: (1, 0, 0),
-    },
-    Search {
-        content: b"ij",
-        files: &[b"ijk"],
-        at: START,
-        sightings: &[],
-        end: (1, 0, 0),
-    },
-    // Own bytes must lie in the file.
-    Search {
-        content: b"i\0",
-        files: &[b"i"],
-        at: START,
-        sightings: &[],
-        end: (1, 0, 0),
-    },
-    // A search goes on from a cursor.
-    Search {
-        content: b"\0\0\0\0\0\0\0\0",
-        files: &[b"\0\0\0\0\0\0"],
-        at: (0, 1, 1),
-        sightings: &[(0, 1, 1), (0, 2, 0), (0, 2, 1)],
-        end: (1, 0, 0),
-    },
-    // Nothing is left behind the last sighting.
-    Search {
-        content: b"\0\0\0\0\0\0\0\0",
-        files: &[b"\0\0\0\0\0\0"],
-        at: (0, 5, 0),
-        sightings: &[],
-        end: (1, 0, 0),
-    },
-    Search {
-        content: b"\0\0\0\0\0\0\0\0",
-        files: &[b"\0\0\0\0\0\0"],
-        at: (7, 0, 0),
-        sightings: &[],
-        end: (7, 0, 0),
-    },
-    Search {
-        content: b"\0\0\0\0\0\0\0\0",
-        files: &[b"\0\0\0\0\0\0"],
-        at: (u32::MAX, u64::MAX, u32::MAX),
-        sightings: &[],
-        end: (u32::MAX, u64::MAX, u32::MAX),
-    },
-    // Files without a sighting are passed.
-    Search {
-        content: b"abcdefgh",
-        files: &[b"", b"ab", b"abcd"],
-        at: START,
-        sightings: &[(2, 0, 0)],
-        end: (3, 0, 0),
-    },
-];
+static SEEN: &str = "\
+# Two slices one after the other are both seen.
+abcdefgh|XXabcdefgh|0:0:0|0:2:0 0:6:1|1:0:0
+# A slice that is cut off is not seen.
+abcdefgh|abcXabcdef|0:0:0|0:4:0|1:0:0
+# A short slice is seen where the file ends or goes on with zeros.
+ij|ij|0:0:0|0:0:0|1:0:0
+ij|ij\0|0:0:0|0:0:0|1:0:0
+ij|ijk|0:0:0||1:0:0
+# Own bytes must lie in the file.
+i\0|i|0:0:0||1:0:0
+# A search goes on from a cursor.
+\0\0\0\0\0\0\0\0|\0\0\0\0\0\0|0:1:1|0:1:1 0:2:0 0:2:1|1:0:0
+# Nothing is left behind the last sighting.
+\0\0\0\0\0\0\0\0|\0\0\0\0\0\0|0:5:0||1:0:0
+\0\0\0\0\0\0\0\0|\0\0\0\0\0\0|7:0:0||7:0:0
+\0\0\0\0\0\0\0\0|\0\0\0\0\0\0|4294967295:18446744073709551615:4294967295||4294967295:18446744073709551615:4294967295
+# Files without a sighting are passed.
+abcdefgh|,ab,abcd|0:0:0|2:0:0|3:0:0
+";
 
 #[test]
 fn a_search_finds_each_sighting_in_order(rt: HostRuntime) -> Result<(), Fail> {
-    for search in &SEEN {
-        let _bytes = handed_in(&rt, search, 64)?;
+    for search in SEEN.lines() {
+        if is_row(search) {
+            let _bytes = handed_in(&rt, search, 64)?;
+        }
     }
     Ok(())
 }
 
-static EQUAL: Search = Search {
-    content: b"\0\0\0\0\0\0\0\0",
-    files: &[b"\0\0\0\0\0\0"],
-    at: START,
-    sightings: &[
-        (0, 0, 0),
-        (0, 0, 1),
-        (0, 1, 0),
-        (0, 1, 1),
-        (0, 2, 0),
-        (0, 2, 1),
-    ],
-    end: (1, 0, 0),
-};
+static EQUAL: &str =
+    "\0\0\0\0\0\0\0\0|\0\0\0\0\0\0|0:0:0|0:0:0 0:0:1 0:1:0 0:1:1 0:2:0 0:2:1|1:0:0";
 
 #[test]
 fn equal_slices_are_seen_at_every_offset(rt: HostRuntime) -> Result<(), Fail> {
-    let _bytes = handed_in(&rt, &EQUAL, 64)?;
+    let _bytes = handed_in(&rt, EQUAL, 64)?;
     Ok(())
 }
 
@@ -134,7 +58,7 @@ fn goes_on(
     let failed = next_of(&mut finder, index, shelf);
     is(rt, &failed, &Err(ReadFault::Failed));
     assert!(rt; finder.cursor() <= cursor((0, 2, 0)));
-    gives(rt, &mut finder, index, shelf, &[(0, 2, 0), (0, 6, 1)]);
+    gives(rt, &mut finder, index, shelf, "0:2:0 0:6:1");
     Ok(())
 }
 

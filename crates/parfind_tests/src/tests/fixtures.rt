@@ -1,7 +1,8 @@
 // Indexes of the slices of one file, and how values are compared.
-use parfind::Step;
-use parfixtures::{Spot, set_of, set_with, sighting};
+use parfind::{Cursor, Step};
+use parfixtures::{Spot, cursor, set_of, set_with, shelf_of, sighting};
 use parset::RecoverySet;
+use parshelf::MemShelf;
 use parwindow::Index;
 use std::alloc::{AllocError, Global};
 use std::fmt::Debug;
@@ -18,9 +19,56 @@ pub fn is_at_most(rt: &impl Abort, bytes: u64, most: u64) {
     assert!(rt; bytes <= most, "{bytes} bytes");
 }
 
-/// The sighting at a spot.
-pub fn hit(at: Spot) -> Step {
-    Step::Hit(sighting(at))
+/// What stands at a place of a text that has bars between, or no text.
+pub fn field(line: &str, place: usize) -> &str {
+    line.split('|').nth(place).unwrap_or("")
+}
+
+/// Whether a line of a table is a row, and not one that begins with `#`, which tells of those
+/// behind it.
+pub fn is_row(line: &str) -> bool {
+    !line.starts_with('#')
+}
+
+// The spot that a text names: a file, an offset and a slice, with colons between.
+fn spot_of(text: &str) -> Option<Spot> {
+    let (file, rest) = text.split_once(':')?;
+    let (offset, slice) = rest.split_once(':')?;
+    Some((
+        file.parse::<u32>().ok()?,
+        offset.parse::<u64>().ok()?,
+        slice.parse::<u32>().ok()?,
+    ))
+}
+
+/// The cursor at a spot that a text names.
+pub fn cursor_of(text: &str) -> Option<Cursor> {
+    Some(cursor(spot_of(text)?))
+}
+
+/// The answer that a text names: `spent`, `done`, or the spot of a sighting.
+pub fn step_named(text: &str) -> Option<Step> {
+    match text {
+        "spent" => Some(Step::Spent),
+        "done" => Some(Step::Done),
+        spot => Some(Step::Hit(sighting(spot_of(spot)?))),
+    }
+}
+
+/// The files of a text that has commas between, or `-` for none.
+pub fn files_in(
+    alloc: Global,
+    files: &str,
+    piece: usize,
+    failing: &[u64],
+) -> Result<MemShelf, Fail> {
+    let mut all = Vec::new(alloc);
+    if files != "-" {
+        for file in files.split(',') {
+            all.push(file.as_bytes())?;
+        }
+    }
+    shelf_of(alloc, &all, piece, failing)
 }
 
 // An index of the slices of a set.

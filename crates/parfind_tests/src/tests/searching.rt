@@ -3,9 +3,8 @@ ghost use Rattle.std.specs.Prelude.{◌<◌, IfOk};
 ghost use Rattle.parshelf.specs.Memory.{shelf_state_of};
 ghost use Rattle.parfind.specs.Finders.{BelongsTo};
 
-use crate::tests::fixtures::{hit, index_of, is};
+use crate::tests::fixtures::{cursor_of, field, files_in, index_of, is, step_named};
 use parfind::{Cursor, Finder, Step};
-use parfixtures::{Spot, cursor, shelf_of};
 use parshelf::{MemShelf, ReadFault};
 use parwindow::Index;
 use std::alloc::{AllocError, Global};
@@ -46,142 +45,96 @@ fn step_of(
     finder.step(index, shelf, budget)
 }
 
-/// Calls `next`; wants these sightings in order, and `Done` behind them.
+/// Calls `next`; wants the sightings at these spots in order, and `Done` behind them.
 pub fn gives(
     rt: &impl Abort,
     finder: &mut Finder,
     index: &Index,
     shelf: &mut MemShelf,
-    sightings: &[Spot],
+    sightings: &str,
 )
     requires { BelongsTo finder.old index.now (shelf_state_of shelf.old) }
 {
-    for at in sightings {
-        is(rt, &next_of(finder, index, shelf), &Ok(hit(*at)));
+    for at in sightings.split_whitespace() {
+        let step = next_of(finder, index, shelf);
+        is(rt, &Some(step), &step_named(at).map(Ok));
     }
     is(rt, &next_of(finder, index, shelf), &Ok(Step::Done));
 }
 
-/// A search for the slices of a file of these bytes: the files, where it begins, the sightings that
-/// are wanted before `Done`, and where it ends.
-#[derive(Clone, Copy)]
-pub struct Search {
-    pub content: &'static [u8],
-    pub files: &'static [&'static [u8]],
-    pub at: Spot,
-    pub sightings: &'static [Spot],
-    pub end: Spot,
-}
-
-// Goes through a search; wants what it wants.
+// Goes through a search from a cursor on; wants these sightings, and this cursor at last.
 fn searches(
     rt: &(impl Abort + AllocGlobal),
-    index: &Index,
     shelf: &mut MemShelf,
-    search: &Search,
+    search: &str,
 ) -> Result<(), Fail> {
-    let mut finder = opened(rt.alloc(), index, &*shelf, cursor(search.at))?;
-    gives(rt, &mut finder, index, shelf, search.sightings);
-    is(rt, &finder.cursor(), &cursor(search.end));
+    let index = index_of(rt.alloc(), field(search, 0).as_bytes())?;
+    let at = cursor_of(field(search, 2)).ok_or("no cursor")?;
+    let mut finder = opened(rt.alloc(), &index, &*shelf, at)?;
+    gives(rt, &mut finder, &index, shelf, field(search, 3));
+    is(rt, &Some(finder.cursor()), &cursor_of(field(search, 4)));
     Ok(())
 }
 
-/// The same in files that are read `piece` bytes at a time; the answer is how many bytes were
-/// handed over.
-pub fn handed_in(
-    rt: &(impl Abort + AllocGlobal),
-    search: &Search,
-    piece: usize,
-) -> Result<u64, Fail> {
-    let index = index_of(rt.alloc(), search.content)?;
-    let mut shelf = shelf_of(rt.alloc(), search.files, piece, &[])?;
-    searches(rt, &index, &mut shelf, search)?;
+/// Goes through a search in files that are read `piece` bytes at a time; the answer is how many
+/// bytes were handed over. The search is a text with bars between: the bytes of the file whose
+/// slices are looked for, the files with commas between, where it begins, the sightings that are
+/// wanted before `Done`, and where it ends.
+pub fn handed_in(rt: &(impl Abort + AllocGlobal), search: &str, piece: usize) -> Result<u64, Fail> {
+    let mut shelf = files_in(rt.alloc(), field(search, 1), piece, &[])?;
+    searches(rt, &mut shelf, search)?;
     Ok(shelf.handed())
 }
 
-/// The answer of a step.
-#[derive(Clone, Copy)]
-pub enum Wanted {
-    Hit(Spot),
-    Spent,
-    Done,
+// A word of a text, or no text.
+fn word(text: &str, place: usize) -> &str {
+    text.split(' ').nth(place).unwrap_or("")
 }
 
-// That answer.
-fn step_wanted(wanted: Wanted) -> Step {
-    match wanted {
-        Wanted::Hit(at) => hit(at),
-        Wanted::Spent => Step::Spent,
-        Wanted::Done => Step::Done,
-    }
-}
-
-/// Steps through files for the slices of a file of these bytes: the files, where a search begins,
-/// and for each step its budget, the answer that is wanted and the cursor then.
-#[derive(Clone, Copy)]
-pub struct Walk<'f> {
-    pub content: &'static [u8],
-    pub files: &'f [&'f [u8]],
-    pub at: Spot,
-    pub steps: &'static [(u64, Wanted, Spot)],
-}
-
-// Takes steps; wants these answers and cursors.
+// Takes steps, with commas between: of each the budget, the answer that is wanted, and the cursor
+// then.
 fn steps_give(
     rt: &impl Abort,
     finder: &mut Finder,
     index: &Index,
     shelf: &mut MemShelf,
-    steps: &[(u64, Wanted, Spot)],
+    steps: &str,
 )
     requires { BelongsTo finder.old index.now (shelf_state_of shelf.old) }
 {
-    for (budget, step, end) in steps {
-        assert!(rt; *budget > 0);
-        let answer = step_of(finder, index, shelf, *budget);
-        is(rt, &answer, &Ok(step_wanted(*step)));
-        is(rt, &finder.cursor(), &cursor(*end));
+    for step in steps.split(',') {
+        let budget = word(step, 0).parse::<u64>().unwrap_or(0);
+        assert!(rt; budget > 0);
+        let answer = step_of(finder, index, shelf, budget);
+        is(rt, &Some(answer), &step_named(word(step, 1)).map(Ok));
+        is(rt, &Some(finder.cursor()), &cursor_of(word(step, 2)));
     }
 }
 
-// Takes the steps of a walk.
-fn steps_through(
-    rt: &(impl Abort + AllocGlobal),
-    index: &Index,
-    shelf: &mut MemShelf,
-    walk: &Walk<'_>,
-) -> Result<(), Fail> {
-    let mut finder = opened(rt.alloc(), index, &*shelf, cursor(walk.at))?;
-    steps_give(rt, &mut finder, index, shelf, walk.steps);
-    Ok(())
-}
-
-/// The same over another index, in files that are read `piece` bytes at a time, where the read of
-/// one number fails, or none of number 0; the answer is how many bytes were handed over.
+/// Takes steps from a cursor on; the answer is how many bytes were handed over.
 pub fn handed_by(
     rt: &(impl Abort + AllocGlobal),
     index: &Index,
-    walk: &Walk<'_>,
-    piece: usize,
-    failing: u64,
+    shelf: &mut MemShelf,
+    at: &str,
+    steps: &str,
 ) -> Result<u64, Fail> {
-    let mut shelf = shelf_of(rt.alloc(), walk.files, piece, &[failing])?;
-    steps_through(rt, index, &mut shelf, walk)?;
+    let at = cursor_of(at).ok_or("no cursor")?;
+    let mut finder = opened(rt.alloc(), index, &*shelf, at)?;
+    steps_give(rt, &mut finder, index, shelf, steps);
     Ok(shelf.handed())
 }
 
-/// The same over the index of the walk's own slices.
+/// The same in files that are read `piece` bytes at a time, where the read of one number fails, or
+/// none of number 0. The walk is a text with bars between: the bytes of the file whose slices are
+/// looked for, the files with commas between, where it begins, and the steps.
 pub fn handed_along(
     rt: &(impl Abort + AllocGlobal),
-    walk: &Walk<'_>,
+    walk: &str,
     piece: usize,
     failing: u64,
 ) -> Result<u64, Fail> {
-    handed_by(
-        rt,
-        &index_of(rt.alloc(), walk.content)?,
-        walk,
-        piece,
-        failing,
-    )
+    let index = index_of(rt.alloc(), field(walk, 0).as_bytes())?;
+    let mut shelf = files_in(rt.alloc(), field(walk, 1), piece, &[failing])?;
+    handed_by(rt, &index, &mut shelf, field(walk, 2), field(walk, 3))
 }

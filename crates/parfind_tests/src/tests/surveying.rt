@@ -3,7 +3,7 @@ ghost use Rattle.std.specs.Prelude.{◌≡◌, ◌∷◌, [], true, false};
 ghost use Rattle.parfind.specs.Marks.{missing_places};
 ghost use Rattle.parfind_tests.specs.Worked.{two_slices, equal_slices};
 
-use crate::tests::fixtures::{index_of, is, is_at_most};
+use crate::tests::fixtures::{field, files_in, index_of, is, is_at_most, is_row};
 use parfind::{SurveyFault, survey, survey_in};
 use parfixtures::shelf_of;
 use parshelf::{MemShelf, ReadFault};
@@ -43,133 +43,80 @@ fn surveys(
     Ok(())
 }
 
-// Files, the slices of these bytes that are found in them by a survey without a fault, from no mark
-// on, and how many bytes it hands over at most.
-#[derive(Clone, Copy)]
-struct Marks<'f> {
-    content: &'static [u8],
-    files: &'f [&'f [u8]],
-    wanted: &'static [bool],
-    most: u64,
+// Whether a plus stands at each of the first four places.
+fn marks_of(text: &str) -> [bool; 4] {
+    [0, 1, 2, 3].map(|place| text.as_bytes().get(place) == Some(&b'+'))
 }
 
-// Surveys files that are read `piece` bytes at a time.
-fn mark_by(rt: &(impl Abort + AllocGlobal), marks: &Marks<'_>, piece: usize) -> Result<(), Fail> {
+// Surveys files for the slices of these bytes, from no mark on; wants no fault, a mark where a plus
+// stands and no other, and no more bytes handed over than this.
+fn marks_in(
+    rt: &(impl Abort + AllocGlobal),
+    content: &[u8],
+    shelf: &mut MemShelf,
+    wanted: &str,
+    most: u64,
+) -> Result<(), Fail> {
     let mut marked = [false; 4];
     let found = marked
-        .get_mut(..marks.wanted.len())
+        .get_mut(..wanted.len())
         .ok_or("more than four slices")?;
-    let mut shelf = shelf_of(rt.alloc(), marks.files, piece, &[])?;
-    surveys(rt, marks.content, &mut shelf, found, Ok(()), marks.wanted)?;
-    is_at_most(rt, shelf.handed(), marks.most);
+    let wanted = marks_of(wanted);
+    let wanted = wanted.get(..found.len()).unwrap_or(&[]);
+    surveys(rt, content, shelf, found, Ok(()), wanted)?;
+    is_at_most(rt, shelf.handed(), most);
     Ok(())
 }
 
-// Surveys files that are read in pieces of 1 and of 64 bytes.
-fn mark(rt: &(impl Abort + AllocGlobal), marks: &Marks<'_>) -> Result<(), Fail> {
-    mark_by(rt, marks, 1)?;
-    mark_by(rt, marks, 64)
-}
-
-static SEEN: [Marks<'static>; 9] = [
-    // Each slice that is seen is marked.
-    Marks {
-        content: b"abcdefghijkl",
-        files: &[b"ab", b"XXabcdefgh"],
-        wanted: &[true, true, false],
-        most: 10,
-    },
-    Marks {
-        content: b"abcdefgh",
-        files: &[b"abcXabcdef"],
-        wanted: &[true, false],
-        most: 10,
-    },
-    Marks {
-        content: b"abcdefgh",
-        files: &[b"", b"ab", b"abcd"],
-        wanted: &[true, false],
-        most: 4,
-    },
-    Marks {
-        content: b"abcdefgh",
-        files: &[],
-        wanted: &[false, false],
-        most: 0,
-    },
-    // A short slice is marked where the file ends or goes on with zeros.
-    Marks {
-        content: b"ij",
-        files: &[b"ij"],
-        wanted: &[true],
-        most: 2,
-    },
-    Marks {
-        content: b"ij",
-        files: &[b"XXij\0"],
-        wanted: &[true],
-        most: 5,
-    },
-    Marks {
-        content: b"ij",
-        files: &[b"ijk"],
-        wanted: &[false],
-        most: 3,
-    },
-    Marks {
-        content: b"i\0",
-        files: &[b"i"],
-        wanted: &[false],
-        most: 0,
-    },
-    // Files into which no slice fits are not read.
-    Marks {
-        content: b"abcdefgh",
-        files: &[b"", b"a", b"ab", b"abc"],
-        wanted: &[false, false],
-        most: 0,
-    },
-];
-
-#[test]
-fn each_slice_that_is_seen_is_marked(rt: HostRuntime) -> Result<(), Fail> {
-    for marks in &SEEN {
-        mark(&rt, marks)?;
+// The same in files that are read in pieces of 1 and of 64 bytes. The row has bars between: the
+// bytes of the file whose slices are looked for, the files with commas between or `-` for none, the
+// marks, and how many bytes are handed over at most.
+fn mark(rt: &(impl Abort + AllocGlobal), row: &str) -> Result<(), Fail> {
+    let content = field(row, 0).as_bytes();
+    let most = field(row, 3).parse::<u64>().ok().ok_or("no number")?;
+    for piece in [1, 64] {
+        let mut shelf = files_in(rt.alloc(), field(row, 1), piece, &[])?;
+        marks_in(rt, content, &mut shelf, field(row, 2), most)?;
     }
     Ok(())
 }
 
-static EQUAL: [Marks<'static>; 4] = [
-    Marks {
-        content: b"\0\0\0\0\0\0\0\0",
-        files: &[b"\0\0\0\0\0\0"],
-        wanted: &[true, true],
-        most: 6,
-    },
-    Marks {
-        content: b"\0\0\0\0\0\0\0\0\0\0\0\0",
-        files: &[b"XX\0\0\0\0"],
-        wanted: &[true, true, true],
-        most: 6,
-    },
-    Marks {
-        content: b"\0\0\0\0\0\0\0\0abcdefgh",
-        files: &[b"\0\0\0\0\0\0\0\0abcd\0\0\0\0"],
-        wanted: &[true, true, true, false],
-        most: 16,
-    },
-    Marks {
-        content: b"\0\0\0\0\0\0\0\0ab",
-        files: &[b"\0\0\0", b"\0\0\0\0\0"],
-        wanted: &[true, true, false],
-        most: 8,
-    },
-];
+static SEEN: &str = "\
+# Each slice that is seen is marked.
+abcdefghijkl|ab,XXabcdefgh|++-|10
+abcdefgh|abcXabcdef|+-|10
+abcdefgh|,ab,abcd|+-|4
+abcdefgh|-|--|0
+# A short slice is marked where the file ends or goes on with zeros.
+ij|ij|+|2
+ij|XXij\0|+|5
+ij|ijk|-|3
+i\0|i|-|0
+# Files into which no slice fits are not read.
+abcdefgh|,a,ab,abc|--|0
+";
+
+#[test]
+fn each_slice_that_is_seen_is_marked(rt: HostRuntime) -> Result<(), Fail> {
+    for row in SEEN.lines() {
+        if is_row(row) {
+            mark(&rt, row)?;
+        }
+    }
+    Ok(())
+}
+
+static EQUAL: &str = "\
+\0\0\0\0\0\0\0\0|\0\0\0\0\0\0|++|6
+\0\0\0\0\0\0\0\0\0\0\0\0|XX\0\0\0\0|+++|6
+\0\0\0\0\0\0\0\0abcdefgh|\0\0\0\0\0\0\0\0abcd\0\0\0\0|+++-|16
+\0\0\0\0\0\0\0\0ab|\0\0\0,\0\0\0\0\0|++-|8
+";
 
 #[test]
 fn equal_slices_are_marked_together(rt: HostRuntime) -> Result<(), Fail> {
-    for marks in &EQUAL {
-        mark(&rt, marks)?;
+    for row in EQUAL.lines() {
+        mark(&rt, row)?;
     }
     Ok(())
 }
@@ -208,14 +155,12 @@ fn nothing_is_read_where_each_slice_has_its_mark(rt: HostRuntime) -> Result<(), 
 fn reading_stops_once_each_slice_without_a_mark_is_found(rt: HostRuntime) -> Result<(), Fail> {
     let mut long = [b'x'; 20_010];
     long[2..10].copy_from_slice(b"abcdefgh");
-    let marks = Marks {
-        content: b"abcdefgh",
-        files: &[&long, b"abcdefgh"],
-        wanted: &[true, true],
-        most: 6 + 4 + 4_096,
-    };
-    mark(&rt, &marks)?;
-    finds_both(&rt, marks.files, 0, [false, true], 2 + 4 + 4_096)
+    let files = [&long[..], b"abcdefgh"];
+    for piece in [1, 64] {
+        let mut shelf = shelf_of(rt.alloc(), &files, piece, &[])?;
+        marks_in(&rt, b"abcdefgh", &mut shelf, "++", 6 + 4 + 4_096)?;
+    }
+    finds_both(&rt, &files, 0, [false, true], 2 + 4 + 4_096)
 }
 
 // Surveys two files, of which the read of one number fails.

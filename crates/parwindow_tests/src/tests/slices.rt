@@ -30,32 +30,32 @@ const SIX_BYTES: [u8; 40] =
 
 // There are so many slices of 4 bytes.
 fn has_slices(rt: &impl Abort, index: &Index, slices: u32) {
-    assert_eq!(rt; index.size(), 4);
-    assert_eq!(rt; index.slices(), slices);
+    is(rt, &index.size(), &4);
+    is(rt, &index.slices(), &slices);
 }
 
 // So many bytes of a slice are the file's.
 fn has_own_length(rt: &impl Abort, index: &Index, slice: u32, length: u64) {
     assert!(rt; slice < index.slices());
-    assert_eq!(rt; index.own_length(slice), length);
+    is(rt, &index.own_length(slice), &length);
 }
 
 // Whether some slice has this CRC-32.
 fn has_crc(rt: &impl Abort, index: &Index, crc: u32, seen: bool) {
-    assert_eq!(rt; index.has_crc(crc), seen);
+    is(rt, &index.has_crc(crc), &seen);
 }
 
 // From each number on, this is the first slice with both sums.
 fn finds(rt: &impl Abort, index: &Index, crc: u32, digest: [u8; 16], rows: &[(u32, Option<u32>)]) {
     for (from, found) in rows {
-        assert_eq!(rt; index.next_match(crc, Hash16(digest), *from), *found);
+        is(rt, &index.next_match(crc, Hash16(digest), *from), found);
     }
 }
 
 // From each number on, this is the first slice with this CRC-32.
 fn finds_crc(rt: &impl Abort, index: &Index, crc: u32, rows: &[(u32, Option<u32>)]) {
     for (from, found) in rows {
-        assert_eq!(rt; index.next_crc(crc, *from), *found);
+        is(rt, &index.next_crc(crc, *from), found);
     }
 }
 
@@ -81,30 +81,46 @@ fn equal_slices_are_found_by_number(rt: HostRuntime) -> Result<(), Fail> {
     Ok(())
 }
 
-// A full window takes so many of the bytes.
-fn takes(rt: &impl Abort, window: &mut Window, index: &Index, bytes: &[u8], count: usize) {
+// A full window takes so many of the bytes, and then has the CRC-32 of a slice or of none.
+fn takes(
+    rt: &impl Abort,
+    window: &mut Window,
+    index: &Index,
+    bytes: &[u8],
+    count: usize,
+    seen: bool,
+) {
     assert!(rt; window.is_full());
-    assert_eq!(rt; window.push_until(index, bytes), count);
+    is(rt, &window.push_until(index, bytes), &count);
+    has_crc(rt, index, window.crc(), seen);
+}
+
+// Pieces, how many of their bytes are taken, and whether a slice ends there.
+static PIECES: [(&[u8], usize, bool); 7] = [
+    (b"cdxx", 2, true),
+    (b"", 0, true),
+    (b"xabcdab\0\0xx", 5, true),
+    (b"ab\0\0xx", 4, true),
+    (b"xx", 2, false),
+    (b"a stream without a slic", 23, false),
+    (b"abcd", 4, true),
+];
+
+// A window that holds `xyab`.
+fn full_window(alloc: Global) -> Result<Window, AllocError> {
+    let mut window = Window::new(alloc, 4)?;
+    for byte in *b"xyab" {
+        let _ = window.push(byte);
+    }
+    Ok(window)
 }
 
 #[test]
 fn pieces_stop_where_a_slice_ends(rt: HostRuntime) -> Result<(), Fail> {
     let index = index_with(rt.alloc(), 6, &SIX_BYTES)?;
-    let mut window = Window::new(rt.alloc(), 4)?;
-    for byte in *b"xyab" {
-        let _ = window.push(byte);
-    }
-    for (bytes, count, seen) in [
-        (&b"cdxx"[..], 2, true),
-        (b"", 0, true),
-        (b"xabcdab\0\0xx", 5, true),
-        (b"ab\0\0xx", 4, true),
-        (b"xx", 2, false),
-        (b"a stream without a slic", 23, false),
-        (b"abcd", 4, true),
-    ] {
-        takes(&rt, &mut window, &index, bytes, count);
-        has_crc(&rt, &index, window.crc(), seen);
+    let mut window = full_window(rt.alloc())?;
+    for (bytes, count, seen) in &PIECES {
+        takes(&rt, &mut window, &index, bytes, *count, *seen);
     }
     Ok(())
 }
@@ -119,25 +135,38 @@ fn slices_without_sums_are_not_found(rt: HostRuntime) -> Result<(), Fail> {
 }
 
 // Where so many bytes are left, a slice fits in or none does.
-fn fits_into(rt: &impl Abort, index: &Index, left: u64, fits: bool) {
-    assert_eq!(rt; index.fits(left), fits);
+fn fits_into(
+    rt: &(impl Abort + AllocGlobal),
+    sums: &[u8],
+    rows: &[(u64, bool)],
+) -> Result<(), Fail> {
+    let index = index_with(rt.alloc(), 6, sums)?;
+    for (left, fits) in rows {
+        is(rt, &index.fits(*left), fits);
+    }
+    Ok(())
 }
+
+static KNOWN_FIT: [(u64, bool); 5] = [
+    (0, false),
+    (1, false),
+    (2, true),
+    (3, true),
+    (u64::MAX, true),
+];
+
+static UNKNOWN_FIT: [(u64, bool); 5] = [
+    (0, false),
+    (1, false),
+    (2, false),
+    (3, false),
+    (u64::MAX, false),
+];
 
 #[test]
 fn a_slice_fits_into_what_its_own_bytes_need(rt: HostRuntime) -> Result<(), Fail> {
-    let known = index_with(rt.alloc(), 6, &SIX_BYTES)?;
-    let unknown = index_with(rt.alloc(), 6, &ABCD)?;
-    for (left, fits) in [
-        (0, false),
-        (1, false),
-        (2, true),
-        (3, true),
-        (u64::MAX, true),
-    ] {
-        fits_into(&rt, &known, left, fits);
-        fits_into(&rt, &unknown, left, false);
-    }
-    Ok(())
+    fits_into(&rt, &SIX_BYTES, &KNOWN_FIT)?;
+    fits_into(&rt, &ABCD, &UNKNOWN_FIT)
 }
 
 // Both sums of the slices of `ab`, two zeros and `ab`: they are those of both.
@@ -146,64 +175,83 @@ const EQUAL_BYTES: [u8; 40] =
       \x66\x27\x1d\x2e\x70\x37\x2c\x1b\x4d\xc5\xb4\x6e\x79\xa6\xf0\x01\x34\x50\x8d\xe9";
 
 // Where so many bytes are left, a slice with this CRC-32 fits in or none does.
-fn crc_fits(rt: &impl Abort, index: &Index, crc: u32, rows: &[(u64, bool)]) {
-    for (left, fits) in rows {
-        assert_eq!(rt; index.has_fit_crc(crc, *left), *fits);
+fn crc_fits(
+    rt: &(impl Abort + AllocGlobal),
+    length: u64,
+    sums: &[u8],
+    rows: &[(u32, u64, bool)],
+) -> Result<(), Fail> {
+    let index = index_with(rt.alloc(), length, sums)?;
+    for (crc, left, fits) in rows {
+        is(rt, &index.has_fit_crc(*crc, *left), fits);
     }
+    Ok(())
 }
+
+static TEN_FIT: [(u32, u64, bool); 9] = [
+    (ABCD_CRC, 0, false),
+    (ABCD_CRC, 3, false),
+    (ABCD_CRC, 4, true),
+    (ABCD_CRC, u64::MAX, true),
+    (AB_CRC, 0, false),
+    (AB_CRC, 1, false),
+    (AB_CRC, 2, true),
+    (AB_CRC, u64::MAX, true),
+    (0, u64::MAX, false),
+];
+
+static EQUAL_FIT: [(u32, u64, bool); 4] = [
+    (AB_CRC, 0, false),
+    (AB_CRC, 1, false),
+    (AB_CRC, 2, true),
+    (AB_CRC, u64::MAX, true),
+];
 
 #[test]
 fn a_slice_with_a_crc_fits_by_its_own_bytes(rt: HostRuntime) -> Result<(), Fail> {
-    let index = index_with(rt.alloc(), 10, &TEN_BYTES)?;
-    let fours = [(0, false), (3, false), (4, true), (u64::MAX, true)];
-    let twos = [(0, false), (1, false), (2, true), (u64::MAX, true)];
-    crc_fits(&rt, &index, ABCD_CRC, &fours);
-    crc_fits(&rt, &index, AB_CRC, &twos);
-    crc_fits(&rt, &index, 0, &[(u64::MAX, false)]);
-    let equal = index_with(rt.alloc(), 6, &EQUAL_BYTES)?;
-    crc_fits(&rt, &equal, AB_CRC, &twos);
-    let unknown = index_with(rt.alloc(), 10, &ABCD)?;
-    crc_fits(&rt, &unknown, ABCD_CRC, &[(u64::MAX, false)]);
-    Ok(())
+    crc_fits(&rt, 10, &TEN_BYTES, &TEN_FIT)?;
+    crc_fits(&rt, 6, &EQUAL_BYTES, &EQUAL_FIT)?;
+    crc_fits(&rt, 10, &ABCD, &[(ABCD_CRC, u64::MAX, false)])
 }
 
 // With these marks, a slice with this CRC-32 that fits into so many bytes has none, or each has one.
-fn misses(rt: &impl Abort, index: &Index, crc: u32, found: &[bool], rows: &[(u64, bool)]) {
-    assert_eq!(rt; index.slices() as usize, found.len());
-    for (left, missing) in rows {
-        assert_eq!(rt; index.is_missing(crc, *left, found), *missing);
+fn misses<const N: usize>(
+    rt: &(impl Abort + AllocGlobal),
+    length: u64,
+    sums: &[u8],
+    rows: &[(u32, [bool; N], u64, bool)],
+) -> Result<(), Fail> {
+    let index = index_with(rt.alloc(), length, sums)?;
+    assert!(rt; index.slices() as usize == N);
+    for (crc, found, left, missing) in rows {
+        is(rt, &index.is_missing(*crc, *left, found), missing);
     }
+    Ok(())
 }
+
+static TEN_MISSING: [(u32, [bool; 3], u64, bool); 10] = [
+    (ABCD_CRC, [false, true, true], 3, false),
+    (ABCD_CRC, [false, true, true], 4, true),
+    (ABCD_CRC, [false, true, true], u64::MAX, true),
+    (ABCD_CRC, [true, false, true], 3, false),
+    (ABCD_CRC, [true, false, true], 4, true),
+    (ABCD_CRC, [true, false, true], u64::MAX, true),
+    (ABCD_CRC, [true, true, false], u64::MAX, false),
+    (AB_CRC, [true, true, false], 1, false),
+    (AB_CRC, [true, true, false], 2, true),
+    (0, [false, false, false], u64::MAX, false),
+];
+
+static EQUAL_MISSING: [(u32, [bool; 2], u64, bool); 5] = [
+    (AB_CRC, [false, true], 3, false),
+    (AB_CRC, [false, true], 4, true),
+    (AB_CRC, [false, true], u64::MAX, true),
+    (AB_CRC, [true, false], 1, false),
+    (AB_CRC, [true, false], 2, true),
+];
 
 #[test]
 fn a_slice_is_missing_that_fits_and_has_no_mark(rt: HostRuntime) -> Result<(), Fail> {
-    let index = index_with(rt.alloc(), 10, &TEN_BYTES)?;
-    let fours = [(3, false), (4, true), (u64::MAX, true)];
-    misses(&rt, &index, ABCD_CRC, &[false, true, true], &fours);
-    misses(&rt, &index, ABCD_CRC, &[true, false, true], &fours);
-    misses(
-        &rt,
-        &index,
-        ABCD_CRC,
-        &[true, true, false],
-        &[(u64::MAX, false)],
-    );
-    misses(
-        &rt,
-        &index,
-        AB_CRC,
-        &[true, true, false],
-        &[(1, false), (2, true)],
-    );
-    misses(&rt, &index, 0, &[false, false, false], &[(u64::MAX, false)]);
-    let equal = index_with(rt.alloc(), 6, &EQUAL_BYTES)?;
-    misses(&rt, &equal, AB_CRC, &[false, true], &fours);
-    misses(
-        &rt,
-        &equal,
-        AB_CRC,
-        &[true, false],
-        &[(1, false), (2, true)],
-    );
-    Ok(())
+    misses(&rt, 10, &TEN_BYTES, &TEN_MISSING)?;
+    misses(&rt, 6, &EQUAL_BYTES, &EQUAL_MISSING)
 }
