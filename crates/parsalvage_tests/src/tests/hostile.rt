@@ -1,37 +1,6 @@
 use super::*;
 use md5::{Digest, Md5};
-use parfixtures::WORKED;
-
-// Files of bytes that are read by these pieces have these packets.
-fn files_have(
-    rt: &(impl Abort + AllocGlobal),
-    row: &impl Debug,
-    bytes: &[u8],
-    pieces: &[usize],
-    wanted: &[Packet<'_>],
-) -> Result<(), Fail> {
-    for piece in pieces {
-        let mut shelf = shelf_of(rt.alloc(), &[bytes], *piece, &[])?;
-        file_has(rt, &(row, piece), &mut shelf, wanted)?;
-    }
-    Ok(())
-}
-
-/// Bytes, and files of them that are read by these pieces, have the packets of the model.
-pub fn agrees<'a>(
-    rt: &(impl Abort + AllocGlobal),
-    row: &impl Debug,
-    bytes: &'a [u8],
-    pieces: &[usize],
-) -> Result<Vec<Packet<'a>>, Fail> {
-    let wanted = packets_in(rt.alloc(), bytes)?;
-    let packets = salvage(rt.alloc(), bytes)?;
-    is(rt, row, &packets.as_slice(), &wanted.as_slice());
-    let kept = kept_of(rt.alloc(), 0, &packets)?;
-    are_held(rt, row, &kept, &wanted);
-    files_have(rt, row, bytes, pieces, &wanted)?;
-    Ok(packets)
-}
+use parfixtures::{WORKED, inverted};
 
 // Bytes, and a file of them, have so many packets, which are those of the model.
 fn has_packets(
@@ -39,7 +8,7 @@ fn has_packets(
     row: &impl Debug,
     bytes: &[u8],
     count: usize,
-) -> Result<(), Fail> {
+) -> Result<(), SalvageFault> {
     let packets = agrees(rt, row, bytes, &[50])?;
     is(rt, row, &packets.len(), &count);
     Ok(())
@@ -57,23 +26,20 @@ fn ends_in(size: usize) -> usize {
 }
 
 #[test]
-fn packets_agree_with_the_model_at_each_cut(rt: HostRuntime) -> Result<(), Fail> {
+fn packets_agree_with_the_model_at_each_cut(rt: HostRuntime) -> Result<(), SalvageFault> {
     for size in 0..=WORKED.len() {
-        let front = WORKED.as_slice().get(..size).ok_or("size")?;
-        has_packets(&rt, &size, front, ends_in(size))?;
+        has_packets(&rt, &size, &WORKED[..size], ends_in(size))?;
     }
     Ok(())
 }
 
 #[test]
-fn packets_agree_with_the_model_for_each_inverted_byte(rt: HostRuntime) -> Result<(), Fail> {
+fn packets_agree_with_the_model_for_each_inverted_byte(
+    rt: HostRuntime,
+) -> Result<(), SalvageFault> {
     for at in 0..WORKED.len() {
-        let mut bytes = Vec::from_slice(rt.alloc(), WORKED.as_slice())?;
-        if let Some(byte) = bytes.get_mut(at) {
-            *byte = 255 - *byte;
-        }
         // The packet that has the byte is gone.
-        has_packets(&rt, &at, &bytes, 3)?;
+        has_packets(&rt, &at, &inverted(rt.alloc(), at)?, 3)?;
     }
     Ok(())
 }
@@ -107,35 +73,47 @@ static LENGTHS: [(u64, usize, usize); 24] = [
     (0xFFFF_FFFF_FFFF_FFFF, 31, 1),
 ];
 
+// What stands behind the hash field of a Creator packet, and that packet.
+const REST: [u8; 96] =
+    *b"\0\0\0\0\0\0\0\0\0\0\0\0\0\0\0\0PAR 2.0\0Creator\0PAR2\0PKT\x40\0\0\0\0\0\0\0\x90\xb7\x2c\x62\xf3\xda\xe9\x4b\x3d\xe0\x28\xf3\x1e\x19\x95\x02\0\0\0\0\0\0\0\0\0\0\0\0\0\0\0\0PAR 2.0\0Creator\0";
+
 // Behind 64 bytes a header with this length field and the hash of so many bytes behind that field,
 // and then a Creator packet.
-fn with_length(alloc: Global, length: u64, hashed: usize) -> Result<Vec<u8>, Fail> {
-    let mut rest = Vec::from_slice(alloc, CREATOR.get(32..).ok_or("rest")?)?;
-    rest.extend_from_slice(&CREATOR)?;
-    let mut bytes = behind(alloc, b'x', 64, b"PAR2\0PKT")?;
-    bytes.extend_from_slice(&length.to_le_bytes())?;
-    bytes.extend_from_slice(&Md5::digest(rest.get(..hashed).ok_or("hashed")?))?;
-    bytes.extend_from_slice(&rest)?;
-    Ok(bytes)
+fn with_length(alloc: Global, length: u64, hashed: usize) -> Result<Vec<u8>, AllocError> {
+    let hash = Md5::digest(&REST[..hashed.min(96)]);
+    joined(
+        alloc,
+        &[
+            &[b'x'; 64],
+            b"PAR2\0PKT",
+            &length.to_le_bytes(),
+            &hash,
+            &REST,
+        ],
+    )
 }
 
 #[test]
-fn headers_of_each_length_agree_with_the_model(rt: HostRuntime) -> Result<(), Fail> {
+fn headers_of_each_length_agree_with_the_model(rt: HostRuntime) -> Result<(), SalvageFault> {
     for row in &LENGTHS {
-        let (length, hashed, packets) = *row;
-        let bytes = with_length(rt.alloc(), length, hashed)?;
-        has_packets(&rt, row, &bytes, packets)?;
+        let bytes = with_length(rt.alloc(), row.0, row.1)?;
+        has_packets(&rt, row, &bytes, row.2)?;
     }
     Ok(())
 }
 
+// A Creator packet stands behind the first so many bytes of another.
+fn behind_beginning(rt: &(impl Abort + AllocGlobal), size: usize) -> Result<(), SalvageFault> {
+    let bytes = joined(rt.alloc(), &[&CREATOR[..size.min(64)], &CREATOR])?;
+    let packets = agrees(rt, &size, &bytes, &[50])?;
+    stand_at(rt, &packets, &[(Kind::Creator, size)]);
+    Ok(())
+}
+
 #[test]
-fn a_packet_behind_each_beginning_of_one_is_found(rt: HostRuntime) -> Result<(), Fail> {
+fn a_packet_behind_each_beginning_of_one_is_found(rt: HostRuntime) -> Result<(), SalvageFault> {
     for size in 0..CREATOR.len() {
-        let mut bytes = Vec::from_slice(rt.alloc(), CREATOR.get(..size).ok_or("size")?)?;
-        bytes.extend_from_slice(&CREATOR)?;
-        let packets = agrees(&rt, &size, &bytes, &[50])?;
-        stand_at(&rt, &packets, &[(Kind::Creator, size)]);
+        behind_beginning(&rt, size)?;
     }
     Ok(())
 }

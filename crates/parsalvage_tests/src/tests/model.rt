@@ -1,7 +1,7 @@
 // The packets of bytes, and what is kept of them, as their definitions have them.
 use parfield::{Hash16, Kind, Packet};
 use parfixtures::{
-    CREATOR_TYPE, DESC_TYPE, IFSC_TYPE, MAIN_TYPE, SLICE_TYPE, Standing, all_standing,
+    CREATOR_TYPE, DESC_TYPE, IFSC_TYPE, MAIN_TYPE, SLICE_TYPE, Standing, all_standing, field,
 };
 use std::alloc::{AllocError, Global};
 
@@ -14,16 +14,23 @@ pub type Held<'a> = (
     ([u8; 4], u64),
 );
 
+// The five kinds, by the sixteen bytes of the type field.
+static KINDS: [([u8; 16], Kind); 5] = [
+    (MAIN_TYPE, Kind::Main),
+    (DESC_TYPE, Kind::FileDesc),
+    (IFSC_TYPE, Kind::Ifsc),
+    (SLICE_TYPE, Kind::RecvSlic),
+    (CREATOR_TYPE, Kind::Creator),
+];
+
 // The kind that these bytes of a type field name.
-fn kind_of(bytes: [u8; 16]) -> Kind {
-    match bytes {
-        MAIN_TYPE => Kind::Main,
-        DESC_TYPE => Kind::FileDesc,
-        IFSC_TYPE => Kind::Ifsc,
-        SLICE_TYPE => Kind::RecvSlic,
-        CREATOR_TYPE => Kind::Creator,
-        _ => Kind::Other(bytes),
+fn kind_of(field: [u8; 16]) -> Kind {
+    for (bytes, kind) in &KINDS {
+        if *bytes == field {
+            return *kind;
+        }
     }
+    Kind::Other(field)
 }
 
 // A packet as it is shown.
@@ -46,16 +53,8 @@ pub fn packets_in(alloc: Global, bytes: &[u8]) -> Result<Vec<Packet<'_>>, AllocE
     Ok(packets)
 }
 
-// The first four bytes of a body, filled with zeros.
-fn front_of(body: &[u8]) -> [u8; 4] {
-    let mut front = [0; 4];
-    for (to, byte) in front.iter_mut().zip(body) {
-        *to = *byte;
-    }
-    front
-}
-
-/// What is kept of a packet of file 0, whose body is not longer than those that are held.
+/// What is kept of a packet of file 0, whose body is not longer than those that are held. As the
+/// length is a multiple of four, a body has four bytes or none.
 pub fn held_of<'a>(packet: &Packet<'a>) -> Held<'a> {
     let body = packet.body;
     let whole = match packet.kind {
@@ -66,6 +65,6 @@ pub fn held_of<'a>(packet: &Packet<'a>) -> Held<'a> {
         0,
         (packet.at as u64, packet.length, packet.set, packet.kind),
         whole,
-        (front_of(body), body.len() as u64),
+        (field(body, 0).unwrap_or([0; 4]), body.len() as u64),
     )
 }
