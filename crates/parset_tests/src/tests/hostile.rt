@@ -43,13 +43,8 @@ fn has_files(
     Ok(())
 }
 
-// What a set has of its other packets is what the model has.
-fn has_rest(
-    rt: &(impl Abort + AllocGlobal),
-    built: &RecoverySet,
-    own: &Own<'_>,
-    of: usize,
-) -> Result<(), AllocError> {
+// A set has the ID, the slice size and the number of files that the model has.
+fn has_numbers(rt: &impl Abort, built: &RecoverySet, own: &Own<'_>, of: usize) {
     let ids = (
         built.id(),
         built.size(),
@@ -57,19 +52,21 @@ fn has_rest(
     );
     let wanted = (Hash16(own.main.set), own.size, ids_in(own.main.body).len());
     is(rt, &of, &ids, &wanted);
-    is(
-        rt,
-        &of,
-        &(built.have() as usize),
-        &exponent_count(rt.alloc(), own)?,
-    );
+}
+
+// What a set has of its other packets is what the model has.
+fn has_rest(
+    rt: &(impl Abort + AllocGlobal),
+    built: &RecoverySet,
+    own: &Own<'_>,
+    of: usize,
+) -> Result<(), AllocError> {
+    has_numbers(rt, built, own, of);
+    let exponents = exponent_count(rt.alloc(), own)?;
+    is(rt, &of, &(built.have() as usize), &exponents);
     is(rt, &of, &built.creator(), &first_text(rt.alloc(), own)?);
-    is(
-        rt,
-        &of,
-        &built.aside(),
-        &all_aside(rt.alloc(), own)?.as_slice(),
-    );
+    let aside = all_aside(rt.alloc(), own)?;
+    is(rt, &of, &built.aside(), &aside.as_slice());
     Ok(())
 }
 

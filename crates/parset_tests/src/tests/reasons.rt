@@ -269,13 +269,18 @@ fn packets_of_g(alloc: Global, asides: &mut Vec<SetAside>) -> Result<Vec<Kept>, 
     Ok(packets)
 }
 
+// The set of `g.bin` has these packets put aside, its file and a recovery slice.
+fn has_aside(rt: &impl Abort, built: &RecoverySet, asides: &[SetAside]) {
+    is(rt, &"aside", &built.aside(), &asides);
+    let rest = (built.files().len(), built.have(), built.creator());
+    is(rt, &"rest", &rest, &(1, 1, None));
+}
+
 #[test]
 fn a_usable_set_puts_aside_a_packet_for_each_reason(rt: HostRuntime) -> Result<(), SetFault> {
     let mut asides = Vec::new(rt.alloc());
     let packets = packets_of_g(rt.alloc(), &mut asides)?;
     let built = build(rt.alloc(), &packets, None)?;
-    is(&rt, &"aside", &built.aside(), &asides.as_slice());
-    let rest = (built.files().len(), built.have(), built.creator());
-    is(&rt, &"rest", &rest, &(1, 1, None));
+    has_aside(&rt, &built, &asides);
     Ok(())
 }

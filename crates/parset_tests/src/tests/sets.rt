@@ -198,6 +198,19 @@ fn shown(built: &RecoverySet) -> Shown<'_> {
     )
 }
 
+// A set, or the cause why there is none, shows what is wanted.
+fn shows(
+    rt: &impl Abort,
+    rows: &str,
+    built: &Result<RecoverySet, SetFault>,
+    wanted: &Result<Shown<'static>, SetFault>,
+) {
+    match built {
+        Ok(built) => is(rt, &rows, &Ok(shown(built)), wanted),
+        Err(fault) => is(rt, &rows, &Err(*fault), wanted),
+    }
+}
+
 // What is built of these packets, or of the set among them that is chosen, is what is wanted.
 fn gives(
     rt: &(impl Abort + AllocGlobal),
@@ -207,12 +220,10 @@ fn gives(
     wanted: &Result<Shown<'static>, SetFault>,
 ) -> Result<(), SetFault> {
     let bytes = file_of(rt.alloc(), rows)?;
-    match agrees(rt, &bytes, choice, owner)? {
-        Ok(built) => {
-            is(rt, &rows, &Ok(shown(&built)), wanted);
-            is(rt, &rows, &built.id(), &set_id(rt.alloc(), rows, owner)?);
-        }
-        Err(fault) => is(rt, &rows, &Err(fault), wanted),
+    let built = agrees(rt, &bytes, choice, owner)?;
+    shows(rt, rows, &built, wanted);
+    if let Ok(built) = &built {
+        is(rt, &rows, &built.id(), &set_id(rt.alloc(), rows, owner)?);
     }
     Ok(())
 }
