@@ -33,26 +33,34 @@ static BEFORE: [usize; 8] = [
     65_465, 65_472, 65_500, 65_528, 65_529, 65_530, 65_533, 65_536,
 ];
 
-// A Creator packet is found behind so many other bytes.
-fn found_behind(rt: &(impl Abort + AllocGlobal), before: usize) -> Result<(), SalvageFault> {
-    let mut bytes = vec![in rt.alloc(); b'x'; before]?;
-    bytes.extend_from_slice(&CREATOR)?;
-    found_at(rt, &bytes, &[before])
+// So many times this byte, and then these.
+fn behind(alloc: Global, byte: u8, before: usize, rest: &[u8]) -> Result<Vec<u8>, AllocError> {
+    let mut bytes = vec![in alloc; byte; before]?;
+    bytes.extend_from_slice(rest)?;
+    Ok(bytes)
 }
 
 #[test]
 fn packets_across_pieces_are_found(rt: HostRuntime) -> Result<(), SalvageFault> {
     for before in &BEFORE {
-        found_behind(&rt, *before)?;
+        let bytes = behind(rt.alloc(), b'x', *before, &CREATOR)?;
+        found_at(&rt, &bytes, &[*before])?;
     }
-    let bytes = joined(rt.alloc(), &[&[0; 70_000], &AROUND])?;
+    let bytes = behind(rt.alloc(), 0, 70_000, &AROUND)?;
     found_at(&rt, &bytes, &[70_003, 70_071])
 }
 
-// A packet of this type with a body of 200,064 bytes is found, the one in its body, and one behind.
+// A body of 100,000 bytes, a packet, and 100,000 other bytes.
+fn long_body(alloc: Global) -> Result<Vec<u8>, AllocError> {
+    let mut body = vec![in alloc; 5; 100_000]?;
+    body.extend_from_slice(&CREATOR)?;
+    body.resize(200_064, 6)?;
+    Ok(body)
+}
+
+// A packet of this type with that body is found, the one in its body, and one behind.
 fn found_around(rt: &(impl Abort + AllocGlobal), kind: [u8; 16]) -> Result<(), SalvageFault> {
-    let body = joined(rt.alloc(), &[&[5; 100_000], &CREATOR, &[6; 100_000]])?;
-    let outer = packet(rt.alloc(), kind, &body)?;
+    let outer = packet(rt.alloc(), kind, &long_body(rt.alloc())?)?;
     let bytes = joined(rt.alloc(), &[&outer, &CREATOR])?;
     found_at(rt, &bytes, &[0, 100_064, 200_128])
 }
