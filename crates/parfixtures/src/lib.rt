@@ -3,6 +3,7 @@
 //! crates that are tested but their types, `build` and `MemShelf::new`.
 #![tactic(auto)]
 
+mod bytes;
 mod places;
 mod sets;
 mod shelves;
@@ -11,9 +12,10 @@ mod sums;
 mod types;
 mod worked;
 
+pub use crate::bytes::{inverted, joined};
 pub use crate::places::{START, Spot, cursor, sighting};
 pub use crate::sets::{set_of, set_with};
-pub use crate::shelves::shelf_of;
+pub use crate::shelves::{file_of, shelf_of};
 pub use crate::standing::{Standing, all_standing, field, packet_of};
 pub use crate::types::{CREATOR_TYPE, DESC_TYPE, IFSC_TYPE, MAIN_TYPE, SLICE_TYPE};
 pub use crate::worked::WORKED;

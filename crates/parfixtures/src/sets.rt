@@ -1,4 +1,5 @@
 // Recovery sets of one file, in slices of four bytes.
+use crate::bytes::joined;
 use crate::sums::pairs_of;
 use parfield::{Hash16, Kind};
 use parsalvage::{Kept, KeptBody, Part};
@@ -12,8 +13,9 @@ const MAIN: [u8; 28] = *b"\x04\0\0\0\0\0\0\0\x01\0\0\0ffffffffffffffff";
 // The MD5 of that body, as Python's `hashlib` has it.
 const SET: Hash16 = Hash16(*b"\x20\xa7\xc3\x3f\xa4\x10\x7d\x0a\x46\xc2\x84\x3a\x68\x0b\xe5\x12");
 
-// A packet of the set, whose body is held whole.
-fn packet(kind: Kind, body: Vec<u8>) -> Result<Kept, AllocError> {
+// A packet of the set, whose body is these bytes and held whole.
+fn packet(alloc: Global, kind: Kind, parts: &[&[u8]]) -> Result<Kept, AllocError> {
+    let body = joined(alloc, parts)?;
     let length = 64 + body.len() as u64;
     Ok(Kept {
         file: 0,
@@ -25,26 +27,16 @@ fn packet(kind: Kind, body: Vec<u8>) -> Result<Kept, AllocError> {
     })
 }
 
-// The body of the description of the file, which has this length.
-fn description(alloc: Global, length: u64) -> Result<Vec<u8>, AllocError> {
-    let mut body = vec![in alloc; b'f'; 48]?;
-    body.extend_from_slice(&length.to_le_bytes())?;
-    body.extend_from_slice(b"name")?;
-    Ok(body)
-}
-
-// The body of the packet with these sums of its slices.
-fn sums(alloc: Global, pairs: &[u8]) -> Result<Vec<u8>, AllocError> {
-    let mut body = vec![in alloc; b'f'; 16]?;
-    body.extend_from_slice(pairs)?;
-    Ok(body)
-}
-
 // The packets of the set.
 fn packets(alloc: Global, length: u64, pairs: &[u8]) -> Result<[Kept; 3], AllocError> {
-    let main = packet(Kind::Main, Vec::from_slice(alloc, &MAIN)?)?;
-    let desc = packet(Kind::FileDesc, description(alloc, length)?)?;
-    let ifsc = packet(Kind::Ifsc, sums(alloc, pairs)?)?;
+    let id = [b'f'; 16];
+    let main = packet(alloc, Kind::Main, &[&MAIN])?;
+    let desc = packet(
+        alloc,
+        Kind::FileDesc,
+        &[&[b'f'; 48], &length.to_le_bytes(), b"name"],
+    )?;
+    let ifsc = packet(alloc, Kind::Ifsc, &[&id, pairs])?;
     Ok([main, desc, ifsc])
 }
 

@@ -1,6 +1,6 @@
 // Files in memory.
 use parshelf::MemShelf;
-use std::alloc::Global;
+use std::alloc::{AllocError, Global};
 use std::test::Fail;
 
 /// At most nine files in memory that are read `piece` bytes at a time; the reads of these numbers
@@ -19,4 +19,17 @@ pub fn shelf_of(
         all.push(Vec::from_slice(alloc, file)?)?;
     }
     Ok(MemShelf::new(all, piece, Vec::from_slice(alloc, failing)?))
+}
+
+/// One file in memory that is read `piece` bytes at a time, and at least one; the reads of these
+/// numbers fail, which count from 1.
+pub fn file_of(
+    alloc: Global,
+    file: &[u8],
+    piece: usize,
+    failing: &[u64],
+) -> Result<MemShelf, AllocError> {
+    let mut all = Vec::new(alloc);
+    all.push(Vec::from_slice(alloc, file)?)?;
+    Ok(MemShelf::new(all, piece.max(1), Vec::from_slice(alloc, failing)?))
 }

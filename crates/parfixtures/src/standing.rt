@@ -1,5 +1,6 @@
 // Packets of bytes as their definition has them, tried at each offset: with the hash of the bytes
 // from there on, and nothing is skipped, searched for or remembered.
+use crate::bytes::joined;
 use crate::sums::digest_of;
 use std::alloc::{AllocError, Global};
 
@@ -64,13 +65,11 @@ pub fn packet_of(
     kind: [u8; 16],
     body: &[u8],
 ) -> Result<Vec<u8>, AllocError> {
-    let mut hashed = Vec::from_slice(alloc, &set)?;
-    hashed.extend_from_slice(&kind)?;
-    hashed.extend_from_slice(body)?;
-    let mut bytes = Vec::from_slice(alloc, b"PAR2\0PKT")?;
+    let hashed = joined(alloc, &[&set, &kind, body])?;
     let length = (body.len() as u64).saturating_add(64);
-    bytes.extend_from_slice(&length.to_le_bytes())?;
-    bytes.extend_from_slice(&digest_of(&hashed))?;
-    bytes.extend_from_slice(&hashed)?;
-    Ok(bytes)
+    let hash = digest_of(&hashed);
+    joined(
+        alloc,
+        &[b"PAR2\0PKT", &length.to_le_bytes(), &hash, &hashed],
+    )
 }

@@ -6,6 +6,7 @@ mod sets;
 
 use md5::{Digest, Md5};
 use parfield::Hash16;
+use parfixtures::{CREATOR_TYPE, DESC_TYPE, IFSC_TYPE, MAIN_TYPE, SLICE_TYPE, joined};
 use parset::*;
 use std::alloc::{AllocError, Global};
 use std::fmt::Debug;
@@ -43,15 +44,45 @@ fn digest_of(bytes: &[u8]) -> Hash16 {
     Hash16(Md5::digest(bytes))
 }
 
-// Bytes by their runs: a byte, and how often it stands.
-type Runs = &'static [(u8, usize)];
+// What stands before and behind the first space of a text.
+fn halves(text: &str) -> (&str, &str) {
+    text.split_once(' ').unwrap_or((text, ""))
+}
 
-// The bytes of these runs.
-fn bytes_of(alloc: Global, runs: &[(u8, usize)]) -> Result<Vec<u8>, AllocError> {
+// The types of packets by words, and one that is none of the five.
+static TYPES: [(&str, [u8; 16]); 5] = [
+    ("Main", MAIN_TYPE),
+    ("FileDesc", DESC_TYPE),
+    ("Ifsc", IFSC_TYPE),
+    ("RecvSlic", SLICE_TYPE),
+    ("Creator", CREATOR_TYPE),
+];
+
+fn type_of(word: &str) -> [u8; 16] {
+    for (name, kind) in &TYPES {
+        if *name == word {
+            return *kind;
+        }
+    }
+    [0; 16]
+}
+
+// A byte, which is a number or else a letter or a mark.
+fn byte_of(word: &str) -> u8 {
+    match word.parse::<u8>() {
+        Ok(number) => number,
+        Err(_) => word.as_bytes().first().copied().unwrap_or(0),
+    }
+}
+
+// The bytes of these runs, with spaces between them: of each a byte, and behind a star how often it
+// stands if not once.
+fn bytes_of(alloc: Global, runs: &str) -> Result<Vec<u8>, AllocError> {
     let mut bytes = Vec::new(alloc);
-    for (byte, count) in runs {
-        let size = bytes.len().saturating_add(*count);
-        bytes.resize(size, *byte)?;
+    for run in runs.split_whitespace() {
+        let (byte, count) = run.split_once('*').unwrap_or((run, "1"));
+        let size = bytes.len().saturating_add(count.parse().unwrap_or(0));
+        bytes.resize(size, byte_of(byte))?;
     }
     Ok(bytes)
 }

@@ -1,97 +1,45 @@
-use super::model::{front_of, is_whole, kind_of};
 use super::*;
 use md5::{Digest, Md5};
-use parfixtures::{Standing, WORKED, all_standing};
+use parfixtures::{WORKED, inverted};
 
-// The packets of bytes are those of the model.
-fn are_standing(rt: &impl Abort, found: &[Packet<'_>], wanted: &[Standing<'_>], of: &impl Debug) {
-    is_in_row(rt, of, &found.len(), &wanted.len());
-    for (one, other) in found.iter().zip(wanted) {
-        let set = other.set;
-        is_in_row(
-            rt,
-            of,
-            &(one.at, one.length, one.set, one.kind),
-            &(other.at, other.length, Hash16(set), kind_of(other)),
-        );
-        is_in_row(rt, of, &(one.body == other.body), &true);
-    }
-}
-
-// Whether of this body is held what is to be.
-fn is_held(body: &KeptBody, packet: &Standing<'_>) -> bool {
-    match body {
-        KeptBody::Whole(held) => is_whole(packet) && held.as_slice() == packet.body,
-        KeptBody::Front { first, len } => {
-            !is_whole(packet) && *first == front_of(packet) && *len == packet.body.len() as u64
-        }
-    }
-}
-
-// The packets of a file are those of the model.
-fn are_held(rt: &impl Abort, found: &[Kept], wanted: &[Standing<'_>], of: &impl Debug) {
-    is_in_row(rt, of, &found.len(), &wanted.len());
-    for (one, other) in found.iter().zip(wanted) {
-        let set = other.set;
-        is_in_row(
-            rt,
-            of,
-            &(one.file, one.at, one.length, one.set, one.kind),
-            &(
-                0,
-                other.at as u64,
-                other.length,
-                Hash16(set),
-                kind_of(other),
-            ),
-        );
-        is_in_row(rt, of, &is_held(&one.body, other), &true);
-    }
-}
-
-// Bytes, and a file of them, have the packets of the model, and there are so many.
-fn agrees(
+// Bytes, and a file of them, have so many packets, which are those of the model.
+fn has_packets(
     rt: &(impl Abort + AllocGlobal),
+    row: &impl Debug,
     bytes: &[u8],
-    of: &impl Debug,
     count: usize,
-) -> Result<(), Fail> {
-    let wanted = all_standing(rt.alloc(), bytes)?;
-    let packets = salvage(rt.alloc(), bytes)?;
-    are_standing(rt, &packets, &wanted, of);
-    let mut shelf = shelf_of(rt.alloc(), &[bytes], 50, &[])?;
-    let kept = salvaged(rt, &mut shelf).ok().ok_or("kept")?;
-    are_held(rt, &kept, &wanted, of);
-    is_in_row(rt, of, &wanted.len(), &count);
+) -> Result<(), SalvageFault> {
+    let packets = agrees(rt, row, bytes, &[50])?;
+    is(rt, row, &packets.len(), &count);
     Ok(())
 }
 
-// The packets of the worked file end here, and a beginning of it has those that end in it.
-static ENDS: [usize; 4] = [92, 220, 340, 416];
-
-// How many packets a beginning of the worked file of this size has.
+// How many packets a beginning of the worked file of this size has: those that end in it.
 fn ends_in(size: usize) -> usize {
-    ENDS.iter().filter(|end| **end <= size).count()
+    match size {
+        0..92 => 0,
+        92..220 => 1,
+        220..340 => 2,
+        340..416 => 3,
+        _ => 4,
+    }
 }
 
 #[test]
-fn packets_agree_with_the_model_at_each_cut(rt: HostRuntime) -> Result<(), Fail> {
+fn packets_agree_with_the_model_at_each_cut(rt: HostRuntime) -> Result<(), SalvageFault> {
     for size in 0..=WORKED.len() {
-        let front = WORKED.as_slice().get(..size).ok_or("size")?;
-        agrees(&rt, front, &size, ends_in(size))?;
+        has_packets(&rt, &size, &WORKED[..size], ends_in(size))?;
     }
     Ok(())
 }
 
 #[test]
-fn packets_agree_with_the_model_for_each_inverted_byte(rt: HostRuntime) -> Result<(), Fail> {
+fn packets_agree_with_the_model_for_each_inverted_byte(
+    rt: HostRuntime,
+) -> Result<(), SalvageFault> {
     for at in 0..WORKED.len() {
-        let mut bytes = Vec::from_slice(rt.alloc(), WORKED.as_slice())?;
-        if let Some(byte) = bytes.get_mut(at) {
-            *byte = 255 - *byte;
-        }
         // The packet that has the byte is gone.
-        agrees(&rt, &bytes, &at, 3)?;
+        has_packets(&rt, &at, &inverted(rt.alloc(), at)?, 3)?;
     }
     Ok(())
 }
@@ -125,37 +73,47 @@ static LENGTHS: [(u64, usize, usize); 24] = [
     (0xFFFF_FFFF_FFFF_FFFF, 31, 1),
 ];
 
+// What stands behind the hash field of a Creator packet, and that packet.
+const REST: [u8; 96] =
+    *b"\0\0\0\0\0\0\0\0\0\0\0\0\0\0\0\0PAR 2.0\0Creator\0PAR2\0PKT\x40\0\0\0\0\0\0\0\x90\xb7\x2c\x62\xf3\xda\xe9\x4b\x3d\xe0\x28\xf3\x1e\x19\x95\x02\0\0\0\0\0\0\0\0\0\0\0\0\0\0\0\0PAR 2.0\0Creator\0";
+
 // Behind 64 bytes a header with this length field and the hash of so many bytes behind that field,
 // and then a Creator packet.
-fn with_length(alloc: Global, length: u64, hashed: usize) -> Result<Vec<u8>, Fail> {
-    let mut rest = Vec::from_slice(alloc, CREATOR.get(32..).ok_or("rest")?)?;
-    rest.extend_from_slice(&CREATOR)?;
-    let mut bytes = vec![in alloc; b'x'; 64]?;
-    bytes.extend_from_slice(b"PAR2\0PKT")?;
-    bytes.extend_from_slice(&length.to_le_bytes())?;
-    bytes.extend_from_slice(&Md5::digest(rest.get(..hashed).ok_or("hashed")?))?;
-    bytes.extend_from_slice(&rest)?;
-    Ok(bytes)
+fn with_length(alloc: Global, length: u64, hashed: usize) -> Result<Vec<u8>, AllocError> {
+    let hash = Md5::digest(&REST[..hashed.min(96)]);
+    joined(
+        alloc,
+        &[
+            &[b'x'; 64],
+            b"PAR2\0PKT",
+            &length.to_le_bytes(),
+            &hash,
+            &REST,
+        ],
+    )
 }
 
 #[test]
-fn headers_of_each_length_agree_with_the_model(rt: HostRuntime) -> Result<(), Fail> {
+fn headers_of_each_length_agree_with_the_model(rt: HostRuntime) -> Result<(), SalvageFault> {
     for row in &LENGTHS {
-        let (length, hashed, packets) = *row;
-        let bytes = with_length(rt.alloc(), length, hashed)?;
-        agrees(&rt, &bytes, row, packets)?;
+        let bytes = with_length(rt.alloc(), row.0, row.1)?;
+        has_packets(&rt, row, &bytes, row.2)?;
     }
     Ok(())
 }
 
+// A Creator packet stands behind the first so many bytes of another.
+fn behind_beginning(rt: &(impl Abort + AllocGlobal), size: usize) -> Result<(), SalvageFault> {
+    let bytes = joined(rt.alloc(), &[&CREATOR[..size.min(64)], &CREATOR])?;
+    let packets = agrees(rt, &size, &bytes, &[50])?;
+    stand_at(rt, &packets, &[(Kind::Creator, size)]);
+    Ok(())
+}
+
 #[test]
-fn a_packet_behind_each_beginning_of_one_is_found(rt: HostRuntime) -> Result<(), Fail> {
+fn a_packet_behind_each_beginning_of_one_is_found(rt: HostRuntime) -> Result<(), SalvageFault> {
     for size in 0..CREATOR.len() {
-        let mut bytes = Vec::from_slice(rt.alloc(), CREATOR.get(..size).ok_or("size")?)?;
-        bytes.extend_from_slice(&CREATOR)?;
-        let packets = salvage(rt.alloc(), &bytes)?;
-        stand_at(&rt, &packets, &[(Kind::Creator, size)]);
-        agrees(&rt, &bytes, &size, 1)?;
+        behind_beginning(&rt, size)?;
     }
     Ok(())
 }

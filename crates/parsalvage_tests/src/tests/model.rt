@@ -1,6 +1,18 @@
-// What is held of packets that stand in bytes.
-use parfield::Kind;
-use parfixtures::{CREATOR_TYPE, DESC_TYPE, IFSC_TYPE, MAIN_TYPE, SLICE_TYPE, Standing};
+// The packets of bytes, and what is kept of them, as their definitions have them.
+use parfield::{Hash16, Kind, Packet};
+use parfixtures::{
+    CREATOR_TYPE, DESC_TYPE, IFSC_TYPE, MAIN_TYPE, SLICE_TYPE, Standing, all_standing, field,
+};
+use std::alloc::{AllocError, Global};
+
+/// What is kept of a packet: its file, its offset, length, set ID and kind; its body, where that is
+/// held whole; and the first four bytes and the length of its body.
+pub type Held<'a> = (
+    u32,
+    (u64, u64, Hash16, Kind),
+    Option<&'a [u8]>,
+    ([u8; 4], u64),
+);
 
 // The five kinds, by the sixteen bytes of the type field.
 static KINDS: [([u8; 16], Kind); 5] = [
@@ -11,27 +23,48 @@ static KINDS: [([u8; 16], Kind); 5] = [
     (CREATOR_TYPE, Kind::Creator),
 ];
 
-/// The kind that a packet's type field names.
-pub fn kind_of(packet: &Standing<'_>) -> Kind {
+// The kind that these bytes of a type field name.
+fn kind_of(field: [u8; 16]) -> Kind {
     for (bytes, kind) in &KINDS {
-        if *bytes == packet.kind {
+        if *bytes == field {
             return *kind;
         }
     }
-    Kind::Other(packet.kind)
+    Kind::Other(field)
 }
 
-/// Whether all of the body is held, where it is not too long.
-pub fn is_whole(packet: &Standing<'_>) -> bool {
-    !matches!(kind_of(packet), Kind::RecvSlic | Kind::Other(_))
+// A packet as it is shown.
+fn packet_of<'a>(standing: &Standing<'a>) -> Packet<'a> {
+    Packet {
+        at: standing.at,
+        length: standing.length,
+        set: Hash16(standing.set),
+        kind: kind_of(standing.kind),
+        body: standing.body,
+    }
 }
 
-// The byte at a place, or 0 where there is none.
-fn byte_or_zero(bytes: &[u8], at: usize) -> u8 {
-    bytes.get(at).copied().unwrap_or(0)
+/// The packets of bytes.
+pub fn packets_in(alloc: Global, bytes: &[u8]) -> Result<Vec<Packet<'_>>, AllocError> {
+    let mut packets = Vec::new(alloc);
+    for standing in &all_standing(alloc, bytes)? {
+        packets.push(packet_of(standing))?;
+    }
+    Ok(packets)
 }
 
-/// The first four bytes of the body, filled with zeros.
-pub fn front_of(packet: &Standing<'_>) -> [u8; 4] {
-    [0, 1, 2, 3].map(|at| byte_or_zero(packet.body, at))
+/// What is kept of a packet of file 0, whose body is not longer than those that are held. As the
+/// length is a multiple of four, a body has four bytes or none.
+pub fn held_of<'a>(packet: &Packet<'a>) -> Held<'a> {
+    let body = packet.body;
+    let whole = match packet.kind {
+        Kind::RecvSlic | Kind::Other(_) => None,
+        _ => Some(body),
+    };
+    (
+        0,
+        (packet.at as u64, packet.length, packet.set, packet.kind),
+        whole,
+        (field(body, 0).unwrap_or([0; 4]), body.len() as u64),
+    )
 }

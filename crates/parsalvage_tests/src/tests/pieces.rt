@@ -4,145 +4,150 @@ use parfixtures::{CREATOR_TYPE, SLICE_TYPE, WORKED, packet_of};
 const UNKNOWN: [u8; 16] = *b"PAR 2.0\0Unknown\0";
 
 // A packet of set ID zeros.
-fn packet(alloc: Global, kind: &[u8; 16], body: &[u8]) -> Result<Vec<u8>, AllocError> {
-    packet_of(alloc, [0; 16], *kind, body)
+fn packet(alloc: Global, kind: [u8; 16], body: &[u8]) -> Result<Vec<u8>, AllocError> {
+    packet_of(alloc, [0; 16], kind, body)
 }
 
-// Whether the same is held of two bodies.
-fn same_body(one: &KeptBody, other: &KeptBody) -> bool {
-    match (one, other) {
-        (KeptBody::Whole(one), KeptBody::Whole(other)) => one.as_slice() == other.as_slice(),
-        (KeptBody::Front { .. }, KeptBody::Front { .. }) => {
-            one.front() == other.front() && one.len() == other.len()
-        }
-        _ => false,
+// Packets stand at these offsets.
+fn are_at(rt: &impl Abort, packets: &[Packet<'_>], wanted: &[usize]) {
+    is(rt, &wanted, &packets.len(), &wanted.len());
+    for (packet, at) in packets.iter().zip(wanted) {
+        is(rt, &wanted, &packet.at, at);
     }
 }
 
-// What is found in a file read by pieces is what the bytes have.
-fn are_same(rt: &impl Abort, found: &[Kept], kept: &[Kept], piece: usize) {
-    let row = ("pieces of", piece);
-    is_in_row(rt, &row, &found.len(), &kept.len());
-    for (one, other) in found.iter().zip(kept) {
-        is_in_row(
-            rt,
-            &row,
-            &(one.file, one.at, one.length, one.set, one.kind),
-            &(other.file, other.at, other.length, other.set, other.kind),
-        );
-        let is_same = same_body(&one.body, &other.body);
-        is_in_row(rt, &("at", one.at, row), &is_same, &true);
-    }
-}
-
-// A file of these bytes has the packets of the bytes, at these offsets.
-fn found_at(rt: &(impl Abort + AllocGlobal), bytes: &[u8], wanted: &[u64]) -> Result<(), Fail> {
-    let packets = salvage(rt.alloc(), bytes)?;
-    let kept = kept_of(rt.alloc(), 0, &packets)?;
-    is(rt, &kept.len(), &wanted.len());
-    for (packet, at) in kept.iter().zip(wanted) {
-        is(rt, &packet.at, at);
-    }
-    for piece in [1, 7, 65_536] {
-        let mut shelf = shelf_of(rt.alloc(), &[bytes], piece, &[])?;
-        let found = salvaged(rt, &mut shelf).ok().ok_or("found")?;
-        are_same(rt, &found, &kept, piece);
-    }
+// Bytes, and files of them that are read by pieces, have packets at these offsets.
+fn found_at(
+    rt: &(impl Abort + AllocGlobal),
+    bytes: &[u8],
+    wanted: &[usize],
+) -> Result<(), SalvageFault> {
+    let packets = agrees(rt, &wanted, bytes, &[1, 7, 65_536])?;
+    are_at(rt, &packets, wanted);
     Ok(())
 }
 
+// How many bytes stand before a packet: its magic, its header or its body goes over the end of the
+// first piece, or all of it is behind that.
+static BEFORE: [usize; 8] = [
+    65_465, 65_472, 65_500, 65_528, 65_529, 65_530, 65_533, 65_536,
+];
+
+// So many times this byte, and then these.
+fn behind(alloc: Global, byte: u8, before: usize, rest: &[u8]) -> Result<Vec<u8>, AllocError> {
+    let mut bytes = vec![in alloc; byte; before]?;
+    bytes.extend_from_slice(rest)?;
+    Ok(bytes)
+}
+
 #[test]
-fn packets_across_pieces_are_found(rt: HostRuntime) -> Result<(), Fail> {
-    // The magic, the header or the body goes over the end of the first piece, or all is behind it.
-    for before in [
-        65_465, 65_472, 65_500, 65_528, 65_529, 65_530, 65_533, 65_536,
-    ] {
-        let mut bytes = vec![in rt.alloc(); b'x'; before]?;
-        bytes.extend_from_slice(&CREATOR)?;
-        found_at(&rt, &bytes, &[before as u64])?;
+fn packets_across_pieces_are_found(rt: HostRuntime) -> Result<(), SalvageFault> {
+    for before in &BEFORE {
+        let bytes = behind(rt.alloc(), b'x', *before, &CREATOR)?;
+        found_at(&rt, &bytes, &[*before])?;
     }
-    let mut bytes = vec![in rt.alloc(); 0; 70_000]?;
-    bytes.extend_from_slice(&AROUND)?;
-    bytes.extend_from_slice(&CREATOR)?;
+    let bytes = behind(rt.alloc(), 0, 70_000, &AROUND)?;
     found_at(&rt, &bytes, &[70_003, 70_071])
 }
 
-#[test]
-fn bodies_longer_than_a_piece_are_hashed_whole(rt: HostRuntime) -> Result<(), Fail> {
-    let mut body = vec![in rt.alloc(); 5; 100_000]?;
+// A body of 100,000 bytes, a packet, and 100,000 other bytes.
+fn long_body(alloc: Global) -> Result<Vec<u8>, AllocError> {
+    let mut body = vec![in alloc; 5; 100_000]?;
     body.extend_from_slice(&CREATOR)?;
-    body.extend_from_slice(&[6; 100_000])?;
-    for kind in [CREATOR_TYPE, SLICE_TYPE, UNKNOWN] {
-        let mut bytes = packet(rt.alloc(), &kind, &body)?;
-        bytes.extend_from_slice(&CREATOR)?;
-        found_at(&rt, &bytes, &[0, 100_064, 200_128])?;
+    body.resize(200_064, 6)?;
+    Ok(body)
+}
+
+// A packet of this type with that body is found, the one in its body, and one behind.
+fn found_around(rt: &(impl Abort + AllocGlobal), kind: [u8; 16]) -> Result<(), SalvageFault> {
+    let outer = packet(rt.alloc(), kind, &long_body(rt.alloc())?)?;
+    let bytes = joined(rt.alloc(), &[&outer, &CREATOR])?;
+    found_at(rt, &bytes, &[0, 100_064, 200_128])
+}
+
+#[test]
+fn bodies_longer_than_a_piece_are_hashed_whole(rt: HostRuntime) -> Result<(), SalvageFault> {
+    found_around(&rt, CREATOR_TYPE)?;
+    found_around(&rt, SLICE_TYPE)?;
+    found_around(&rt, UNKNOWN)
+}
+
+// Packets of which each is the body of the one before it, forty in all, and where they stand.
+fn nested(alloc: Global) -> Result<Vec<u8>, AllocError> {
+    let mut bytes = Vec::new(alloc);
+    for _ in 0..40 {
+        bytes = packet(alloc, CREATOR_TYPE, &bytes)?;
     }
-    Ok(())
+    Ok(bytes)
+}
+
+static LEVELS: [usize; 40] = [
+    0, 64, 128, 192, 256, 320, 384, 448, 512, 576, 640, 704, 768, 832, 896, 960, 1_024, 1_088,
+    1_152, 1_216, 1_280, 1_344, 1_408, 1_472, 1_536, 1_600, 1_664, 1_728, 1_792, 1_856, 1_920,
+    1_984, 2_048, 2_112, 2_176, 2_240, 2_304, 2_368, 2_432, 2_496,
+];
+
+#[test]
+fn packets_within_packets_are_found(rt: HostRuntime) -> Result<(), SalvageFault> {
+    let bytes = nested(rt.alloc())?;
+    found_at(&rt, &bytes, &LEVELS)
+}
+
+// A packet whose body is the header of another, which has its own body behind it.
+fn overlapping(alloc: Global) -> Result<Vec<u8>, AllocError> {
+    let second = packet(alloc, CREATOR_TYPE, b"abcd")?;
+    let header = second.get(..64).unwrap_or(&[]);
+    let first = packet(alloc, CREATOR_TYPE, header)?;
+    joined(alloc, &[&first, b"abcd"])
+}
+
+// Those, and two packets that nothing overlaps.
+fn with_two_more(alloc: Global) -> Result<Vec<u8>, AllocError> {
+    let front = overlapping(alloc)?;
+    let unknown = packet(alloc, UNKNOWN, b"abc!")?;
+    let last = packet(alloc, CREATOR_TYPE, b"efgh")?;
+    joined(alloc, &[&front, &unknown, &last])
 }
 
 #[test]
-fn packets_within_packets_are_found(rt: HostRuntime) -> Result<(), Fail> {
-    let mut bytes = Vec::new(rt.alloc());
-    let mut wanted = Vec::new(rt.alloc());
-    for level in 0..40u64 {
-        bytes = packet(rt.alloc(), &CREATOR_TYPE, &bytes)?;
-        wanted.push(level * 64)?;
-    }
-    found_at(&rt, &bytes, &wanted)
-}
-
-#[test]
-fn overlapping_packets_are_found(rt: HostRuntime) -> Result<(), Fail> {
-    let second = packet(rt.alloc(), &CREATOR_TYPE, b"abcd")?;
-    let mut bytes = packet(rt.alloc(), &CREATOR_TYPE, second.get(..64).ok_or("front")?)?;
-    bytes.extend_from_slice(second.get(64..).ok_or("rest")?)?;
-    found_at(&rt, &bytes, &[0, 64])?;
-    bytes.extend_from_slice(&packet(rt.alloc(), &UNKNOWN, b"abc!")?)?;
-    bytes.extend_from_slice(&packet(rt.alloc(), &CREATOR_TYPE, b"efgh")?)?;
-    found_at(&rt, &bytes, &[0, 64, 132, 200])
-}
-
-#[test]
-fn packets_of_small_files_are_found(rt: HostRuntime) -> Result<(), Fail> {
-    found_at(&rt, &[], &[])?;
-    found_at(&rt, &CREATOR, &[0])?;
-    found_at(&rt, &odd(), &[])?;
-    found_at(&rt, &changed(), &[])?;
-    let mut bytes = Vec::from_slice(rt.alloc(), &AROUND)?;
-    bytes.extend_from_slice(&CREATOR)?;
-    found_at(&rt, &bytes, &[3, 71])?;
-    found_at(&rt, WORKED.as_slice(), &[0, 92, 220, 340])
+fn overlapping_packets_are_found(rt: HostRuntime) -> Result<(), SalvageFault> {
+    found_at(&rt, &overlapping(rt.alloc())?, &[0, 64])?;
+    found_at(&rt, &with_two_more(rt.alloc())?, &[0, 64, 132, 200])
 }
 
 // A Creator packet whose length is no multiple of four,
-fn odd() -> [u8; 66] {
-    let mut odd = [0; 66];
-    odd[..64].copy_from_slice(&CREATOR);
-    odd[8] = 66;
-    odd
-}
+const ODD: [u8; 66] =
+    *b"PAR2\0PKT\x42\0\0\0\0\0\0\0\x90\xb7\x2c\x62\xf3\xda\xe9\x4b\x3d\xe0\x28\xf3\x1e\x19\x95\x02\0\0\0\0\0\0\0\0\0\0\0\0\0\0\0\0PAR 2.0\0Creator\0\0\0";
 
 // and one with another type, so that its hash is wrong.
-fn changed() -> [u8; 64] {
-    let mut changed = CREATOR;
-    changed[63] = 1;
-    changed
+const CHANGED: [u8; 64] =
+    *b"PAR2\0PKT\x40\0\0\0\0\0\0\0\x90\xb7\x2c\x62\xf3\xda\xe9\x4b\x3d\xe0\x28\xf3\x1e\x19\x95\x02\0\0\0\0\0\0\0\0\0\0\0\0\0\0\0\0PAR 2.0\0Creator\x01";
+
+#[test]
+fn packets_of_small_files_are_found(rt: HostRuntime) -> Result<(), SalvageFault> {
+    found_at(&rt, &[], &[])?;
+    found_at(&rt, &CREATOR, &[0])?;
+    found_at(&rt, &ODD, &[])?;
+    found_at(&rt, &CHANGED, &[])?;
+    found_at(&rt, &AROUND, &[3, 71])?;
+    found_at(&rt, WORKED.as_slice(), &[0, 92, 220, 340])
 }
 
 // A file of these bytes has no packet. No memory is taken, so the answer is the same where an
 // allocation of the call would be refused.
-fn nothing_in(rt: &(impl Abort + AllocGlobal), bytes: &[u8]) -> Result<(), Fail> {
-    let mut shelf = shelf_of(rt.alloc(), &[bytes], 65_536, &[])?;
-    let found = salvaged(rt, &mut shelf).ok();
-    is(rt, &found.map(|found| found.len()), &Some(0));
+fn nothing_in(rt: &(impl Abort + AllocGlobal), bytes: &[u8]) -> Result<(), AllocError> {
+    let mut shelf = file_of(rt.alloc(), bytes, 65_536, &[])?;
+    let answer = file_has(rt, &bytes, &mut shelf, &[]);
+    is(rt, &bytes, &answer.is_ok(), &true);
     Ok(())
 }
 
 #[test]
-fn no_packet_is_found_where_none_begins(rt: HostRuntime) -> Result<(), Fail> {
-    nothing_in(&rt, &odd())?;
-    nothing_in(&rt, &changed())?;
-    nothing_in(&rt, &[])
+fn no_packet_is_found_where_none_begins(rt: HostRuntime) -> Result<(), SalvageFault> {
+    nothing_in(&rt, &ODD)?;
+    nothing_in(&rt, &CHANGED)?;
+    nothing_in(&rt, &[])?;
+    Ok(())
 }
 
 // The next of a row of numbers that look like chance.
@@ -151,49 +156,81 @@ fn next_number(seed: u64) -> u64 {
     mixed.wrapping_mul(0xBF58_476D_1CE4_E5B9) ^ (mixed >> 32)
 }
 
+// A packet that such a number makes, with a body of up to 196 equal bytes.
+fn any_packet(alloc: Global, number: u64) -> Result<Vec<u8>, AllocError> {
+    let size = ((number >> 8) % 50) as usize * 4;
+    let kind = match number % 3 {
+        0 => CREATOR_TYPE,
+        1 => SLICE_TYPE,
+        _ => UNKNOWN,
+    };
+    packet(
+        alloc,
+        kind,
+        &vec![in alloc; ((number >> 16) % 256) as u8; size]?,
+    )
+}
+
+// That packet, or another with it as body.
+fn any_two(alloc: Global, number: u64, is_body: bool) -> Result<Vec<u8>, AllocError> {
+    let packet_alone = any_packet(alloc, number)?;
+    if is_body {
+        packet(alloc, CREATOR_TYPE, &packet_alone)
+    } else {
+        Ok(packet_alone)
+    }
+}
+
+// Of a packet: its magic, another part, its body, or all of it.
+fn part_of(packet: &[u8], number: u64) -> &[u8] {
+    match number {
+        0 => packet.get(..20),
+        2 => packet.get(..8),
+        4 => packet.get(64..),
+        5 => packet.get(..72),
+        _ => None,
+    }
+    .unwrap_or(packet)
+}
+
+// Puts such a packet or a part of one behind bytes, and in some cases a further byte.
+fn add(alloc: Global, bytes: &mut Vec<u8>, number: u64) -> Result<(), AllocError> {
+    let form = (number >> 32) % 8;
+    let packet = any_two(alloc, number, form == 3)?;
+    bytes.extend_from_slice(part_of(&packet, form))?;
+    bytes.extend_from_slice(if form == 1 { &[1] } else { &[] })
+}
+
 // Packets, parts of packets and other bytes in a row, up to about this length.
 fn mixed_bytes(alloc: Global, seed: u64, length: usize) -> Result<Vec<u8>, AllocError> {
     let mut bytes = Vec::new(alloc);
     let mut number = seed;
     for _ in 0..10_000 {
-        if bytes.len() >= length {
-            return Ok(bytes);
+        if bytes.len() < length {
+            number = next_number(number).wrapping_add(seed);
+            add(alloc, &mut bytes, number)?;
         }
-        number = next_number(number).wrapping_add(seed);
-        let size = ((number >> 8) % 50) as usize * 4;
-        let body = vec![in alloc; ((number >> 16) % 256) as u8; size]?;
-        let kind = match number % 3 {
-            0 => CREATOR_TYPE,
-            1 => SLICE_TYPE,
-            _ => UNKNOWN,
-        };
-        let mut part = packet(alloc, &kind, &body)?;
-        match (number >> 32) % 8 {
-            0 => part.truncate(20),
-            1 => part.push(1)?,
-            2 => part.resize(8, 0)?,
-            3 => part = packet(alloc, &CREATOR_TYPE, &part)?,
-            4 => part = body,
-            5 => part.truncate(72),
-            _ => (),
-        }
-        bytes.append(&mut part)?;
     }
     Ok(bytes)
 }
 
+// The file of this number and length has more than five packets.
+fn has_mixed(
+    rt: &(impl Abort + AllocGlobal),
+    seed: u64,
+    length: usize,
+) -> Result<(), SalvageFault> {
+    let bytes = mixed_bytes(rt.alloc(), seed.wrapping_mul(7_919), length)?;
+    let packets = agrees(rt, &seed, &bytes, &[1, 7, 65_536])?;
+    is(rt, &("packets of", seed), &(packets.len() > 5), &true);
+    Ok(())
+}
+
 #[test]
-fn packets_of_mixed_files_are_found(rt: HostRuntime) -> Result<(), Fail> {
+fn packets_of_mixed_files_are_found(rt: HostRuntime) -> Result<(), SalvageFault> {
     for seed in 1..=12u64 {
         let length = if seed % 4 == 0 { 140_000 } else { 3_000 };
-        let bytes = mixed_bytes(rt.alloc(), seed * 7_919, length)?;
-        let packets = salvage(rt.alloc(), &bytes)?;
-        let mut wanted = Vec::new(rt.alloc());
-        for packet in &packets {
-            wanted.push(packet.at as u64)?;
-        }
-        is_in_row(&rt, &("packets of", seed), &(wanted.len() > 5), &true);
-        found_at(&rt, &bytes, &wanted)?;
+        has_mixed(&rt, seed, length)?;
     }
     Ok(())
 }

@@ -3,7 +3,7 @@ use super::model::{
 };
 use super::packets::{id_at, ids_in};
 use super::*;
-use parfixtures::{DESC_TYPE, MAIN_TYPE, WORKED, all_standing, packet_of};
+use parfixtures::{WORKED, all_standing, inverted, packet_of};
 use parsalvage::{kept_of, salvage};
 
 // A file is that of the model.
@@ -43,13 +43,8 @@ fn has_files(
     Ok(())
 }
 
-// What a set has of its other packets is what the model has.
-fn has_rest(
-    rt: &(impl Abort + AllocGlobal),
-    built: &RecoverySet,
-    own: &Own<'_>,
-    of: usize,
-) -> Result<(), AllocError> {
+// A set has the ID, the slice size and the number of files that the model has.
+fn has_numbers(rt: &impl Abort, built: &RecoverySet, own: &Own<'_>, of: usize) {
     let ids = (
         built.id(),
         built.size(),
@@ -57,19 +52,21 @@ fn has_rest(
     );
     let wanted = (Hash16(own.main.set), own.size, ids_in(own.main.body).len());
     is(rt, &of, &ids, &wanted);
-    is(
-        rt,
-        &of,
-        &(built.have() as usize),
-        &exponent_count(rt.alloc(), own)?,
-    );
+}
+
+// What a set has of its other packets is what the model has.
+fn has_rest(
+    rt: &(impl Abort + AllocGlobal),
+    built: &RecoverySet,
+    own: &Own<'_>,
+    of: usize,
+) -> Result<(), AllocError> {
+    has_numbers(rt, built, own, of);
+    let exponents = exponent_count(rt.alloc(), own)?;
+    is(rt, &of, &(built.have() as usize), &exponents);
     is(rt, &of, &built.creator(), &first_text(rt.alloc(), own)?);
-    is(
-        rt,
-        &of,
-        &built.aside(),
-        &all_aside(rt.alloc(), own)?.as_slice(),
-    );
+    let aside = all_aside(rt.alloc(), own)?;
+    is(rt, &of, &built.aside(), &aside.as_slice());
     Ok(())
 }
 
@@ -177,15 +174,6 @@ fn with_hashes(alloc: Global, bytes: &[u8], set: Option<Hash16>) -> Result<Vec<u
     Ok(made)
 }
 
-// The worked file with one byte inverted.
-fn inverted(alloc: Global, at: usize) -> Result<Vec<u8>, AllocError> {
-    let mut bytes = Vec::from_slice(alloc, WORKED.as_slice())?;
-    if let Some(byte) = bytes.get_mut(at) {
-        *byte = 255 - *byte;
-    }
-    Ok(bytes)
-}
-
 // The worked file with this change.
 fn changed(alloc: Global, at: usize, change: Change) -> Result<Vec<u8>, AllocError> {
     let bytes = inverted(alloc, at)?;
@@ -249,19 +237,28 @@ fn sets_agree_with_the_model_at_each_cut_and_inverted_byte(
 
 // The packet of a description of a file of this length, which has its ID as name.
 fn desc_packet(alloc: Global, set: Hash16, id: u8, length: u64) -> Result<Vec<u8>, AllocError> {
-    let mut body = bytes_of(alloc, &[(id, 16), (2, 32)])?;
-    body.extend_from_slice(&length.to_le_bytes())?;
-    body.extend_from_slice(&[id; 4])?;
+    let body = joined(
+        alloc,
+        &[&[id; 16], &[2; 32], &length.to_le_bytes(), &[id; 4]],
+    )?;
     packet_of(alloc, set.0, DESC_TYPE, &body)
 }
 
-// The packets of a set of files of these lengths, in slices of 4 bytes.
-fn set_of_lengths(alloc: Global, lengths: &[u64]) -> Result<Vec<u8>, AllocError> {
-    let mut main = bytes_of(alloc, &[(4, 1), (0, 7)])?;
-    main.extend_from_slice(&(lengths.len() as u64).to_le_bytes()[..4])?;
-    for (place, _) in lengths.iter().enumerate() {
+// The Main body of a set of so many files, in slices of 4 bytes.
+fn main_of(alloc: Global, count: usize) -> Result<Vec<u8>, AllocError> {
+    let mut main = joined(
+        alloc,
+        &[b"\x04\0\0\0\0\0\0\0", &(count as u64).to_le_bytes()[..4]],
+    )?;
+    for place in 0..count {
         main.extend_from_slice(&[b'a' + (place % 8) as u8; 16])?;
     }
+    Ok(main)
+}
+
+// The packets of a set of files of these lengths.
+fn set_of_lengths(alloc: Global, lengths: &[u64]) -> Result<Vec<u8>, AllocError> {
+    let main = main_of(alloc, lengths.len())?;
     let set = digest_of(&main);
     let mut bytes = packet_of(alloc, set.0, MAIN_TYPE, &main)?;
     for (place, length) in lengths.iter().enumerate() {

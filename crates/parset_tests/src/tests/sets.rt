@@ -1,141 +1,92 @@
 use super::hostile::agrees;
 use super::*;
-use parfixtures::{CREATOR_TYPE, DESC_TYPE, IFSC_TYPE, MAIN_TYPE, SLICE_TYPE, packet_of};
+use parfixtures::packet_of;
 
-// A packet: the place of the one whose body has its set ID as MD5, or a place behind all for a set
-// ID of zeros; its type; and its body.
-type Row = (usize, [u8; 16], Runs);
+// Packets stand in a text, a line each: the place of the one whose body has its set ID as MD5, or a
+// place behind all for a set ID of zeros; its type; and the runs of its body.
+
+// A line's place, type and runs.
+fn row_of(row: &str) -> (usize, [u8; 16], &str) {
+    let (owner, rest) = halves(row);
+    let (kind, runs) = halves(rest);
+    (owner.parse().unwrap_or(0), type_of(kind), runs)
+}
 
 // The set ID of a packet with that place.
-fn set_id(alloc: Global, rows: &[Row], place: usize) -> Result<Hash16, AllocError> {
-    match rows.get(place) {
-        Some((_, _, runs)) => Ok(digest_of(&bytes_of(alloc, *runs)?)),
-        None => Ok(Hash16([0; 16])),
+fn set_id(alloc: Global, rows: &str, place: usize) -> Result<Hash16, AllocError> {
+    for (other, row) in rows.lines().enumerate() {
+        if other == place {
+            return Ok(digest_of(&bytes_of(alloc, row_of(row).2)?));
+        }
     }
+    Ok(Hash16([0; 16]))
 }
 
 // The bytes of these packets.
-fn file_of(alloc: Global, rows: &[Row]) -> Result<Vec<u8>, AllocError> {
+fn file_of(alloc: Global, rows: &str) -> Result<Vec<u8>, AllocError> {
     let mut bytes = Vec::new(alloc);
-    for (owner, kind, runs) in rows {
-        let set = set_id(alloc, rows, *owner)?;
-        let body = bytes_of(alloc, *runs)?;
-        bytes.extend_from_slice(&packet_of(alloc, set.0, *kind, &body)?)?;
+    for row in rows.lines() {
+        let (owner, kind, runs) = row_of(row);
+        let set = set_id(alloc, rows, owner)?;
+        let body = bytes_of(alloc, runs)?;
+        bytes.extend_from_slice(&packet_of(alloc, set.0, kind, &body)?)?;
     }
     Ok(bytes)
 }
 
 // Main packets of a set, of another, and of the first again; neither set has files.
-const NO_FILES: &[Row] = &[
-    (0, MAIN_TYPE, &[(4, 1), (0, 11)]),
-    (1, MAIN_TYPE, &[(8, 1), (0, 11), (1, 16)]),
-    (0, MAIN_TYPE, &[(4, 1), (0, 11)]),
-];
+const NO_FILES: &str = "\
+0 Main 4 0*11
+1 Main 8 0*11 1*16
+0 Main 4 0*11
+";
 
 // Two Main packets, of which the first has a file without a description.
-const NOT_DESCRIBED: &[Row] = &[
-    (0, MAIN_TYPE, &[(4, 1), (0, 7), (1, 1), (0, 3), (1, 16)]),
-    (1, MAIN_TYPE, &[(4, 1), (0, 11)]),
-];
+const NOT_DESCRIBED: &str = "\
+0 Main 4 0*7 1 0*3 1*16
+1 Main 4 0*11
+";
 
 // Files 4, 2, 1 and 3, of which 1 and 3 are described.
-const TWO_DESCRIBED: &[Row] = &[
-    (
-        0,
-        MAIN_TYPE,
-        &[
-            (4, 1),
-            (0, 7),
-            (4, 1),
-            (0, 3),
-            (4, 16),
-            (2, 16),
-            (1, 16),
-            (3, 16),
-        ],
-    ),
-    (
-        0,
-        DESC_TYPE,
-        &[(1, 16), (2, 32), (6, 1), (0, 7), (b'a', 1), (0, 3)],
-    ),
-    (
-        0,
-        DESC_TYPE,
-        &[(3, 16), (2, 32), (6, 1), (0, 7), (b'a', 1), (0, 3)],
-    ),
-];
+const TWO_DESCRIBED: &str = "\
+0 Main 4 0*7 4 0*3 4*16 2*16 1*16 3*16
+0 FileDesc 1*16 2*32 6 0*7 a 0*3
+0 FileDesc 3*16 2*32 6 0*7 a 0*3
+";
 
 // Files 4, 2, 1 and 3, of the names a, b, a and b.
-const NAMED_ALIKE: &[Row] = &[
-    (
-        0,
-        MAIN_TYPE,
-        &[
-            (4, 1),
-            (0, 7),
-            (4, 1),
-            (0, 3),
-            (4, 16),
-            (2, 16),
-            (1, 16),
-            (3, 16),
-        ],
-    ),
-    (
-        0,
-        DESC_TYPE,
-        &[(4, 16), (2, 32), (6, 1), (0, 7), (b'a', 1), (0, 3)],
-    ),
-    (
-        0,
-        DESC_TYPE,
-        &[(3, 16), (2, 32), (6, 1), (0, 7), (b'b', 1), (0, 3)],
-    ),
-    (
-        0,
-        DESC_TYPE,
-        &[(1, 16), (2, 32), (6, 1), (0, 7), (b'a', 1), (0, 3)],
-    ),
-    (
-        0,
-        DESC_TYPE,
-        &[(2, 16), (2, 32), (6, 1), (0, 7), (b'b', 1), (0, 3)],
-    ),
-];
+const NAMED_ALIKE: &str = "\
+0 Main 4 0*7 4 0*3 4*16 2*16 1*16 3*16
+0 FileDesc 4*16 2*32 6 0*7 a 0*3
+0 FileDesc 3*16 2*32 6 0*7 b 0*3
+0 FileDesc 1*16 2*32 6 0*7 a 0*3
+0 FileDesc 2*16 2*32 6 0*7 b 0*3
+";
 
 // A file of six bytes, sums of one slice, those of another set, and twice sums of two slices.
-const WITH_SUMS: &[Row] = &[
-    (0, MAIN_TYPE, &[(4, 1), (0, 7), (1, 1), (0, 3), (1, 16)]),
-    (0, IFSC_TYPE, &[(1, 16), (9, 17), (0, 3)]),
-    (9, IFSC_TYPE, &[(1, 16), (8, 17), (0, 3), (8, 17), (0, 3)]),
-    (0, IFSC_TYPE, &[(1, 16), (3, 17), (0, 3), (4, 17), (0, 3)]),
-    (0, IFSC_TYPE, &[(1, 16), (5, 17), (0, 3), (6, 17), (0, 3)]),
-    (0, DESC_TYPE, &[(1, 16), (2, 32), (6, 1), (0, 7), (b'n', 4)]),
-];
+const WITH_SUMS: &str = "\
+0 Main 4 0*7 1 0*3 1*16
+0 Ifsc 1*16 9*17 0*3
+9 Ifsc 1*16 8*17 0*3 8*17 0*3
+0 Ifsc 1*16 3*17 0*3 4*17 0*3
+0 Ifsc 1*16 5*17 0*3 6*17 0*3
+0 FileDesc 1*16 2*32 6 0*7 n*4
+";
 
 // An empty file whose name leads out of a folder, and a text of several lines.
-const ODD_NAMES: &[Row] = &[
-    (0, MAIN_TYPE, &[(4, 1), (0, 7), (1, 1), (0, 3), (1, 16)]),
-    (
-        0,
-        DESC_TYPE,
-        &[(1, 16), (2, 32), (0, 8), (b'.', 2), (b'/', 1), (b'g', 1)],
-    ),
-    (
-        0,
-        CREATOR_TYPE,
-        &[(b'a', 1), (b'\n', 1), (b'b', 1), (b'\\', 1)],
-    ),
-];
+const ODD_NAMES: &str = "\
+0 Main 4 0*7 1 0*3 1*16
+0 FileDesc 1*16 2*32 0*8 .*2 / g
+0 Creator a 10 b 92
+";
 
 // A Main packet whose body is not that of its set ID, and then a set with a slice that is too long.
-const BEHIND_ANOTHER: &[Row] = &[
-    (9, MAIN_TYPE, &[(4, 1), (0, 11)]),
-    (1, MAIN_TYPE, &[(4, 1), (0, 7), (1, 1), (0, 3), (1, 16)]),
-    (1, DESC_TYPE, &[(1, 16), (2, 32), (6, 1), (0, 7), (b'n', 4)]),
-    (1, SLICE_TYPE, &[(0, 12)]),
-];
+const BEHIND_ANOTHER: &str = "\
+9 Main 4 0*11
+1 Main 4 0*7 1 0*3 1*16
+1 FileDesc 1*16 2*32 6 0*7 n*4
+1 RecvSlic 0*12
+";
 
 // Slices of file 1.
 const FIRST_SUMS: &[SetSlice] = &[
@@ -185,12 +136,7 @@ type Shown<'a> = (
 
 // Packets, the place of a set that is chosen, and what they give: the place of the set, and the
 // set, or why there is none.
-static SETS: [(
-    &[Row],
-    Option<usize>,
-    usize,
-    Result<Shown<'static>, SetFault>,
-); 11] = [
+static SETS: [(&str, Option<usize>, usize, Result<Shown<'static>, SetFault>); 11] = [
     // The first Main packet counts, and of a chosen set the first of its ID.
     (NO_FILES, None, 0, Ok((4, b"", &[], None, &[]))),
     (NO_FILES, Some(0), 0, Ok((4, b"", &[], None, &[]))),
@@ -252,27 +198,53 @@ fn shown(built: &RecoverySet) -> Shown<'_> {
     )
 }
 
+// A set, or the cause why there is none, shows what is wanted.
+fn shows(
+    rt: &impl Abort,
+    rows: &str,
+    built: &Result<RecoverySet, SetFault>,
+    wanted: &Result<Shown<'static>, SetFault>,
+) {
+    match built {
+        Ok(built) => is(rt, &rows, &Ok(shown(built)), wanted),
+        Err(fault) => is(rt, &rows, &Err(*fault), wanted),
+    }
+}
+
+// What is built of these packets, or of the set among them that is chosen, is what is wanted.
+fn gives(
+    rt: &(impl Abort + AllocGlobal),
+    rows: &str,
+    choice: Option<Hash16>,
+    owner: usize,
+    wanted: &Result<Shown<'static>, SetFault>,
+) -> Result<(), SetFault> {
+    let bytes = file_of(rt.alloc(), rows)?;
+    let built = agrees(rt, &bytes, choice, owner)?;
+    shows(rt, rows, &built, wanted);
+    if let Ok(built) = &built {
+        is(rt, &rows, &built.id(), &set_id(rt.alloc(), rows, owner)?);
+    }
+    Ok(())
+}
+
+// The ID of the set that is chosen, if one is.
+fn choice_of(
+    alloc: Global,
+    rows: &str,
+    place: Option<usize>,
+) -> Result<Option<Hash16>, AllocError> {
+    match place {
+        Some(place) => Ok(Some(set_id(alloc, rows, place)?)),
+        None => Ok(None),
+    }
+}
+
 #[test]
 fn sets_are_as_wanted_and_agree_with_the_model(rt: HostRuntime) -> Result<(), SetFault> {
-    for (place, row) in SETS.iter().enumerate() {
-        let (rows, choice, owner, wanted) = row;
-        let choice = match choice {
-            Some(place) => Some(set_id(rt.alloc(), *rows, *place)?),
-            None => None,
-        };
-        let bytes = file_of(rt.alloc(), *rows)?;
-        match agrees(&rt, &bytes, choice, place)? {
-            Ok(built) => {
-                is(&rt, &place, &Ok(shown(&built)), wanted);
-                is(
-                    &rt,
-                    &place,
-                    &built.id(),
-                    &set_id(rt.alloc(), *rows, *owner)?,
-                );
-            }
-            Err(fault) => is(&rt, &place, &Err(fault), wanted),
-        }
+    for row in &SETS {
+        let choice = choice_of(rt.alloc(), row.0, row.1)?;
+        gives(&rt, row.0, choice, row.2, &row.3)?;
     }
     Ok(())
 }

@@ -1,0 +1,21 @@
+// Bytes that are made of others.
+use crate::worked::WORKED;
+use std::alloc::{AllocError, Global};
+
+/// These bytes, one after another.
+pub fn joined(alloc: Global, parts: &[&[u8]]) -> Result<Vec<u8>, AllocError> {
+    let mut bytes = Vec::new(alloc);
+    for part in parts {
+        bytes.extend_from_slice(part)?;
+    }
+    Ok(bytes)
+}
+
+/// The worked packet file with one byte inverted.
+pub fn inverted(alloc: Global, at: usize) -> Result<Vec<u8>, AllocError> {
+    let mut bytes = Vec::from_slice(alloc, WORKED.as_slice())?;
+    if let Some(byte) = bytes.get_mut(at) {
+        *byte = 255 - *byte;
+    }
+    Ok(bytes)
+}
