@@ -8,6 +8,7 @@ use memchr::memchr;
 const MOST: u32 = 100;
 
 // A file of an archive, and what stands behind it.
+#[derive(Clone, Copy)]
 struct Member {
     name: &'static str,
     bytes: &'static [u8],

@@ -4,8 +4,9 @@ ghost use Rattle.parplan.specs.Commands.{HasLimit};
 use crate::archives::packet_file;
 use crate::rows::{Row, words_of};
 use parfixtures::shelf_of;
-use parreport::{End, MemSink, Plan, PlanFault, RunFault, Status};
-use parreport::{ending, reads_scanned, run, run_end};
+use parreport::{
+    End, MemSink, Plan, PlanFault, RunFault, Status, ending, reads_scanned, run, run_end,
+};
 use parshelf::{MemShelf, Shelf};
 use parwords::plan;
 use std::alloc::{AllocError, Global};
@@ -66,7 +67,11 @@ fn packet_files(alloc: Global, names: &str) -> Result<Vec<&'static [u8]>, Fail> 
 fn scanned_files<'t>(alloc: Global, contents: &'t str) -> Result<Vec<&'t [u8]>, AllocError> {
     let mut files = Vec::new(alloc);
     for content in contents.split_whitespace() {
-        files.push(if content == "''" { b"" } else { content.as_bytes() })?;
+        files.push(if content == "''" {
+            b""
+        } else {
+            content.as_bytes()
+        })?;
     }
     Ok(files)
 }
@@ -143,7 +148,12 @@ fn ran_plan(
 {
     let mut out = sink_with(alloc, room)?;
     let answer = answer_of(alloc, plan, packets, scanned, &mut out);
-    Ok(outcome_of(alloc, plan, answer.ok_or("another number of files")?, out.text())?)
+    Ok(outcome_of(
+        alloc,
+        plan,
+        answer.ok_or("another number of files")?,
+        out.text(),
+    )?)
 }
 
 // How words end that are no plan.
