@@ -1,5 +1,5 @@
 #!/usr/bin/env python3
-"""Writes the packet files that the tests of parv run on, as a Rattle source file.
+"""Writes the packet files that tests run whole commands on, as Rattle source files.
 
 usage: packet_files.py FOLDER
 

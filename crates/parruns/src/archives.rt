@@ -2,7 +2,6 @@
 use crate::packet_edges::PACKET_EDGES;
 use crate::packet_files::PACKET_FILES;
 use crate::packet_sets::PACKET_SETS;
-use memchr::memchr;
 
 // More than an archive has files.
 const MOST: u32 = 100;
@@ -17,7 +16,7 @@ struct Member {
 
 // The line that an archive begins with, and what stands behind its end.
 fn first_line(archive: &'static [u8]) -> Option<(&'static str, &'static [u8])> {
-    let end = memchr(b'\n', archive)?;
+    let end = archive.iter().position(|byte| *byte == b'\n')?;
     let (line, rest) = archive.split_at_checked(end)?;
     Some((std::str::from_utf8(line).ok()?, rest.get(1..)?))
 }

@@ -9,7 +9,7 @@ use std::test::Fail;
 /// - The text that is written, or the line for standard error, which begins with `parv: `.
 /// - `= ` and the exit status. Behind a bar may stand what else a test wants of the row.
 ///
-/// Lines that begin with `#` are remarks on the row behind them.
+/// Before a row may stand empty lines, and remarks, which begin with `#`.
 #[derive(Clone, Copy)]
 pub struct Row<'t> {
     pub words: &'t str,
@@ -35,10 +35,10 @@ fn streams(written: &str) -> (&str, &str) {
     }
 }
 
-// Whether all lines are remarks.
+// Whether all lines are remarks or empty.
 fn are_remarks(lines: &str) -> bool {
     for line in lines.lines() {
-        if !line.starts_with('#') {
+        if !line.is_empty() && !line.starts_with('#') {
             return false;
         }
     }

@@ -100,7 +100,7 @@ fn sink_with(alloc: Global, room: Room) -> Result<MemSink, Fail> {
 fn answer_of(
     alloc: Global,
     plan: &Plan,
-    packets: &mut MemShelf,
+    packets: &mut impl Shelf,
     scanned: &mut MemShelf,
     out: &mut MemSink,
 ) -> Option<Result<Status, RunFault>>
@@ -140,7 +140,7 @@ fn outcome_of(
 fn ran_plan(
     alloc: Global,
     plan: &Plan,
-    packets: &mut MemShelf,
+    packets: &mut impl Shelf,
     scanned: &mut MemShelf,
     room: Room,
 ) -> Result<Outcome, Fail>
@@ -171,7 +171,7 @@ fn no_plan(alloc: Global, fault: PlanFault) -> Result<Outcome, AllocError> {
 pub fn ran(
     alloc: Global,
     words: &[String],
-    packets: &mut MemShelf,
+    packets: &mut impl Shelf,
     scanned: &mut MemShelf,
     room: Room,
 ) -> Result<Outcome, Fail> {

@@ -13,8 +13,8 @@ enum Part {
 }
 
 // The tables have a row a line: words with a space between them; ` = `; and what the table tells of
-// their plan, or the fault by which they are none. In a word `_` stands for a space, and `''` is the
-// word that has no letter.
+// their plan, or the fault by which they are none. The word `''` has no letter, and `_1` and `1_` a
+// space in place of the dash. Lines that begin with `#` are remarks.
 
 const NO_PLANS: &str = "\
 frobnicate v.par2 = Usage
@@ -45,10 +45,7 @@ v.par2 packets = Usage
 v.par2 set = Usage
 v.par2 find = Usage
 v.par2 verify = Usage
-";
-
-// A request for help or the version.
-const REQUESTS: &str = "\
+# A request for help or the version.
 help v.par2 = Usage
 help = Usage
 --help = Usage
@@ -59,19 +56,13 @@ packets -h v.par2 = Usage
 packets --version v.par2 = Usage
 packets -V v.par2 = Usage
 find --help = Usage
-";
-
-// An option with a value that stands twice.
-const TWICE: &str = "\
+# An option with a value that stands twice.
 find --set 00000000000000000000000000000000 --set 00000000000000000000000000000000 v.par2 = Usage
 find --set 00000000000000000000000000000000 --set=Z v.par2 = Usage
 find -Bd -Bd v.par2 = Usage
 find --limit=1 --limit=1 v.par2 = Usage
 find --cursor=a --cursor=b v.par2 = Usage
-";
-
-// A cursor that can't be read, and a base that is empty.
-const VALUES: &str = "\
+# A cursor that can't be read, and a base that is empty.
 find --cursor bad v.par2 = Value
 find --cursor bad = Usage
 find --cursor bad x.bin = Value
@@ -122,8 +113,10 @@ find --limit '' v.par2 = Value
 ";
 
 const SETS: &str = "\
-packets --set 00000000000000000000000000000000 v.par2 = 00000000000000000000000000000000
-packets --set 0123456789abcdefABCDEF0123456789 v.par2 = 0123456789abcdefabcdef0123456789
+packets --set 00000000000000000000000000000000 v.par2 = \
+Some(Hash16([0, 0, 0, 0, 0, 0, 0, 0, 0, 0, 0, 0, 0, 0, 0, 0]))
+packets --set 0123456789abcdefABCDEF0123456789 v.par2 = \
+Some(Hash16([1, 35, 69, 103, 137, 171, 205, 239, 171, 205, 239, 1, 35, 69, 103, 137]))
 packets --set 0000000000000000000000000000000 v.par2 = Value
 packets --set 000000000000000000000000000000000 v.par2 = Value
 packets --set 0000000000000000000000000000000g v.par2 = Value
@@ -150,47 +143,54 @@ packets x.bin .par2 b.PaR2 par2 a.par2 = .par2|b.PaR2|a.par2|x.bin as x.bin|par2
 packets - v.par2 -- -q -- = v.par2|- as -|-q as -q|-- as --|
 ";
 
-// Puts a word of a row behind others.
-fn put_word(alloc: Global, all: &mut Vec<String>, word: &str) -> Result<(), AllocError> {
-    let word = if word == "''" { "" } else { word };
-    all.push(word.replace(alloc, "_", " ")?)?;
-    Ok(())
+// The word that a row has.
+fn word_of(word: &str) -> &str {
+    match word {
+        "''" => "",
+        "_1" => " 1",
+        "1_" => "1 ",
+        word => word,
+    }
 }
 
 // The words of a row.
 fn words_of(alloc: Global, words: &str) -> Result<Vec<String>, AllocError> {
     let mut all = Vec::new(alloc);
     for word in words.split_whitespace() {
-        put_word(alloc, &mut all, word)?;
+        all.push(String::from_str(alloc, word_of(word))?)?;
     }
     Ok(all)
 }
 
-// The files of a plan, with a bar behind each.
-fn files_of(alloc: Global, plan: &Plan) -> Result<String, AllocError> {
-    let mut text = String::new(alloc);
+// Puts the packet files of a plan behind a text, with a bar behind each.
+fn put_packets(text: &mut String, plan: &Plan) -> Result<(), AllocError> {
     for file in plan.packets.as_slice() {
         write!(text, "{}|", file.as_str())?;
     }
+    Ok(())
+}
+
+// Puts the files that a plan scans behind a text, with a bar behind each.
+fn put_scanned(text: &mut String, plan: &Plan) -> Result<(), AllocError> {
     for file in plan.scanned.as_slice() {
         write!(text, "{} as {}|", file.path.as_str(), file.name.as_str())?;
     }
-    Ok(text)
+    Ok(())
 }
 
-// The set of a plan.
-fn set_of(alloc: Global, plan: &Plan) -> Result<String, AllocError> {
-    match plan.set {
-        Some(set) => format!(in alloc; "{set}"),
-        None => format!(in alloc; "none"),
-    }
+// The files of a plan.
+fn files_of(alloc: Global, plan: &Plan) -> Result<String, AllocError> {
+    let mut text = String::new(alloc);
+    put_packets(&mut text, plan)?;
+    put_scanned(&mut text, plan)?;
+    Ok(text)
 }
 
 // What a table tells of a plan.
 fn part_of(alloc: Global, plan: &Plan, part: Part) -> Result<String, AllocError> {
     match part {
         Part::Command => format!(in alloc; "{:?}", plan.command),
-        Part::Set => set_of(alloc, plan),
+        Part::Set => format!(in alloc; "{:?}", plan.set),
         Part::Files => files_of(alloc, plan),
     }
 }
@@ -221,8 +221,10 @@ fn are_right(
 ) -> Result<(), Fail> {
     let mut rows = 0usize;
     for row in table.lines() {
-        is_right(rt, row, part)?;
-        rows = rows.saturating_add(1);
+        if !row.starts_with('#') {
+            is_right(rt, row, part)?;
+            rows = rows.saturating_add(1);
+        }
     }
     assert_eq!(rt; rows, count);
     Ok(())
@@ -230,10 +232,7 @@ fn are_right(
 
 #[test]
 fn words_that_are_no_plan_are_refused(rt: HostRuntime) -> Result<(), Fail> {
-    are_right(&rt, NO_PLANS, Part::Command, 28)?;
-    are_right(&rt, REQUESTS, Part::Command, 10)?;
-    are_right(&rt, TWICE, Part::Command, 5)?;
-    are_right(&rt, VALUES, Part::Command, 5)
+    are_right(&rt, NO_PLANS, Part::Command, 48)
 }
 
 #[test]
@@ -257,16 +256,14 @@ fn files_are_told_by_their_ending_and_named_under_the_base(rt: HostRuntime) -> R
 }
 
 // The words of `packets` over one packet file and so many other files.
-fn words_over(alloc: Global, others: u32) -> Result<Vec<String>, AllocError> {
-    let mut words = words_of(alloc, "packets a.par2")?;
-    for _ in 0..others {
-        put_word(alloc, &mut words, "x")?;
-    }
-    Ok(words)
+fn words_over(alloc: Global, others: usize) -> Result<Vec<String>, AllocError> {
+    let files = "x ".repeat(alloc, others)?;
+    let words = format!(in alloc; "packets a.par2 {files}")?;
+    words_of(alloc, words.as_str())
 }
 
 // Wants this of the command of `packets` over one packet file and so many other files.
-fn is_told_over(rt: &(impl Abort + AllocGlobal), others: u32, wanted: &str) -> Result<(), Fail> {
+fn is_told_over(rt: &(impl Abort + AllocGlobal), others: usize, wanted: &str) -> Result<(), Fail> {
     let words = words_over(rt.alloc(), others)?;
     let found = told(rt.alloc(), &words, Part::Command)?;
     assert_eq!(rt; found.as_str(), wanted, "{others}");
