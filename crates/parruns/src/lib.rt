@@ -13,4 +13,4 @@ mod runs;
 pub use crate::archives::packet_file;
 pub use crate::checks::{all_end_so, has_ended, is_same, is_text};
 pub use crate::rows::{Row, parted, rows_of, words_of};
-pub use crate::runs::{Outcome, READS, ROOMY, Reads, Room, packets_in, ran, ran_row, scanned_in};
+pub use crate::runs::{Outcome, READS, ROOMY, Reads, Room, ran, ran_row, scanned_in};

@@ -76,8 +76,8 @@ fn scanned_files<'t>(alloc: Global, contents: &'t str) -> Result<Vec<&'t [u8]>, 
     Ok(files)
 }
 
-/// The packet files of a row in memory.
-pub fn packets_in(alloc: Global, row: &Row<'_>, reads: Reads) -> Result<MemShelf, Fail> {
+// The packet files of a row in memory.
+fn packets_in(alloc: Global, row: &Row<'_>, reads: Reads) -> Result<MemShelf, Fail> {
     let files = packet_files(alloc, row.packets)?;
     shelf_of(alloc, &files, reads.piece, &[reads.failing_packet])
 }
