@@ -75,10 +75,16 @@ fn large_text(alloc: Global, aside: &str) -> Result<String, AllocError> {
     }
 }
 
-// Wants that `set` over two packet files writes this.
-fn writes_of<'p>(alloc: Global, set: &'p [u8], large: &'p [u8], text: &str) -> Result<(), Fail> {
+// Wants that these words of `set` over two packet files write this.
+fn writes_of<'p>(
+    alloc: Global,
+    words: &str,
+    set: &'p [u8],
+    large: &'p [u8],
+    text: &str,
+) -> Result<(), Fail> {
     let row = Row {
-        words: "set g.par2 c.par2",
+        words,
         packets: "",
         scanned: "",
         text,
@@ -89,13 +95,26 @@ fn writes_of<'p>(alloc: Global, set: &'p [u8], large: &'p [u8], text: &str) -> R
     ends_over(alloc, &row, &[set, large], 65_536)
 }
 
+// Wants that `set` over the set of g.bin and the packet of a front writes the text for this reason. A
+// base, which it does not ask for, names the packet.
+fn is_aside(alloc: Global, front: &str, large: &[u8], aside: &str) -> Result<(), Fail> {
+    let text = large_text(alloc, aside)?;
+    let words = format!(in alloc; "set -B {front} g.par2 c.par2")?;
+    writes_of(
+        alloc,
+        words.as_str(),
+        packet_file("g")?,
+        large,
+        text.as_str(),
+    )
+}
+
 // Wants that a line of the table is right.
 fn is_right(alloc: Global, line: &str) -> Result<(), Fail> {
     let (packet, aside) = line.split_once(" = ").ok_or("no reason")?;
     let (front, behind) = packet.split_once(' ').ok_or("no front")?;
     let large = large_packet(alloc, front, behind)?;
-    let text = large_text(alloc, aside)?;
-    writes_of(alloc, packet_file("g")?, &large, text.as_str())
+    is_aside(alloc, front, &large, aside)
 }
 
 #[test]
