@@ -1,10 +1,10 @@
 #!/usr/bin/env python3
-"""Writes the packet files that the tests of parv run on, as a Rattle source file.
+"""Writes the packet files that tests run whole commands on, as Rattle source files.
 
 usage: packet_files.py FOLDER
 
-FOLDER gets packet_files.rt, packet_sets.rt and packet_edges.rt, to lie in crates/parv/src/tests, and
-each packet file as NAME.par2. All hashes come from hashlib and zlib alone.
+FOLDER gets packet_files.rt, packet_sets.rt and packet_edges.rt, to lie in crates/parruns/src, and each
+packet file as NAME.par2. All hashes come from hashlib and zlib alone.
 """
 
 import os
@@ -242,19 +242,17 @@ def literal(data):
     return rows + [row]
 
 
-def write_table(folder, module, table, what, files):
-    """The packet files as a table in a source file, and each in a file of its own."""
+def write_archive(folder, module, name_of_all, what, files):
+    """The packet files as one byte string in a source file, and each in a file of its own."""
     lines = [f"// {what}, as tools/packet_files.py writes them.", "",
-             "/// The name that rows give a packet file, and its bytes.",
-             f"pub static {table}: [(&str, &[u8]); {len(files)}] = ["]
+             "/// Of each packet file a line with its name and how many bytes it has, and then those.",
+             f'pub static {name_of_all}: &[u8] = b"\\']
     for name, data in files.items():
-        text = 'b"' + "\\\n          ".join(literal(data)) + '"'
-        lines += [f'    ("{name}", {text}),'] if len(text) < 60 else \
-                 ["    (", f'        "{name}",', f"        {text},", "    ),"]
+        lines += [f"{name} {len(data)}\\n\\", *[f"    {row}\\" for row in literal(data) if row]]
         with open(os.path.join(folder, name + ".par2"), "wb") as out:
             out.write(data)
     with open(os.path.join(folder, module), "w") as out:
-        out.write("\n".join([*lines, "];", ""]))
+        out.write("\n".join([*lines, '";', ""]))
 
 
 def main():
@@ -262,10 +260,10 @@ def main():
         sys.exit("usage: packet_files.py FOLDER")
     folder = sys.argv[1]
     os.makedirs(folder, exist_ok=True)
-    write_table(folder, "packet_files.rt", "PACKET_FILES", "Packets, and the set of g.bin",
+    write_archive(folder, "packet_files.rt", "PACKET_FILES", "Packets, and the set of g.bin",
                 {**listings(), **sets_of_g()})
-    write_table(folder, "packet_sets.rt", "PACKET_SETS", "Sets of other files", other_sets())
-    write_table(folder, "packet_edges.rt", "PACKET_EDGES", "Packets and sets at both sides of limits", edges())
+    write_archive(folder, "packet_sets.rt", "PACKET_SETS", "Sets of other files", other_sets())
+    write_archive(folder, "packet_edges.rt", "PACKET_EDGES", "Packets and sets at both sides of limits", edges())
 
 
 if __name__ == "__main__":

@@ -20,7 +20,9 @@ done << 'END'
 parfield_tests|none
 parfield_tests|one|names_are_shown
 parset_tests|none
-parv|none
+parwords_tests|none
+packet_runs_tests|none
+scan_runs_tests|none
 parshelf_tests|one
 parsalvage_tests|none
 parsalvage_tests|one|no_packet

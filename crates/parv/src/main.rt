@@ -2,8 +2,6 @@
 #![tactic(auto)]
 
 mod program;
-#[cfg(test)]
-mod tests;
 
 use crate::program::perform;
 use std::io::Write;

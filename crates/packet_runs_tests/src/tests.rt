@@ -1,0 +1,6 @@
+mod blocks;
+mod describing;
+mod disk;
+mod ending;
+mod large;
+mod listing;

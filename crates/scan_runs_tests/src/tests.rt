@@ -1,0 +1,5 @@
+mod finding;
+mod reads;
+mod verifying;
+mod whole_rows;
+mod writers;

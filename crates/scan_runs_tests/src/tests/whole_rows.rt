@@ -1,0 +1,97 @@
+// Command lines whose reads and writes fail in turn.
+
+/// Beside the exit status: how many reads of 1 byte each packet file has; how many of 64; how many
+/// bytes of the scanned file the text needs, and how many of them are ahead; how many lines of the
+/// text one of the failing reads of the scanned file leaves, which each of them leaves where it is 0.
+pub const WHOLE: &str = r"
+$ packets v.par2 | g
+v.par2 0 92 main 617cdc72ba53d94fe713fea2ae18f776
+v.par2 92 128 filedesc 617cdc72ba53d94fe713fea2ae18f776
+v.par2 220 120 ifsc 617cdc72ba53d94fe713fea2ae18f776
+v.par2 340 76 recvslic 617cdc72ba53d94fe713fea2ae18f776
+packets 4
+= 0 | 416 | 7 | 0 0 | 0
+
+$ set v.par2 | g
+set 617cdc72ba53d94fe713fea2ae18f776 size 4 slices 2
+file e345eacbe656c0e6fd20ed63cb7b062c 8 2 yes g.bin
+others 0
+have 0
+aside v.par2 340 1
+= 0 | 416 | 7 | 0 0 | 0
+
+$ find v.par2 x.bin | g | XXabcdefgh
+x.bin 2 e345eacbe656c0e6fd20ed63cb7b062c 0
+x.bin 6 e345eacbe656c0e6fd20ed63cb7b062c 1
+end
+= 0 | 416 | 7 | 10 10 | 1
+
+$ verify v.par2 a.bin | a_with_a_slice_twice | abcd
+set 2b5d19a47ee4561a2c85b51d7f6d65c4 size 4 slices 2
+damaged a.bin 1/2
+need 1 have 1
+result possible
+= 1 | 484 | 8 | 4 4 | 0
+
+$ packets u.par2 v.par2 | creator g
+u.par2 0 64 creator 00000000000000000000000000000000
+v.par2 0 92 main 617cdc72ba53d94fe713fea2ae18f776
+v.par2 92 128 filedesc 617cdc72ba53d94fe713fea2ae18f776
+v.par2 220 120 ifsc 617cdc72ba53d94fe713fea2ae18f776
+v.par2 340 76 recvslic 617cdc72ba53d94fe713fea2ae18f776
+packets 5
+= 0 | 64 416 | 1 7 | 0 0 | 0
+";
+
+/// How many there are.
+pub const WHOLE_COUNT: usize = 5;
+
+/// The same with options.
+pub const WITH_OPTIONS: &str = r"
+# The first slice that is seen ends at the sixth byte.
+$ find --limit 1 v.par2 x.bin | g | XXabcdefgh
+x.bin 2 e345eacbe656c0e6fd20ed63cb7b062c 0
+cursor 617cdc72ba53d94fe713fea2ae18f776:0:2:1
+= 0 | 416 | 7 | 6 10 | 0
+
+$ find --cursor 617cdc72ba53d94fe713fea2ae18f776:0:2:1 v.par2 x.bin | g | XXabcdefgh
+x.bin 6 e345eacbe656c0e6fd20ed63cb7b062c 1
+end
+= 0 | 416 | 7 | 8 8 | 0
+
+$ find --limit 2 v.par2 x.bin | g | XXabcdefgh
+x.bin 2 e345eacbe656c0e6fd20ed63cb7b062c 0
+x.bin 6 e345eacbe656c0e6fd20ed63cb7b062c 1
+cursor 617cdc72ba53d94fe713fea2ae18f776:0:6:2
+= 0 | 416 | 7 | 10 10 | 1
+
+$ find --cursor 617cdc72ba53d94fe713fea2ae18f776:4294967295:18446744073709551615:4294967295 v.par2 x.bin | g | XXabcdefgh
+end
+= 0 | 416 | 7 | 0 0 | 0
+
+$ verify -q v.par2 a.bin | a_with_a_slice_twice | abcd
+need 1 have 1
+result possible
+= 1 | 484 | 8 | 4 4 | 0
+
+$ verify -q -q v.par2 a.bin | a_with_a_slice_twice | abcd
+= 1 | 484 | 8 | 4 4 | 0
+
+$ verify v.par2 a.bin | a | abcd
+set 2b5d19a47ee4561a2c85b51d7f6d65c4 size 4 slices 2
+damaged a.bin 1/2
+need 1 have 0
+result impossible
+= 2 | 340 | 6 | 4 4 | 0
+
+$ verify -q v.par2 a.bin | a | abcd
+need 1 have 0
+result impossible
+= 2 | 340 | 6 | 4 4 | 0
+
+$ verify -q -q v.par2 a.bin | a | abcd
+= 2 | 340 | 6 | 4 4 | 0
+";
+
+/// How many there are.
+pub const OPTIONS_COUNT: usize = 9;
