@@ -165,6 +165,8 @@ fn has_reason(
 fn bodies_have_their_first_reason(rt: HostRuntime) -> Result<(), AllocError> {
     for row in BODIES.lines() {
         let (kind, reason, runs) = row_of(row);
+        // A word that names no reason is `usable`.
+        is(&rt, &row, &reason.is_none(), &row.contains(" usable"));
         has_reason(&rt, row, &bytes_of(rt.alloc(), runs)?, kind, reason);
     }
     Ok(())
