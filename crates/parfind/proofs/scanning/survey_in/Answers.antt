@@ -1,3 +1,4 @@
+use Rattle.std.proofs.lemmas.Grind.{common_steps}
 use Rattle.std.proofs.Common.{ap, arith, inl, inr}
 use Rattle.parwindow.specs.Index.{SliceSet}
 use Rattle.parwindow.specs.Window.{WindowState}
@@ -91,3 +92,48 @@ returns-in-Err-clause-so_far g c = λ steady.
     record { shelf = g.H.Shelf.state c.sweep.new.shelf; window = c.sweep.new.window; found = c.sweep.new.found; track = c.sweep.new.track } in
     let ends = c.sweep.ensures.ends in
     surveyed_fault set old new ends.cursor ends.surveyed steady ends.first c.sweep.new.track.file ends.file_is
+
+pub returns-in-Ok-clause-no_other : goal.returns-in-Ok-clause-no_other
+returns-in-Ok-clause-no_other g c = grind (arith, common_steps)
+
+pub returns-in-Ok-clause-so_far : goal.returns-in-Ok-clause-so_far
+returns-in-Ok-clause-so_far g c = grind (arith, common_steps)
+
+pub returns-in-Ok-clause-kept : goal.returns-in-Ok-clause-kept
+returns-in-Ok-clause-kept g c = grind (arith, common_steps)
+
+pub returns-in-Ok-clause-ok : goal.returns-in-Ok-clause-ok
+returns-in-Ok-clause-ok g c = grind (arith, common_steps)
+
+pub returns-in-Ok-clause-fault : goal.returns-in-Ok-clause-fault
+returns-in-Ok-clause-fault g c = grind (arith, common_steps)
+
+pub returns-in-Ok-clause-unfit : goal.returns-in-Ok-clause-unfit
+returns-in-Ok-clause-unfit g c = grind (arith, common_steps)
+
+pub returns-in-Ok-clause-none : goal.returns-in-Ok-clause-none
+returns-in-Ok-clause-none g c = grind (arith, common_steps)
+
+pub returns-in-Ok-clause-window : goal.returns-in-Ok-clause-window
+returns-in-Ok-clause-window g c = grind (arith, common_steps)
+
+pub returns-in-Err-clause-found : goal.returns-in-Err-clause-found
+returns-in-Err-clause-found g c = grind (arith, common_steps)
+
+pub returns-in-Err-clause-kept : goal.returns-in-Err-clause-kept
+returns-in-Err-clause-kept g c = grind (arith, common_steps)
+
+pub returns-in-Err-clause-ok : goal.returns-in-Err-clause-ok
+returns-in-Err-clause-ok g c = grind (arith, common_steps)
+
+pub returns-in-Err-clause-fault : goal.returns-in-Err-clause-fault
+returns-in-Err-clause-fault g c = grind (arith, common_steps)
+
+pub returns-in-Err-clause-unfit : goal.returns-in-Err-clause-unfit
+returns-in-Err-clause-unfit g c = grind (arith, common_steps)
+
+pub returns-in-Err-clause-none : goal.returns-in-Err-clause-none
+returns-in-Err-clause-none g c = grind (arith, common_steps)
+
+pub returns-in-Err-clause-window : goal.returns-in-Err-clause-window
+returns-in-Err-clause-window g c = grind (arith, common_steps)

@@ -1,3 +1,4 @@
+use Rattle.std.proofs.lemmas.Grind.{common_steps}
 use Rattle.std.proofs.Common.{rules, ◌≡◌, ◌+◌, ◌-◌, ◌<◌, ◌≤◌, ℕ, true, false, length, slice_index, List, refl, sym, ap, ◌∙◌, arith, inl, inr, ◌⊎◌}
 use Rattle.std.proofs.lemmas.Bool.{cases_lt, or_left}
 use Rattle.std.proofs.lemmas.Result.{err_from_is_err_and}
@@ -342,3 +343,51 @@ returns-then-missing-found-clause-none g c = λ all.
 
 pub fill-requires-clause-tied : goal.fill-requires-clause-tied
 fill-requires-clause-tied g c = search rules steps 300000
+
+pub returns-in_err-fill-clause-ok : goal.returns-in_err-fill-clause-ok
+returns-in_err-fill-clause-ok g c = grind (arith, common_steps)
+
+pub returns-in_err-fill-clause-window : goal.returns-in_err-fill-clause-window
+returns-in_err-fill-clause-window g c = grind (arith, common_steps)
+
+pub loop-missing-smaller : goal.loop-missing-smaller
+loop-missing-smaller g c = grind (arith, common_steps)
+
+pub returns-in_err-pass-clause-window : goal.returns-in_err-pass-clause-window
+returns-in_err-pass-clause-window g c = grind (arith, common_steps)
+
+pub returns-else-track-count-clause-ends : goal.returns-else-track-count-clause-ends
+returns-else-track-count-clause-ends g c = grind (arith, common_steps)
+
+pub returns-else-track-count-clause-ok : goal.returns-else-track-count-clause-ok
+returns-else-track-count-clause-ok g c = grind (arith, common_steps)
+
+pub returns-else-track-count-clause-fault : goal.returns-else-track-count-clause-fault
+returns-else-track-count-clause-fault g c = grind (arith, common_steps)
+
+pub returns-else-track-count-clause-none : goal.returns-else-track-count-clause-none
+returns-else-track-count-clause-none g c = grind (arith, common_steps)
+
+pub returns-else-track-count-clause-window : goal.returns-else-track-count-clause-window
+returns-else-track-count-clause-window g c = grind (arith, common_steps)
+
+pub returns-after-loop-missing-clause-ok : goal.returns-after-loop-missing-clause-ok
+returns-after-loop-missing-clause-ok g c = grind (arith, common_steps)
+
+pub returns-after-loop-missing-clause-fault : goal.returns-after-loop-missing-clause-fault
+returns-after-loop-missing-clause-fault g c = grind (arith, common_steps)
+
+pub returns-after-loop-missing-clause-none : goal.returns-after-loop-missing-clause-none
+returns-after-loop-missing-clause-none g c = grind (arith, common_steps)
+
+pub returns-after-loop-missing-clause-window : goal.returns-after-loop-missing-clause-window
+returns-after-loop-missing-clause-window g c = grind (arith, common_steps)
+
+pub returns-then-missing-found-clause-ok : goal.returns-then-missing-found-clause-ok
+returns-then-missing-found-clause-ok g c = grind (arith, common_steps)
+
+pub returns-then-missing-found-clause-fault : goal.returns-then-missing-found-clause-fault
+returns-then-missing-found-clause-fault g c = grind (arith, common_steps)
+
+pub returns-then-missing-found-clause-window : goal.returns-then-missing-found-clause-window
+returns-then-missing-found-clause-window g c = grind (arith, common_steps)

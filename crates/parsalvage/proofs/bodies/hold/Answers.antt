@@ -1,3 +1,4 @@
+use Rattle.std.proofs.lemmas.Grind.{common_steps}
 use Rattle.std.proofs.Common.{◌≡◌, ◌-◌, ◌∙◌, ℕ, List, length, take, drop, ap, arith, rules}
 use Rattle.parshelf.specs.Shelf.{file_of}
 use Rattle.parsalvage.proofs.BodyLaws.{run_more, run_part}
@@ -27,3 +28,39 @@ returns-clause-part g c = λ steady.
     ∙ (ap (λ (n : ℕ). take c.args.size (drop (length c.extend.new.bodies.bytes.items - (n - c.args.from)) c.extend.new.bodies.bytes.items)) end
     ∙ run_part file c.extend.new.bodies.bytes.items c.reach.new.bodies.start c.max-last.result c.args.from c.args.size whole
     (omega (arith, after.len, store.fits)) c.reach.ensures.low (omega arith))
+
+pub returns-in_err-extend-clause-store : goal.returns-in_err-extend-clause-store
+returns-in_err-extend-clause-store g c = grind (arith, common_steps)
+
+pub returns-in_err-extend-clause-begins : goal.returns-in_err-extend-clause-begins
+returns-in_err-extend-clause-begins g c = grind (arith, common_steps)
+
+pub returns-in_err-extend-clause-fits : goal.returns-in_err-extend-clause-fits
+returns-in_err-extend-clause-fits g c = grind (arith, common_steps)
+
+pub returns-in_err-extend-clause-keeps : goal.returns-in_err-extend-clause-keeps
+returns-in_err-extend-clause-keeps g c = grind (arith, common_steps)
+
+pub returns-in_err-extend-clause-run : goal.returns-in_err-extend-clause-run
+returns-in_err-extend-clause-run g c = grind (arith, common_steps)
+
+pub returns-in_err-extend-clause-part : goal.returns-in_err-extend-clause-part
+returns-in_err-extend-clause-part g c = grind (arith, common_steps)
+
+pub returns-in_err-extend-clause-ok : goal.returns-in_err-extend-clause-ok
+returns-in_err-extend-clause-ok g c = grind (arith, common_steps)
+
+pub returns-in_err-extend-clause-fault : goal.returns-in_err-extend-clause-fault
+returns-in_err-extend-clause-fault g c = grind (arith, common_steps)
+
+pub returns-clause-begins : goal.returns-clause-begins
+returns-clause-begins g c = grind (arith, common_steps)
+
+pub returns-clause-keeps : goal.returns-clause-keeps
+returns-clause-keeps g c = grind (arith, common_steps)
+
+pub returns-clause-ok : goal.returns-clause-ok
+returns-clause-ok g c = grind (arith, common_steps)
+
+pub returns-clause-fault : goal.returns-clause-fault
+returns-clause-fault g c = grind (arith, common_steps)

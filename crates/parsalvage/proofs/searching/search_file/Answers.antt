@@ -1,3 +1,4 @@
+use Rattle.std.proofs.lemmas.Grind.{common_steps}
 use Rattle.std.proofs.Common.{◌≡◌, ◌-◌, ◌≤◌, ◌∙◌, ℕ, List, length, take, drop, ap, arith, length-drop, refl}
 use Rattle.std.proofs.lemmas.List.{length-take-le, length-replicate}
 use Rattle.std.proofs.lemmas.Result.{err_from_is_err_and}
@@ -133,3 +134,30 @@ returns-in_err-search_piece-clause-fault g c =
     (omega (arith, wide)) (omega (arith, few, wide)) (omega (arith, few, before.whole)) filled (omega (arith, long, high))
     (g.H.Shelf.state c.fill.new.shelf) (rw full at c.in_ok-fill.ensures.ok) (rw full at c.in_ok-fill.ensures.bytes)
     (g.H.Shelf.state c.search_piece.new.shelf) _ c.in_err-search_piece.ensures.fault)
+
+pub returns-in_err-fill-clause-lies : goal.returns-in_err-fill-clause-lies
+returns-in_err-fill-clause-lies g c = grind (arith, common_steps)
+
+pub returns-in_err-fill-clause-found : goal.returns-in_err-fill-clause-found
+returns-in_err-fill-clause-found g c = grind (arith, common_steps)
+
+pub returns-in_err-fill-clause-ok : goal.returns-in_err-fill-clause-ok
+returns-in_err-fill-clause-ok g c = grind (arith, common_steps)
+
+pub returns-in_err-search_piece-clause-lies : goal.returns-in_err-search_piece-clause-lies
+returns-in_err-search_piece-clause-lies g c = grind (arith, common_steps)
+
+pub returns-in_err-search_piece-clause-found : goal.returns-in_err-search_piece-clause-found
+returns-in_err-search_piece-clause-found g c = grind (arith, common_steps)
+
+pub returns-in_err-search_piece-clause-ok : goal.returns-in_err-search_piece-clause-ok
+returns-in_err-search_piece-clause-ok g c = grind (arith, common_steps)
+
+pub loop-base-smaller : goal.loop-base-smaller
+loop-base-smaller g c = grind (arith, common_steps)
+
+pub returns-clause-lies : goal.returns-clause-lies
+returns-clause-lies g c = grind (arith, common_steps)
+
+pub returns-clause-fault : goal.returns-clause-fault
+returns-clause-fault g c = grind (arith, common_steps)

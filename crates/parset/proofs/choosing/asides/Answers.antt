@@ -1,4 +1,5 @@
-use Rattle.std.proofs.Common.{◌∙◌, ◌++◌, [], ap, sym}
+use Rattle.std.proofs.lemmas.Grind.{common_steps}
+use Rattle.std.proofs.Common.{◌∙◌, ◌++◌, [], ap, sym, arith}
 use Rattle.std.specs.List.{cons_option}
 use Rattle.parset.specs.Choosing.{aside_in}
 use Rattle.parset.proofs.ChoosingLaws.{filter_map_more, filter_map_same}
@@ -18,3 +19,6 @@ loop-kept-preserved c =
           ∙ filter_map_same (aside_in c.args.size) (λ k. k.now) own i k before c.loop-kept-test.true c.kept-item.is c.loop-kept.invariant
           (sym w.in_default.is ∙ c.in_ok-aside.ensures.aside)
     ]
+
+pub returns : goal.returns
+returns c = grind (arith, common_steps)

@@ -1,4 +1,5 @@
-use Rattle.std.proofs.Common.{◌∙◌, ◌&&◌, ◌==◌, true, false, length, ap, sym}
+use Rattle.std.proofs.lemmas.Grind.{common_steps}
+use Rattle.std.proofs.Common.{◌∙◌, ◌&&◌, ◌==◌, true, false, length, ap, sym, arith}
 use Rattle.std.specs.BTreeMap.{get}
 use Rattle.std.specs.Option.{option_or}
 use Rattle.std.specs.Str.{bytes_eq}
@@ -35,3 +36,6 @@ loop-kept-preserved c q count known =
           ∙ first_found_same find (λ k. k.now) own i k before c.loop-kept-test.true c.kept-item.is so_far
           (ap (only_if passes) (sym w.in_default.is ∙ c.in_ok-sums.ensures.found))
     ]
+
+pub returns : goal.returns
+returns c = grind (arith, common_steps)

@@ -1,4 +1,5 @@
-use Rattle.std.proofs.Common.{◌∙◌, sym}
+use Rattle.std.proofs.lemmas.Grind.{common_steps}
+use Rattle.std.proofs.Common.{◌∙◌, sym, arith}
 use Rattle.parset.specs.Choosing.{chosen_main_in}
 use Rattle.parset.proofs.ChoosingLaws.{drop_at, first_found_passes, first_found_stops}
 use Rattle.parset.proofs.choosing.first_main.Goals as goal
@@ -14,3 +15,6 @@ returns-in-Some c =
     first_found_stops (chosen_main_in c.args.choice) _ _ _ _ (sym c.in-Some.is ∙ c.in_ok-main.ensures)
     (drop_at c.args.packets.now c.loop-kept.kept-index c.kept-item.result c.loop-kept-test.true c.kept-item.is)
     ∙ c.loop-kept.invariant
+
+pub returns : goal.returns
+returns c = grind (arith, common_steps)

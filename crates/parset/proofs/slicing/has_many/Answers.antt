@@ -1,5 +1,15 @@
-use Rattle.std.proofs.Common.{rules}
+use Rattle.std.proofs.lemmas.Grind.{common_steps}
+use Rattle.std.proofs.Common.{rules, arith}
 use Rattle.parset.proofs.slicing.has_many.Goals as goal
 
 pub loop-file-init : goal.loop-file-init
 loop-file-init c = search rules steps 1000000
+
+pub returns-then-count-left : goal.returns-then-count-left
+returns-then-count-left c = grind (arith, common_steps)
+
+pub loop-file-preserved : goal.loop-file-preserved
+loop-file-preserved c = grind (arith, common_steps)
+
+pub returns : goal.returns
+returns c = grind (arith, common_steps)

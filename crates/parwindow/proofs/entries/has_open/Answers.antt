@@ -1,4 +1,5 @@
-use Rattle.std.proofs.Common.{sym, get_or, []}
+use Rattle.std.proofs.lemmas.Grind.{common_steps}
+use Rattle.std.proofs.Common.{sym, get_or, [], arith}
 use Rattle.std.proofs.lemmas.List.Folds.{list_any_at}
 use Rattle.parwindow.specs.declared.entry.Entry.{Entry}
 use Rattle.parwindow.specs.OwnLengths.{is_open}
@@ -29,3 +30,6 @@ loop-entry-preserved c =
       | else-not-found-slice-via-else-not-found-slice w ↦
           shut_marked c.args.slices.now c.args.found.now c.args.left e (c.requires.there i d within) c.requires.each _ w.if-not-found-slice.false
     ])
+
+pub returns : goal.returns
+returns c = grind (arith, common_steps)

@@ -1,3 +1,5 @@
+use Rattle.std.proofs.lemmas.Grind.{common_steps}
+use Rattle.std.proofs.Common.{arith}
 use Rattle.parwindow.proofs.LeastLaws.{least_at}
 use Rattle.parwindow.proofs.entries.least_from.Goals as goal
 
@@ -6,3 +8,6 @@ loop-entry-preserved c =
     least_at c.args.entries.now c.loop-entry.entry-index _ c.args.from c.loop-entry.least c.lesser-least.result
     c.loop-entry-test.true
     c.loop-entry.invariant c.lesser-least.ensures
+
+pub returns : goal.returns
+returns c = grind (arith, common_steps)

@@ -1,3 +1,4 @@
+use Rattle.std.proofs.lemmas.Grind.{common_steps}
 use Rattle.std.proofs.Common.{◌≡◌, ℕ, ap, ◌∙◌, arith, subst, IfErr}
 use Rattle.parshelf.specs.Reads.{FaultsIn}
 use Rattle.parshelf.specs.Shelf.{ShelfState}
@@ -86,3 +87,15 @@ returns-clause-no_fewer g c =
     c.enter.new.window c.enter.new.self (rw (track, window) at c.enter.ensures.same) (rw (track, window) at c.enter.ensures.other) in
     let filled = ap (λ (w : WindowState). w.digests) c.fill.ensures.window in
     omega (arith, counted, same, filled, window)
+
+pub returns-clause-cursor : goal.returns-clause-cursor
+returns-clause-cursor g c = grind (arith, common_steps)
+
+pub returns-clause-full : goal.returns-clause-full
+returns-clause-full g c = grind (arith, common_steps)
+
+pub returns-clause-ok : goal.returns-clause-ok
+returns-clause-ok g c = grind (arith, common_steps)
+
+pub returns-clause-opening : goal.returns-clause-opening
+returns-clause-opening g c = grind (arith, common_steps)

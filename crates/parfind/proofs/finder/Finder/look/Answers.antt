@@ -1,3 +1,4 @@
+use Rattle.std.proofs.lemmas.Grind.{common_steps}
 use Rattle.std.proofs.Common.{rules, ◌≡◌, ℕ, ◌+◌, ◌≤◌, slice_index, sym, ap, ◌∙◌, subst, arith, Some, None, refl, length, ◌<◌}
 use Rattle.std.proofs.lemmas.Result.{err_from_is_err_and}
 use Rattle.parshelf.specs.Shelf.{ShelfState}
@@ -213,3 +214,45 @@ overflow_add-self-2 g c =
 
 pub overflow_add-self : goal.overflow_add-self
 overflow_add-self g c = search rules steps 300000
+
+pub returns-in-Some-clause-within : goal.returns-in-Some-clause-within
+returns-in-Some-clause-within g c = grind (arith, common_steps)
+
+pub returns-in-Some-clause-ok : goal.returns-in-Some-clause-ok
+returns-in-Some-clause-ok g c = grind (arith, common_steps)
+
+pub returns-in-Some-clause-fault : goal.returns-in-Some-clause-fault
+returns-in-Some-clause-fault g c = grind (arith, common_steps)
+
+pub returns-in-Some-clause-reads : goal.returns-in-Some-clause-reads
+returns-in-Some-clause-reads g c = grind (arith, common_steps)
+
+pub returns-in-Some-clause-opening : goal.returns-in-Some-clause-opening
+returns-in-Some-clause-opening g c = grind (arith, common_steps)
+
+pub returns-in-Some-clause-no_fewer : goal.returns-in-Some-clause-no_fewer
+returns-in-Some-clause-no_fewer g c = grind (arith, common_steps)
+
+pub returns-in_err-count-clause-reads : goal.returns-in_err-count-clause-reads
+returns-in_err-count-clause-reads g c = grind (arith, common_steps)
+
+pub returns-in_err-count-clause-opening : goal.returns-in_err-count-clause-opening
+returns-in_err-count-clause-opening g c = grind (arith, common_steps)
+
+pub returns-in_err-count-clause-no_fewer : goal.returns-in_err-count-clause-no_fewer
+returns-in_err-count-clause-no_fewer g c = grind (arith, common_steps)
+
+pub returns-clause-ok : goal.returns-clause-ok
+returns-clause-ok g c = grind (arith, common_steps)
+
+pub returns-clause-fault : goal.returns-clause-fault
+returns-clause-fault g c = grind (arith, common_steps)
+
+pub returns-clause-reads : goal.returns-clause-reads
+returns-clause-reads g c = grind (arith, common_steps)
+
+pub returns-clause-opening : goal.returns-clause-opening
+returns-clause-opening g c = grind (arith, common_steps)
+
+pub returns-clause-no_fewer : goal.returns-clause-no_fewer
+returns-clause-no_fewer g c = grind (arith, common_steps)

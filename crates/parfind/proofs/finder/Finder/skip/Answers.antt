@@ -1,3 +1,4 @@
+use Rattle.std.proofs.lemmas.Grind.{common_steps}
 use Rattle.std.proofs.Common.{subst, sym, arith}
 use Rattle.parshelf.specs.Shelf.{ShelfState}
 use Rattle.parwindow.specs.Index.{SliceSet}
@@ -34,3 +35,9 @@ returns-clause-advances g c =
     c.requires.left c.requires.next.there c.rest_of.ensures c.unwrap_or.ensures c.min-count.ensures in
     skip_advances (g.H.Shelf.state c.args.shelf.now).lengths c.args.self.now.cursor c.args.at c.requires.next c.min-count.result
     some c.args.index.now
+
+pub returns-clause-within : goal.returns-clause-within
+returns-clause-within g c = grind (arith, common_steps)
+
+pub returns-clause-stays : goal.returns-clause-stays
+returns-clause-stays g c = grind (arith, common_steps)

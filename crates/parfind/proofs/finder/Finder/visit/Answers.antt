@@ -1,3 +1,4 @@
+use Rattle.std.proofs.lemmas.Grind.{common_steps}
 use Rattle.std.proofs.Common.{sym, ap, subst, arith, Some}
 use Rattle.std.proofs.lemmas.Result.{err_from_is_err_and}
 use Rattle.parshelf.specs.Shelf.{ShelfState}
@@ -108,3 +109,108 @@ returns-clause-reads g c =
     let mid : ShelfState = g.H.Shelf.state c.arrive.new.shelf in
     hands_more s.lengths s.handed mid.handed (g.H.Shelf.state c.look.new.shelf).handed c.args.self.now.fetched c.arrive.new.self.fetched c.look.new.self.fetched
     c.in_ok-arrive.ensures.reads (rw (ap (λ (u : ShelfState). u.lengths) c.in_ok-arrive.ensures.ok) at c.look.ensures.reads)
+
+pub returns-then-self-count-clause-belongs : goal.returns-then-self-count-clause-belongs
+returns-then-self-count-clause-belongs g c = grind (arith, common_steps)
+
+pub returns-then-self-count-clause-advances : goal.returns-then-self-count-clause-advances
+returns-then-self-count-clause-advances g c = grind (arith, common_steps)
+
+pub returns-then-self-count-clause-within : goal.returns-then-self-count-clause-within
+returns-then-self-count-clause-within g c = grind (arith, common_steps)
+
+pub returns-then-self-count-clause-ok : goal.returns-then-self-count-clause-ok
+returns-then-self-count-clause-ok g c = grind (arith, common_steps)
+
+pub returns-then-self-count-clause-fault : goal.returns-then-self-count-clause-fault
+returns-then-self-count-clause-fault g c = grind (arith, common_steps)
+
+pub returns-then-self-count-clause-reads : goal.returns-then-self-count-clause-reads
+returns-then-self-count-clause-reads g c = grind (arith, common_steps)
+
+pub returns-then-self-count-clause-opening : goal.returns-then-self-count-clause-opening
+returns-then-self-count-clause-opening g c = grind (arith, common_steps)
+
+pub returns-then-self-count-clause-no_fewer : goal.returns-then-self-count-clause-no_fewer
+returns-then-self-count-clause-no_fewer g c = grind (arith, common_steps)
+
+pub returns-else-self-count-clause-belongs : goal.returns-else-self-count-clause-belongs
+returns-else-self-count-clause-belongs g c = grind (arith, common_steps)
+
+pub returns-else-self-count-clause-advances : goal.returns-else-self-count-clause-advances
+returns-else-self-count-clause-advances g c = grind (arith, common_steps)
+
+pub returns-else-self-count-clause-within : goal.returns-else-self-count-clause-within
+returns-else-self-count-clause-within g c = grind (arith, common_steps)
+
+pub returns-else-self-count-clause-ok : goal.returns-else-self-count-clause-ok
+returns-else-self-count-clause-ok g c = grind (arith, common_steps)
+
+pub returns-else-self-count-clause-fault : goal.returns-else-self-count-clause-fault
+returns-else-self-count-clause-fault g c = grind (arith, common_steps)
+
+pub returns-else-self-count-clause-reads : goal.returns-else-self-count-clause-reads
+returns-else-self-count-clause-reads g c = grind (arith, common_steps)
+
+pub returns-else-self-count-clause-opening : goal.returns-else-self-count-clause-opening
+returns-else-self-count-clause-opening g c = grind (arith, common_steps)
+
+pub returns-else-self-count-clause-no_fewer : goal.returns-else-self-count-clause-no_fewer
+returns-else-self-count-clause-no_fewer g c = grind (arith, common_steps)
+
+pub returns-then-not-fits-clause-belongs : goal.returns-then-not-fits-clause-belongs
+returns-then-not-fits-clause-belongs g c = grind (arith, common_steps)
+
+pub returns-then-not-fits-clause-sees : goal.returns-then-not-fits-clause-sees
+returns-then-not-fits-clause-sees g c = grind (arith, common_steps)
+
+pub returns-then-not-fits-clause-moves : goal.returns-then-not-fits-clause-moves
+returns-then-not-fits-clause-moves g c = grind (arith, common_steps)
+
+pub returns-then-not-fits-clause-advances : goal.returns-then-not-fits-clause-advances
+returns-then-not-fits-clause-advances g c = grind (arith, common_steps)
+
+pub returns-then-not-fits-clause-within : goal.returns-then-not-fits-clause-within
+returns-then-not-fits-clause-within g c = grind (arith, common_steps)
+
+pub returns-then-not-fits-clause-ok : goal.returns-then-not-fits-clause-ok
+returns-then-not-fits-clause-ok g c = grind (arith, common_steps)
+
+pub returns-then-not-fits-clause-fault : goal.returns-then-not-fits-clause-fault
+returns-then-not-fits-clause-fault g c = grind (arith, common_steps)
+
+pub returns-then-not-fits-clause-reads : goal.returns-then-not-fits-clause-reads
+returns-then-not-fits-clause-reads g c = grind (arith, common_steps)
+
+pub returns-then-not-fits-clause-opening : goal.returns-then-not-fits-clause-opening
+returns-then-not-fits-clause-opening g c = grind (arith, common_steps)
+
+pub returns-then-not-fits-clause-no_fewer : goal.returns-then-not-fits-clause-no_fewer
+returns-then-not-fits-clause-no_fewer g c = grind (arith, common_steps)
+
+pub returns-in_err-arrive-clause-belongs : goal.returns-in_err-arrive-clause-belongs
+returns-in_err-arrive-clause-belongs g c = grind (arith, common_steps)
+
+pub returns-in_err-arrive-clause-reads : goal.returns-in_err-arrive-clause-reads
+returns-in_err-arrive-clause-reads g c = grind (arith, common_steps)
+
+pub returns-in_err-arrive-clause-opening : goal.returns-in_err-arrive-clause-opening
+returns-in_err-arrive-clause-opening g c = grind (arith, common_steps)
+
+pub returns-in_err-arrive-clause-no_fewer : goal.returns-in_err-arrive-clause-no_fewer
+returns-in_err-arrive-clause-no_fewer g c = grind (arith, common_steps)
+
+pub returns-clause-belongs : goal.returns-clause-belongs
+returns-clause-belongs g c = grind (arith, common_steps)
+
+pub returns-clause-within : goal.returns-clause-within
+returns-clause-within g c = grind (arith, common_steps)
+
+pub returns-clause-ok : goal.returns-clause-ok
+returns-clause-ok g c = grind (arith, common_steps)
+
+pub returns-clause-opening : goal.returns-clause-opening
+returns-clause-opening g c = grind (arith, common_steps)
+
+pub returns-clause-no_fewer : goal.returns-clause-no_fewer
+returns-clause-no_fewer g c = grind (arith, common_steps)

@@ -1,3 +1,5 @@
+use Rattle.std.proofs.lemmas.Grind.{common_steps}
+use Rattle.std.proofs.Common.{arith}
 use Rattle.parwindow.proofs.FilterLaws.{has_none, has_some}
 use Rattle.parwindow.proofs.filter.Filter.of.Goals as goal
 use Rattle.parwindow.proofs.filter.Filter.of.Goals.{in-Some, in_default}
@@ -16,3 +18,6 @@ loop-slice-preserved c =
           (has_none slices c.loop-slice.slice-index _ c.loop-slice.filter c.loop-slice-test.true
           c.loop-slice.invariant w.in_default.is)
     ]
+
+pub returns : goal.returns
+returns c = grind (arith, common_steps)

@@ -13,3 +13,6 @@ invariant_of-self c = grind (arith, common_steps) steps 3000000
 
 pub returns-clause-content : goal.returns-clause-content
 returns-clause-content c = grind (arith, common_steps) steps 3000000
+
+pub returns-clause-full : goal.returns-clause-full
+returns-clause-full c = grind (arith, common_steps)

@@ -1,19 +1,14 @@
+use super::is;
 use parfield::{
     Counts, Hash16, HeaderFault, Kind, Sequence, Tally, Text, Transcript, header,
     ids_follow_numbers, packet_at, show_name,
 };
-use std::fmt::Debug;
 use std::process::Abort;
 use std::test::Fail;
 
 // A Creator packet of set ID zeros, without a body.
 const CREATOR: [u8; 64] =
     *b"PAR2\0PKT\x40\0\0\0\0\0\0\0\x90\xb7\x2c\x62\xf3\xda\xe9\x4b\x3d\xe0\x28\xf3\x1e\x19\x95\x02\0\0\0\0\0\0\0\0\0\0\0\0\0\0\0\0PAR 2.0\0Creator\0";
-
-// Wants that a value is this one.
-fn is<T: Debug + PartialEq>(rt: &impl Abort, got: &T, wanted: &T) {
-    assert_eq!(rt; got, wanted);
-}
 
 // Wants that these bytes have a header of this length.
 fn has_length(rt: &impl Abort, bytes: &[u8], length: u64) -> Result<(), Fail> {

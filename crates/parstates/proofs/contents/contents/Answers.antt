@@ -1,0 +1,48 @@
+use Rattle.std.proofs.lemmas.Grind.{common_steps}
+use Rattle.std.proofs.Common.{arith}
+use Rattle.parstates.proofs.contents.contents.Goals as goal
+
+pub returns-in_err-lengths-clause-contents : goal.returns-in_err-lengths-clause-contents
+returns-in_err-lengths-clause-contents g c = grind (arith, common_steps)
+
+pub returns-in_err-lengths-clause-bytes : goal.returns-in_err-lengths-clause-bytes
+returns-in_err-lengths-clause-bytes g c = grind (arith, common_steps)
+
+pub returns-in_err-lengths-clause-ok : goal.returns-in_err-lengths-clause-ok
+returns-in_err-lengths-clause-ok g c = grind (arith, common_steps)
+
+pub returns-in_err-lengths-clause-fault : goal.returns-in_err-lengths-clause-fault
+returns-in_err-lengths-clause-fault g c = grind (arith, common_steps)
+
+pub loop-file-init : goal.loop-file-init
+loop-file-init g c = grind (arith, common_steps)
+
+pub returns-in_err-content_at-clause-contents : goal.returns-in_err-content_at-clause-contents
+returns-in_err-content_at-clause-contents g c = grind (arith, common_steps)
+
+pub returns-in_err-content_at-clause-ok : goal.returns-in_err-content_at-clause-ok
+returns-in_err-content_at-clause-ok g c = grind (arith, common_steps)
+
+pub returns-in_err-content_at-clause-fault : goal.returns-in_err-content_at-clause-fault
+returns-in_err-content_at-clause-fault g c = grind (arith, common_steps)
+
+pub returns-in_err-map_err-clause-contents : goal.returns-in_err-map_err-clause-contents
+returns-in_err-map_err-clause-contents g c = grind (arith, common_steps)
+
+pub returns-in_err-map_err-clause-ok : goal.returns-in_err-map_err-clause-ok
+returns-in_err-map_err-clause-ok g c = grind (arith, common_steps)
+
+pub returns-in_err-map_err-clause-fault : goal.returns-in_err-map_err-clause-fault
+returns-in_err-map_err-clause-fault g c = grind (arith, common_steps)
+
+pub returns-clause-contents : goal.returns-clause-contents
+returns-clause-contents g c = grind (arith, common_steps)
+
+pub returns-clause-bytes : goal.returns-clause-bytes
+returns-clause-bytes g c = grind (arith, common_steps)
+
+pub returns-clause-ok : goal.returns-clause-ok
+returns-clause-ok g c = grind (arith, common_steps)
+
+pub returns-clause-fault : goal.returns-clause-fault
+returns-clause-fault g c = grind (arith, common_steps)

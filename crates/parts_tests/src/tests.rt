@@ -1,0 +1,12 @@
+mod cursors;
+mod fields;
+mod shelves;
+mod words;
+
+use std::fmt::Debug;
+use std::process::Abort;
+
+// Wants that a value is this one.
+fn is<T: Debug + PartialEq>(rt: &impl Abort, got: &T, wanted: &T) {
+    assert_eq!(rt; got, wanted);
+}

@@ -1,0 +1,6 @@
+//! Tests of `packets`, `set`, `find` and `verify` over files in memory, of reads and writes that
+//! fail in turn, of long texts, of files on disk and of ends.
+#![tactic(auto)]
+
+#[cfg(test)]
+mod tests;

@@ -1,5 +1,0 @@
-mod finding;
-mod reads;
-mod verifying;
-mod whole_rows;
-mod writers;
