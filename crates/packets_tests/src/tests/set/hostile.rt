@@ -1,108 +1,133 @@
 use super::model::{
-    File, Own, all_aside, all_files, all_slices, exponent_count, first_text, own_of,
+    File, Own, all_aside, all_slices, cause_in, exponent_count, file_of, first_text, ids_of, own_of,
 };
 use super::packets::{id_at, ids_in};
 use super::*;
 use parfixtures::{WORKED, all_standing, inverted, packet_of};
-use parsalvage::{kept_of, salvage};
+use parsalvage::{Kept, kept_of, salvage};
 
-// A file is that of the model.
-fn is_file(rt: &impl Abort, found: &SetFile, wanted: &File<'_>, of: usize) {
+// Whether a file is that of the model.
+fn is_file(found: &SetFile, wanted: &File<'_>) -> bool {
     let fields = (found.id, found.whole, found.length, found.known);
     let sums = wanted.sums.is_some();
-    is(
-        rt,
-        &of,
-        &fields,
-        &(wanted.id, wanted.whole, wanted.length, sums),
-    );
-    is(rt, &of, &found.name.as_slice(), &wanted.name);
+    fields == (wanted.id, wanted.whole, wanted.length, sums) && found.name.as_slice() == wanted.name
 }
 
-// The files are those of the model.
-fn are_files(rt: &impl Abort, found: &[SetFile], wanted: &[File<'_>], of: usize) {
-    is(rt, &of, &found.len(), &wanted.len());
-    for (place, file) in found.iter().enumerate() {
-        if let Some(other) = wanted.get(place) {
-            is_file(rt, file, other, of);
+// Whether the files are those of the model, by the numbers of these IDs.
+fn are_files(found: &[SetFile], own: &Own<'_>, numbers: &[u128]) -> bool {
+    for (file, number) in found.iter().zip(numbers) {
+        match file_of(own, *number) {
+            Some(wanted) if is_file(file, &wanted) => (),
+            _ => return false,
         }
     }
-}
-
-// What a set has of its files is what the model has.
-fn has_files(
-    rt: &(impl Abort + AllocGlobal),
-    built: &RecoverySet,
-    own: &Own<'_>,
-    of: usize,
-) -> Result<(), SetFault> {
-    let files = all_files(rt.alloc(), own)?;
-    are_files(rt, built.files(), &files, of);
-    let slices = all_slices(rt.alloc(), &files, own.size)?;
-    is(rt, &of, &built.slices(), &slices.as_slice());
-    Ok(())
+    found.len() == numbers.len()
 }
 
 // A set has the ID, the slice size and the number of files that the model has.
 fn has_numbers(rt: &impl Abort, built: &RecoverySet, own: &Own<'_>, of: usize) {
-    let ids = (
-        built.id(),
-        built.size(),
-        built.files().len() + built.others() as usize,
-    );
-    let wanted = (Hash16(own.main.set), own.size, ids_in(own.main.body).len());
-    is(rt, &of, &ids, &wanted);
+    let files = built.files().len() + built.others() as usize;
+    is(rt, &of, &built.id(), &Hash16(own.main.set));
+    is(rt, &of, &built.size(), &own.size);
+    is(rt, &of, &files, &ids_in(own.main.body).len());
 }
 
-// What a set has of its other packets is what the model has.
-fn has_rest(
+// A set has the exponents and the text that the model has.
+fn has_rest(rt: &impl Abort, built: &RecoverySet, own: &Own<'_>, of: usize) {
+    is(rt, &of, &(built.have() as usize), &exponent_count(own));
+    is(rt, &of, &built.creator(), &first_text(own));
+}
+
+// A set has the slices that the model has.
+fn has_slices(
+    rt: &(impl Abort + AllocGlobal),
+    built: &RecoverySet,
+    own: &Own<'_>,
+    numbers: &[u128],
+    of: usize,
+) -> Result<(), AllocError> {
+    let slices = all_slices(rt.alloc(), own, numbers)?;
+    is(rt, &of, &built.slices(), &slices.as_slice());
+    Ok(())
+}
+
+// A set puts aside what the model does.
+fn has_aside(
     rt: &(impl Abort + AllocGlobal),
     built: &RecoverySet,
     own: &Own<'_>,
     of: usize,
 ) -> Result<(), AllocError> {
-    has_numbers(rt, built, own, of);
-    let exponents = exponent_count(rt.alloc(), own)?;
-    is(rt, &of, &(built.have() as usize), &exponents);
-    is(rt, &of, &built.creator(), &first_text(rt.alloc(), own)?);
     let aside = all_aside(rt.alloc(), own)?;
     is(rt, &of, &built.aside(), &aside.as_slice());
     Ok(())
 }
 
-// Why the model has no set of the packets of a set, if so.
-fn cause_of(alloc: Global, own: &Result<Own<'_>, SetFault>) -> Option<SetFault> {
-    match own {
-        Ok(own) => all_files(alloc, own).err(),
-        Err(cause) => Some(*cause),
+// A set is what the model has.
+fn is_set(
+    rt: &(impl Abort + AllocGlobal),
+    built: &RecoverySet,
+    own: &Own<'_>,
+    numbers: &[u128],
+    of: usize,
+) -> Result<(), AllocError> {
+    has_numbers(rt, built, own, of);
+    holds(rt, &of, are_files(built.files(), own, numbers));
+    has_slices(rt, built, own, numbers, of)?;
+    has_rest(rt, built, own, of);
+    has_aside(rt, built, own, of)
+}
+
+// Why there is no set, if so.
+fn fault_of(built: &Result<RecoverySet, SetFault>) -> Option<SetFault> {
+    match built {
+        Ok(_) => None,
+        Err(fault) => Some(*fault),
     }
 }
 
-// What was built is what the model has.
+// What was built is what the model has of a set.
 fn is_answer(
     rt: &(impl Abort + AllocGlobal),
     built: &Result<RecoverySet, SetFault>,
-    own: &Result<Own<'_>, SetFault>,
+    own: &Own<'_>,
     of: usize,
-) -> Result<(), SetFault> {
-    let cause = cause_of(rt.alloc(), own);
+) -> Result<(), AllocError> {
+    let numbers = ids_of(rt.alloc(), own)?;
+    is(rt, &of, &fault_of(built), &cause_in(own, &numbers));
     match built {
-        Ok(built) => {
-            is(rt, &of, &None, &cause);
-            if let Ok(own) = own {
-                has_files(rt, built, own, of)?;
-                has_rest(rt, built, own, of)?;
-            }
-        }
-        Err(fault) => is(rt, &of, &Some(*fault), &cause),
+        Ok(built) => is_set(rt, built, own, &numbers, of),
+        Err(_) => Ok(()),
     }
-    Ok(())
+}
+
+// What was built of bytes is what the model has.
+fn is_answer_of(
+    rt: &(impl Abort + AllocGlobal),
+    built: &Result<RecoverySet, SetFault>,
+    bytes: &[u8],
+    choice: Option<Hash16>,
+    of: usize,
+) -> Result<(), AllocError> {
+    let standing = all_standing(rt.alloc(), bytes)?;
+    match own_of(&standing, choice) {
+        Some(own) => is_answer(rt, built, &own, of),
+        None => {
+            is(rt, &of, &fault_of(built), &Some(SetFault::NoMain));
+            Ok(())
+        }
+    }
+}
+
+// What is kept of bytes.
+fn kept_in(alloc: Global, bytes: &[u8]) -> Result<Vec<Kept>, AllocError> {
+    let packets = salvage(alloc, bytes)?;
+    kept_of(alloc, 0, &packets)
 }
 
 // What is built of bytes.
 fn built_of(alloc: Global, bytes: &[u8], choice: Option<Hash16>) -> Result<RecoverySet, SetFault> {
-    let packets = salvage(alloc, bytes)?;
-    let kept = kept_of(alloc, 0, &packets)?;
+    let kept = kept_in(alloc, bytes)?;
     build(alloc, &kept, choice)
 }
 
@@ -112,12 +137,21 @@ pub fn agrees(
     bytes: &[u8],
     choice: Option<Hash16>,
     of: usize,
-) -> Result<Result<RecoverySet, SetFault>, SetFault> {
-    let standing = all_standing(rt.alloc(), bytes)?;
-    let own = own_of(rt.alloc(), &standing, choice);
+) -> Result<Result<RecoverySet, SetFault>, AllocError> {
     let built = built_of(rt.alloc(), bytes, choice);
-    is_answer(rt, &built, &own, of)?;
+    is_answer_of(rt, &built, bytes, choice, of)?;
     Ok(built)
+}
+
+// Why there is no set, if so, where the model has that too.
+fn agreed_fault(
+    rt: &(impl Abort + AllocGlobal),
+    bytes: &[u8],
+    choice: Option<Hash16>,
+    of: usize,
+) -> Result<Option<SetFault>, AllocError> {
+    let built = agrees(rt, bytes, choice, of)?;
+    Ok(fault_of(&built))
 }
 
 // The place of an answer among the counts: no Main packet, no description, many slices, a set.
@@ -139,9 +173,9 @@ fn agrees_twice(
     rt: &(impl Abort + AllocGlobal),
     bytes: &[u8],
     of: usize,
-) -> Result<usize, SetFault> {
-    let _ = agrees(rt, bytes, Some(SET), of)?;
-    Ok(place_of(agrees(rt, bytes, None, of)?.err()))
+) -> Result<usize, AllocError> {
+    agreed_fault(rt, bytes, Some(SET), of)?;
+    Ok(place_of(agreed_fault(rt, bytes, None, of)?))
 }
 
 // Where the packets of the worked file begin and end.
@@ -167,24 +201,25 @@ fn with_hashes(alloc: Global, bytes: &[u8], set: Option<Hash16>) -> Result<Vec<u
     for (from, end) in &PLACES {
         let packet = bytes.get(*from..*end).unwrap_or(&[]);
         let set = set.unwrap_or(id_at(packet, 32));
-        let kind = id_at(packet, 48);
         let body = packet.get(64..).unwrap_or(&[]);
-        made.extend_from_slice(&packet_of(alloc, set.0, kind.0, body)?)?;
+        put(alloc, &mut made, set.0, id_at(packet, 48).0, body)?;
     }
     Ok(made)
 }
 
+// Those packets with the set ID that the Main body has.
+fn with_set(alloc: Global, bytes: &[u8]) -> Result<Vec<u8>, AllocError> {
+    let main = bytes.get(64..92).unwrap_or(&[]);
+    with_hashes(alloc, bytes, Some(digest_of(main)))
+}
+
 // The worked file with this change.
 fn changed(alloc: Global, at: usize, change: Change) -> Result<Vec<u8>, AllocError> {
-    let bytes = inverted(alloc, at)?;
     match change {
         Change::Cut => Vec::from_slice(alloc, WORKED.as_slice().get(..at).unwrap_or(&[])),
-        Change::Inverted => Ok(bytes),
-        Change::Hashes => with_hashes(alloc, &bytes, None),
-        Change::SetAndHashes => {
-            let main = bytes.get(64..92).unwrap_or(&[]);
-            with_hashes(alloc, &bytes, Some(digest_of(main)))
-        }
+        Change::Inverted => inverted(alloc, at),
+        Change::Hashes => with_hashes(alloc, &inverted(alloc, at)?, None),
+        Change::SetAndHashes => with_set(alloc, &inverted(alloc, at)?),
     }
 }
 
@@ -208,17 +243,26 @@ static CHANGED: [(usize, usize, Change, [usize; 4]); 10] = [
     (76, 92, Change::SetAndHashes, [0, 16, 0, 0]),
 ];
 
+// The place of the answer to the worked file with this change.
+fn answer_to(
+    rt: &(impl Abort + AllocGlobal),
+    at: usize,
+    change: Change,
+) -> Result<usize, AllocError> {
+    let bytes = changed(rt.alloc(), at, change)?;
+    agrees_twice(rt, &bytes, at)
+}
+
 // How many of the files with this change have which answer.
 fn counts_of(
     rt: &(impl Abort + AllocGlobal),
     from: usize,
     end: usize,
     change: Change,
-) -> Result<[usize; 4], SetFault> {
+) -> Result<[usize; 4], AllocError> {
     let mut counts = [0; 4];
     for at in from..end {
-        let bytes = changed(rt.alloc(), at, change)?;
-        if let Some(count) = counts.get_mut(agrees_twice(rt, &bytes, at)?) {
+        if let Some(count) = counts.get_mut(answer_to(rt, at, change)?) {
             *count = usize::saturating_add(*count, 1);
         }
     }
@@ -228,20 +272,26 @@ fn counts_of(
 #[test]
 fn sets_agree_with_the_model_at_each_cut_and_inverted_byte(
     rt: HostRuntime,
-) -> Result<(), SetFault> {
+) -> Result<(), AllocError> {
     for row in &CHANGED {
         is(&rt, row, &counts_of(&rt, row.0, row.1, row.2)?, &row.3);
     }
     Ok(())
 }
 
-// The packet of a description of a file of this length, which has its ID as name.
-fn desc_packet(alloc: Global, set: Hash16, id: u8, length: u64) -> Result<Vec<u8>, AllocError> {
+// Puts the packet of a description of a file of this length, which has its ID as name, behind bytes.
+fn put_desc(
+    alloc: Global,
+    bytes: &mut Vec<u8>,
+    set: Hash16,
+    id: u8,
+    length: u64,
+) -> Result<(), AllocError> {
     let body = joined(
         alloc,
         &[&[id; 16], &[2; 32], &length.to_le_bytes(), &[id; 4]],
     )?;
-    packet_of(alloc, set.0, DESC_TYPE, &body)
+    put(alloc, bytes, set.0, DESC_TYPE, &body)
 }
 
 // The Main body of a set of so many files, in slices of 4 bytes.
@@ -256,48 +306,57 @@ fn main_of(alloc: Global, count: usize) -> Result<Vec<u8>, AllocError> {
     Ok(main)
 }
 
-// The packets of a set of files of these lengths.
-fn set_of_lengths(alloc: Global, lengths: &[u64]) -> Result<Vec<u8>, AllocError> {
-    let main = main_of(alloc, lengths.len())?;
-    let set = digest_of(&main);
-    let mut bytes = packet_of(alloc, set.0, MAIN_TYPE, &main)?;
+// The packets of a set with this Main body, of files of these lengths.
+fn set_with(alloc: Global, main: &[u8], lengths: &[u64]) -> Result<Vec<u8>, AllocError> {
+    let set = digest_of(main);
+    let mut bytes = packet_of(alloc, set.0, MAIN_TYPE, main)?;
     for (place, length) in lengths.iter().enumerate() {
-        let id = b'a' + (place % 8) as u8;
-        bytes.extend_from_slice(&desc_packet(alloc, set, id, *length)?)?;
+        put_desc(alloc, &mut bytes, set, b'a' + (place % 8) as u8, *length)?;
     }
     Ok(bytes)
 }
 
+// The packets of a set of files of these lengths.
+fn set_of_lengths(alloc: Global, lengths: &[u64]) -> Result<Vec<u8>, AllocError> {
+    let main = main_of(alloc, lengths.len())?;
+    set_with(alloc, &main, lengths)
+}
+
+const MANY: Option<SetFault> = Some(SetFault::TooManySlices);
+
 // Lengths of files, and whether they have too many slices: more than 32,768, also where their
 // number or the sum of them is a multiple of 2^32 or of 2^64.
-static LENGTHS: [(&[u64], bool); 14] = [
-    (&[131_068], false),
-    (&[131_069], false),
-    (&[131_072], false),
-    (&[131_073], true),
-    (&[131_072, 0], false),
-    (&[131_068, 4], false),
-    (&[131_068, 5], true),
-    (&[1, 131_068], false),
-    (&[1, 131_069], true),
-    (&[17_179_869_184], true),
-    (&[8_589_934_592; 2], true),
-    (&[9_223_372_036_854_775_807], true),
-    (&[9_223_372_036_854_775_807; 2], true),
-    (&[9_223_372_036_854_775_807; 8], true),
+static LENGTHS: [(&[u64], Option<SetFault>); 14] = [
+    (&[131_068], None),
+    (&[131_069], None),
+    (&[131_072], None),
+    (&[131_073], MANY),
+    (&[131_072, 0], None),
+    (&[131_068, 4], None),
+    (&[131_068, 5], MANY),
+    (&[1, 131_068], None),
+    (&[1, 131_069], MANY),
+    (&[17_179_869_184], MANY),
+    (&[8_589_934_592; 2], MANY),
+    (&[9_223_372_036_854_775_807], MANY),
+    (&[9_223_372_036_854_775_807; 2], MANY),
+    (&[9_223_372_036_854_775_807; 8], MANY),
 ];
 
+// Why there is no set of files of these lengths, if so, where the model has that too.
+fn fault_with(
+    rt: &(impl Abort + AllocGlobal),
+    place: usize,
+    lengths: &[u64],
+) -> Result<Option<SetFault>, AllocError> {
+    let bytes = set_of_lengths(rt.alloc(), lengths)?;
+    agreed_fault(rt, &bytes, None, place)
+}
+
 #[test]
-fn sets_have_at_most_32768_slices(rt: HostRuntime) -> Result<(), SetFault> {
+fn sets_have_at_most_32768_slices(rt: HostRuntime) -> Result<(), AllocError> {
     for (place, row) in LENGTHS.iter().enumerate() {
-        let bytes = set_of_lengths(rt.alloc(), row.0)?;
-        let fault = agrees(&rt, &bytes, None, place)?.err();
-        let wanted = if row.1 {
-            Some(SetFault::TooManySlices)
-        } else {
-            None
-        };
-        is(&rt, row, &fault, &wanted);
+        is(&rt, row, &fault_with(&rt, place, row.0)?, &row.1);
     }
     Ok(())
 }

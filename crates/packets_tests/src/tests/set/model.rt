@@ -1,18 +1,18 @@
 // Recovery sets as their definition has them: filters and the first such, over one list of
 // packets. No body here is longer than those that are held.
-use super::packets::{filled_text, id_at, ids_in, long_at, sums_in, word_at};
+use super::packets::{filled_text, id_at, ids_in, long_at, recovery_ids_in, sums_in, word_at};
 use md5::{Digest, Md5};
 use parfield::Hash16;
 use parfixtures::{CREATOR_TYPE, DESC_TYPE, IFSC_TYPE, MAIN_TYPE, SLICE_TYPE, Standing};
 use parset::{Aside, SetAside, SetFault, SetSlice};
 use std::alloc::{AllocError, Global};
 
-/// The packets of a set.
-#[derive(Drop)]
+/// A set: its Main packet, its slice size, and the packets that its own are among.
+#[derive(Clone, Copy)]
 pub struct Own<'a> {
     pub main: Standing<'a>,
     pub size: u64,
-    packets: Vec<Standing<'a>>,
+    packets: &'a [Standing<'a>],
 }
 
 /// A file of a set; its slices have sums, or none are known.
@@ -121,51 +121,35 @@ fn first_main<'a>(packets: &[Standing<'a>], choice: Option<Hash16>) -> Option<St
     None
 }
 
-// The packets of a set.
-fn packets_of<'a>(
-    alloc: Global,
-    packets: &[Standing<'a>],
-    set: [u8; 16],
-) -> Result<Vec<Standing<'a>>, AllocError> {
-    let mut own = Vec::new(alloc);
-    for packet in packets {
-        if packet.set == set {
-            own.push(*packet)?;
-        }
-    }
-    Ok(own)
-}
-
-/// The packets of the set that is chosen, or else of the first usable Main.
-pub fn own_of<'a>(
-    alloc: Global,
-    packets: &[Standing<'a>],
-    choice: Option<Hash16>,
-) -> Result<Own<'a>, SetFault> {
-    let main = first_main(packets, choice).ok_or(SetFault::NoMain)?;
-    Ok(Own {
+/// The set that is chosen, or else that of the first usable Main.
+pub fn own_of<'a>(packets: &'a [Standing<'a>], choice: Option<Hash16>) -> Option<Own<'a>> {
+    let main = first_main(packets, choice)?;
+    Some(Own {
         main,
         size: long_at(main.body, 0),
-        packets: packets_of(alloc, packets, main.set)?,
+        packets,
     })
 }
 
-// The usable bodies of a kind.
-fn usable<'a>(alloc: Global, own: &Own<'a>, kind: [u8; 16]) -> Result<Vec<&'a [u8]>, AllocError> {
-    let mut bodies = Vec::new(alloc);
-    for packet in &own.packets {
-        if packet.kind == kind && reason(packet, own.size).is_none() {
-            bodies.push(packet.body)?;
-        }
+// The reason of a packet of the set.
+fn own_reason(own: &Own<'_>, packet: &Standing<'_>) -> Option<Aside> {
+    if packet.set == own.main.set {
+        reason(packet, own.size)
+    } else {
+        None
     }
-    Ok(bodies)
+}
+
+// Whether a packet is of the set and this kind, and has no reason.
+fn is_usable(own: &Own<'_>, packet: &Standing<'_>, kind: [u8; 16]) -> bool {
+    packet.set == own.main.set && packet.kind == kind && reason(packet, own.size).is_none()
 }
 
 /// The packets that have a reason.
 pub fn all_aside(alloc: Global, own: &Own<'_>) -> Result<Vec<SetAside>, AllocError> {
     let mut aside = Vec::new(alloc);
-    for packet in &own.packets {
-        if let Some(reason) = reason(packet, own.size) {
+    for packet in own.packets {
+        if let Some(reason) = own_reason(own, packet) {
             let at = packet.at as u64;
             aside.push(SetAside {
                 file: 0,
@@ -177,27 +161,38 @@ pub fn all_aside(alloc: Global, own: &Own<'_>) -> Result<Vec<SetAside>, AllocErr
     Ok(aside)
 }
 
-/// How many exponents the usable recovery slices have.
-pub fn exponent_count(alloc: Global, own: &Own<'_>) -> Result<usize, AllocError> {
-    let mut seen = Vec::new(alloc);
-    for body in &usable(alloc, own, SLICE_TYPE)? {
-        let exponent = word_at(body, 0);
-        if !seen.contains(&exponent) {
-            seen.push(exponent)?;
+// Whether a usable recovery slice among packets has this exponent.
+fn has_exponent(own: &Own<'_>, packets: &[Standing<'_>], exponent: u32) -> bool {
+    for packet in packets {
+        if is_usable(own, packet, SLICE_TYPE) && word_at(packet.body, 0) == exponent {
+            return true;
         }
     }
-    Ok(seen.len())
+    false
+}
+
+/// How many exponents the usable recovery slices have: each counts where it stands first.
+pub fn exponent_count(own: &Own<'_>) -> usize {
+    let mut count = 0usize;
+    for (place, packet) in own.packets.iter().enumerate() {
+        if is_usable(own, packet, SLICE_TYPE)
+            && !has_exponent(own, &own.packets[..place], word_at(packet.body, 0))
+        {
+            count = count.saturating_add(1);
+        }
+    }
+    count
 }
 
 /// The first text of a Creator packet that is not empty.
-pub fn first_text<'a>(alloc: Global, own: &Own<'a>) -> Result<Option<&'a [u8]>, AllocError> {
-    for body in &usable(alloc, own, CREATOR_TYPE)? {
-        let text = filled_text(body, 0);
-        if !text.is_empty() {
-            return Ok(Some(text));
+pub fn first_text<'a>(own: &Own<'a>) -> Option<&'a [u8]> {
+    for packet in own.packets {
+        let text = filled_text(packet.body, 0);
+        if is_usable(own, packet, CREATOR_TYPE) && !text.is_empty() {
+            return Some(text);
         }
     }
-    Ok(None)
+    None
 }
 
 // How many slices so many bytes have.
@@ -208,86 +203,113 @@ fn slice_count(length: u64, size: u64) -> u64 {
     (length / size).saturating_add(u64::from(length % size != 0))
 }
 
-// The first sums of a file that are so many.
-fn first_sums<'a>(bodies: &[&'a [u8]], id: Hash16, count: u64) -> Option<&'a [[u8; 20]]> {
-    for body in bodies {
-        let sums = sums_in(body);
-        if id_at(body, 0) == id && sums.len() as u64 == count {
-            return Some(sums);
+// The first usable sums of a file that are so many.
+fn first_sums<'a>(own: &Own<'a>, id: Hash16, count: u64) -> Option<&'a [[u8; 20]]> {
+    for packet in own.packets {
+        if is_usable(own, packet, IFSC_TYPE) && id_at(packet.body, 0) == id {
+            let sums = sums_in(packet.body);
+            if sums.len() as u64 == count {
+                return Some(sums);
+            }
         }
     }
     None
 }
 
-// The file of this ID, by the first description that it has.
-fn file_of<'a>(descs: &[&'a [u8]], ifscs: &[&'a [u8]], id: Hash16, size: u64) -> Option<File<'a>> {
-    for body in descs {
-        if id_at(body, 0) == id {
-            let length = long_at(body, 48);
-            return Some(File {
-                id,
-                whole: id_at(body, 16),
-                length,
-                name: filled_text(body, 56),
-                sums: first_sums(ifscs, id, slice_count(length, size)),
-            });
+// The first usable description of the file of this ID.
+fn first_desc<'a>(own: &Own<'a>, id: Hash16) -> Option<&'a [u8]> {
+    for packet in own.packets {
+        if is_usable(own, packet, DESC_TYPE) && id_at(packet.body, 0) == id {
+            return Some(packet.body);
         }
     }
     None
 }
 
-// The IDs of the files that a Main body names, as numbers whose first byte is the least, in order.
-fn numbers_in(alloc: Global, body: &[u8]) -> Result<Vec<u128>, AllocError> {
+/// The file whose ID has this number, by its first description.
+pub fn file_of<'a>(own: &Own<'a>, number: u128) -> Option<File<'a>> {
+    let id = Hash16(number.to_le_bytes());
+    let body = first_desc(own, id)?;
+    let length = long_at(body, 48);
+    Some(File {
+        id,
+        whole: id_at(body, 16),
+        length,
+        name: filled_text(body, 56),
+        sums: first_sums(own, id, slice_count(length, own.size)),
+    })
+}
+
+/// The IDs of the files of a set, as numbers whose first byte is the least, in order.
+pub fn ids_of(alloc: Global, own: &Own<'_>) -> Result<Vec<u128>, AllocError> {
     let mut numbers = Vec::new(alloc);
-    for (place, id) in ids_in(body).iter().enumerate() {
-        if place < word_at(body, 8) as usize {
-            numbers.push(u128::from_le_bytes(*id))?;
-        }
+    for id in recovery_ids_in(own.main.body) {
+        numbers.push(u128::from_le_bytes(*id))?;
     }
     numbers.sort()?;
     Ok(numbers)
 }
 
-// The files of these IDs.
-fn files_of<'a>(alloc: Global, own: &Own<'a>, numbers: &[u128]) -> Result<Vec<File<'a>>, SetFault> {
-    let descs = usable(alloc, own, DESC_TYPE)?;
-    let ifscs = usable(alloc, own, IFSC_TYPE)?;
-    let mut files = Vec::new(alloc);
+// The first of these files that has no description.
+fn not_described(own: &Own<'_>, numbers: &[u128]) -> Option<SetFault> {
     for number in numbers {
-        let id = Hash16(number.to_le_bytes());
-        let file = file_of(&descs, &ifscs, id, own.size).ok_or(SetFault::NoDesc(id))?;
-        if let Err(refused) = files.push(file) {
-            return Err(AllocError::from(refused).into());
+        if file_of(own, *number).is_none() {
+            return Some(SetFault::NoDesc(Hash16(number.to_le_bytes())));
         }
     }
-    Ok(files)
+    None
 }
 
-// The first cause against a set of these files.
-fn cause_in(files: &[File<'_>], size: u64) -> Option<SetFault> {
-    let mut total = 0;
-    for (place, file) in files.iter().enumerate() {
-        for other in &files[..place] {
-            if file.name == other.name {
-                return Some(SetFault::NameTwice(file.id));
-            }
-        }
-        total = slice_count(file.length, size).saturating_add(total);
+// The name of a file that is described.
+fn name_of<'a>(own: &Own<'a>, number: u128) -> &'a [u8] {
+    match file_of(own, number) {
+        Some(file) => file.name,
+        None => &[],
     }
-    if total > 32_768 {
+}
+
+// Whether one of these files has this name.
+fn has_name(own: &Own<'_>, numbers: &[u128], name: &[u8]) -> bool {
+    for number in numbers {
+        if name_of(own, *number) == name {
+            return true;
+        }
+    }
+    false
+}
+
+// The first of these files, which are described, that has the name of one before it.
+fn named_twice(own: &Own<'_>, numbers: &[u128]) -> Option<SetFault> {
+    for (place, number) in numbers.iter().enumerate() {
+        if has_name(own, &numbers[..place], name_of(own, *number)) {
+            return Some(SetFault::NameTwice(Hash16(number.to_le_bytes())));
+        }
+    }
+    None
+}
+
+// How many slices these files have.
+fn total_of(own: &Own<'_>, numbers: &[u128]) -> u64 {
+    let mut total = 0;
+    for number in numbers {
+        if let Some(file) = file_of(own, *number) {
+            total = slice_count(file.length, own.size).saturating_add(total);
+        }
+    }
+    total
+}
+
+/// The first cause against a set of these files, if any: of all the files one that has no
+/// description, then one whose name stands twice, then their slices.
+pub fn cause_in(own: &Own<'_>, numbers: &[u128]) -> Option<SetFault> {
+    if let Some(cause) = not_described(own, numbers) {
+        Some(cause)
+    } else if let Some(cause) = named_twice(own, numbers) {
+        Some(cause)
+    } else if total_of(own, numbers) > 32_768 {
         Some(SetFault::TooManySlices)
     } else {
         None
-    }
-}
-
-/// The files of a set, or the first cause why there is none.
-pub fn all_files<'a>(alloc: Global, own: &Own<'a>) -> Result<Vec<File<'a>>, SetFault> {
-    let numbers = numbers_in(alloc, own.main.body)?;
-    let files = files_of(alloc, own, &numbers)?;
-    match cause_in(&files, own.size) {
-        Some(cause) => Err(cause),
-        None => Ok(files),
     }
 }
 
@@ -310,16 +332,24 @@ fn slice_of(file: &File<'_>, size: u64, number: u32) -> SetSlice {
     }
 }
 
-/// The slices of all files.
+// Puts the slices of a file behind others.
+fn put_slices(slices: &mut Vec<SetSlice>, file: &File<'_>, size: u64) -> Result<(), AllocError> {
+    for number in 0..slice_count(file.length, size).min(32_768) as u32 {
+        slices.push(slice_of(file, size, number))?;
+    }
+    Ok(())
+}
+
+/// The slices of these files, which are described.
 pub fn all_slices(
     alloc: Global,
-    files: &[File<'_>],
-    size: u64,
+    own: &Own<'_>,
+    numbers: &[u128],
 ) -> Result<Vec<SetSlice>, AllocError> {
     let mut slices = Vec::new(alloc);
-    for file in files {
-        for number in 0..slice_count(file.length, size).min(32_768) as u32 {
-            slices.push(slice_of(file, size, number))?;
+    for number in numbers {
+        if let Some(file) = file_of(own, *number) {
+            put_slices(&mut slices, &file, own.size)?;
         }
     }
     Ok(slices)

@@ -2,123 +2,182 @@ use super::*;
 use parfield::{Kind, Packet};
 use parsalvage::{Kept, kept_of};
 
-// Bodies, a line each: the type of its packet, the first reason why the body is not usable or that
+// Bodies, a row each: the kind of its packet, the first reason why the body is not usable or that
 // it is, and the runs of its bytes. A Main body is in a packet of its own set.
-//
+type Rows = &'static [(Kind, Option<Aside>, Runs)];
+
+const USABLE: Option<Aside> = None;
+
+const LENGTH: Option<Aside> = Some(Aside::WrongLength);
+
+const SIZE: Option<Aside> = Some(Aside::SliceSize);
+
+const TWICE: Option<Aside> = Some(Aside::IdTwice);
+
+const NAME: Option<Aside> = Some(Aside::Name);
+
+const LIMIT: Option<Aside> = Some(Aside::OverLimit);
+
 // A Main body has eight bytes of slice size, four of count, and the IDs. Slice sizes are, behind
 // the small ones, 268,435,456 and 268,435,460, and twice the first; the last Main bodies have 32,769
 // IDs, or are the longest. A FileDesc body has 48 bytes of ID and MD5s, eight of length, and the
 // name; an IFSC body sixteen bytes of ID, and twenty a slice.
-const BODIES: &str = "\
-Main length
-Main length 4 0*10
-Main usable 4 0*11
-Main length 4 0*12
-Main length 4 0*11 a*15
-Main usable 4 0*11 a*16
-Main length 4 0*11 a*16 b
-Main usable 4 0*11 a*16 b*16
-Main length 4 0*7 1 0*3
-Main usable 4 0*7 1 0*3 a*16
-Main length 4 0*7 2 0*3 a*16
-Main usable 4 0*7 1 0*3 a*16 b*16
-Main usable 4 0*7 2 0*3 a*16 b*16
-Main length 4 0*7 3 0*3 a*16 b*16
-Main length 4 0*7 255*4
-Main length 6 0*7 1 0*3
-Main size 0*12
-Main size 2 0*11
-Main size 6 0*11
-Main size 2 0*2 16 0*8
-Main usable 0*3 16 0*8
-Main limit 4 0*2 16 0*8
-Main limit 0*3 32 0*8
-Main limit 4 0*2 16 0*8 a*32
-Main limit 4*8 0*4
-Main twice 4 0*7 1 0*3 a*32
-Main twice 4 0*7 2 0*3 a*32
-Main twice 4 0*11 a*16 b*16 a*16
-Main twice 4 0*7 2 0*3 b*16 a*32
-Main limit 4 0*11 7*524304
-Main size 0*524316
-Main length 0*1048576
-Main limit 0*1048577
-FileDesc length
-FileDesc length 0*52
-FileDesc length 0*55
-FileDesc name 0*56
-FileDesc name 0*60
-FileDesc usable 0*56 a 0*3
-FileDesc usable 0*56 a*4
-FileDesc usable 0*56 .*2 / g
-FileDesc usable 0*56 a*4 0*4
-FileDesc length 0*56 a*3
-FileDesc length 0*56 a*5
-FileDesc name 0*56 a 0 b 0
-FileDesc name 0*57 b*3
-FileDesc usable 0*48 255*7 127 a 0*3
-FileDesc limit 0*55 128 a 0*3
-FileDesc limit 0*48 255*8 a 0*3
-FileDesc name 0*55 128 a 0 b 0
-FileDesc length 0*55 128 a*5
-FileDesc usable 0*56 x*4096
-FileDesc usable 0*56 x*4096 0*4
-FileDesc name 0*56 x*4097 0*3
-FileDesc name 0*56 x*1048520
-FileDesc limit 0*56 x*1048521
-Ifsc length
-Ifsc length 0*15
-Ifsc usable 0*16
-Ifsc length 0*26
-Ifsc length 0*35
-Ifsc usable 0*36
-Ifsc length 0*37
-Ifsc usable 0*655376
-Ifsc length 0*655377
-Ifsc limit 0*655396
-Ifsc length 0*1048575
-Ifsc limit 0*1048576
-Ifsc limit 0*1048577
-Creator usable
-Creator usable 0*1048576
-Creator limit 0*1048577
-";
-
-// The same of bodies in packets of a set whose slices have four bytes.
-const OTHERS: &str = "\
-RecvSlic usable 0*8
-RecvSlic length 0*9
-RecvSlic length 0*12
-RecvSlic limit 255*4 0*4
-Other usable
-Other usable 0*1048577
-";
-
-// The words for reasons.
-static REASONS: [(&str, Aside); 5] = [
-    ("length", Aside::WrongLength),
-    ("size", Aside::SliceSize),
-    ("twice", Aside::IdTwice),
-    ("name", Aside::Name),
-    ("limit", Aside::OverLimit),
+const BODIES: Rows = &[
+    (Kind::Main, LENGTH, &[]),
+    (Kind::Main, LENGTH, &[(4, 1), (0, 10)]),
+    (Kind::Main, USABLE, &[(4, 1), (0, 11)]),
+    (Kind::Main, LENGTH, &[(4, 1), (0, 12)]),
+    (Kind::Main, LENGTH, &[(4, 1), (0, 11), (b'a', 15)]),
+    (Kind::Main, USABLE, &[(4, 1), (0, 11), (b'a', 16)]),
+    (
+        Kind::Main,
+        LENGTH,
+        &[(4, 1), (0, 11), (b'a', 16), (b'b', 1)],
+    ),
+    (
+        Kind::Main,
+        USABLE,
+        &[(4, 1), (0, 11), (b'a', 16), (b'b', 16)],
+    ),
+    (Kind::Main, LENGTH, &[(4, 1), (0, 7), (1, 1), (0, 3)]),
+    (
+        Kind::Main,
+        USABLE,
+        &[(4, 1), (0, 7), (1, 1), (0, 3), (b'a', 16)],
+    ),
+    (
+        Kind::Main,
+        LENGTH,
+        &[(4, 1), (0, 7), (2, 1), (0, 3), (b'a', 16)],
+    ),
+    (
+        Kind::Main,
+        USABLE,
+        &[(4, 1), (0, 7), (1, 1), (0, 3), (b'a', 16), (b'b', 16)],
+    ),
+    (
+        Kind::Main,
+        USABLE,
+        &[(4, 1), (0, 7), (2, 1), (0, 3), (b'a', 16), (b'b', 16)],
+    ),
+    (
+        Kind::Main,
+        LENGTH,
+        &[(4, 1), (0, 7), (3, 1), (0, 3), (b'a', 16), (b'b', 16)],
+    ),
+    (Kind::Main, LENGTH, &[(4, 1), (0, 7), (255, 4)]),
+    (Kind::Main, LENGTH, &[(6, 1), (0, 7), (1, 1), (0, 3)]),
+    (Kind::Main, SIZE, &[(0, 12)]),
+    (Kind::Main, SIZE, &[(2, 1), (0, 11)]),
+    (Kind::Main, SIZE, &[(6, 1), (0, 11)]),
+    (Kind::Main, SIZE, &[(2, 1), (0, 2), (16, 1), (0, 8)]),
+    (Kind::Main, USABLE, &[(0, 3), (16, 1), (0, 8)]),
+    (Kind::Main, LIMIT, &[(4, 1), (0, 2), (16, 1), (0, 8)]),
+    (Kind::Main, LIMIT, &[(0, 3), (32, 1), (0, 8)]),
+    (
+        Kind::Main,
+        LIMIT,
+        &[(4, 1), (0, 2), (16, 1), (0, 8), (b'a', 32)],
+    ),
+    (Kind::Main, LIMIT, &[(4, 8), (0, 4)]),
+    (
+        Kind::Main,
+        TWICE,
+        &[(4, 1), (0, 7), (1, 1), (0, 3), (b'a', 32)],
+    ),
+    (
+        Kind::Main,
+        TWICE,
+        &[(4, 1), (0, 7), (2, 1), (0, 3), (b'a', 32)],
+    ),
+    (
+        Kind::Main,
+        TWICE,
+        &[(4, 1), (0, 11), (b'a', 16), (b'b', 16), (b'a', 16)],
+    ),
+    (
+        Kind::Main,
+        TWICE,
+        &[(4, 1), (0, 7), (2, 1), (0, 3), (b'b', 16), (b'a', 32)],
+    ),
+    (Kind::Main, LIMIT, &[(4, 1), (0, 11), (7, 524_304)]),
+    (Kind::Main, SIZE, &[(0, 524_316)]),
+    (Kind::Main, LENGTH, &[(0, 1_048_576)]),
+    (Kind::Main, LIMIT, &[(0, 1_048_577)]),
+    (Kind::FileDesc, LENGTH, &[]),
+    (Kind::FileDesc, LENGTH, &[(0, 52)]),
+    (Kind::FileDesc, LENGTH, &[(0, 55)]),
+    (Kind::FileDesc, NAME, &[(0, 56)]),
+    (Kind::FileDesc, NAME, &[(0, 60)]),
+    (Kind::FileDesc, USABLE, &[(0, 56), (b'a', 1), (0, 3)]),
+    (Kind::FileDesc, USABLE, &[(0, 56), (b'a', 4)]),
+    (
+        Kind::FileDesc,
+        USABLE,
+        &[(0, 56), (b'.', 2), (b'/', 1), (b'g', 1)],
+    ),
+    (Kind::FileDesc, USABLE, &[(0, 56), (b'a', 4), (0, 4)]),
+    (Kind::FileDesc, LENGTH, &[(0, 56), (b'a', 3)]),
+    (Kind::FileDesc, LENGTH, &[(0, 56), (b'a', 5)]),
+    (
+        Kind::FileDesc,
+        NAME,
+        &[(0, 56), (b'a', 1), (0, 1), (b'b', 1), (0, 1)],
+    ),
+    (Kind::FileDesc, NAME, &[(0, 57), (b'b', 3)]),
+    (
+        Kind::FileDesc,
+        USABLE,
+        &[(0, 48), (255, 7), (127, 1), (b'a', 1), (0, 3)],
+    ),
+    (
+        Kind::FileDesc,
+        LIMIT,
+        &[(0, 55), (128, 1), (b'a', 1), (0, 3)],
+    ),
+    (
+        Kind::FileDesc,
+        LIMIT,
+        &[(0, 48), (255, 8), (b'a', 1), (0, 3)],
+    ),
+    (
+        Kind::FileDesc,
+        NAME,
+        &[(0, 55), (128, 1), (b'a', 1), (0, 1), (b'b', 1), (0, 1)],
+    ),
+    (Kind::FileDesc, LENGTH, &[(0, 55), (128, 1), (b'a', 5)]),
+    (Kind::FileDesc, USABLE, &[(0, 56), (b'x', 4_096)]),
+    (Kind::FileDesc, USABLE, &[(0, 56), (b'x', 4_096), (0, 4)]),
+    (Kind::FileDesc, NAME, &[(0, 56), (b'x', 4_097), (0, 3)]),
+    (Kind::FileDesc, NAME, &[(0, 56), (b'x', 1_048_520)]),
+    (Kind::FileDesc, LIMIT, &[(0, 56), (b'x', 1_048_521)]),
+    (Kind::Ifsc, LENGTH, &[]),
+    (Kind::Ifsc, LENGTH, &[(0, 15)]),
+    (Kind::Ifsc, USABLE, &[(0, 16)]),
+    (Kind::Ifsc, LENGTH, &[(0, 26)]),
+    (Kind::Ifsc, LENGTH, &[(0, 35)]),
+    (Kind::Ifsc, USABLE, &[(0, 36)]),
+    (Kind::Ifsc, LENGTH, &[(0, 37)]),
+    (Kind::Ifsc, USABLE, &[(0, 655_376)]),
+    (Kind::Ifsc, LENGTH, &[(0, 655_377)]),
+    (Kind::Ifsc, LIMIT, &[(0, 655_396)]),
+    (Kind::Ifsc, LENGTH, &[(0, 1_048_575)]),
+    (Kind::Ifsc, LIMIT, &[(0, 1_048_576)]),
+    (Kind::Ifsc, LIMIT, &[(0, 1_048_577)]),
+    (Kind::Creator, USABLE, &[]),
+    (Kind::Creator, USABLE, &[(0, 1_048_576)]),
+    (Kind::Creator, LIMIT, &[(0, 1_048_577)]),
 ];
 
-// The reason that a word names.
-fn reason_of(word: &str) -> Option<Aside> {
-    for (name, reason) in &REASONS {
-        if *name == word {
-            return Some(*reason);
-        }
-    }
-    None
-}
-
-// The kind, the reason and the runs of a line.
-fn row_of(row: &str) -> (Kind, Option<Aside>, &str) {
-    let (kind, rest) = halves(row);
-    let (reason, runs) = halves(rest);
-    (Kind::of_type(type_of(kind)), reason_of(reason), runs)
-}
+// The same of bodies in packets of a set whose slices have four bytes.
+const OTHERS: Rows = &[
+    (Kind::RecvSlic, USABLE, &[(0, 8)]),
+    (Kind::RecvSlic, LENGTH, &[(0, 9)]),
+    (Kind::RecvSlic, LENGTH, &[(0, 12)]),
+    (Kind::RecvSlic, LIMIT, &[(255, 4), (0, 4)]),
+    (Kind::Other([0; 16]), USABLE, &[]),
+    (Kind::Other([0; 16]), USABLE, &[(0, 1_048_577)]),
+];
 
 // Why a body in a packet of this kind and set has no fields.
 fn fault_in(alloc: Global, kind: Kind, body: &[u8], set: Hash16) -> Option<BodyFault> {
@@ -150,24 +209,26 @@ fn reason_in_another(kind: Kind, reason: Option<Aside>) -> Option<Aside> {
 // A body in a packet of this kind has this reason, in a set of its own and in another.
 fn has_reason(
     rt: &(impl Abort + AllocGlobal),
-    row: &str,
+    place: usize,
     body: &[u8],
     kind: Kind,
     reason: Option<Aside>,
 ) {
     let fault = fault_in(rt.alloc(), kind, body, digest_of(body));
-    is(rt, &row, &fault, &fault_of(reason));
+    is(rt, &place, &fault, &fault_of(reason));
     let fault = fault_in(rt.alloc(), kind, body, SET);
-    is(rt, &row, &fault, &fault_of(reason_in_another(kind, reason)));
+    is(
+        rt,
+        &place,
+        &fault,
+        &fault_of(reason_in_another(kind, reason)),
+    );
 }
 
 #[test]
 fn bodies_have_their_first_reason(rt: HostRuntime) -> Result<(), AllocError> {
-    for row in BODIES.lines() {
-        let (kind, reason, runs) = row_of(row);
-        // A word that names no reason is `usable`.
-        is(&rt, &row, &reason.is_none(), &row.contains(" usable"));
-        has_reason(&rt, row, &bytes_of(rt.alloc(), runs)?, kind, reason);
+    for (place, row) in BODIES.iter().enumerate() {
+        has_reason(&rt, place, &bytes_of(rt.alloc(), row.2)?, row.0, row.1);
     }
     Ok(())
 }
@@ -183,14 +244,19 @@ static LONG_MAINS: [(u32, u32, usize, Option<Aside>); 6] = [
     (0, 32_768, 16, Some(Aside::OverLimit)),
 ];
 
-// A Main body of such a row.
-fn long_main(alloc: Global, count: u32, ids: u32, zeros: usize) -> Result<Vec<u8>, AllocError> {
-    let mut body = joined(alloc, &[b"\x04\0\0\0\0\0\0\0", &count.to_le_bytes()])?;
+// Puts so many IDs behind bytes.
+fn put_ids(body: &mut Vec<u8>, ids: u32) -> Result<(), AllocError> {
     for id in 0..ids {
         body.extend_from_slice(&u128::from(id).to_le_bytes())?;
     }
-    let size = body.len().saturating_add(zeros);
-    body.resize(size, 0)?;
+    Ok(())
+}
+
+// A Main body of such a row.
+fn long_main(alloc: Global, count: u32, ids: u32, zeros: usize) -> Result<Vec<u8>, AllocError> {
+    let mut body = joined(alloc, &[b"\x04\0\0\0\0\0\0\0", &count.to_le_bytes()])?;
+    put_ids(&mut body, ids)?;
+    body.resize(body.len().saturating_add(zeros), 0)?;
     Ok(body)
 }
 
@@ -198,7 +264,7 @@ fn long_main(alloc: Global, count: u32, ids: u32, zeros: usize) -> Result<Vec<u8
 fn main_bodies_of_many_ids_have_their_first_reason(rt: HostRuntime) -> Result<(), AllocError> {
     for row in &LONG_MAINS {
         let body = long_main(rt.alloc(), row.0, row.1, row.2)?;
-        let fault = main_body(rt.alloc(), &body, digest_of(&body)).err();
+        let fault = fault_in(rt.alloc(), Kind::Main, &body, digest_of(&body));
         is(&rt, row, &fault, &fault_of(row.3));
     }
     Ok(())
@@ -207,12 +273,16 @@ fn main_bodies_of_many_ids_have_their_first_reason(rt: HostRuntime) -> Result<()
 // Lengths of usable IFSC bodies of zeros, and how many pairs those have.
 static PAIRS: [(usize, usize); 3] = [(16, 0), (36, 1), (655_376, 32_768)];
 
+// How many pairs a usable IFSC body of so many zeros has.
+fn pairs_in(alloc: Global, size: usize) -> Result<usize, BodyFault> {
+    let body = vec![in alloc; 0; size]?;
+    Ok(ifsc_body(alloc, &body)?.sums.len())
+}
+
 #[test]
 fn checksums_have_a_pair_for_each_twenty_bytes(rt: HostRuntime) -> Result<(), BodyFault> {
     for row in &PAIRS {
-        let body = vec![in rt.alloc(); 0; row.0]?;
-        let ifsc = ifsc_body(rt.alloc(), &body)?;
-        is(&rt, row, &ifsc.sums.len(), &row.1);
+        is(&rt, row, &pairs_in(rt.alloc(), row.0)?, &row.1);
     }
     Ok(())
 }
@@ -226,7 +296,8 @@ fn keep(alloc: Global, packets: &mut Vec<Kept>, kind: Kind, body: &[u8]) -> Resu
         kind,
         body,
     };
-    packets.append(&mut kept_of(alloc, 0, &[packet])?)
+    let mut kept = kept_of(alloc, 0, &[packet])?;
+    packets.append(&mut kept)
 }
 
 // Puts a packet of each of these bodies behind others, and what is put aside of them behind that.
@@ -234,12 +305,11 @@ fn keep_rows(
     alloc: Global,
     packets: &mut Vec<Kept>,
     asides: &mut Vec<SetAside>,
-    rows: &str,
+    rows: Rows,
 ) -> Result<(), AllocError> {
-    for row in rows.lines() {
-        let (kind, reason, runs) = row_of(row);
-        put_aside(asides, packets.len(), reason_in_another(kind, reason))?;
-        keep(alloc, packets, kind, &bytes_of(alloc, runs)?)?;
+    for (kind, reason, runs) in rows {
+        put_aside(asides, packets.len(), reason_in_another(*kind, *reason))?;
+        keep(alloc, packets, *kind, &bytes_of(alloc, runs)?)?;
     }
     Ok(())
 }
@@ -260,29 +330,51 @@ fn put_aside(
     Ok(())
 }
 
-// Packets of all those bodies, and then the Main packet of their set and its description; those
-// that are put aside, each that is not usable, stand in the other list.
-fn packets_of_g(alloc: Global, asides: &mut Vec<SetAside>) -> Result<Vec<Kept>, AllocError> {
-    let mut packets = Vec::new(alloc);
-    keep_rows(alloc, &mut packets, asides, BODIES)?;
-    keep_rows(alloc, &mut packets, asides, OTHERS)?;
-    keep(alloc, &mut packets, Kind::Main, MAIN)?;
-    keep(alloc, &mut packets, Kind::FileDesc, DESC)?;
-    Ok(packets)
+// Puts a packet of each of the first bodies behind others, and what is put aside of them.
+fn keep_bodies(
+    alloc: Global,
+    packets: &mut Vec<Kept>,
+    asides: &mut Vec<SetAside>,
+) -> Result<(), AllocError> {
+    keep_rows(alloc, packets, asides, BODIES)
+}
+
+// Puts packets of all those bodies behind others, and then the Main packet of their set and its
+// description; those that are put aside, each that is not usable, stand in the other list.
+fn keep_all(
+    alloc: Global,
+    packets: &mut Vec<Kept>,
+    asides: &mut Vec<SetAside>,
+) -> Result<(), AllocError> {
+    keep_bodies(alloc, packets, asides)?;
+    keep_rows(alloc, packets, asides, OTHERS)?;
+    keep(alloc, packets, Kind::Main, MAIN)?;
+    keep(alloc, packets, Kind::FileDesc, DESC)
 }
 
 // The set of `g.bin` has these packets put aside, its file and a recovery slice.
 fn has_aside(rt: &impl Abort, built: &RecoverySet, asides: &[SetAside]) {
     is(rt, &"aside", &built.aside(), &asides);
-    let rest = (built.files().len(), built.have(), built.creator());
-    is(rt, &"rest", &rest, &(1, 1, None));
+    is(rt, &"files", &built.files().len(), &1);
+    is(rt, &"slices", &built.have(), &1);
+    is(rt, &"text", &built.creator(), &None);
+}
+
+// The set of these packets has them.
+fn puts_aside(
+    rt: &(impl Abort + AllocGlobal),
+    packets: &[Kept],
+    asides: &[SetAside],
+) -> Result<(), SetFault> {
+    let built = build(rt.alloc(), packets, None)?;
+    has_aside(rt, &built, asides);
+    Ok(())
 }
 
 #[test]
 fn a_usable_set_puts_aside_a_packet_for_each_reason(rt: HostRuntime) -> Result<(), SetFault> {
     let mut asides = Vec::new(rt.alloc());
-    let packets = packets_of_g(rt.alloc(), &mut asides)?;
-    let built = build(rt.alloc(), &packets, None)?;
-    has_aside(&rt, &built, &asides);
-    Ok(())
+    let mut packets = Vec::new(rt.alloc());
+    keep_all(rt.alloc(), &mut packets, &mut asides)?;
+    puts_aside(&rt, &packets, &asides)
 }

@@ -1,92 +1,146 @@
 use super::hostile::agrees;
 use super::*;
-use parfixtures::packet_of;
 
-// Packets stand in a text, a line each: the place of the one whose body has its set ID as MD5, or a
-// place behind all for a set ID of zeros; its type; and the runs of its body.
-
-// A line's place, type and runs.
-fn row_of(row: &str) -> (usize, [u8; 16], &str) {
-    let (owner, rest) = halves(row);
-    let (kind, runs) = halves(rest);
-    (owner.parse().unwrap_or(0), type_of(kind), runs)
-}
+// Packets, a row each: the place of the one whose body has its set ID as MD5, or a place behind all
+// for a set ID of zeros; its type; and the runs of its body.
+type Rows = &'static [(usize, [u8; 16], Runs)];
 
 // The set ID of a packet with that place.
-fn set_id(alloc: Global, rows: &str, place: usize) -> Result<Hash16, AllocError> {
-    for (other, row) in rows.lines().enumerate() {
-        if other == place {
-            return Ok(digest_of(&bytes_of(alloc, row_of(row).2)?));
-        }
+fn set_id(alloc: Global, rows: Rows, place: usize) -> Result<Hash16, AllocError> {
+    match rows.get(place) {
+        Some(row) => Ok(digest_of(&bytes_of(alloc, row.2)?)),
+        None => Ok(Hash16([0; 16])),
     }
-    Ok(Hash16([0; 16]))
+}
+
+// Puts the packet of one of these rows behind bytes.
+fn put_row(
+    alloc: Global,
+    bytes: &mut Vec<u8>,
+    rows: Rows,
+    row: &(usize, [u8; 16], Runs),
+) -> Result<(), AllocError> {
+    let set = set_id(alloc, rows, row.0)?;
+    let body = bytes_of(alloc, row.2)?;
+    put(alloc, bytes, set.0, row.1, &body)
 }
 
 // The bytes of these packets.
-fn file_of(alloc: Global, rows: &str) -> Result<Vec<u8>, AllocError> {
+fn file_of(alloc: Global, rows: Rows) -> Result<Vec<u8>, AllocError> {
     let mut bytes = Vec::new(alloc);
-    for row in rows.lines() {
-        let (owner, kind, runs) = row_of(row);
-        let set = set_id(alloc, rows, owner)?;
-        let body = bytes_of(alloc, runs)?;
-        bytes.extend_from_slice(&packet_of(alloc, set.0, kind, &body)?)?;
+    for row in rows {
+        put_row(alloc, &mut bytes, rows, row)?;
     }
     Ok(bytes)
 }
 
 // Main packets of a set, of another, and of the first again; neither set has files.
-const NO_FILES: &str = "\
-0 Main 4 0*11
-1 Main 8 0*11 1*16
-0 Main 4 0*11
-";
+const NO_FILES: Rows = &[
+    (0, MAIN_TYPE, &[(4, 1), (0, 11)]),
+    (1, MAIN_TYPE, &[(8, 1), (0, 11), (1, 16)]),
+    (0, MAIN_TYPE, &[(4, 1), (0, 11)]),
+];
 
 // Two Main packets, of which the first has a file without a description.
-const NOT_DESCRIBED: &str = "\
-0 Main 4 0*7 1 0*3 1*16
-1 Main 4 0*11
-";
+const NOT_DESCRIBED: Rows = &[
+    (0, MAIN_TYPE, &[(4, 1), (0, 7), (1, 1), (0, 3), (1, 16)]),
+    (1, MAIN_TYPE, &[(4, 1), (0, 11)]),
+];
 
 // Files 4, 2, 1 and 3, of which 1 and 3 are described.
-const TWO_DESCRIBED: &str = "\
-0 Main 4 0*7 4 0*3 4*16 2*16 1*16 3*16
-0 FileDesc 1*16 2*32 6 0*7 a 0*3
-0 FileDesc 3*16 2*32 6 0*7 a 0*3
-";
+const TWO_DESCRIBED: Rows = &[
+    (
+        0,
+        MAIN_TYPE,
+        &[
+            (4, 1),
+            (0, 7),
+            (4, 1),
+            (0, 3),
+            (4, 16),
+            (2, 16),
+            (1, 16),
+            (3, 16),
+        ],
+    ),
+    (
+        0,
+        DESC_TYPE,
+        &[(1, 16), (2, 32), (6, 1), (0, 7), (b'a', 1), (0, 3)],
+    ),
+    (
+        0,
+        DESC_TYPE,
+        &[(3, 16), (2, 32), (6, 1), (0, 7), (b'a', 1), (0, 3)],
+    ),
+];
 
 // Files 4, 2, 1 and 3, of the names a, b, a and b.
-const NAMED_ALIKE: &str = "\
-0 Main 4 0*7 4 0*3 4*16 2*16 1*16 3*16
-0 FileDesc 4*16 2*32 6 0*7 a 0*3
-0 FileDesc 3*16 2*32 6 0*7 b 0*3
-0 FileDesc 1*16 2*32 6 0*7 a 0*3
-0 FileDesc 2*16 2*32 6 0*7 b 0*3
-";
+const NAMED_ALIKE: Rows = &[
+    (
+        0,
+        MAIN_TYPE,
+        &[
+            (4, 1),
+            (0, 7),
+            (4, 1),
+            (0, 3),
+            (4, 16),
+            (2, 16),
+            (1, 16),
+            (3, 16),
+        ],
+    ),
+    (
+        0,
+        DESC_TYPE,
+        &[(4, 16), (2, 32), (6, 1), (0, 7), (b'a', 1), (0, 3)],
+    ),
+    (
+        0,
+        DESC_TYPE,
+        &[(3, 16), (2, 32), (6, 1), (0, 7), (b'b', 1), (0, 3)],
+    ),
+    (
+        0,
+        DESC_TYPE,
+        &[(1, 16), (2, 32), (6, 1), (0, 7), (b'a', 1), (0, 3)],
+    ),
+    (
+        0,
+        DESC_TYPE,
+        &[(2, 16), (2, 32), (6, 1), (0, 7), (b'b', 1), (0, 3)],
+    ),
+];
 
 // A file of six bytes, sums of one slice, those of another set, and twice sums of two slices.
-const WITH_SUMS: &str = "\
-0 Main 4 0*7 1 0*3 1*16
-0 Ifsc 1*16 9*17 0*3
-9 Ifsc 1*16 8*17 0*3 8*17 0*3
-0 Ifsc 1*16 3*17 0*3 4*17 0*3
-0 Ifsc 1*16 5*17 0*3 6*17 0*3
-0 FileDesc 1*16 2*32 6 0*7 n*4
-";
+const WITH_SUMS: Rows = &[
+    (0, MAIN_TYPE, &[(4, 1), (0, 7), (1, 1), (0, 3), (1, 16)]),
+    (0, IFSC_TYPE, &[(1, 16), (9, 17), (0, 3)]),
+    (9, IFSC_TYPE, &[(1, 16), (8, 17), (0, 3), (8, 17), (0, 3)]),
+    (0, IFSC_TYPE, &[(1, 16), (3, 17), (0, 3), (4, 17), (0, 3)]),
+    (0, IFSC_TYPE, &[(1, 16), (5, 17), (0, 3), (6, 17), (0, 3)]),
+    (0, DESC_TYPE, &[(1, 16), (2, 32), (6, 1), (0, 7), (b'n', 4)]),
+];
 
 // An empty file whose name leads out of a folder, and a text of several lines.
-const ODD_NAMES: &str = "\
-0 Main 4 0*7 1 0*3 1*16
-0 FileDesc 1*16 2*32 0*8 .*2 / g
-0 Creator a 10 b 92
-";
+const ODD_NAMES: Rows = &[
+    (0, MAIN_TYPE, &[(4, 1), (0, 7), (1, 1), (0, 3), (1, 16)]),
+    (
+        0,
+        DESC_TYPE,
+        &[(1, 16), (2, 32), (0, 8), (b'.', 2), (b'/', 1), (b'g', 1)],
+    ),
+    (0, CREATOR_TYPE, &[(b'a', 1), (10, 1), (b'b', 1), (92, 1)]),
+];
 
 // A Main packet whose body is not that of its set ID, and then a set with a slice that is too long.
-const BEHIND_ANOTHER: &str = "\
-9 Main 4 0*11
-1 Main 4 0*7 1 0*3 1*16
-1 FileDesc 1*16 2*32 6 0*7 n*4
-1 RecvSlic 0*12
-";
+const BEHIND_ANOTHER: Rows = &[
+    (9, MAIN_TYPE, &[(4, 1), (0, 11)]),
+    (1, MAIN_TYPE, &[(4, 1), (0, 7), (1, 1), (0, 3), (1, 16)]),
+    (1, DESC_TYPE, &[(1, 16), (2, 32), (6, 1), (0, 7), (b'n', 4)]),
+    (1, SLICE_TYPE, &[(0, 12)]),
+];
 
 // Slices of file 1.
 const FIRST_SUMS: &[SetSlice] = &[
@@ -136,7 +190,7 @@ type Shown<'a> = (
 
 // Packets, the place of a set that is chosen, and what they give: the place of the set, and the
 // set, or why there is none.
-static SETS: [(&str, Option<usize>, usize, Result<Shown<'static>, SetFault>); 11] = [
+static SETS: [(Rows, Option<usize>, usize, Result<Shown<'static>, SetFault>); 11] = [
     // The first Main packet counts, and of a chosen set the first of its ID.
     (NO_FILES, None, 0, Ok((4, b"", &[], None, &[]))),
     (NO_FILES, Some(0), 0, Ok((4, b"", &[], None, &[]))),
@@ -198,40 +252,22 @@ fn shown(built: &RecoverySet) -> Shown<'_> {
     )
 }
 
-// A set, or the cause why there is none, shows what is wanted.
+// Whether a set has this ID and shows what is wanted, or why there is none is that.
 fn shows(
-    rt: &impl Abort,
-    rows: &str,
     built: &Result<RecoverySet, SetFault>,
+    id: Hash16,
     wanted: &Result<Shown<'static>, SetFault>,
-) {
+) -> bool {
     match built {
-        Ok(built) => is(rt, &rows, &Ok(shown(built)), wanted),
-        Err(fault) => is(rt, &rows, &Err(*fault), wanted),
+        Ok(built) => built.id() == id && Ok(shown(built)) == *wanted,
+        Err(fault) => Err(*fault) == *wanted,
     }
-}
-
-// What is built of these packets, or of the set among them that is chosen, is what is wanted.
-fn gives(
-    rt: &(impl Abort + AllocGlobal),
-    rows: &str,
-    choice: Option<Hash16>,
-    owner: usize,
-    wanted: &Result<Shown<'static>, SetFault>,
-) -> Result<(), SetFault> {
-    let bytes = file_of(rt.alloc(), rows)?;
-    let built = agrees(rt, &bytes, choice, owner)?;
-    shows(rt, rows, &built, wanted);
-    if let Ok(built) = &built {
-        is(rt, &rows, &built.id(), &set_id(rt.alloc(), rows, owner)?);
-    }
-    Ok(())
 }
 
 // The ID of the set that is chosen, if one is.
 fn choice_of(
     alloc: Global,
-    rows: &str,
+    rows: Rows,
     place: Option<usize>,
 ) -> Result<Option<Hash16>, AllocError> {
     match place {
@@ -240,11 +276,37 @@ fn choice_of(
     }
 }
 
+// What is built of bytes, or of the set in them that is chosen, has this ID and is what is wanted.
+fn gives(
+    rt: &(impl Abort + AllocGlobal),
+    place: usize,
+    bytes: &[u8],
+    (choice, id): (Option<Hash16>, Hash16),
+    wanted: &Result<Shown<'static>, SetFault>,
+) -> Result<(), AllocError> {
+    let built = agrees(rt, bytes, choice, place)?;
+    holds(rt, &place, shows(&built, id, wanted));
+    Ok(())
+}
+
+// That is so of the bytes of these packets.
+fn file_gives(
+    rt: &(impl Abort + AllocGlobal),
+    place: usize,
+    rows: Rows,
+    ids: (Option<Hash16>, Hash16),
+    wanted: &Result<Shown<'static>, SetFault>,
+) -> Result<(), AllocError> {
+    let bytes = file_of(rt.alloc(), rows)?;
+    gives(rt, place, &bytes, ids, wanted)
+}
+
 #[test]
-fn sets_are_as_wanted_and_agree_with_the_model(rt: HostRuntime) -> Result<(), SetFault> {
-    for row in &SETS {
+fn sets_are_as_wanted_and_agree_with_the_model(rt: HostRuntime) -> Result<(), AllocError> {
+    for (place, row) in SETS.iter().enumerate() {
         let choice = choice_of(rt.alloc(), row.0, row.1)?;
-        gives(&rt, row.0, choice, row.2, &row.3)?;
+        let id = set_id(rt.alloc(), row.0, row.2)?;
+        file_gives(&rt, place, row.0, (choice, id), &row.3)?;
     }
     Ok(())
 }
