@@ -1,5 +1,5 @@
 use super::*;
-use parfixtures::{CREATOR_TYPE, SLICE_TYPE, WORKED, packet_of};
+use parfixtures::{SLICE_TYPE, WORKED, packet_of};
 
 const UNKNOWN: [u8; 16] = *b"PAR 2.0\0Unknown\0";
 
@@ -8,12 +8,14 @@ fn packet(alloc: Global, kind: [u8; 16], body: &[u8]) -> Result<Vec<u8>, AllocEr
     packet_of(alloc, [0; 16], kind, body)
 }
 
-// Packets stand at these offsets.
-fn are_at(rt: &impl Abort, packets: &[Packet<'_>], wanted: &[usize]) {
-    is(rt, &wanted, &packets.len(), &wanted.len());
-    for (packet, at) in packets.iter().zip(wanted) {
-        is(rt, &wanted, &packet.at, at);
+// Whether packets stand at these offsets.
+fn are_at(packets: &[Packet<'_>], wanted: &[usize]) -> bool {
+    for (place, packet) in packets.iter().enumerate() {
+        if wanted.get(place) != Some(&packet.at) {
+            return false;
+        }
     }
+    packets.len() == wanted.len()
 }
 
 // Bytes, and files of them that are read by pieces, have packets at these offsets.
@@ -23,7 +25,7 @@ fn found_at(
     wanted: &[usize],
 ) -> Result<(), SalvageFault> {
     let packets = agrees(rt, &wanted, bytes, &[1, 7, 65_536])?;
-    are_at(rt, &packets, wanted);
+    holds(rt, &wanted, are_at(&packets, wanted));
     Ok(())
 }
 
@@ -33,35 +35,36 @@ static BEFORE: [usize; 8] = [
     65_465, 65_472, 65_500, 65_528, 65_529, 65_530, 65_533, 65_536,
 ];
 
-// So many times this byte, and then these.
-fn behind(alloc: Global, byte: u8, before: usize, rest: &[u8]) -> Result<Vec<u8>, AllocError> {
-    let mut bytes = vec![in alloc; byte; before]?;
-    bytes.extend_from_slice(rest)?;
-    Ok(bytes)
+// They are there where so many times this byte stands before these bytes.
+fn found_behind(
+    rt: &(impl Abort + AllocGlobal),
+    before: (u8, usize),
+    rest: &[u8],
+    wanted: &[usize],
+) -> Result<(), SalvageFault> {
+    let bytes = behind(rt.alloc(), before.0, before.1, rest)?;
+    found_at(rt, &bytes, wanted)
 }
 
 #[test]
 fn packets_across_pieces_are_found(rt: HostRuntime) -> Result<(), SalvageFault> {
     for before in &BEFORE {
-        let bytes = behind(rt.alloc(), b'x', *before, &CREATOR)?;
-        found_at(&rt, &bytes, &[*before])?;
+        found_behind(&rt, (b'x', *before), &CREATOR, &[*before])?;
     }
-    let bytes = behind(rt.alloc(), 0, 70_000, &AROUND)?;
-    found_at(&rt, &bytes, &[70_003, 70_071])
+    found_behind(&rt, (0, 70_000), &AROUND, &[70_003, 70_071])
 }
 
-// A body of 100,000 bytes, a packet, and 100,000 other bytes.
-fn long_body(alloc: Global) -> Result<Vec<u8>, AllocError> {
-    let mut body = vec![in alloc; 5; 100_000]?;
-    body.extend_from_slice(&CREATOR)?;
+// A packet of this type whose body is 100,000 bytes, a packet, and 100,000 other bytes.
+fn long_packet(alloc: Global, kind: [u8; 16]) -> Result<Vec<u8>, AllocError> {
+    let mut body = behind(alloc, 5, 100_000, &CREATOR)?;
     body.resize(200_064, 6)?;
-    Ok(body)
+    packet(alloc, kind, &body)
 }
 
-// A packet of this type with that body is found, the one in its body, and one behind.
+// That packet is found, the one in its body, and one behind.
 fn found_around(rt: &(impl Abort + AllocGlobal), kind: [u8; 16]) -> Result<(), SalvageFault> {
-    let outer = packet(rt.alloc(), kind, &long_body(rt.alloc())?)?;
-    let bytes = joined(rt.alloc(), &[&outer, &CREATOR])?;
+    let mut bytes = long_packet(rt.alloc(), kind)?;
+    bytes.extend_from_slice(&CREATOR)?;
     found_at(rt, &bytes, &[0, 100_064, 200_128])
 }
 
@@ -93,20 +96,25 @@ fn packets_within_packets_are_found(rt: HostRuntime) -> Result<(), SalvageFault>
     found_at(&rt, &bytes, &LEVELS)
 }
 
+// A packet whose body is these bytes, and then the body of another.
+fn before_abcd(alloc: Global, body: &[u8]) -> Result<Vec<u8>, AllocError> {
+    let mut bytes = packet(alloc, CREATOR_TYPE, body)?;
+    bytes.extend_from_slice(b"abcd")?;
+    Ok(bytes)
+}
+
 // A packet whose body is the header of another, which has its own body behind it.
 fn overlapping(alloc: Global) -> Result<Vec<u8>, AllocError> {
     let second = packet(alloc, CREATOR_TYPE, b"abcd")?;
-    let header = second.get(..64).unwrap_or(&[]);
-    let first = packet(alloc, CREATOR_TYPE, header)?;
-    joined(alloc, &[&first, b"abcd"])
+    before_abcd(alloc, second.get(..64).unwrap_or(&[]))
 }
 
 // Those, and two packets that nothing overlaps.
 fn with_two_more(alloc: Global) -> Result<Vec<u8>, AllocError> {
-    let front = overlapping(alloc)?;
-    let unknown = packet(alloc, UNKNOWN, b"abc!")?;
-    let last = packet(alloc, CREATOR_TYPE, b"efgh")?;
-    joined(alloc, &[&front, &unknown, &last])
+    let mut bytes = overlapping(alloc)?;
+    put(alloc, &mut bytes, [0; 16], UNKNOWN, b"abc!")?;
+    put(alloc, &mut bytes, [0; 16], CREATOR_TYPE, b"efgh")?;
+    Ok(bytes)
 }
 
 #[test]
@@ -123,13 +131,20 @@ const ODD: [u8; 66] =
 const CHANGED: [u8; 64] =
     *b"PAR2\0PKT\x40\0\0\0\0\0\0\0\x90\xb7\x2c\x62\xf3\xda\xe9\x4b\x3d\xe0\x28\xf3\x1e\x19\x95\x02\0\0\0\0\0\0\0\0\0\0\0\0\0\0\0\0PAR 2.0\0Creator\x01";
 
+// Small files, and where their packets are.
+static SMALL: [(&[u8], &[usize]); 5] = [
+    (&[], &[]),
+    (&CREATOR, &[0]),
+    (&ODD, &[]),
+    (&CHANGED, &[]),
+    (&AROUND, &[3, 71]),
+];
+
 #[test]
 fn packets_of_small_files_are_found(rt: HostRuntime) -> Result<(), SalvageFault> {
-    found_at(&rt, &[], &[])?;
-    found_at(&rt, &CREATOR, &[0])?;
-    found_at(&rt, &ODD, &[])?;
-    found_at(&rt, &CHANGED, &[])?;
-    found_at(&rt, &AROUND, &[3, 71])?;
+    for row in &SMALL {
+        found_at(&rt, row.0, row.1)?;
+    }
     found_at(&rt, WORKED.as_slice(), &[0, 92, 220, 340])
 }
 
@@ -138,16 +153,15 @@ fn packets_of_small_files_are_found(rt: HostRuntime) -> Result<(), SalvageFault>
 fn nothing_in(rt: &(impl Abort + AllocGlobal), bytes: &[u8]) -> Result<(), AllocError> {
     let mut shelf = file_of(rt.alloc(), bytes, 65_536, &[])?;
     let answer = file_has(rt, &bytes, &mut shelf, &[]);
-    is(rt, &bytes, &answer.is_ok(), &true);
+    holds(rt, &bytes, answer.is_ok());
     Ok(())
 }
 
 #[test]
-fn no_packet_is_found_where_none_begins(rt: HostRuntime) -> Result<(), SalvageFault> {
+fn no_packet_is_found_where_none_begins(rt: HostRuntime) -> Result<(), AllocError> {
     nothing_in(&rt, &ODD)?;
     nothing_in(&rt, &CHANGED)?;
-    nothing_in(&rt, &[])?;
-    Ok(())
+    nothing_in(&rt, &[])
 }
 
 // The next of a row of numbers that look like chance.
@@ -193,12 +207,16 @@ fn part_of(packet: &[u8], number: u64) -> &[u8] {
     .unwrap_or(packet)
 }
 
-// Puts such a packet or a part of one behind bytes, and in some cases a further byte.
+// Puts a packet or a part of one behind bytes, and in one form a further byte.
+fn add_part(bytes: &mut Vec<u8>, packet: &[u8], form: u64) -> Result<(), AllocError> {
+    bytes.extend_from_slice(part_of(packet, form))?;
+    bytes.extend_from_slice(if form == 1 { &[1] } else { &[] })
+}
+
+// Puts what such a number makes behind bytes.
 fn add(alloc: Global, bytes: &mut Vec<u8>, number: u64) -> Result<(), AllocError> {
     let form = (number >> 32) % 8;
-    let packet = any_two(alloc, number, form == 3)?;
-    bytes.extend_from_slice(part_of(&packet, form))?;
-    bytes.extend_from_slice(if form == 1 { &[1] } else { &[] })
+    add_part(bytes, &any_two(alloc, number, form == 3)?, form)
 }
 
 // Packets, parts of packets and other bytes in a row, up to about this length.
@@ -214,15 +232,14 @@ fn mixed_bytes(alloc: Global, seed: u64, length: usize) -> Result<Vec<u8>, Alloc
     Ok(bytes)
 }
 
-// The file of this number and length has more than five packets.
-fn has_mixed(
+// The file of this number, of these bytes, has more than five packets.
+fn has_more_than_five(
     rt: &(impl Abort + AllocGlobal),
     seed: u64,
-    length: usize,
+    bytes: &[u8],
 ) -> Result<(), SalvageFault> {
-    let bytes = mixed_bytes(rt.alloc(), seed.wrapping_mul(7_919), length)?;
-    let packets = agrees(rt, &seed, &bytes, &[1, 7, 65_536])?;
-    is(rt, &("packets of", seed), &(packets.len() > 5), &true);
+    let packets = agrees(rt, &seed, bytes, &[1, 7, 65_536])?;
+    holds(rt, &("packets of", seed), packets.len() > 5);
     Ok(())
 }
 
@@ -230,7 +247,8 @@ fn has_mixed(
 fn packets_of_mixed_files_are_found(rt: HostRuntime) -> Result<(), SalvageFault> {
     for seed in 1..=12u64 {
         let length = if seed % 4 == 0 { 140_000 } else { 3_000 };
-        has_mixed(&rt, seed, length)?;
+        let bytes = mixed_bytes(rt.alloc(), seed.wrapping_mul(7_919), length)?;
+        has_more_than_five(&rt, seed, &bytes)?;
     }
     Ok(())
 }

@@ -4,14 +4,13 @@ mod packets;
 mod reasons;
 mod sets;
 
+use super::{holds, is, put};
 use md5::{Digest, Md5};
 use parfield::Hash16;
 use parfixtures::{CREATOR_TYPE, DESC_TYPE, IFSC_TYPE, MAIN_TYPE, SLICE_TYPE, joined};
 use parset::*;
 use std::alloc::{AllocError, Global};
-use std::fmt::Debug;
 use std::process::Abort;
-use std::test::Fail;
 
 // The set of one file `g.bin` of the bytes `abcdefgh`, in slices of 4 bytes, as `tools/vectors.py`
 // writes it.
@@ -34,55 +33,19 @@ const LONG_DESC: &[u8] =
 const IFSC: &[u8] =
     b"\xe3E\xea\xcb\xe6V\xc0\xe6\xfd \xedc\xcb{\x06,\xe2\xfcqLG'\xee\x93\x95\xf3$\xcd.\x7f3\x1f\x11\xcd\x82\xed\x1fv\x90\xeb\xdd\x9bL\xaf\x8f\xabI\xca\x17W\xbf'\xb5{3\x08";
 
-// The value is the one that is wanted in this row.
-fn is<R: Debug, T: Debug + PartialEq>(rt: &impl Abort, row: &R, got: &T, wanted: &T) {
-    assert_eq!(rt; got, wanted, "{row:?}");
-}
-
 // The MD5 of bytes.
 fn digest_of(bytes: &[u8]) -> Hash16 {
     Hash16(Md5::digest(bytes))
 }
 
-// What stands before and behind the first space of a text.
-fn halves(text: &str) -> (&str, &str) {
-    text.split_once(' ').unwrap_or((text, ""))
-}
+// Runs of bytes: of each a byte, and how often it stands.
+type Runs = &'static [(u8, usize)];
 
-// The types of packets by words, and one that is none of the five.
-static TYPES: [(&str, [u8; 16]); 5] = [
-    ("Main", MAIN_TYPE),
-    ("FileDesc", DESC_TYPE),
-    ("Ifsc", IFSC_TYPE),
-    ("RecvSlic", SLICE_TYPE),
-    ("Creator", CREATOR_TYPE),
-];
-
-fn type_of(word: &str) -> [u8; 16] {
-    for (name, kind) in &TYPES {
-        if *name == word {
-            return *kind;
-        }
-    }
-    [0; 16]
-}
-
-// A byte, which is a number or else a letter or a mark.
-fn byte_of(word: &str) -> u8 {
-    match word.parse::<u8>() {
-        Ok(number) => number,
-        Err(_) => word.as_bytes().first().copied().unwrap_or(0),
-    }
-}
-
-// The bytes of these runs, with spaces between them: of each a byte, and behind a star how often it
-// stands if not once.
-fn bytes_of(alloc: Global, runs: &str) -> Result<Vec<u8>, AllocError> {
+// The bytes of these runs.
+fn bytes_of(alloc: Global, runs: Runs) -> Result<Vec<u8>, AllocError> {
     let mut bytes = Vec::new(alloc);
-    for run in runs.split_whitespace() {
-        let (byte, count) = run.split_once('*').unwrap_or((run, "1"));
-        let size = bytes.len().saturating_add(count.parse().unwrap_or(0));
-        bytes.resize(size, byte_of(byte))?;
+    for (byte, count) in runs {
+        bytes.resize(bytes.len().saturating_add(*count), *byte)?;
     }
     Ok(bytes)
 }
@@ -99,13 +62,16 @@ static MAINS: [(&[u8], Hash16, u64, &[Hash16], &[Hash16]); 2] = [
     ),
 ];
 
+// Whether these are the slice size, the recovery IDs and the others.
+fn is_main(main: &Main, size: u64, recovery: &[Hash16], others: &[Hash16]) -> bool {
+    main.size == size && main.recovery.as_slice() == recovery && main.others.as_slice() == others
+}
+
 #[test]
 fn the_fields_of_main_bodies_are_read(rt: HostRuntime) -> Result<(), BodyFault> {
     for row in &MAINS {
-        let (body, set, size, recovery, others) = *row;
-        let main = main_body(rt.alloc(), body, set)?;
-        let fields = (main.size, main.recovery.as_slice(), main.others.as_slice());
-        is(&rt, row, &fields, &(size, recovery, others));
+        let main = main_body(rt.alloc(), row.0, row.1)?;
+        holds(&rt, &row.1, is_main(&main, row.2, row.3, row.4));
     }
     Ok(())
 }
@@ -125,17 +91,18 @@ static DESCS: [(&[u8], [Hash16; 3], u64, &[u8]); 2] = [
     ),
 ];
 
+// Whether these are the ID with the MD5s, the length and the name.
+fn is_desc(desc: &Desc, sums: &[Hash16; 3], length: u64, name: &[u8]) -> bool {
+    [desc.id, desc.whole, desc.front] == *sums
+        && desc.length == length
+        && desc.name.as_slice() == name
+}
+
 #[test]
 fn the_fields_of_descriptions_are_read(rt: HostRuntime) -> Result<(), BodyFault> {
     for row in &DESCS {
-        let (body, sums, length, name) = *row;
-        let desc = desc_body(rt.alloc(), body)?;
-        let fields = (
-            [desc.id, desc.whole, desc.front],
-            desc.length,
-            desc.name.as_slice(),
-        );
-        is(&rt, row, &fields, &(sums, length, name));
+        let desc = desc_body(rt.alloc(), row.0)?;
+        holds(&rt, &row.3, is_desc(&desc, &row.1, row.2, row.3));
     }
     Ok(())
 }
@@ -154,8 +121,8 @@ static SUMS: [(Hash16, u32); 2] = [
 #[test]
 fn the_fields_of_a_checksum_body_are_read(rt: HostRuntime) -> Result<(), BodyFault> {
     let ifsc = ifsc_body(rt.alloc(), IFSC)?;
-    let fields = (ifsc.id, ifsc.sums.as_slice());
-    is(&rt, &"sums", &fields, &(FILE, SUMS.as_slice()));
+    holds(&rt, &"ID", ifsc.id == FILE);
+    holds(&rt, &"sums", ifsc.sums.as_slice() == SUMS.as_slice());
     Ok(())
 }
 
@@ -170,7 +137,7 @@ static TEXTS: [(&[u8], &[u8]); 3] = [
 fn the_texts_of_creator_bodies_are_read(rt: HostRuntime) -> Result<(), BodyFault> {
     for row in &TEXTS {
         let text = creator_body(rt.alloc(), row.0)?;
-        is(&rt, row, &text.as_slice(), &row.1);
+        holds(&rt, row, text.as_slice() == row.1);
     }
     Ok(())
 }

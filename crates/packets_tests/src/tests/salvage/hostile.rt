@@ -105,9 +105,7 @@ fn headers_of_each_length_agree_with_the_model(rt: HostRuntime) -> Result<(), Sa
 // A Creator packet stands behind the first so many bytes of another.
 fn behind_beginning(rt: &(impl Abort + AllocGlobal), size: usize) -> Result<(), SalvageFault> {
     let bytes = joined(rt.alloc(), &[&CREATOR[..size.min(64)], &CREATOR])?;
-    let packets = agrees(rt, &size, &bytes, &[50])?;
-    stand_at(rt, &packets, &[(Kind::Creator, size)]);
-    Ok(())
+    agrees_at(rt, &bytes, &[50], &[(Kind::Creator, size)])
 }
 
 #[test]

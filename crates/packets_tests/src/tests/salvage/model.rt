@@ -1,9 +1,6 @@
 // The packets of bytes, and what is kept of them, as their definitions have them.
 use parfield::{Hash16, Kind, Packet};
-use parfixtures::{
-    CREATOR_TYPE, DESC_TYPE, IFSC_TYPE, MAIN_TYPE, SLICE_TYPE, Standing, all_standing, field,
-};
-use std::alloc::{AllocError, Global};
+use parfixtures::{CREATOR_TYPE, DESC_TYPE, IFSC_TYPE, MAIN_TYPE, SLICE_TYPE, Standing, field};
 
 /// What is kept of a packet: its file, its offset, length, set ID and kind; its body, where that is
 /// held whole; and the first four bytes and the length of its body.
@@ -44,26 +41,30 @@ fn packet_of<'a>(standing: &Standing<'a>) -> Packet<'a> {
     }
 }
 
-/// The packets of bytes.
-pub fn packets_in(alloc: Global, bytes: &[u8]) -> Result<Vec<Packet<'_>>, AllocError> {
-    let mut packets = Vec::new(alloc);
-    for standing in &all_standing(alloc, bytes)? {
-        packets.push(packet_of(standing))?;
+/// Whether packets are these.
+pub fn are_packets(packets: &[Packet<'_>], wanted: &[Standing<'_>]) -> bool {
+    for (place, packet) in packets.iter().enumerate() {
+        if let Some(standing) = wanted.get(place)
+            && *packet != packet_of(standing)
+        {
+            return false;
+        }
     }
-    Ok(packets)
+    packets.len() == wanted.len()
 }
 
 /// What is kept of a packet of file 0, whose body is not longer than those that are held. As the
 /// length is a multiple of four, a body has four bytes or none.
-pub fn held_of<'a>(packet: &Packet<'a>) -> Held<'a> {
+pub fn held_of<'a>(packet: &Standing<'a>) -> Held<'a> {
     let body = packet.body;
-    let whole = match packet.kind {
+    let kind = kind_of(packet.kind);
+    let whole = match kind {
         Kind::RecvSlic | Kind::Other(_) => None,
         _ => Some(body),
     };
     (
         0,
-        (packet.at as u64, packet.length, packet.set, packet.kind),
+        (packet.at as u64, packet.length, Hash16(packet.set), kind),
         whole,
         (field(body, 0).unwrap_or([0; 4]), body.len() as u64),
     )

@@ -23,6 +23,12 @@ pub fn ids_in(body: &[u8]) -> &[[u8; 16]] {
     ids
 }
 
+/// The recovery IDs of a Main body.
+pub fn recovery_ids_in(body: &[u8]) -> &[[u8; 16]] {
+    let ids = ids_in(body);
+    ids.get(..word_at(body, 8) as usize).unwrap_or(ids)
+}
+
 /// The sums in an IFSC body, each an MD5 and a CRC-32.
 pub fn sums_in(body: &[u8]) -> &[[u8; 20]] {
     let (sums, _) = body.get(16..).unwrap_or(&[]).as_chunks::<20>();

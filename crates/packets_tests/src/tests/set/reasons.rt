@@ -1,0 +1,380 @@
+use super::*;
+use parfield::{Kind, Packet};
+use parsalvage::{Kept, kept_of};
+
+// Bodies, a row each: the kind of its packet, the first reason why the body is not usable or that
+// it is, and the runs of its bytes. A Main body is in a packet of its own set.
+type Rows = &'static [(Kind, Option<Aside>, Runs)];
+
+const USABLE: Option<Aside> = None;
+
+const LENGTH: Option<Aside> = Some(Aside::WrongLength);
+
+const SIZE: Option<Aside> = Some(Aside::SliceSize);
+
+const TWICE: Option<Aside> = Some(Aside::IdTwice);
+
+const NAME: Option<Aside> = Some(Aside::Name);
+
+const LIMIT: Option<Aside> = Some(Aside::OverLimit);
+
+// A Main body has eight bytes of slice size, four of count, and the IDs. Slice sizes are, behind
+// the small ones, 268,435,456 and 268,435,460, and twice the first; the last Main bodies have 32,769
+// IDs, or are the longest. A FileDesc body has 48 bytes of ID and MD5s, eight of length, and the
+// name; an IFSC body sixteen bytes of ID, and twenty a slice.
+const BODIES: Rows = &[
+    (Kind::Main, LENGTH, &[]),
+    (Kind::Main, LENGTH, &[(4, 1), (0, 10)]),
+    (Kind::Main, USABLE, &[(4, 1), (0, 11)]),
+    (Kind::Main, LENGTH, &[(4, 1), (0, 12)]),
+    (Kind::Main, LENGTH, &[(4, 1), (0, 11), (b'a', 15)]),
+    (Kind::Main, USABLE, &[(4, 1), (0, 11), (b'a', 16)]),
+    (
+        Kind::Main,
+        LENGTH,
+        &[(4, 1), (0, 11), (b'a', 16), (b'b', 1)],
+    ),
+    (
+        Kind::Main,
+        USABLE,
+        &[(4, 1), (0, 11), (b'a', 16), (b'b', 16)],
+    ),
+    (Kind::Main, LENGTH, &[(4, 1), (0, 7), (1, 1), (0, 3)]),
+    (
+        Kind::Main,
+        USABLE,
+        &[(4, 1), (0, 7), (1, 1), (0, 3), (b'a', 16)],
+    ),
+    (
+        Kind::Main,
+        LENGTH,
+        &[(4, 1), (0, 7), (2, 1), (0, 3), (b'a', 16)],
+    ),
+    (
+        Kind::Main,
+        USABLE,
+        &[(4, 1), (0, 7), (1, 1), (0, 3), (b'a', 16), (b'b', 16)],
+    ),
+    (
+        Kind::Main,
+        USABLE,
+        &[(4, 1), (0, 7), (2, 1), (0, 3), (b'a', 16), (b'b', 16)],
+    ),
+    (
+        Kind::Main,
+        LENGTH,
+        &[(4, 1), (0, 7), (3, 1), (0, 3), (b'a', 16), (b'b', 16)],
+    ),
+    (Kind::Main, LENGTH, &[(4, 1), (0, 7), (255, 4)]),
+    (Kind::Main, LENGTH, &[(6, 1), (0, 7), (1, 1), (0, 3)]),
+    (Kind::Main, SIZE, &[(0, 12)]),
+    (Kind::Main, SIZE, &[(2, 1), (0, 11)]),
+    (Kind::Main, SIZE, &[(6, 1), (0, 11)]),
+    (Kind::Main, SIZE, &[(2, 1), (0, 2), (16, 1), (0, 8)]),
+    (Kind::Main, USABLE, &[(0, 3), (16, 1), (0, 8)]),
+    (Kind::Main, LIMIT, &[(4, 1), (0, 2), (16, 1), (0, 8)]),
+    (Kind::Main, LIMIT, &[(0, 3), (32, 1), (0, 8)]),
+    (
+        Kind::Main,
+        LIMIT,
+        &[(4, 1), (0, 2), (16, 1), (0, 8), (b'a', 32)],
+    ),
+    (Kind::Main, LIMIT, &[(4, 8), (0, 4)]),
+    (
+        Kind::Main,
+        TWICE,
+        &[(4, 1), (0, 7), (1, 1), (0, 3), (b'a', 32)],
+    ),
+    (
+        Kind::Main,
+        TWICE,
+        &[(4, 1), (0, 7), (2, 1), (0, 3), (b'a', 32)],
+    ),
+    (
+        Kind::Main,
+        TWICE,
+        &[(4, 1), (0, 11), (b'a', 16), (b'b', 16), (b'a', 16)],
+    ),
+    (
+        Kind::Main,
+        TWICE,
+        &[(4, 1), (0, 7), (2, 1), (0, 3), (b'b', 16), (b'a', 32)],
+    ),
+    (Kind::Main, LIMIT, &[(4, 1), (0, 11), (7, 524_304)]),
+    (Kind::Main, SIZE, &[(0, 524_316)]),
+    (Kind::Main, LENGTH, &[(0, 1_048_576)]),
+    (Kind::Main, LIMIT, &[(0, 1_048_577)]),
+    (Kind::FileDesc, LENGTH, &[]),
+    (Kind::FileDesc, LENGTH, &[(0, 52)]),
+    (Kind::FileDesc, LENGTH, &[(0, 55)]),
+    (Kind::FileDesc, NAME, &[(0, 56)]),
+    (Kind::FileDesc, NAME, &[(0, 60)]),
+    (Kind::FileDesc, USABLE, &[(0, 56), (b'a', 1), (0, 3)]),
+    (Kind::FileDesc, USABLE, &[(0, 56), (b'a', 4)]),
+    (
+        Kind::FileDesc,
+        USABLE,
+        &[(0, 56), (b'.', 2), (b'/', 1), (b'g', 1)],
+    ),
+    (Kind::FileDesc, USABLE, &[(0, 56), (b'a', 4), (0, 4)]),
+    (Kind::FileDesc, LENGTH, &[(0, 56), (b'a', 3)]),
+    (Kind::FileDesc, LENGTH, &[(0, 56), (b'a', 5)]),
+    (
+        Kind::FileDesc,
+        NAME,
+        &[(0, 56), (b'a', 1), (0, 1), (b'b', 1), (0, 1)],
+    ),
+    (Kind::FileDesc, NAME, &[(0, 57), (b'b', 3)]),
+    (
+        Kind::FileDesc,
+        USABLE,
+        &[(0, 48), (255, 7), (127, 1), (b'a', 1), (0, 3)],
+    ),
+    (
+        Kind::FileDesc,
+        LIMIT,
+        &[(0, 55), (128, 1), (b'a', 1), (0, 3)],
+    ),
+    (
+        Kind::FileDesc,
+        LIMIT,
+        &[(0, 48), (255, 8), (b'a', 1), (0, 3)],
+    ),
+    (
+        Kind::FileDesc,
+        NAME,
+        &[(0, 55), (128, 1), (b'a', 1), (0, 1), (b'b', 1), (0, 1)],
+    ),
+    (Kind::FileDesc, LENGTH, &[(0, 55), (128, 1), (b'a', 5)]),
+    (Kind::FileDesc, USABLE, &[(0, 56), (b'x', 4_096)]),
+    (Kind::FileDesc, USABLE, &[(0, 56), (b'x', 4_096), (0, 4)]),
+    (Kind::FileDesc, NAME, &[(0, 56), (b'x', 4_097), (0, 3)]),
+    (Kind::FileDesc, NAME, &[(0, 56), (b'x', 1_048_520)]),
+    (Kind::FileDesc, LIMIT, &[(0, 56), (b'x', 1_048_521)]),
+    (Kind::Ifsc, LENGTH, &[]),
+    (Kind::Ifsc, LENGTH, &[(0, 15)]),
+    (Kind::Ifsc, USABLE, &[(0, 16)]),
+    (Kind::Ifsc, LENGTH, &[(0, 26)]),
+    (Kind::Ifsc, LENGTH, &[(0, 35)]),
+    (Kind::Ifsc, USABLE, &[(0, 36)]),
+    (Kind::Ifsc, LENGTH, &[(0, 37)]),
+    (Kind::Ifsc, USABLE, &[(0, 655_376)]),
+    (Kind::Ifsc, LENGTH, &[(0, 655_377)]),
+    (Kind::Ifsc, LIMIT, &[(0, 655_396)]),
+    (Kind::Ifsc, LENGTH, &[(0, 1_048_575)]),
+    (Kind::Ifsc, LIMIT, &[(0, 1_048_576)]),
+    (Kind::Ifsc, LIMIT, &[(0, 1_048_577)]),
+    (Kind::Creator, USABLE, &[]),
+    (Kind::Creator, USABLE, &[(0, 1_048_576)]),
+    (Kind::Creator, LIMIT, &[(0, 1_048_577)]),
+];
+
+// The same of bodies in packets of a set whose slices have four bytes.
+const OTHERS: Rows = &[
+    (Kind::RecvSlic, USABLE, &[(0, 8)]),
+    (Kind::RecvSlic, LENGTH, &[(0, 9)]),
+    (Kind::RecvSlic, LENGTH, &[(0, 12)]),
+    (Kind::RecvSlic, LIMIT, &[(255, 4), (0, 4)]),
+    (Kind::Other([0; 16]), USABLE, &[]),
+    (Kind::Other([0; 16]), USABLE, &[(0, 1_048_577)]),
+];
+
+// Why a body in a packet of this kind and set has no fields.
+fn fault_in(alloc: Global, kind: Kind, body: &[u8], set: Hash16) -> Option<BodyFault> {
+    match kind {
+        Kind::Main => main_body(alloc, body, set).err(),
+        Kind::FileDesc => desc_body(alloc, body).err(),
+        Kind::Ifsc => ifsc_body(alloc, body).err(),
+        _ => creator_body(alloc, body).err(),
+    }
+}
+
+// A reason as the readers of bodies have it.
+fn fault_of(reason: Option<Aside>) -> Option<BodyFault> {
+    match reason {
+        Some(reason) => Some(BodyFault::Aside(reason)),
+        None => None,
+    }
+}
+
+// The reason in a packet of another set.
+fn reason_in_another(kind: Kind, reason: Option<Aside>) -> Option<Aside> {
+    if kind == Kind::Main && reason.is_none() {
+        Some(Aside::SetId)
+    } else {
+        reason
+    }
+}
+
+// A body in a packet of this kind has this reason, in a set of its own and in another.
+fn has_reason(
+    rt: &(impl Abort + AllocGlobal),
+    place: usize,
+    body: &[u8],
+    kind: Kind,
+    reason: Option<Aside>,
+) {
+    let fault = fault_in(rt.alloc(), kind, body, digest_of(body));
+    is(rt, &place, &fault, &fault_of(reason));
+    let fault = fault_in(rt.alloc(), kind, body, SET);
+    is(
+        rt,
+        &place,
+        &fault,
+        &fault_of(reason_in_another(kind, reason)),
+    );
+}
+
+#[test]
+fn bodies_have_their_first_reason(rt: HostRuntime) -> Result<(), AllocError> {
+    for (place, row) in BODIES.iter().enumerate() {
+        has_reason(&rt, place, &bytes_of(rt.alloc(), row.2)?, row.0, row.1);
+    }
+    Ok(())
+}
+
+// How many recovery IDs and how many IDs a Main body has, of which no two are the same, how many
+// zeros stand behind them, and the reason; an ID of zeros is one of them.
+static LONG_MAINS: [(u32, u32, usize, Option<Aside>); 6] = [
+    (0, 32_768, 0, None),
+    (0, 32_769, 0, Some(Aside::OverLimit)),
+    (32_767, 32_768, 0, None),
+    (32_768, 32_769, 0, Some(Aside::OverLimit)),
+    (0, 32_767, 16, Some(Aside::IdTwice)),
+    (0, 32_768, 16, Some(Aside::OverLimit)),
+];
+
+// Puts so many IDs behind bytes.
+fn put_ids(body: &mut Vec<u8>, ids: u32) -> Result<(), AllocError> {
+    for id in 0..ids {
+        body.extend_from_slice(&u128::from(id).to_le_bytes())?;
+    }
+    Ok(())
+}
+
+// A Main body of such a row.
+fn long_main(alloc: Global, count: u32, ids: u32, zeros: usize) -> Result<Vec<u8>, AllocError> {
+    let mut body = joined(alloc, &[b"\x04\0\0\0\0\0\0\0", &count.to_le_bytes()])?;
+    put_ids(&mut body, ids)?;
+    body.resize(body.len().saturating_add(zeros), 0)?;
+    Ok(body)
+}
+
+#[test]
+fn main_bodies_of_many_ids_have_their_first_reason(rt: HostRuntime) -> Result<(), AllocError> {
+    for row in &LONG_MAINS {
+        let body = long_main(rt.alloc(), row.0, row.1, row.2)?;
+        let fault = fault_in(rt.alloc(), Kind::Main, &body, digest_of(&body));
+        is(&rt, row, &fault, &fault_of(row.3));
+    }
+    Ok(())
+}
+
+// Lengths of usable IFSC bodies of zeros, and how many pairs those have.
+static PAIRS: [(usize, usize); 3] = [(16, 0), (36, 1), (655_376, 32_768)];
+
+// How many pairs a usable IFSC body of so many zeros has.
+fn pairs_in(alloc: Global, size: usize) -> Result<usize, BodyFault> {
+    let body = vec![in alloc; 0; size]?;
+    Ok(ifsc_body(alloc, &body)?.sums.len())
+}
+
+#[test]
+fn checksums_have_a_pair_for_each_twenty_bytes(rt: HostRuntime) -> Result<(), BodyFault> {
+    for row in &PAIRS {
+        is(&rt, row, &pairs_in(rt.alloc(), row.0)?, &row.1);
+    }
+    Ok(())
+}
+
+// Puts a packet of the set of `g.bin` behind others, at the offset of its number.
+fn keep(alloc: Global, packets: &mut Vec<Kept>, kind: Kind, body: &[u8]) -> Result<(), AllocError> {
+    let packet = Packet {
+        at: packets.len(),
+        length: 64,
+        set: SET,
+        kind,
+        body,
+    };
+    let mut kept = kept_of(alloc, 0, &[packet])?;
+    packets.append(&mut kept)
+}
+
+// Puts a packet of each of these bodies behind others, and what is put aside of them behind that.
+fn keep_rows(
+    alloc: Global,
+    packets: &mut Vec<Kept>,
+    asides: &mut Vec<SetAside>,
+    rows: Rows,
+) -> Result<(), AllocError> {
+    for (kind, reason, runs) in rows {
+        put_aside(asides, packets.len(), reason_in_another(*kind, *reason))?;
+        keep(alloc, packets, *kind, &bytes_of(alloc, runs)?)?;
+    }
+    Ok(())
+}
+
+// The packet at this offset is put aside where there is a reason.
+fn put_aside(
+    asides: &mut Vec<SetAside>,
+    at: usize,
+    reason: Option<Aside>,
+) -> Result<(), AllocError> {
+    if let Some(reason) = reason {
+        asides.push(SetAside {
+            file: 0,
+            at: at as u64,
+            reason,
+        })?;
+    }
+    Ok(())
+}
+
+// Puts a packet of each of the first bodies behind others, and what is put aside of them.
+fn keep_bodies(
+    alloc: Global,
+    packets: &mut Vec<Kept>,
+    asides: &mut Vec<SetAside>,
+) -> Result<(), AllocError> {
+    keep_rows(alloc, packets, asides, BODIES)
+}
+
+// Puts packets of all those bodies behind others, and then the Main packet of their set and its
+// description; those that are put aside, each that is not usable, stand in the other list.
+fn keep_all(
+    alloc: Global,
+    packets: &mut Vec<Kept>,
+    asides: &mut Vec<SetAside>,
+) -> Result<(), AllocError> {
+    keep_bodies(alloc, packets, asides)?;
+    keep_rows(alloc, packets, asides, OTHERS)?;
+    keep(alloc, packets, Kind::Main, MAIN)?;
+    keep(alloc, packets, Kind::FileDesc, DESC)
+}
+
+// The set of `g.bin` has these packets put aside, its file and a recovery slice.
+fn has_aside(rt: &impl Abort, built: &RecoverySet, asides: &[SetAside]) {
+    is(rt, &"aside", &built.aside(), &asides);
+    is(rt, &"files", &built.files().len(), &1);
+    is(rt, &"slices", &built.have(), &1);
+    is(rt, &"text", &built.creator(), &None);
+}
+
+// The set of these packets has them.
+fn puts_aside(
+    rt: &(impl Abort + AllocGlobal),
+    packets: &[Kept],
+    asides: &[SetAside],
+) -> Result<(), SetFault> {
+    let built = build(rt.alloc(), packets, None)?;
+    has_aside(rt, &built, asides);
+    Ok(())
+}
+
+#[test]
+fn a_usable_set_puts_aside_a_packet_for_each_reason(rt: HostRuntime) -> Result<(), SetFault> {
+    let mut asides = Vec::new(rt.alloc());
+    let mut packets = Vec::new(rt.alloc());
+    keep_all(rt.alloc(), &mut packets, &mut asides)?;
+    puts_aside(&rt, &packets, &asides)
+}

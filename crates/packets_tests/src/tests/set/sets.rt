@@ -1,0 +1,312 @@
+use super::hostile::agrees;
+use super::*;
+
+// Packets, a row each: the place of the one whose body has its set ID as MD5, or a place behind all
+// for a set ID of zeros; its type; and the runs of its body.
+type Rows = &'static [(usize, [u8; 16], Runs)];
+
+// The set ID of a packet with that place.
+fn set_id(alloc: Global, rows: Rows, place: usize) -> Result<Hash16, AllocError> {
+    match rows.get(place) {
+        Some(row) => Ok(digest_of(&bytes_of(alloc, row.2)?)),
+        None => Ok(Hash16([0; 16])),
+    }
+}
+
+// Puts the packet of one of these rows behind bytes.
+fn put_row(
+    alloc: Global,
+    bytes: &mut Vec<u8>,
+    rows: Rows,
+    row: &(usize, [u8; 16], Runs),
+) -> Result<(), AllocError> {
+    let set = set_id(alloc, rows, row.0)?;
+    let body = bytes_of(alloc, row.2)?;
+    put(alloc, bytes, set.0, row.1, &body)
+}
+
+// The bytes of these packets.
+fn file_of(alloc: Global, rows: Rows) -> Result<Vec<u8>, AllocError> {
+    let mut bytes = Vec::new(alloc);
+    for row in rows {
+        put_row(alloc, &mut bytes, rows, row)?;
+    }
+    Ok(bytes)
+}
+
+// Main packets of a set, of another, and of the first again; neither set has files.
+const NO_FILES: Rows = &[
+    (0, MAIN_TYPE, &[(4, 1), (0, 11)]),
+    (1, MAIN_TYPE, &[(8, 1), (0, 11), (1, 16)]),
+    (0, MAIN_TYPE, &[(4, 1), (0, 11)]),
+];
+
+// Two Main packets, of which the first has a file without a description.
+const NOT_DESCRIBED: Rows = &[
+    (0, MAIN_TYPE, &[(4, 1), (0, 7), (1, 1), (0, 3), (1, 16)]),
+    (1, MAIN_TYPE, &[(4, 1), (0, 11)]),
+];
+
+// Files 4, 2, 1 and 3, of which 1 and 3 are described.
+const TWO_DESCRIBED: Rows = &[
+    (
+        0,
+        MAIN_TYPE,
+        &[
+            (4, 1),
+            (0, 7),
+            (4, 1),
+            (0, 3),
+            (4, 16),
+            (2, 16),
+            (1, 16),
+            (3, 16),
+        ],
+    ),
+    (
+        0,
+        DESC_TYPE,
+        &[(1, 16), (2, 32), (6, 1), (0, 7), (b'a', 1), (0, 3)],
+    ),
+    (
+        0,
+        DESC_TYPE,
+        &[(3, 16), (2, 32), (6, 1), (0, 7), (b'a', 1), (0, 3)],
+    ),
+];
+
+// Files 4, 2, 1 and 3, of the names a, b, a and b.
+const NAMED_ALIKE: Rows = &[
+    (
+        0,
+        MAIN_TYPE,
+        &[
+            (4, 1),
+            (0, 7),
+            (4, 1),
+            (0, 3),
+            (4, 16),
+            (2, 16),
+            (1, 16),
+            (3, 16),
+        ],
+    ),
+    (
+        0,
+        DESC_TYPE,
+        &[(4, 16), (2, 32), (6, 1), (0, 7), (b'a', 1), (0, 3)],
+    ),
+    (
+        0,
+        DESC_TYPE,
+        &[(3, 16), (2, 32), (6, 1), (0, 7), (b'b', 1), (0, 3)],
+    ),
+    (
+        0,
+        DESC_TYPE,
+        &[(1, 16), (2, 32), (6, 1), (0, 7), (b'a', 1), (0, 3)],
+    ),
+    (
+        0,
+        DESC_TYPE,
+        &[(2, 16), (2, 32), (6, 1), (0, 7), (b'b', 1), (0, 3)],
+    ),
+];
+
+// A file of six bytes, sums of one slice, those of another set, and twice sums of two slices.
+const WITH_SUMS: Rows = &[
+    (0, MAIN_TYPE, &[(4, 1), (0, 7), (1, 1), (0, 3), (1, 16)]),
+    (0, IFSC_TYPE, &[(1, 16), (9, 17), (0, 3)]),
+    (9, IFSC_TYPE, &[(1, 16), (8, 17), (0, 3), (8, 17), (0, 3)]),
+    (0, IFSC_TYPE, &[(1, 16), (3, 17), (0, 3), (4, 17), (0, 3)]),
+    (0, IFSC_TYPE, &[(1, 16), (5, 17), (0, 3), (6, 17), (0, 3)]),
+    (0, DESC_TYPE, &[(1, 16), (2, 32), (6, 1), (0, 7), (b'n', 4)]),
+];
+
+// An empty file whose name leads out of a folder, and a text of several lines.
+const ODD_NAMES: Rows = &[
+    (0, MAIN_TYPE, &[(4, 1), (0, 7), (1, 1), (0, 3), (1, 16)]),
+    (
+        0,
+        DESC_TYPE,
+        &[(1, 16), (2, 32), (0, 8), (b'.', 2), (b'/', 1), (b'g', 1)],
+    ),
+    (0, CREATOR_TYPE, &[(b'a', 1), (10, 1), (b'b', 1), (92, 1)]),
+];
+
+// A Main packet whose body is not that of its set ID, and then a set with a slice that is too long.
+const BEHIND_ANOTHER: Rows = &[
+    (9, MAIN_TYPE, &[(4, 1), (0, 11)]),
+    (1, MAIN_TYPE, &[(4, 1), (0, 7), (1, 1), (0, 3), (1, 16)]),
+    (1, DESC_TYPE, &[(1, 16), (2, 32), (6, 1), (0, 7), (b'n', 4)]),
+    (1, SLICE_TYPE, &[(0, 12)]),
+];
+
+// Slices of file 1.
+const FIRST_SUMS: &[SetSlice] = &[
+    SetSlice {
+        id: Hash16([1; 16]),
+        number: 0,
+        length: 4,
+        sums: Some((Hash16([3; 16]), 3)),
+    },
+    SetSlice {
+        id: Hash16([1; 16]),
+        number: 1,
+        length: 2,
+        sums: Some((Hash16([4; 16]), 4)),
+    },
+];
+
+const NO_SUMS: &[SetSlice] = &[
+    SetSlice {
+        id: Hash16([1; 16]),
+        number: 0,
+        length: 4,
+        sums: None,
+    },
+    SetSlice {
+        id: Hash16([1; 16]),
+        number: 1,
+        length: 2,
+        sums: None,
+    },
+];
+
+const TOO_LONG: &[SetAside] = &[SetAside {
+    file: 0,
+    at: 292,
+    reason: Aside::WrongLength,
+}];
+
+// A set: its slice size, the name of its first file, its slices, its text and what is put aside.
+type Shown<'a> = (
+    u64,
+    &'a [u8],
+    &'a [SetSlice],
+    Option<&'a [u8]>,
+    &'a [SetAside],
+);
+
+// Packets, the place of a set that is chosen, and what they give: the place of the set, and the
+// set, or why there is none.
+static SETS: [(Rows, Option<usize>, usize, Result<Shown<'static>, SetFault>); 11] = [
+    // The first Main packet counts, and of a chosen set the first of its ID.
+    (NO_FILES, None, 0, Ok((4, b"", &[], None, &[]))),
+    (NO_FILES, Some(0), 0, Ok((4, b"", &[], None, &[]))),
+    (NO_FILES, Some(1), 1, Ok((8, b"", &[], None, &[]))),
+    (NO_FILES, Some(9), 0, Err(SetFault::NoMain)),
+    // It counts though its set has a fault.
+    (NOT_DESCRIBED, Some(1), 1, Ok((4, b"", &[], None, &[]))),
+    (
+        NOT_DESCRIBED,
+        None,
+        0,
+        Err(SetFault::NoDesc(Hash16([1; 16]))),
+    ),
+    // The least ID is named that has no description, or whose name a smaller ID has.
+    (
+        TWO_DESCRIBED,
+        None,
+        0,
+        Err(SetFault::NoDesc(Hash16([2; 16]))),
+    ),
+    (
+        NAMED_ALIKE,
+        None,
+        0,
+        Err(SetFault::NameTwice(Hash16([3; 16]))),
+    ),
+    // The first sums of the right number count.
+    (WITH_SUMS, None, 0, Ok((4, b"nnnn", FIRST_SUMS, None, &[]))),
+    (
+        ODD_NAMES,
+        None,
+        0,
+        Ok((4, b"../g", &[], Some(b"a\nb\\"), &[])),
+    ),
+    (
+        BEHIND_ANOTHER,
+        None,
+        1,
+        Ok((4, b"nnnn", NO_SUMS, None, TOO_LONG)),
+    ),
+];
+
+// The name of the first file, or none.
+fn first_name(files: &[SetFile]) -> &[u8] {
+    match files {
+        [file, ..] => file.name.as_slice(),
+        [] => &[],
+    }
+}
+
+// What a set shows.
+fn shown(built: &RecoverySet) -> Shown<'_> {
+    (
+        built.size(),
+        first_name(built.files()),
+        built.slices(),
+        built.creator(),
+        built.aside(),
+    )
+}
+
+// Whether a set has this ID and shows what is wanted, or why there is none is that.
+fn shows(
+    built: &Result<RecoverySet, SetFault>,
+    id: Hash16,
+    wanted: &Result<Shown<'static>, SetFault>,
+) -> bool {
+    match built {
+        Ok(built) => built.id() == id && Ok(shown(built)) == *wanted,
+        Err(fault) => Err(*fault) == *wanted,
+    }
+}
+
+// The ID of the set that is chosen, if one is.
+fn choice_of(
+    alloc: Global,
+    rows: Rows,
+    place: Option<usize>,
+) -> Result<Option<Hash16>, AllocError> {
+    match place {
+        Some(place) => Ok(Some(set_id(alloc, rows, place)?)),
+        None => Ok(None),
+    }
+}
+
+// What is built of bytes, or of the set in them that is chosen, has this ID and is what is wanted.
+fn gives(
+    rt: &(impl Abort + AllocGlobal),
+    place: usize,
+    bytes: &[u8],
+    (choice, id): (Option<Hash16>, Hash16),
+    wanted: &Result<Shown<'static>, SetFault>,
+) -> Result<(), AllocError> {
+    let built = agrees(rt, bytes, choice, place)?;
+    holds(rt, &place, shows(&built, id, wanted));
+    Ok(())
+}
+
+// That is so of the bytes of these packets.
+fn file_gives(
+    rt: &(impl Abort + AllocGlobal),
+    place: usize,
+    rows: Rows,
+    ids: (Option<Hash16>, Hash16),
+    wanted: &Result<Shown<'static>, SetFault>,
+) -> Result<(), AllocError> {
+    let bytes = file_of(rt.alloc(), rows)?;
+    gives(rt, place, &bytes, ids, wanted)
+}
+
+#[test]
+fn sets_are_as_wanted_and_agree_with_the_model(rt: HostRuntime) -> Result<(), AllocError> {
+    for (place, row) in SETS.iter().enumerate() {
+        let choice = choice_of(rt.alloc(), row.0, row.1)?;
+        let id = set_id(rt.alloc(), row.0, row.2)?;
+        file_gives(&rt, place, row.0, (choice, id), &row.3)?;
+    }
+    Ok(())
+}
