@@ -1,7 +1,0 @@
-use Rattle.std.proofs.Common.{All}
-use Rattle.pardrive.specs.Runs.{HasBudget}
-use Rattle.pardrive_tests.proofs.tests.model.some_calls.Given as goal
-
--- each budget so far is above 0
-abbrev pub invariant-loop : goal.invariant-loop
-invariant-loop g l = All HasBudget l.calls.items

@@ -1,6 +1,0 @@
-use Rattle.parshelf.specs.Memory.{shelf_state_of}
-use Rattle.parfind.specs.Finders.{BelongsTo}
-use Rattle.parfind_tests.proofs.tests.searching.steps_give.Given as goal
-
-abbrev pub invariant-loop-step : goal.invariant-loop-step
-invariant-loop-step g l = BelongsTo l.finder l.index (shelf_state_of l.shelf)

@@ -1,0 +1,6 @@
+//! Tests of `parwindow`, `parfind` and `pardrive`. A check of tests proves their crate anew, so they
+//! stand in a crate of their own.
+#![tactic(auto)]
+
+#[cfg(test)]
+mod tests;

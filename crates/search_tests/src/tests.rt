@@ -1,0 +1,4 @@
+mod drives;
+mod fixtures;
+mod searches;
+mod windows;

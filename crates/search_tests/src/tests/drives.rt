@@ -1,0 +1,263 @@
+// Drives of a search: lists of calls, and what they answer.
+ghost use Rattle.std.specs.Prelude.{All, IfOk};
+ghost use Rattle.pardrive.specs.Runs.{HasBudget};
+
+mod disk;
+mod model;
+mod refused;
+
+use crate::tests::fixtures::{
+    cursor_of, field, files_in, index_of, is, number_of, part, step_named,
+};
+use parcursor::Cursor;
+use pardrive::{Answer, Call, Drive, drive};
+use parshelf::{MemShelf, ReadFault, Shelf};
+use parwindow::Index;
+use std::alloc::{AllocError, Global};
+use std::process::Abort;
+use std::test::Fail;
+
+const FAILED: Answer = Answer::Step(Err(ReadFault::Failed));
+
+// A script has a call on each line, which is the budget of a step, `next` or `reopen`, a space, and
+// what the call answers.
+
+// The call on a line.
+fn call_on(line: &str) -> Call
+    ensures { HasBudget result }
+{
+    let call = part(line, ' ', 0);
+    match call.parse::<u64>() {
+        Ok(budget) if budget > 0 => Call::Step(budget),
+        _ if call == "reopen" => Call::Reopen,
+        _ => Call::Next,
+    }
+}
+
+// The calls of a script.
+fn calls_of(alloc: Global, script: &str) -> Result<Vec<Call>, AllocError>
+    ensures { IfOk result (λ calls. All HasBudget calls.items) }
+{
+    let mut calls = Vec::new(alloc);
+    for line in script.lines() {
+        calls.push(call_on(line))?;
+    }
+    Ok(calls)
+}
+
+// The answer on a line.
+fn answer_on(line: &str) -> Answer {
+    let answer = part(line, ' ', 1);
+    if answer == "reopened" {
+        return Answer::Reopened;
+    }
+    Answer::Step(step_named(answer))
+}
+
+// Wants the answers of a script, as far as there are any.
+fn are_told(rt: &impl Abort, answers: &[Answer], script: &str) {
+    let mut lines = script.lines();
+    for answer in answers {
+        is(rt, answer, &answer_on(lines.next().unwrap_or("")));
+    }
+}
+
+// Wants all answers of a script, and gives the cursor behind them. Ends a test in which a reopening
+// was refused.
+fn behind(rt: &impl Abort, done: &Drive, script: &str) -> Result<Cursor, Fail> {
+    let answers = done.answers.as_slice();
+    if answers.last() == Some(&Answer::NoMemory) {
+        return Err("NoMemory at a reopening".into());
+    }
+    is(rt, &answers.len(), &script.lines().count());
+    are_told(rt, answers, script);
+    Ok(done.cursor)
+}
+
+// Makes calls, and wants the answers of a script.
+fn drives_by<H: Shelf>(
+    rt: &(impl Abort + AllocGlobal),
+    index: &Index,
+    shelf: &mut H,
+    start: Cursor,
+    calls: &[Call],
+    script: &str,
+) -> Result<Cursor, Fail>
+    requires { All HasBudget calls.now }
+{
+    let done = drive(rt.alloc(), calls, index, shelf, start)?;
+    behind(rt, &done, script)
+}
+
+// Makes the calls of a script for the slices of an index.
+fn drives_for<H: Shelf>(
+    rt: &(impl Abort + AllocGlobal),
+    index: &Index,
+    shelf: &mut H,
+    start: Cursor,
+    script: &str,
+) -> Result<Cursor, Fail> {
+    let calls = calls_of(rt.alloc(), script)?;
+    drives_by(rt, index, shelf, start, &calls, script)
+}
+
+// Makes the calls of a script over files for the slices of these bytes; wants its answers, and
+// gives the cursor behind them.
+fn driven<H: Shelf>(
+    rt: &(impl Abort + AllocGlobal),
+    content: &str,
+    shelf: &mut H,
+    start: Cursor,
+    script: &str,
+) -> Result<Cursor, Fail> {
+    let index = index_of(rt.alloc(), content.as_bytes())?;
+    drives_for(rt, &index, shelf, start, script)
+}
+
+// A row has bars between: the bytes of the file whose slices are looked for, the files with commas
+// between, where the search begins, where it stands at last, and how many bytes were handed over, if
+// that is wanted.
+
+// Wants as many bytes handed over as a text names, or any number where there is no text.
+fn has_handed(rt: &impl Abort, bytes: u64, wanted: &str) {
+    if !wanted.is_empty() {
+        is(rt, &bytes, &number_of(wanted));
+    }
+}
+
+// Makes the calls of a script over files that are there already; wants what a row says.
+fn drives_in(
+    rt: &(impl Abort + AllocGlobal),
+    row: &str,
+    shelf: &mut MemShelf,
+    script: &str,
+) -> Result<(), Fail> {
+    let start = cursor_of(field(row, 2));
+    let at = driven(rt, field(row, 0), shelf, start, script)?;
+    is(rt, &at, &cursor_of(field(row, 3)));
+    has_handed(rt, shelf.handed(), field(row, 4));
+    Ok(())
+}
+
+// Makes the calls of a script over the files of a row, which are read `piece` bytes at a time, some
+// reads failing.
+fn drives(
+    rt: &(impl Abort + AllocGlobal),
+    row: &str,
+    piece: usize,
+    failing: &[u64],
+    script: &str,
+) -> Result<(), Fail> {
+    let mut shelf = files_in(rt.alloc(), field(row, 1), piece, failing)?;
+    drives_in(rt, row, &mut shelf, script)
+}
+
+static TWO_FAULTS: &str = "\
+next failed
+reopen reopened
+next failed
+reopen reopened
+next 0:0:0
+next 0:0:1
+next 0:1:0
+next 0:1:1
+next 0:2:0
+next 0:2:1
+next done
+";
+
+#[test]
+fn a_search_goes_on_after_two_faults_and_two_reopenings(rt: HostRuntime) -> Result<(), Fail> {
+    let row = "\0\0\0\0\0\0\0\0|\0\0\0\0\0\0|0:0:0|1:0:0";
+    drives(&rt, row, 1, &[2, 3], TWO_FAULTS)
+}
+
+// A call that failed isn't made again in the place of the next one.
+#[test]
+fn a_fault_is_the_answer_of_the_call_that_met_it(rt: HostRuntime) -> Result<(), Fail> {
+    let row = "\0\0\0\0\0\0\0\0|\0\0\0\0\0\0|0:0:0|0:0:1";
+    drives(&rt, row, 1, &[1], "next failed\nnext 0:0:0\n")
+}
+
+static GIVEN_UP: &str = "\
+next 0:0:0
+reopen reopened
+next 0:0:1
+reopen reopened
+next 0:1:0
+reopen reopened
+next 0:1:1
+reopen reopened
+next 0:2:0
+reopen reopened
+next 0:2:1
+reopen reopened
+next done
+reopen reopened
+";
+
+#[test]
+fn a_finder_is_given_up_after_each_call(rt: HostRuntime) -> Result<(), Fail> {
+    let row = "\0\0\0\0\0\0\0\0|\0\0\0\0\0\0|0:0:0|1:0:0";
+    drives(&rt, row, 1, &[], GIVEN_UP)
+}
+
+#[test]
+fn a_search_behind_all_files_stays_there(rt: HostRuntime) -> Result<(), Fail> {
+    let row = "\0\0\0\0\0\0\0\0|\0\0\0\0\0\0|7:0:0|7:0:0";
+    drives(&rt, row, 1, &[], "1 done\nreopen reopened\nnext done\n")
+}
+
+#[test]
+fn no_calls_give_no_answers(rt: HostRuntime) -> Result<(), Fail> {
+    let row = "\0\0\0\0\0\0\0\0|\0\0\0\0\0\0|0:3:1|0:3:1";
+    drives(&rt, row, 1, &[1], "")
+}
+
+static FAULT_FIRST: &str = "\
+next failed
+next 0:2:0
+next 0:6:1
+next done
+";
+
+static FAULT_SECOND: &str = "\
+next 0:2:0
+next failed
+next 0:6:1
+next done
+";
+
+// The first slice ends with the sixth byte, and the second one with the tenth.
+#[test]
+fn each_read_that_fails_is_told_once(rt: HostRuntime) -> Result<(), Fail> {
+    for failing in 1..11 {
+        let script = if failing < 7 {
+            FAULT_FIRST
+        } else {
+            FAULT_SECOND
+        };
+        drives(
+            &rt,
+            "abcdefgh|XXabcdefgh|0:0:0|1:0:0",
+            1,
+            &[failing],
+            script,
+        )?;
+    }
+    Ok(())
+}
+
+// The window goes with the finder that is given up, and the next one reads its bytes again.
+#[test]
+fn a_reopening_reads_its_window_again(rt: HostRuntime) -> Result<(), Fail> {
+    let script = "next 0:2:0\nreopen reopened\nnext 0:6:1\n";
+    drives(&rt, "abcdefgh|XXabcdefgh|0:0:0|0:6:2|18", 64, &[], script)
+}
+
+// A call for the next sighting gives no finder up, so what was read once isn't read again.
+#[test]
+fn no_call_reopens_unasked(rt: HostRuntime) -> Result<(), Fail> {
+    let script = "next 0:2:0\nnext 0:6:1\nreopen reopened\n";
+    drives(&rt, "abcdefgh|XXabcdefgh|0:0:0|0:6:2|10", 64, &[], script)
+}

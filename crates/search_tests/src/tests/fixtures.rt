@@ -1,0 +1,132 @@
+// What tests of searches share: rows of tables that are texts, indexes of the slices of one file, files
+// in memory, and how values are compared.
+use parcursor::Cursor;
+use parfind::Step;
+use parfixtures::{Spot, cursor, set_of, set_with, shelf_of, sighting};
+use parset::RecoverySet;
+use parshelf::{MemShelf, ReadFault};
+use parwindow::Index;
+use std::alloc::{AllocError, Global};
+use std::fmt::Debug;
+use std::process::Abort;
+use std::test::Fail;
+
+/// Wants that a value is this one.
+pub fn is<T: Debug + PartialEq>(rt: &impl Abort, got: &T, wanted: &T) {
+    assert_eq!(rt; got, wanted);
+}
+
+/// Wants that this holds.
+pub fn holds(rt: &impl Abort, is_so: bool) {
+    assert!(rt; is_so);
+}
+
+/// What stands at a place of a text, with this character between, or no text.
+pub fn part(text: &str, between: char, place: usize) -> &str {
+    text.split(between).nth(place).unwrap_or("")
+}
+
+/// What stands at a place of a row that has bars between, or no text.
+pub fn field(row: &str, place: usize) -> &str {
+    part(row, '|', place)
+}
+
+/// Whether a line of a table is a row, and not one that begins with `#`, which tells of those
+/// behind it.
+pub fn is_row(line: &str) -> bool {
+    !line.starts_with('#')
+}
+
+/// The number that a text names, or 0.
+pub fn number_of(text: &str) -> u64 {
+    text.parse::<u64>().unwrap_or(0)
+}
+
+/// Wants no more bytes handed over than a text names, or any number where there is no text.
+pub fn is_at_most(rt: &impl Abort, bytes: u64, most: &str) {
+    if !most.is_empty() {
+        let most = number_of(most);
+        is(rt, &bytes.max(most), &most);
+    }
+}
+
+/// The number that a text names, or the greatest.
+pub fn small_number_of(text: &str) -> u32 {
+    text.parse::<u32>().unwrap_or(u32::MAX)
+}
+
+// The spot that a text names: a file, an offset and a slice, with colons between.
+fn spot_of(text: &str) -> Spot {
+    let offset = part(text, ':', 1).parse::<u64>().unwrap_or(u64::MAX);
+    let file = small_number_of(part(text, ':', 0));
+    (file, offset, small_number_of(part(text, ':', 2)))
+}
+
+/// The cursor at a spot that a text names.
+pub fn cursor_of(text: &str) -> Cursor {
+    cursor(spot_of(text))
+}
+
+/// What a step gives by the name of it: a word, or the spot of a sighting.
+pub fn step_named(text: &str) -> Result<Step, ReadFault> {
+    match text {
+        "spent" => Ok(Step::Spent),
+        "done" => Ok(Step::Done),
+        "failed" => Err(ReadFault::Failed),
+        "ended" => Err(ReadFault::Ended),
+        spot => Ok(Step::Hit(sighting(spot_of(spot)))),
+    }
+}
+
+// A file of a text that has commas between.
+fn file_at(files: &str, place: usize) -> &[u8] {
+    part(files, ',', place).as_bytes()
+}
+
+// How many files such a text names; `-` is none.
+fn file_count(files: &str) -> usize {
+    if files == "-" {
+        return 0;
+    }
+    files.split(',').count()
+}
+
+/// The files of a text that has commas between, or `-` for none, and at most four. They are read
+/// `piece` bytes at a time, and the reads of these numbers fail, which count from 1.
+pub fn files_in(
+    alloc: Global,
+    files: &str,
+    piece: usize,
+    failing: &[u64],
+) -> Result<MemShelf, Fail> {
+    let all = [
+        file_at(files, 0),
+        file_at(files, 1),
+        file_at(files, 2),
+        file_at(files, 3),
+    ];
+    let named = all.get(..file_count(files)).ok_or("more than four files")?;
+    shelf_of(alloc, named, piece, failing)
+}
+
+/// A file of this length: these bytes, and `x` behind them.
+pub fn long_file(alloc: Global, front: &[u8], length: usize) -> Result<Vec<u8>, AllocError> {
+    let mut bytes = Vec::from_slice(alloc, front)?;
+    bytes.resize(length, b'x')?;
+    Ok(bytes)
+}
+
+// An index of the slices of a set that was built.
+fn index_in(alloc: Global, set: Result<RecoverySet, Fail>) -> Result<Index, Fail> {
+    Ok(Index::new(alloc, &set?)?)
+}
+
+/// An index of the slices of a file of this length, of four each, with these sums, if they are all.
+pub fn index_with(alloc: Global, length: u64, pairs: &[u8]) -> Result<Index, Fail> {
+    index_in(alloc, set_with(alloc, length, pairs))
+}
+
+/// An index of the slices of a file of these bytes, of four each, whose sums are known.
+pub fn index_of(alloc: Global, content: &[u8]) -> Result<Index, Fail> {
+    index_in(alloc, set_of(alloc, content))
+}

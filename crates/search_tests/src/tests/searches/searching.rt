@@ -1,0 +1,120 @@
+// Calls of a search of files in memory.
+ghost use Rattle.std.specs.Prelude.{IfOk};
+ghost use Rattle.parshelf.specs.Memory.{shelf_state_of};
+ghost use Rattle.parfind.specs.Finders.{BelongsTo};
+
+use crate::tests::fixtures::{
+    cursor_of, field, files_in, holds, index_of, is, is_at_most, is_row, part, step_named,
+};
+use parcursor::Cursor;
+use parfind::{Finder, Step};
+use parshelf::{MemShelf, ReadFault};
+use parwindow::Index;
+use std::alloc::{AllocError, Global};
+use std::process::Abort;
+use std::test::Fail;
+
+// A walk is a text with bars between: the bytes of the file whose slices are looked for, the files
+// with commas between, where the search begins, its steps with commas between, and how many bytes
+// are handed over at most, if that is wanted. A step has spaces between: its budget, or `next`, what
+// it gives, and the cursor then, if that is wanted, or the furthest one behind `..=`.
+
+// A search from a cursor on.
+fn opened(alloc: Global, index: &Index, shelf: &MemShelf, at: Cursor) -> Result<Finder, AllocError>
+    ensures { IfOk result (λ finder. BelongsTo finder index.now (shelf_state_of shelf.now)) }
+{
+    Finder::open(alloc, index, shelf, at)
+}
+
+// What a search gives by a step with the budget that a text names, or by `next`.
+fn gives(
+    finder: &mut Finder,
+    index: &Index,
+    shelf: &mut MemShelf,
+    budget: &str,
+) -> Result<Step, ReadFault>
+    requires { BelongsTo finder.old index.now (shelf_state_of shelf.old) }
+    ensures { BelongsTo finder.new index.now (shelf_state_of shelf.new) }
+{
+    match budget.parse::<u64>() {
+        Ok(places) if places > 0 => finder.step(index, shelf, places),
+        _ => finder.next(index, shelf),
+    }
+}
+
+// Wants the cursor that a text names, or one no further than that behind `..=`, or any where there
+// is no text.
+fn stands(rt: &impl Abort, at: Cursor, wanted: &str) {
+    if let Some((_, most)) = wanted.split_once("..=") {
+        holds(rt, at <= cursor_of(most));
+    } else if !wanted.is_empty() {
+        is(rt, &at, &cursor_of(wanted));
+    }
+}
+
+// Takes the steps of a walk.
+fn steps_give(
+    rt: &impl Abort,
+    finder: &mut Finder,
+    index: &Index,
+    shelf: &mut MemShelf,
+    steps: &str,
+)
+    requires { BelongsTo finder.old index.now (shelf_state_of shelf.old) }
+{
+    for step in steps.split(',') {
+        let given = gives(finder, index, shelf, part(step, ' ', 0));
+        is(rt, &given, &step_named(part(step, ' ', 1)));
+        stands(rt, finder.cursor(), part(step, ' ', 2));
+    }
+}
+
+/// Goes along a walk in files and for slices that are there already.
+pub fn walks_with(
+    rt: &(impl Abort + AllocGlobal),
+    index: &Index,
+    shelf: &mut MemShelf,
+    walk: &str,
+) -> Result<(), Fail> {
+    let mut finder = opened(rt.alloc(), index, &*shelf, cursor_of(field(walk, 2)))?;
+    steps_give(rt, &mut finder, index, shelf, field(walk, 3));
+    is_at_most(rt, shelf.handed(), field(walk, 4));
+    Ok(())
+}
+
+/// Goes along a walk in files that are there already.
+pub fn walks_in(
+    rt: &(impl Abort + AllocGlobal),
+    shelf: &mut MemShelf,
+    walk: &str,
+) -> Result<(), Fail> {
+    let index = index_of(rt.alloc(), field(walk, 0).as_bytes())?;
+    walks_with(rt, &index, shelf, walk)
+}
+
+/// Goes along a walk in files that are read `piece` bytes at a time, where the read of one number
+/// fails, or none of number 0.
+pub fn walks(
+    rt: &(impl Abort + AllocGlobal),
+    walk: &str,
+    piece: usize,
+    failing: u64,
+) -> Result<(), Fail> {
+    let mut shelf = files_in(rt.alloc(), field(walk, 1), piece, &[failing])?;
+    walks_in(rt, &mut shelf, walk)
+}
+
+/// Goes along each walk of a table.
+pub fn walks_each(
+    rt: &(impl Abort + AllocGlobal),
+    table: &str,
+    piece: usize,
+    failing: u64,
+) -> Result<(), Fail> {
+    for walk in table.lines() {
+        if is_row(walk) {
+            walks(rt, walk, piece, failing)?;
+        }
+    }
+    Ok(())
+}

@@ -1,0 +1,238 @@
+// Marks of the slices that a survey finds.
+ghost use Rattle.std.specs.Prelude.{◌≡◌, ◌∷◌, [], length, true, false};
+ghost use Rattle.parfind.specs.Marks.{missing_places};
+ghost use Rattle.search_tests.specs.Worked.{two_slices, equal_slices};
+
+use crate::tests::fixtures::{
+    field, files_in, index_of, is, is_at_most, is_row, long_file, small_number_of,
+};
+use parfind::{SurveyFault, survey, survey_in};
+use parfixtures::shelf_of;
+use parshelf::{MemShelf, ReadFault};
+use parwindow::{Index, Window};
+use std::alloc::{AllocError, Global};
+use std::process::Abort;
+use std::test::Fail;
+
+// A row has bars between: the bytes of the file whose slices are looked for, the files with commas
+// between or `-` for none, the marks before and after the survey, a plus or a minus for each slice,
+// the number of the file whose read fails, if one does, and how many bytes are handed over at most,
+// if that is wanted.
+
+// What a survey gives where the read of the file fails that a text names, or where there is no text.
+fn answer_named(file: &str) -> Result<(), SurveyFault> {
+    if file.is_empty() {
+        return Ok(());
+    }
+    Err(SurveyFault::Read(small_number_of(file), ReadFault::Failed))
+}
+
+// Whether a plus stands at a place.
+fn mark_at(marks: &str, place: usize) -> bool {
+    marks.as_bytes().get(place) == Some(&b'+')
+}
+
+// Whether a plus stands at each of the first four places.
+fn marks_of(marks: &str) -> [bool; 4] {
+    let (first, second) = (mark_at(marks, 0), mark_at(marks, 1));
+    [first, second, mark_at(marks, 2), mark_at(marks, 3)]
+}
+
+// A survey in a window that was used before.
+fn surveyed_in(
+    rt: &(impl Abort + AllocGlobal),
+    index: &Index,
+    shelf: &mut MemShelf,
+    found: &mut [bool],
+) -> Result<(), SurveyFault>
+    requires { length found.old ≡ length index.now.slices }
+{
+    let mut window = Window::new(rt.alloc(), index.size() as usize)?;
+    let _ = window.push(b'a');
+    match survey_in(index, shelf, &mut window, found) {
+        Ok(()) => Ok(()),
+        Err((file, fault)) => Err(SurveyFault::Read(file, fault)),
+    }
+}
+
+// Which window a survey has.
+#[derive(Clone, Copy, PartialEq)]
+enum In {
+    OwnWindow,
+    UsedWindow,
+}
+
+// Surveys files for the slices of an index, by the marks of a row.
+fn surveyed(
+    rt: &(impl Abort + AllocGlobal),
+    index: &Index,
+    shelf: &mut MemShelf,
+    marks: &mut [bool; 4],
+    way: In,
+) -> Result<(), SurveyFault> {
+    let count = index.slices() as usize;
+    assert!(rt; count <= 4);
+    let found = &mut marks[..count];
+    match way {
+        In::OwnWindow => survey(rt.alloc(), index, shelf, found),
+        In::UsedWindow => surveyed_in(rt, index, shelf, found),
+    }
+}
+
+// Surveys files for the slices of an index; wants what the row says.
+fn surveys(
+    rt: &(impl Abort + AllocGlobal),
+    index: &Index,
+    shelf: &mut MemShelf,
+    row: &str,
+    way: In,
+) -> Result<(), Fail> {
+    let mut marks = marks_of(field(row, 2));
+    let answer = surveyed(rt, index, shelf, &mut marks, way);
+    if answer == Err(SurveyFault::Memory) {
+        return Err(AllocError.into());
+    }
+    is(rt, &answer, &answer_named(field(row, 4)));
+    is(rt, &marks, &marks_of(field(row, 3)));
+    is_at_most(rt, shelf.handed(), field(row, 5));
+    Ok(())
+}
+
+// Surveys files that are there already.
+fn survey_marks(
+    rt: &(impl Abort + AllocGlobal),
+    shelf: &mut MemShelf,
+    row: &str,
+    way: In,
+) -> Result<(), Fail> {
+    let index = index_of(rt.alloc(), field(row, 0).as_bytes())?;
+    surveys(rt, &index, shelf, row, way)
+}
+
+// Surveys the files of a row, which are read `piece` bytes at a time; the read of one number fails,
+// or none of number 0.
+fn marks(
+    rt: &(impl Abort + AllocGlobal),
+    row: &str,
+    piece: usize,
+    failing: u64,
+    way: In,
+) -> Result<(), Fail> {
+    let mut shelf = files_in(rt.alloc(), field(row, 1), piece, &[failing])?;
+    survey_marks(rt, &mut shelf, row, way)
+}
+
+// The same by each row of a table.
+fn marks_each(rt: &(impl Abort + AllocGlobal), table: &str, piece: usize) -> Result<(), Fail> {
+    for row in table.lines() {
+        if is_row(row) {
+            marks(rt, row, piece, 0, In::UsedWindow)?;
+        }
+    }
+    Ok(())
+}
+
+static SEEN: &str = "\
+# Each slice that is seen is marked.
+abcdefghijkl|ab,XXabcdefgh|---|++-||10
+abcdefgh|abcXabcdef|--|+-||10
+abcdefgh|,ab,abcd|--|+-||4
+abcdefgh|-|--|--||0
+# A short slice is marked where the file ends or goes on with zeros.
+ij|ij|-|+||2
+ij|XXij\0|-|+||5
+ij|ijk|-|-||3
+i\0|i|-|-||0
+# Files into which no slice fits are not read.
+abcdefgh|,a,ab,abc|--|--||0
+";
+
+#[test]
+fn each_slice_that_is_seen_is_marked(rt: HostRuntime) -> Result<(), Fail> {
+    marks_each(&rt, SEEN, 1)?;
+    marks_each(&rt, SEEN, 64)
+}
+
+static EQUAL: &str = "\
+\0\0\0\0\0\0\0\0|\0\0\0\0\0\0|--|++||6
+\0\0\0\0\0\0\0\0\0\0\0\0|XX\0\0\0\0|---|+++||6
+\0\0\0\0\0\0\0\0abcdefgh|\0\0\0\0\0\0\0\0abcd\0\0\0\0|----|+++-||16
+\0\0\0\0\0\0\0\0ab|\0\0\0,\0\0\0\0\0|---|++-||8
+";
+
+#[test]
+fn equal_slices_are_marked_together(rt: HostRuntime) -> Result<(), Fail> {
+    marks_each(&rt, EQUAL, 1)?;
+    marks_each(&rt, EQUAL, 64)
+}
+
+#[test]
+fn nothing_is_read_where_each_slice_has_its_mark(rt: HostRuntime) -> Result<(), Fail> {
+    marks(&rt, "abcdefgh|abcdefgh|++|++||0", 64, 1, In::UsedWindow)
+}
+
+// A file with two slices near its beginning, and much behind them; behind it another file has both
+// slices.
+fn long_shelf(alloc: Global, piece: usize) -> Result<MemShelf, Fail> {
+    let long = long_file(alloc, b"xxabcdefgh", 20_010)?;
+    shelf_of(alloc, &[&long, b"abcdefgh"], piece, &[])
+}
+
+// Surveys them.
+fn stops(rt: &(impl Abort + AllocGlobal), row: &str, piece: usize) -> Result<(), Fail> {
+    let mut shelf = long_shelf(rt.alloc(), piece)?;
+    survey_marks(rt, &mut shelf, row, In::UsedWindow)
+}
+
+// At most 4,096 bytes are read behind those in front of the last slice and its own four.
+#[test]
+fn reading_stops_once_each_slice_without_a_mark_is_found(rt: HostRuntime) -> Result<(), Fail> {
+    stops(&rt, "abcdefgh||--|++||4106", 1)?;
+    stops(&rt, "abcdefgh||--|++||4106", 64)?;
+    stops(&rt, "abcdefgh||-+|++||4102", 64)
+}
+
+// How many bytes a read gives at most, the numbers of the first and the last read of which each
+// fails in turn, and what comes of it.
+static FAILURES: [(usize, u64, u64, &str); 7] = [
+    (1, 1, 4, "abcdefghijkl|abcd,XXefghijkl|---|---|0"),
+    (1, 5, 10, "abcdefghijkl|abcd,XXefghijkl|---|+--|1"),
+    (1, 11, 14, "abcdefghijkl|abcd,XXefghijkl|---|++-|1"),
+    (1, 15, 15, "abcdefghijkl|abcd,XXefghijkl|---|+++|"),
+    (64, 1, 1, "abcdefghijkl|abcd,XXefghijkl|---|---|0"),
+    (64, 2, 2, "abcdefghijkl|abcd,XXefghijkl|---|+--|1"),
+    (64, 3, 3, "abcdefghijkl|abcd,XXefghijkl|---|+++|"),
+];
+
+#[test]
+fn after_a_failed_read_the_marks_before_it_stand(rt: HostRuntime) -> Result<(), Fail> {
+    for (piece, first, last, row) in &FAILURES {
+        for failing in *first..=*last {
+            marks(&rt, row, *piece, failing, In::UsedWindow)?;
+        }
+    }
+    Ok(())
+}
+
+// Surveys in windows of their own: of files of which the first read fails, and of others.
+#[test]
+fn a_survey_marks_what_a_search_finds(rt: HostRuntime) -> Result<(), Fail> {
+    let failing = "abcdefghijkl|ab,XXabcdefgh|--+|--+|1";
+    marks(&rt, failing, 64, 1, In::OwnWindow)?;
+    let whole = "abcdefghijkl|XXabcd|--+|+-+|";
+    marks(&rt, whole, 64, 0, In::OwnWindow)
+}
+
+// What the word counts that bounds the digests of a survey. Does nothing.
+fn missing_law()
+    ensures none { missing_places two_slices (false ∷ false ∷ []) ≡ 2 }
+    ensures one { missing_places two_slices (true ∷ false ∷ []) ≡ 1 }
+    ensures all { missing_places two_slices (true ∷ true ∷ []) ≡ 0 }
+    ensures equal { missing_places equal_slices (true ∷ false ∷ []) ≡ 3 }
+    ensures both { missing_places equal_slices (true ∷ true ∷ []) ≡ 0 }
+{}
+
+#[test]
+fn digests_are_counted_where_a_slice_has_no_mark(_rt: HostRuntime) {
+    missing_law();
+}

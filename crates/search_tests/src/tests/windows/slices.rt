@@ -1,0 +1,253 @@
+// Slices of one file, each of 4 bytes, and where a window stops that looks for them.
+use crate::tests::fixtures::{index_with, is};
+use parfield::Hash16;
+use parwindow::{Index, Window};
+use std::process::Abort;
+use std::test::Fail;
+
+// The MD5 and the CRC-32 of `abcd`, and those of `ab` and two zeros.
+const ABCD: u128 = 0xe2fc714c4727ee9395f324cd2e7f331f;
+
+const AB: u128 = 0x66271d2e70372c1b4dc5b46e79a6f001;
+
+const ABCD_CRC: u32 = 0xed82_cd11;
+
+const AB_CRC: u32 = 0xe98d_5034;
+
+// Both sums of the slices of `abcdabcdab`, as a packet has them, of those of `abcdab`, and of two
+// that are equal: `ab` with two zeros, and `ab`.
+const TEN_BYTES: [u8; 60] =
+    *b"\xe2\xfc\x71\x4c\x47\x27\xee\x93\x95\xf3\x24\xcd\x2e\x7f\x33\x1f\x11\xcd\x82\xed\
+      \xe2\xfc\x71\x4c\x47\x27\xee\x93\x95\xf3\x24\xcd\x2e\x7f\x33\x1f\x11\xcd\x82\xed\
+      \x66\x27\x1d\x2e\x70\x37\x2c\x1b\x4d\xc5\xb4\x6e\x79\xa6\xf0\x01\x34\x50\x8d\xe9";
+
+const SIX_BYTES: [u8; 40] =
+    *b"\xe2\xfc\x71\x4c\x47\x27\xee\x93\x95\xf3\x24\xcd\x2e\x7f\x33\x1f\x11\xcd\x82\xed\
+      \x66\x27\x1d\x2e\x70\x37\x2c\x1b\x4d\xc5\xb4\x6e\x79\xa6\xf0\x01\x34\x50\x8d\xe9";
+
+const EQUAL_BYTES: [u8; 40] =
+    *b"\x66\x27\x1d\x2e\x70\x37\x2c\x1b\x4d\xc5\xb4\x6e\x79\xa6\xf0\x01\x34\x50\x8d\xe9\
+      \x66\x27\x1d\x2e\x70\x37\x2c\x1b\x4d\xc5\xb4\x6e\x79\xa6\xf0\x01\x34\x50\x8d\xe9";
+
+// Fewer bytes than the sums of any of these files have.
+const TOO_FEW: [u8; 16] = *b"\xe2\xfc\x71\x4c\x47\x27\xee\x93\x95\xf3\x24\xcd\x2e\x7f\x33\x1f";
+
+// What an index says, the answer last.
+#[derive(Clone, Copy)]
+enum Told {
+    // How many bytes each slice has, and how many slices there are.
+    Slices(u64, u32),
+    // How many bytes of a slice are the file's.
+    OwnLength(u32, u64),
+    // Whether some slice has this CRC-32.
+    HasCrc(u32, bool),
+    // The first slice with this CRC-32 from a number on, and with both sums.
+    NextCrc(u32, u32, Option<u32>),
+    NextMatch(u32, u128, u32, Option<u32>),
+    // Whether a slice fits in where so many bytes are left, and whether one with this CRC-32 does.
+    Fits(u64, bool),
+    FitsCrc(u32, u64, bool),
+    // Whether a slice with this CRC-32 that fits into so many bytes has none of these marks.
+    Misses(u32, &'static [bool], u64, bool),
+}
+
+// So many bytes of a slice are the file's.
+fn has_own_length(rt: &impl Abort, index: &Index, slice: u32, length: u64) {
+    assert!(rt; slice < index.slices());
+    is(rt, &index.own_length(slice), &length);
+}
+
+// A slice with this CRC-32 that fits into so many bytes has none of these marks, or each has one.
+fn misses(rt: &impl Abort, index: &Index, crc: u32, found: &[bool], left: u64, missing: bool) {
+    assert!(rt; index.slices() as usize == found.len());
+    is(rt, &index.is_missing(crc, left, found), &missing);
+}
+
+// The first slice with both sums from a number on.
+fn next_match(index: &Index, crc: u32, digest: u128, from: u32) -> Option<u32> {
+    index.next_match(crc, Hash16(digest.to_be_bytes()), from)
+}
+
+// The index says this.
+fn says(rt: &impl Abort, index: &Index, row: Told) {
+    match row {
+        Told::Slices(size, slices) => is(rt, &(index.size(), index.slices()), &(size, slices)),
+        Told::OwnLength(slice, length) => has_own_length(rt, index, slice, length),
+        Told::HasCrc(crc, seen) => is(rt, &index.has_crc(crc), &seen),
+        Told::NextCrc(crc, from, found) => is(rt, &index.next_crc(crc, from), &found),
+        Told::NextMatch(crc, digest, from, found) => {
+            is(rt, &next_match(index, crc, digest, from), &found);
+        }
+        Told::Fits(left, fits) => is(rt, &index.fits(left), &fits),
+        Told::FitsCrc(crc, left, fits) => is(rt, &index.has_fit_crc(crc, left), &fits),
+        Told::Misses(crc, found, left, missing) => misses(rt, index, crc, found, left, missing),
+    }
+}
+
+// An index of the slices of a file of this length with these sums says all of this.
+fn index_says(
+    rt: &(impl Abort + AllocGlobal),
+    length: u64,
+    sums: &[u8],
+    rows: &[Told],
+) -> Result<(), Fail> {
+    let index = index_with(rt.alloc(), length, sums)?;
+    for row in rows {
+        says(rt, &index, *row);
+    }
+    Ok(())
+}
+
+static TEN_SLICES: [Told; 3] = [
+    Told::Slices(4, 3),
+    Told::OwnLength(1, 4),
+    Told::OwnLength(2, 2),
+];
+
+#[test]
+fn slices_of_a_file_of_ten_bytes_are_found(rt: HostRuntime) -> Result<(), Fail> {
+    index_says(&rt, 10, &TEN_BYTES, &TEN_SLICES)
+}
+
+static EQUAL_SLICES: [Told; 11] = [
+    Told::HasCrc(AB_CRC, true),
+    Told::HasCrc(0, false),
+    Told::NextMatch(ABCD_CRC, ABCD, 0, Some(0)),
+    Told::NextMatch(ABCD_CRC, ABCD, 1, Some(1)),
+    Told::NextMatch(ABCD_CRC, ABCD, 2, None),
+    Told::NextMatch(ABCD_CRC, ABCD, 3, None),
+    Told::NextCrc(ABCD_CRC, 0, Some(0)),
+    Told::NextCrc(ABCD_CRC, 1, Some(1)),
+    Told::NextCrc(ABCD_CRC, 2, None),
+    Told::NextMatch(AB_CRC, AB, 0, Some(2)),
+    Told::NextMatch(AB_CRC, ABCD, 0, None),
+];
+
+#[test]
+fn equal_slices_are_found_by_number(rt: HostRuntime) -> Result<(), Fail> {
+    index_says(&rt, 10, &TEN_BYTES, &EQUAL_SLICES)
+}
+
+static NO_SUMS: [Told; 3] = [
+    Told::Slices(4, 3),
+    Told::HasCrc(ABCD_CRC, false),
+    Told::NextMatch(ABCD_CRC, ABCD, 0, None),
+];
+
+#[test]
+fn slices_without_sums_are_not_found(rt: HostRuntime) -> Result<(), Fail> {
+    index_says(&rt, 10, &TOO_FEW, &NO_SUMS)
+}
+
+static KNOWN_FIT: [Told; 5] = [
+    Told::Fits(0, false),
+    Told::Fits(1, false),
+    Told::Fits(2, true),
+    Told::Fits(3, true),
+    Told::Fits(u64::MAX, true),
+];
+
+static UNKNOWN_FIT: [Told; 5] = [
+    Told::Fits(0, false),
+    Told::Fits(1, false),
+    Told::Fits(2, false),
+    Told::Fits(3, false),
+    Told::Fits(u64::MAX, false),
+];
+
+#[test]
+fn a_slice_fits_into_what_its_own_bytes_need(rt: HostRuntime) -> Result<(), Fail> {
+    index_says(&rt, 6, &SIX_BYTES, &KNOWN_FIT)?;
+    index_says(&rt, 6, &TOO_FEW, &UNKNOWN_FIT)
+}
+
+static TEN_FIT: [Told; 9] = [
+    Told::FitsCrc(ABCD_CRC, 0, false),
+    Told::FitsCrc(ABCD_CRC, 3, false),
+    Told::FitsCrc(ABCD_CRC, 4, true),
+    Told::FitsCrc(ABCD_CRC, u64::MAX, true),
+    Told::FitsCrc(AB_CRC, 0, false),
+    Told::FitsCrc(AB_CRC, 1, false),
+    Told::FitsCrc(AB_CRC, 2, true),
+    Told::FitsCrc(AB_CRC, u64::MAX, true),
+    Told::FitsCrc(0, u64::MAX, false),
+];
+
+static EQUAL_FIT: [Told; 4] = [
+    Told::FitsCrc(AB_CRC, 0, false),
+    Told::FitsCrc(AB_CRC, 1, false),
+    Told::FitsCrc(AB_CRC, 2, true),
+    Told::FitsCrc(AB_CRC, u64::MAX, true),
+];
+
+static NO_FIT: [Told; 1] = [Told::FitsCrc(ABCD_CRC, u64::MAX, false)];
+
+#[test]
+fn a_slice_with_a_crc_fits_by_its_own_bytes(rt: HostRuntime) -> Result<(), Fail> {
+    index_says(&rt, 10, &TEN_BYTES, &TEN_FIT)?;
+    index_says(&rt, 6, &EQUAL_BYTES, &EQUAL_FIT)?;
+    index_says(&rt, 10, &TOO_FEW, &NO_FIT)
+}
+
+static TEN_MISSING: [Told; 10] = [
+    Told::Misses(ABCD_CRC, &[false, true, true], 3, false),
+    Told::Misses(ABCD_CRC, &[false, true, true], 4, true),
+    Told::Misses(ABCD_CRC, &[false, true, true], u64::MAX, true),
+    Told::Misses(ABCD_CRC, &[true, false, true], 3, false),
+    Told::Misses(ABCD_CRC, &[true, false, true], 4, true),
+    Told::Misses(ABCD_CRC, &[true, false, true], u64::MAX, true),
+    Told::Misses(ABCD_CRC, &[true, true, false], u64::MAX, false),
+    Told::Misses(AB_CRC, &[true, true, false], 1, false),
+    Told::Misses(AB_CRC, &[true, true, false], 2, true),
+    Told::Misses(0, &[false, false, false], u64::MAX, false),
+];
+
+static EQUAL_MISSING: [Told; 5] = [
+    Told::Misses(AB_CRC, &[false, true], 3, false),
+    Told::Misses(AB_CRC, &[false, true], 4, true),
+    Told::Misses(AB_CRC, &[false, true], u64::MAX, true),
+    Told::Misses(AB_CRC, &[true, false], 1, false),
+    Told::Misses(AB_CRC, &[true, false], 2, true),
+];
+
+#[test]
+fn a_slice_is_missing_that_fits_and_has_no_mark(rt: HostRuntime) -> Result<(), Fail> {
+    index_says(&rt, 10, &TEN_BYTES, &TEN_MISSING)?;
+    index_says(&rt, 6, &EQUAL_BYTES, &EQUAL_MISSING)
+}
+
+// Pieces, how many of their bytes are taken, and whether a slice ends there.
+static PIECES: [(&[u8], usize, bool); 7] = [
+    (b"cdxx", 2, true),
+    (b"", 0, true),
+    (b"xabcdab\0\0xx", 5, true),
+    (b"ab\0\0xx", 4, true),
+    (b"xx", 2, false),
+    (b"a stream without a slic", 23, false),
+    (b"abcd", 4, true),
+];
+
+// A full window takes so many bytes of each piece, and then has the CRC-32 of a slice or of none.
+fn takes(rt: &impl Abort, window: &mut Window, index: &Index) {
+    for (bytes, count, seen) in &PIECES {
+        assert!(rt; window.is_full());
+        is(rt, &window.push_until(index, bytes), count);
+        is(rt, &index.has_crc(window.crc()), seen);
+    }
+}
+
+// A window that holds `xyab` does.
+fn a_full_window_takes(rt: &(impl Abort + AllocGlobal), index: &Index) -> Result<(), Fail> {
+    let mut window = Window::new(rt.alloc(), 4)?;
+    for byte in b"xyab" {
+        let _ = window.push(*byte);
+    }
+    takes(rt, &mut window, index);
+    Ok(())
+}
+
+#[test]
+fn pieces_stop_where_a_slice_ends(rt: HostRuntime) -> Result<(), Fail> {
+    let index = index_with(rt.alloc(), 6, &SIX_BYTES)?;
+    a_full_window_takes(&rt, &index)
+}
