@@ -17,22 +17,17 @@ while IFS='|' read -r crate mode word told; do
         echo "not run: there is no $tests, which the gate leaves"
     fi
 done << 'END'
-parfield_tests|none
-parfield_tests|one|names_are_shown
-parset_tests|none
-parwords_tests|none
-packet_runs_tests|none
-scan_runs_tests|none
-parshelf_tests|one
-parsalvage_tests|none
-parsalvage_tests|one|no_packet
-parsalvage_tests|one|packet_inside
-parsalvage_tests|one|many_bytes
-parsalvage_tests|one|bodies_up_to
-parwindow_tests|one
-parcursor_tests|one
-parfind_tests|one
-parfind_tests|later|equal_slices
-pardrive_tests|one||OutOfMemory before the first call,NoMemory told at a reopening,NoMemory told at a first reopening
+parts_tests|none
+parts_tests|one|names_are_shown
+parts_tests|one|::shelves::
+parts_tests|one|::cursors::
+packets_tests|none
+packets_tests|one|no_packet
+packets_tests|one|packet_inside
+packets_tests|one|many_bytes
+packets_tests|one|bodies_up_to
+runs_tests|none
+search_tests|one||OutOfMemory before the first call,NoMemory told at a reopening,NoMemory told at a first reopening
+search_tests|later|equal_slices
 END
 exit $failed

@@ -1,4 +1,5 @@
-use Rattle.std.proofs.Common.{◌++◌, string_bytes, length, Ok}
+use Rattle.std.proofs.lemmas.Grind.{common_steps}
+use Rattle.std.proofs.Common.{◌++◌, string_bytes, length, Ok, arith}
 use Rattle.std.proofs.lemmas.Result.{err_from_is_err_and}
 use Rattle.std.specs.List.{flat_map}
 use Rattle.parshelf.proofs.BlockLaws.{Begins_front}
@@ -43,3 +44,30 @@ returns-clause-text g c =
     let after = rw (c.as_bytes.ensures.value, c.in_ok-push_count.ensures, c.in_ok-count.ensures.count) at c.write_whole.ensures.text in
     listed_ends c.write_whole.result (Ok Listed) start mid (g.W.Sink.state c.write_whole.new.out) (lines ++ last) (waiting ++ last)
     (last_waits lines last start mid waiting waits) after c.write_whole.ensures.fault
+
+pub returns-in_err-count-clause-no_read : goal.returns-in_err-count-clause-no_read
+returns-in_err-count-clause-no_read g c = grind (arith, common_steps)
+
+pub returns-in_err-count-clause-silent : goal.returns-in_err-count-clause-silent
+returns-in_err-count-clause-silent g c = grind (arith, common_steps)
+
+pub returns-in_err-count-clause-sink : goal.returns-in_err-count-clause-sink
+returns-in_err-count-clause-sink g c = grind (arith, common_steps)
+
+pub returns-in_err-push_count-clause-no_read : goal.returns-in_err-push_count-clause-no_read
+returns-in_err-push_count-clause-no_read g c = grind (arith, common_steps)
+
+pub returns-in_err-push_count-clause-silent : goal.returns-in_err-push_count-clause-silent
+returns-in_err-push_count-clause-silent g c = grind (arith, common_steps)
+
+pub returns-in_err-push_count-clause-sink : goal.returns-in_err-push_count-clause-sink
+returns-in_err-push_count-clause-sink g c = grind (arith, common_steps)
+
+pub returns-clause-no_read : goal.returns-clause-no_read
+returns-clause-no_read g c = grind (arith, common_steps)
+
+pub returns-clause-silent : goal.returns-clause-silent
+returns-clause-silent g c = grind (arith, common_steps)
+
+pub returns-clause-sink : goal.returns-clause-sink
+returns-clause-sink g c = grind (arith, common_steps)

@@ -1,4 +1,5 @@
-use Rattle.std.proofs.Common.{string_bytes, subst, sym, Ok, Err}
+use Rattle.std.proofs.lemmas.Grind.{common_steps}
+use Rattle.std.proofs.Common.{string_bytes, subst, sym, Ok, Err, arith}
 use Rattle.std.proofs.lemmas.Result.{err_from_is_err_and}
 use Rattle.partext.specs.Outcomes.{Answers}
 use Rattle.partext.specs.Report.{report_with_set, set_report}
@@ -25,3 +26,33 @@ returns-clause-text g c =
     let after = rw c.as_bytes.ensures.value at c.write_whole.ensures.text in
     rw c.in_ok-set.ensures
     (listed_ends c.write_whole.result (Ok Listed) start mid (g.W.Sink.state c.write_whole.new.out) text (string_bytes c.put_set.new.waiting) waits after c.write_whole.ensures.fault)
+
+pub returns-in_err-set-clause-text : goal.returns-in_err-set-clause-text
+returns-in_err-set-clause-text g c = grind (arith, common_steps)
+
+pub returns-in_err-set-clause-no_read : goal.returns-in_err-set-clause-no_read
+returns-in_err-set-clause-no_read g c = grind (arith, common_steps)
+
+pub returns-in_err-set-clause-silent : goal.returns-in_err-set-clause-silent
+returns-in_err-set-clause-silent g c = grind (arith, common_steps)
+
+pub returns-in_err-set-clause-sink : goal.returns-in_err-set-clause-sink
+returns-in_err-set-clause-sink g c = grind (arith, common_steps)
+
+pub returns-in_err-put_set-clause-no_read : goal.returns-in_err-put_set-clause-no_read
+returns-in_err-put_set-clause-no_read g c = grind (arith, common_steps)
+
+pub returns-in_err-put_set-clause-silent : goal.returns-in_err-put_set-clause-silent
+returns-in_err-put_set-clause-silent g c = grind (arith, common_steps)
+
+pub returns-in_err-put_set-clause-sink : goal.returns-in_err-put_set-clause-sink
+returns-in_err-put_set-clause-sink g c = grind (arith, common_steps)
+
+pub returns-clause-no_read : goal.returns-clause-no_read
+returns-clause-no_read g c = grind (arith, common_steps)
+
+pub returns-clause-silent : goal.returns-clause-silent
+returns-clause-silent g c = grind (arith, common_steps)
+
+pub returns-clause-sink : goal.returns-clause-sink
+returns-clause-sink g c = grind (arith, common_steps)

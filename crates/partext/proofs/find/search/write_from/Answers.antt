@@ -1,4 +1,5 @@
-use Rattle.std.proofs.Common.{rules, ◌≢◌, ◌≡◌, Some, Ok, Err, List, ℕ}
+use Rattle.std.proofs.lemmas.Grind.{common_steps}
+use Rattle.std.proofs.Common.{rules, ◌≢◌, ◌≡◌, Some, Ok, Err, List, ℕ, arith}
 use Rattle.std.proofs.lemmas.Result.{err_from_is_err_and}
 use Rattle.parset.specs.RecoverySet.{SetView}
 use Rattle.parshelf.specs.Shelf.{ShelfState}
@@ -107,3 +108,27 @@ returns-in-Err-clause-lines g c = λ steady.
 pub returns-in-Err-clause-text : goal.returns-in-Err-clause-text
 returns-in-Err-clause-text g c = λ steady.
     hands_front _ _ _ _ _ c.loop-left.left c.loop-left.finder.cursor _ _ (c.loop-left.invariant.handed steady)
+
+pub returns-in_err-put_sighting-in-Ok-Hit-clause-lines : goal.returns-in_err-put_sighting-in-Ok-Hit-clause-lines
+returns-in_err-put_sighting-in-Ok-Hit-clause-lines g c = grind (arith, common_steps)
+
+pub loop-left-smaller-in-Ok-Hit : goal.loop-left-smaller-in-Ok-Hit
+loop-left-smaller-in-Ok-Hit g c = grind (arith, common_steps)
+
+pub loop-left-smaller : goal.loop-left-smaller
+loop-left-smaller g c = grind (arith, common_steps)
+
+pub loop-left-preserved : goal.loop-left-preserved
+loop-left-preserved g c = grind (arith, common_steps)
+
+pub returns-in-Err-clause-sink : goal.returns-in-Err-clause-sink
+returns-in-Err-clause-sink g c = grind (arith, common_steps)
+
+pub returns-clause-lines : goal.returns-clause-lines
+returns-clause-lines g c = grind (arith, common_steps)
+
+pub returns-clause-reads : goal.returns-clause-reads
+returns-clause-reads g c = grind (arith, common_steps)
+
+pub returns-clause-sink : goal.returns-clause-sink
+returns-clause-sink g c = grind (arith, common_steps)
