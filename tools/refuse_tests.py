@@ -16,7 +16,7 @@ import sys
 import tempfile
 from concurrent.futures import ThreadPoolExecutor
 
-WANT = ("error: AllocError", "error: AllocFailed", "OutOfMemory", "Memory")
+WANT = ("error: AllocError", "Error: AllocError", "error: AllocFailed", "OutOfMemory", "Memory")
 
 
 def run(library, program, test, variable, number, folder):
