@@ -1,5 +1,5 @@
 -- Slices without sums: no search finds them, and their marks are taken back after it.
-use Rattle.std.proofs.Common.{◌≡◌, ℕ, zero, suc, ◌<◌, ◌∙◌, ◌&&◌, ◌||◌, ◌==◌, Bool, true, false, List, [], ◌∷◌, Option, None, Some, length, map, get_or, ap, sym, refl, cond, arith, slice_get, slice_index, inl, inr, IsTrue, is_none, is_some, zero-add, bytes_eq, ◌≤◌}
+use Rattle.std.proofs.Common.{◌≡◌, ℕ, ◌<◌, ◌∙◌, ◌&&◌, ◌||◌, ◌==◌, Bool, true, false, List, [], ◌∷◌, Option, None, Some, length, map, get_or, ap, sym, refl, cond, arith, slice_get, slice_index, inl, inr, IsTrue, is_none, is_some, zero-add, bytes_eq, ◌≤◌}
 use Rattle.std.specs.Prelude.{All, EachIndex, filter}
 use Rattle.std.specs.BTreeSet.{BTreeSet, contains}
 use Rattle.std.specs.List.{list_any, enumerate_from}
@@ -17,7 +17,7 @@ use Rattle.parwindow.specs.Index.{slice_passes, sums_of}
 use Rattle.parwindow.specs.Window.{window_at}
 use Rattle.parfind.specs.Sightings.{Scan, content_of, is_seen, is_sighting, sightings_of, triples_of}
 use Rattle.parfind.specs.Surveys.{is_sighted, mark_of, MarksSighted, IsAllMarked}
-use Rattle.parstates.specs.Contents.{HandsAsked, bytes_asked}
+use Rattle.parstates.specs.Contents.{HandsAsked}
 use Rattle.parstates.specs.Findings.{is_settled, can_be_found}
 
 -- ---- no sighting without sums

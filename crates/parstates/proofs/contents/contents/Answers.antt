@@ -1,5 +1,6 @@
 use Rattle.std.proofs.lemmas.Grind.{common_steps}
 use Rattle.std.proofs.Common.{arith}
+use Rattle.parstates.proofs.ContentLaws.{HandsAsked-more}
 use Rattle.parstates.proofs.contents.contents.Goals as goal
 
 pub returns-in_err-lengths-clause-contents : goal.returns-in_err-lengths-clause-contents
@@ -46,3 +47,15 @@ returns-clause-ok g c = grind (arith, common_steps)
 
 pub returns-clause-fault : goal.returns-clause-fault
 returns-clause-fault g c = grind (arith, common_steps)
+
+pub returns-in_err-content_at-clause-bytes : goal.returns-in_err-content_at-clause-bytes
+returns-in_err-content_at-clause-bytes g c =
+    HandsAsked-more c.args.files.now (g.Q.Shelf.state c.args.shelf.now) (g.Q.Shelf.state c.loop-file.shelf)
+    (g.Q.Shelf.state c.content_at.new.shelf) c.loop-file.file c.loop-file.invariant.reads c.loop-file.invariant.bytes
+    c.content_at.ensures.bytes
+
+pub returns-in_err-map_err-clause-bytes : goal.returns-in_err-map_err-clause-bytes
+returns-in_err-map_err-clause-bytes g c =
+    HandsAsked-more c.args.files.now (g.Q.Shelf.state c.args.shelf.now) (g.Q.Shelf.state c.loop-file.shelf)
+    (g.Q.Shelf.state c.content_at.new.shelf) c.loop-file.file c.loop-file.invariant.reads c.loop-file.invariant.bytes
+    c.content_at.ensures.bytes

@@ -4,7 +4,7 @@ use Rattle.std.proofs.lemmas.List.{length-map}
 use Rattle.parshelf.specs.Shelf.{ShelfState}
 use Rattle.parwindow.specs.Index.{slice_set_of}
 use Rattle.parfind.specs.Steps.{scan_of}
-use Rattle.parfind.specs.Surveys.{mark_of, MarksSighted}
+use Rattle.parfind.specs.Surveys.{mark_of, MarksSighted, StopsOnceFound}
 use Rattle.parstates.specs.Findings.{is_settled, can_be_found}
 use Rattle.parstates.proofs.StateLaws.{take-all_back}
 use Rattle.parstates.proofs.SumLaws.{marks_found, all_settled}
@@ -113,3 +113,23 @@ returns-clause-ok g c = grind (arith, common_steps)
 
 pub returns-clause-fault : goal.returns-clause-fault
 returns-clause-fault g c = grind (arith, common_steps)
+
+pub returns-clause-stops : goal.returns-clause-stops
+returns-clause-stops g c = λ steady.
+    let own = slice_set_of c.args.set.now.size c.args.set.now.slices in
+    let old : ShelfState = g.Q.Shelf.state c.args.shelf.now in
+    let new : ShelfState = g.Q.Shelf.state c.survey.new.shelf in
+    let was : c.deref_mut.result.now ≡ map (is_settled c.args.whole.now) c.args.set.now.slices
+    = c.deref_mut.ensures.value ∙ (c.in_ok-found.ensures ∙ ap (map (is_settled c.args.whole.now)) c.slices.ensures.field) in
+    subst (λ marks. StopsOnceFound own old new marks) was
+    (subst (λ set. StopsOnceFound set old new c.deref_mut.result.now) c.in_ok-index.ensures (c.survey.ensures.stops steady))
+
+pub returns-in_err-survey-clause-stops : goal.returns-in_err-survey-clause-stops
+returns-in_err-survey-clause-stops g c = λ steady.
+    let own = slice_set_of c.args.set.now.size c.args.set.now.slices in
+    let old : ShelfState = g.Q.Shelf.state c.args.shelf.now in
+    let new : ShelfState = g.Q.Shelf.state c.survey.new.shelf in
+    let was : c.deref_mut.result.now ≡ map (is_settled c.args.whole.now) c.args.set.now.slices
+    = c.deref_mut.ensures.value ∙ (c.in_ok-found.ensures ∙ ap (map (is_settled c.args.whole.now)) c.slices.ensures.field) in
+    subst (λ marks. StopsOnceFound own old new marks) was
+    (subst (λ set. StopsOnceFound set old new c.deref_mut.result.now) c.in_ok-index.ensures (c.survey.ensures.stops steady))
