@@ -1,5 +1,5 @@
 -- The lines of the sightings that a search has handed out so far.
-use Rattle.std.proofs.Common.{◌≡◌, ◌≢◌, ℕ, ◌+◌, ◌-◌, ◌<◌, ◌≤◌, List, [], ◌∷◌, ◌++◌, length, take, All, Option, None, Some, slice_get, zero, suc, refl, sym, ap, ◌∙◌, subst, arith, append_assoc, append-nil, length-append, IsTrue, get_or, true, Result, Ok, Err}
+use Rattle.std.proofs.Common.{◌≡◌, ◌≢◌, IfErr, ℕ, ◌+◌, ◌-◌, ◌<◌, ◌≤◌, List, [], ◌∷◌, ◌++◌, length, take, All, Option, None, Some, slice_get, zero, suc, refl, sym, ap, ◌∙◌, subst, arith, append_assoc, append-nil, length-append, IsTrue, get_or, true, Result, Ok, Err}
 use Rattle.std.specs.List.{flat_map}
 use Rattle.std.proofs.Math.Seq.{take-append-add}
 use Rattle.std.proofs.lemmas.Grind.{flat_map-append}
@@ -26,8 +26,8 @@ use Rattle.parfind.proofs.RisingLaws.{between_and_from}
 use Rattle.parfind.proofs.SightingLaws.{Rises-sightings_of}
 use Rattle.partext.specs.Faults.{as_run}
 use Rattle.parstates.specs.Findings.{scan_in}
-use Rattle.partext.specs.FindText.{found_line, limited, last_line, line_behind, find_text, fewer_than, WritesLine, WritesLinesBefore}
-use Rattle.partext.specs.Outcomes.{Answers}
+use Rattle.partext.specs.FindText.{found_line, limited, last_line, line_behind, find_text, fewer_than, KeepsLines, WritesLine, WritesLinesBefore}
+use Rattle.partext.specs.Outcomes.{Answers, EndsScanned, EndsSink}
 use Rattle.partext.specs.Report.{listed}
 use Rattle.partext.specs.Lines.{end_line, cursor_line}
 use Rattle.partext.specs.declared.faults.FindFault.{FindFault}
@@ -278,3 +278,28 @@ pub keeps_after_fault : (names : List (List ℕ)) (set : SetView) (shelf after :
 keeps_after_fault names set shelf after limit at left now d old mid Failed h some gives =
     keeps_lines names set shelf.files limit at left now old mid h some d gives.0.onward gives.0.none
 keeps_after_fault names set shelf after limit at left now d old mid Ended h some gives = absurd gives
+
+-- a line that is written, or stopped by the sink or by want of memory, tells of no read that failed
+pub line_reads : (line : List ℕ) (result : Result (Unit {0}) FindFault) (old new : ShelfState) (before after : SinkState)
+    → WritesLine line result before after → ReadsOnly old new → EndsScanned (as_run result) old new
+line_reads line (Ok done) old new before after h reads = reads
+line_reads line (Err (Read file why)) old new before after h reads = absurd h
+line_reads line (Err Write) old new before after h reads = reads
+line_reads line (Err Memory) old new before after h reads = reads
+
+-- nor of a failure of the sink that is not the line's own
+pub line_sink : (line : List ℕ) (result : Result (Unit {0}) FindFault) (old mid new : SinkState)
+    → WritesLine line result mid new → mid.failures ≡ old.failures → EndsSink (as_run result) old new
+line_sink line (Ok done) old mid new h same = ap (λ (s : SinkState). s.failures) h ∙ same
+line_sink line (Err (Read file why)) old mid new h same = absurd h
+line_sink line (Err Write) old mid new h same = omega (arith, ap (λ (s : SinkState). s.failures) h.after, same)
+line_sink line (Err Memory) old mid new h same = ap (λ (s : SinkState). s.failures) h ∙ same
+
+-- nor of one that the lines end before
+pub line_keeps : (names : List (List ℕ)) (set : SetView) (contents : List (List ℕ)) (limit : Option ℕ) (at : Cursor) (line : List ℕ)
+    (result : Result (Unit {0}) FindFault) (old mid new : SinkState) → WritesLine line result mid new
+    → IfErr result (λ fault. KeepsLines names set contents limit at fault old new)
+line_keeps names set contents limit at line (Ok done) old mid new h = tt
+line_keeps names set contents limit at line (Err (Read file why)) old mid new h = absurd h
+line_keeps names set contents limit at line (Err Write) old mid new h = tt
+line_keeps names set contents limit at line (Err Memory) old mid new h = tt

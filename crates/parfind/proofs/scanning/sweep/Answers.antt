@@ -391,3 +391,42 @@ returns-then-missing-found-clause-fault g c = grind (arith, common_steps)
 
 pub returns-then-missing-found-clause-window : goal.returns-then-missing-found-clause-window
 returns-then-missing-found-clause-window g c = grind (arith, common_steps)
+
+pub next_missing-missing-requires : goal.next_missing-missing-requires
+next_missing-missing-requires g c = grind (arith, common_steps)
+
+pub length-requires : goal.length-requires
+length-requires g c = grind (arith, common_steps)
+
+pub overflow_sub-left : goal.overflow_sub-left
+overflow_sub-left g c = grind (arith, common_steps)
+
+pub overflow_add-next : goal.overflow_add-next
+overflow_add-next g c = grind (arith, common_steps)
+
+pub fill-requires-clause-file : goal.fill-requires-clause-file
+fill-requires-clause-file g c = grind (arith, common_steps)
+
+pub fill-requires-clause-inside : goal.fill-requires-clause-inside
+fill-requires-clause-inside g c = grind (arith, common_steps)
+
+pub mark_seen-requires-clause-each : goal.mark_seen-requires-clause-each
+mark_seen-requires-clause-each g c = grind (arith, common_steps)
+
+pub next_missing-missing-requires-in-loop-missing : goal.next_missing-missing-requires-in-loop-missing
+next_missing-missing-requires-in-loop-missing g c = grind (arith, common_steps)
+
+pub pass-requires-clause-some : goal.pass-requires-clause-some
+pass-requires-clause-some g c = grind (arith, common_steps)
+
+pub pass-requires-clause-file : goal.pass-requires-clause-file
+pass-requires-clause-file g c = grind (arith, common_steps)
+
+pub pass-requires-clause-inside : goal.pass-requires-clause-inside
+pass-requires-clause-inside g c = grind (arith, common_steps)
+
+pub pass-requires-clause-sized : goal.pass-requires-clause-sized
+pass-requires-clause-sized g c = grind (arith, common_steps)
+
+pub pass-requires-clause-full : goal.pass-requires-clause-full
+pass-requires-clause-full g c = grind (arith, common_steps)

@@ -1,4 +1,5 @@
-use Rattle.std.proofs.Common.{◌≡◌, ◌∙◌, ℕ, List, Ok, ap, length, map, subst, sym}
+use Rattle.std.proofs.lemmas.Grind.{common_steps}
+use Rattle.std.proofs.Common.{◌≡◌, ◌∙◌, ℕ, List, Ok, ap, length, map, subst, sym, arith}
 use Rattle.std.proofs.lemmas.Result.{err_from_is_err_and}
 use Rattle.parset.specs.RecoverySet.{SetView}
 use Rattle.parshelf.specs.Shelf.{ShelfState}
@@ -42,3 +43,27 @@ returns-clause-text g c = λ steady.
     let after = rw c.as_slice-files.ensures at c.write_findings.ensures.text in
     subst (λ (whole : Report). Answers whole c.write_findings.result start new)
     (report_is c.args.quiet plan set c.in_ok-findings.findings old.files sized findings) after
+
+pub returns-in_err-findings-clause-no_packet : goal.returns-in_err-findings-clause-no_packet
+returns-in_err-findings-clause-no_packet g c = grind (arith, common_steps)
+
+pub returns-in_err-findings-clause-silent : goal.returns-in_err-findings-clause-silent
+returns-in_err-findings-clause-silent g c = grind (arith, common_steps)
+
+pub returns-in_err-findings-clause-scanned : goal.returns-in_err-findings-clause-scanned
+returns-in_err-findings-clause-scanned g c = grind (arith, common_steps)
+
+pub returns-in_err-findings-clause-sink : goal.returns-in_err-findings-clause-sink
+returns-in_err-findings-clause-sink g c = grind (arith, common_steps)
+
+pub returns-clause-no_packet : goal.returns-clause-no_packet
+returns-clause-no_packet g c = grind (arith, common_steps)
+
+pub returns-clause-silent : goal.returns-clause-silent
+returns-clause-silent g c = grind (arith, common_steps)
+
+pub returns-clause-scanned : goal.returns-clause-scanned
+returns-clause-scanned g c = grind (arith, common_steps)
+
+pub returns-clause-sink : goal.returns-clause-sink
+returns-clause-sink g c = grind (arith, common_steps)

@@ -256,3 +256,33 @@ returns-clause-opening g c = grind (arith, common_steps)
 
 pub returns-clause-no_fewer : goal.returns-clause-no_fewer
 returns-clause-no_fewer g c = grind (arith, common_steps)
+
+pub rest_of-rest-requires-clause-counted : goal.rest_of-rest-requires-clause-counted
+rest_of-rest-requires-clause-counted g c = grind (arith, common_steps)
+
+pub rest_of-rest-requires-clause-there : goal.rest_of-rest-requires-clause-there
+rest_of-rest-requires-clause-there g c = grind (arith, common_steps)
+
+pub first_seen-requires-clause-remembers : goal.first_seen-requires-clause-remembers
+first_seen-requires-clause-remembers g c = grind (arith, common_steps)
+
+pub first_seen-requires-clause-full : goal.first_seen-requires-clause-full
+first_seen-requires-clause-full g c = grind (arith, common_steps)
+
+pub pass-requires-clause-some : goal.pass-requires-clause-some
+pass-requires-clause-some g c = grind (arith, common_steps)
+
+pub pass-requires-clause-file : goal.pass-requires-clause-file
+pass-requires-clause-file g c = grind (arith, common_steps)
+
+pub pass-requires-clause-inside : goal.pass-requires-clause-inside
+pass-requires-clause-inside g c = grind (arith, common_steps)
+
+pub pass-requires-clause-sized : goal.pass-requires-clause-sized
+pass-requires-clause-sized g c = grind (arith, common_steps)
+
+pub pass-requires-clause-full : goal.pass-requires-clause-full
+pass-requires-clause-full g c = grind (arith, common_steps)
+
+pub pass-requires-clause-tied : goal.pass-requires-clause-tied
+pass-requires-clause-tied g c = grind (arith, common_steps)

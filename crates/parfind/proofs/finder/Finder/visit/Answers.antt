@@ -214,3 +214,48 @@ returns-clause-opening g c = grind (arith, common_steps)
 
 pub returns-clause-no_fewer : goal.returns-clause-no_fewer
 returns-clause-no_fewer g c = grind (arith, common_steps)
+
+pub rest_of-requires-clause-counted : goal.rest_of-requires-clause-counted
+rest_of-requires-clause-counted g c = grind (arith, common_steps)
+
+pub rest_of-requires-clause-there : goal.rest_of-requires-clause-there
+rest_of-requires-clause-there g c = grind (arith, common_steps)
+
+pub skip-requires-clause-left : goal.skip-requires-clause-left
+skip-requires-clause-left g c = grind (arith, common_steps)
+
+pub skip-requires-clause-next : goal.skip-requires-clause-next
+skip-requires-clause-next g c = grind (arith, common_steps)
+
+pub skip-requires-clause-none : goal.skip-requires-clause-none
+skip-requires-clause-none g c = grind (arith, common_steps)
+
+pub skip-requires-clause-belongs : goal.skip-requires-clause-belongs
+skip-requires-clause-belongs g c = grind (arith, common_steps)
+
+pub arrive-requires-clause-next : goal.arrive-requires-clause-next
+arrive-requires-clause-next g c = grind (arith, common_steps)
+
+pub arrive-requires-clause-fits : goal.arrive-requires-clause-fits
+arrive-requires-clause-fits g c = grind (arith, common_steps)
+
+pub arrive-requires-clause-belongs : goal.arrive-requires-clause-belongs
+arrive-requires-clause-belongs g c = grind (arith, common_steps)
+
+pub look-requires-clause-left : goal.look-requires-clause-left
+look-requires-clause-left g c = grind (arith, common_steps)
+
+pub look-requires-clause-file : goal.look-requires-clause-file
+look-requires-clause-file g c = grind (arith, common_steps)
+
+pub look-requires-clause-there : goal.look-requires-clause-there
+look-requires-clause-there g c = grind (arith, common_steps)
+
+pub look-requires-clause-stands : goal.look-requires-clause-stands
+look-requires-clause-stands g c = grind (arith, common_steps)
+
+pub look-requires-clause-full : goal.look-requires-clause-full
+look-requires-clause-full g c = grind (arith, common_steps)
+
+pub look-requires-clause-belongs : goal.look-requires-clause-belongs
+look-requires-clause-belongs g c = grind (arith, common_steps)

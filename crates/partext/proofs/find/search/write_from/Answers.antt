@@ -8,7 +8,7 @@ use Rattle.parcursor.specs.declared.cursor.Cursor.{Cursor}
 use Rattle.parfind.specs.declared.finder.Step.TheVariants.{Hit, Done}
 use Rattle.partext.specs.FindText.{names_of}
 use Rattle.parshelf.specs.SinkState.{SinkState}
-use Rattle.partext.proofs.FindLaws.{hands_front, hands_one, hands_refused, ends_text, ends_refused, stops_text, stops_refused, keeps_after_fault, fault_text, last_text, gives_from}
+use Rattle.partext.proofs.FindLaws.{hands_front, hands_one, hands_refused, ends_text, ends_refused, stops_text, stops_refused, keeps_after_fault, fault_text, last_text, gives_from, line_reads, line_sink, line_keeps}
 use Rattle.partext.proofs.find.search.write_from.Goals as goal
 
 pub loop-left-preserved-in-Ok-Hit : goal.loop-left-preserved-in-Ok-Hit
@@ -132,3 +132,37 @@ returns-clause-reads g c = grind (arith, common_steps)
 
 pub returns-clause-sink : goal.returns-clause-sink
 returns-clause-sink g c = grind (arith, common_steps)
+
+pub returns-in-Ok-Done-clause-reads : goal.returns-in-Ok-Done-clause-reads
+returns-in-Ok-Done-clause-reads g c =
+    let old : ShelfState = g.Q.Shelf.state c.args.shelf.now in
+    let next : ShelfState = g.Q.Shelf.state c.next.new.shelf in
+    line_reads _ c.put_end.result old next (g.W.Sink.state c.loop-left.out) (g.W.Sink.state c.put_end.new.out) c.put_end.ensures
+    (ReadsOnly_more old (g.Q.Shelf.state c.loop-left.shelf) next c.loop-left.invariant.reads c.in-Ok-Done.ensures.ok)
+
+pub returns-in-Ok-Done-clause-sink : goal.returns-in-Ok-Done-clause-sink
+returns-in-Ok-Done-clause-sink g c =
+    line_sink _ c.put_end.result (g.W.Sink.state c.args.out.now) (g.W.Sink.state c.loop-left.out) (g.W.Sink.state c.put_end.new.out)
+    c.put_end.ensures c.loop-left.invariant.failures
+
+pub returns-in-Ok-Done-clause-lines : goal.returns-in-Ok-Done-clause-lines
+returns-in-Ok-Done-clause-lines g c = λ steady.
+    line_keeps (names_of c.args.files.now) c.args.set.now (g.Q.Shelf.state c.args.shelf.now).files c.args.limit c.args.finder.now.cursor _
+    c.put_end.result (g.W.Sink.state c.args.out.now) (g.W.Sink.state c.loop-left.out) (g.W.Sink.state c.put_end.new.out) c.put_end.ensures
+
+pub returns-in_err-put_sighting-in-Ok-Hit-clause-reads : goal.returns-in_err-put_sighting-in-Ok-Hit-clause-reads
+returns-in_err-put_sighting-in-Ok-Hit-clause-reads g c =
+    let old : ShelfState = g.Q.Shelf.state c.args.shelf.now in
+    let next : ShelfState = g.Q.Shelf.state c.next.new.shelf in
+    let failed = err_from_is_err_and c.from_residual.result c.from_residual.ensures.1 in
+    rw (failed.1, failed.2)
+    (line_reads _ (Err c.in_err-put_sighting-in-Ok-Hit.field-0.0) old next (g.W.Sink.state c.loop-left.out) (g.W.Sink.state c.put_sighting.new.out)
+    c.in_err-put_sighting-in-Ok-Hit.ensures
+    (ReadsOnly_more old (g.Q.Shelf.state c.loop-left.shelf) next c.loop-left.invariant.reads c.in-Ok-Hit.ensures.ok))
+
+pub returns-in_err-put_sighting-in-Ok-Hit-clause-sink : goal.returns-in_err-put_sighting-in-Ok-Hit-clause-sink
+returns-in_err-put_sighting-in-Ok-Hit-clause-sink g c =
+    let failed = err_from_is_err_and c.from_residual.result c.from_residual.ensures.1 in
+    rw (failed.1, failed.2)
+    (line_sink _ (Err c.in_err-put_sighting-in-Ok-Hit.field-0.0) (g.W.Sink.state c.args.out.now) (g.W.Sink.state c.loop-left.out)
+    (g.W.Sink.state c.put_sighting.new.out) c.in_err-put_sighting-in-Ok-Hit.ensures c.loop-left.invariant.failures)

@@ -1,3 +1,4 @@
+use Rattle.std.proofs.lemmas.Grind.{common_steps}
 use Rattle.std.proofs.Common.{◌≡◌, ◌+◌, ◌++◌, string_bytes, length, drop, arith, true, false, ap, sym, ◌∙◌}
 use Rattle.std.proofs.lemmas.Result.{err_from_is_err_and}
 use Rattle.std.specs.List.{flat_map}
@@ -49,3 +50,27 @@ loop-packet-preserved g c =
             less = before.less;
           })
     ]
+
+pub loop-packet-init : goal.loop-packet-init
+loop-packet-init g c = grind (arith, common_steps)
+
+pub returns-in_err-put_packet-clause-count : goal.returns-in_err-put_packet-clause-count
+returns-in_err-put_packet-clause-count g c = grind (arith, common_steps)
+
+pub returns-in_err-put_packet-clause-lines : goal.returns-in_err-put_packet-clause-lines
+returns-in_err-put_packet-clause-lines g c = grind (arith, common_steps)
+
+pub returns-in_err-put_packet-clause-less : goal.returns-in_err-put_packet-clause-less
+returns-in_err-put_packet-clause-less g c = grind (arith, common_steps)
+
+pub returns-clause-count : goal.returns-clause-count
+returns-clause-count g c = grind (arith, common_steps)
+
+pub returns-clause-lines : goal.returns-clause-lines
+returns-clause-lines g c = grind (arith, common_steps)
+
+pub returns-clause-fault : goal.returns-clause-fault
+returns-clause-fault g c = grind (arith, common_steps)
+
+pub returns-clause-less : goal.returns-clause-less
+returns-clause-less g c = grind (arith, common_steps)

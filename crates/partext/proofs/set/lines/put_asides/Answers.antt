@@ -1,4 +1,5 @@
-use Rattle.std.proofs.Common.{◌+◌, ◌++◌, string_bytes, drop}
+use Rattle.std.proofs.lemmas.Grind.{common_steps}
+use Rattle.std.proofs.Common.{◌+◌, ◌++◌, string_bytes, drop, arith}
 use Rattle.std.proofs.lemmas.List.{drop_more}
 use Rattle.std.proofs.lemmas.Result.{err_from_is_err_and}
 use Rattle.std.specs.List.{flat_map}
@@ -28,3 +29,21 @@ loop-aside-preserved g c =
           (string_bytes c.loop-aside.waiting) c.loop-aside.invariant.waits (string_bytes c.put_aside.new.waiting) c.in_ok-put_aside.ensures.line;
       less = λ _. c.in_ok-put_aside.ensures.less;
     }
+
+pub loop-aside-init : goal.loop-aside-init
+loop-aside-init g c = grind (arith, common_steps)
+
+pub returns-in_err-put_aside-clause-lines : goal.returns-in_err-put_aside-clause-lines
+returns-in_err-put_aside-clause-lines g c = grind (arith, common_steps)
+
+pub returns-in_err-put_aside-clause-less : goal.returns-in_err-put_aside-clause-less
+returns-in_err-put_aside-clause-less g c = grind (arith, common_steps)
+
+pub returns-clause-lines : goal.returns-clause-lines
+returns-clause-lines g c = grind (arith, common_steps)
+
+pub returns-clause-fault : goal.returns-clause-fault
+returns-clause-fault g c = grind (arith, common_steps)
+
+pub returns-clause-less : goal.returns-clause-less
+returns-clause-less g c = grind (arith, common_steps)

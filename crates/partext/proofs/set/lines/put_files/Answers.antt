@@ -1,4 +1,5 @@
-use Rattle.std.proofs.Common.{◌+◌, ◌++◌, string_bytes, drop}
+use Rattle.std.proofs.lemmas.Grind.{common_steps}
+use Rattle.std.proofs.Common.{◌+◌, ◌++◌, string_bytes, drop, arith}
 use Rattle.std.proofs.lemmas.Result.{err_from_is_err_and}
 use Rattle.std.specs.List.{flat_map}
 use Rattle.partext.specs.Lines.{file_line}
@@ -27,3 +28,21 @@ loop-file-preserved g c =
           (string_bytes c.loop-file.waiting) c.loop-file.invariant.waits (string_bytes c.put_file.new.waiting) c.in_ok-put_file.ensures.line;
       less = λ _. c.in_ok-put_file.ensures.less;
     }
+
+pub loop-file-init : goal.loop-file-init
+loop-file-init g c = grind (arith, common_steps)
+
+pub returns-in_err-put_file-clause-lines : goal.returns-in_err-put_file-clause-lines
+returns-in_err-put_file-clause-lines g c = grind (arith, common_steps)
+
+pub returns-in_err-put_file-clause-less : goal.returns-in_err-put_file-clause-less
+returns-in_err-put_file-clause-less g c = grind (arith, common_steps)
+
+pub returns-clause-lines : goal.returns-clause-lines
+returns-clause-lines g c = grind (arith, common_steps)
+
+pub returns-clause-fault : goal.returns-clause-fault
+returns-clause-fault g c = grind (arith, common_steps)
+
+pub returns-clause-less : goal.returns-clause-less
+returns-clause-less g c = grind (arith, common_steps)

@@ -1,4 +1,5 @@
-use Rattle.std.proofs.Common.{string_bytes}
+use Rattle.std.proofs.lemmas.Grind.{common_steps}
+use Rattle.std.proofs.Common.{string_bytes, arith}
 use Rattle.std.proofs.lemmas.Result.{err_from_is_err_and, IfErr-weaker}
 use Rattle.std.specs.List.{flat_map}
 use Rattle.parshelf.proofs.BlockLaws.{Begins_all}
@@ -70,3 +71,24 @@ returns-clause-fault g c =
     IfErr-weaker c.put_asides.result _ _
     (λ why. asides_break own files others have creator asides w0 w1 start c.in_ok-push_set.ensures mid (string_bytes c.put_files.new.waiting) second
     (g.W.Sink.state c.put_counts.new.out) (string_bytes c.put_counts.new.waiting) c.in_ok-put_counts.ensures.lines why new) last
+
+pub returns-in_err-push_set-clause-text : goal.returns-in_err-push_set-clause-text
+returns-in_err-push_set-clause-text g c = grind (arith, common_steps)
+
+pub returns-in_err-push_set-clause-less : goal.returns-in_err-push_set-clause-less
+returns-in_err-push_set-clause-less g c = grind (arith, common_steps)
+
+pub returns-in_err-put_files-clause-text : goal.returns-in_err-put_files-clause-text
+returns-in_err-put_files-clause-text g c = grind (arith, common_steps)
+
+pub returns-in_err-put_files-clause-less : goal.returns-in_err-put_files-clause-less
+returns-in_err-put_files-clause-less g c = grind (arith, common_steps)
+
+pub returns-in_err-put_counts-clause-text : goal.returns-in_err-put_counts-clause-text
+returns-in_err-put_counts-clause-text g c = grind (arith, common_steps)
+
+pub returns-in_err-put_counts-clause-less : goal.returns-in_err-put_counts-clause-less
+returns-in_err-put_counts-clause-less g c = grind (arith, common_steps)
+
+pub returns-clause-less : goal.returns-clause-less
+returns-clause-less g c = grind (arith, common_steps)

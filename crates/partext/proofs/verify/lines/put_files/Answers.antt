@@ -1,3 +1,4 @@
+use Rattle.std.proofs.lemmas.Grind.{common_steps}
 use Rattle.std.proofs.Common.{◌<◌, ◌+◌, ◌++◌, arith, drop, get_or, length, map, string_bytes, unwrap_or}
 use Rattle.std.proofs.lemmas.Result.{err_from_is_err_and}
 use Rattle.std.specs.BTreeMap.{get}
@@ -37,3 +38,21 @@ loop-index-preserved g c =
           (string_bytes c.loop-index.waiting) c.loop-index.invariant.waits (string_bytes c.put_file.new.waiting) c.in_ok-put_file.ensures.line;
       less = λ _. c.in_ok-put_file.ensures.less;
     }
+
+pub loop-index-init : goal.loop-index-init
+loop-index-init g c = grind (arith, common_steps)
+
+pub returns-in_err-put_file-clause-lines : goal.returns-in_err-put_file-clause-lines
+returns-in_err-put_file-clause-lines g c = grind (arith, common_steps)
+
+pub returns-in_err-put_file-clause-less : goal.returns-in_err-put_file-clause-less
+returns-in_err-put_file-clause-less g c = grind (arith, common_steps)
+
+pub returns-clause-lines : goal.returns-clause-lines
+returns-clause-lines g c = grind (arith, common_steps)
+
+pub returns-clause-fault : goal.returns-clause-fault
+returns-clause-fault g c = grind (arith, common_steps)
+
+pub returns-clause-less : goal.returns-clause-less
+returns-clause-less g c = grind (arith, common_steps)

@@ -1,3 +1,4 @@
+use Rattle.std.proofs.lemmas.Grind.{common_steps}
 use Rattle.std.proofs.Common.{◌≡◌, slice_index, ap, sym, ◌∙◌, subst, arith}
 use Rattle.parshelf.specs.Shelf.{ShelfState, file_of}
 use Rattle.parshelf.proofs.ReadLaws.{ReadsOnly_more}
@@ -35,3 +36,39 @@ loop-self-preserved g c =
       reads = hands_more s.lengths s.handed mid.handed new.handed (fetched_of c.args.self.now) (fetched_of c.loop-self.self) (fetched_of t)
           so_far.reads (rw lengths at r.reads);
     }
+
+pub returns-in_err-ready-clause-tied : goal.returns-in_err-ready-clause-tied
+returns-in_err-ready-clause-tied g c = grind (arith, common_steps)
+
+pub returns-in_err-ready-clause-full : goal.returns-in_err-ready-clause-full
+returns-in_err-ready-clause-full g c = grind (arith, common_steps)
+
+pub returns-in_err-ready-clause-same : goal.returns-in_err-ready-clause-same
+returns-in_err-ready-clause-same g c = grind (arith, common_steps)
+
+pub returns-in_err-ready-clause-window : goal.returns-in_err-ready-clause-window
+returns-in_err-ready-clause-window g c = grind (arith, common_steps)
+
+pub returns-in_err-ready-clause-ok : goal.returns-in_err-ready-clause-ok
+returns-in_err-ready-clause-ok g c = grind (arith, common_steps)
+
+pub returns-clause-tied : goal.returns-clause-tied
+returns-clause-tied g c = grind (arith, common_steps)
+
+pub returns-clause-full : goal.returns-clause-full
+returns-clause-full g c = grind (arith, common_steps)
+
+pub returns-clause-same : goal.returns-clause-same
+returns-clause-same g c = grind (arith, common_steps)
+
+pub returns-clause-window : goal.returns-clause-window
+returns-clause-window g c = grind (arith, common_steps)
+
+pub returns-clause-reads : goal.returns-clause-reads
+returns-clause-reads g c = grind (arith, common_steps)
+
+pub returns-clause-ok : goal.returns-clause-ok
+returns-clause-ok g c = grind (arith, common_steps)
+
+pub returns-clause-fault : goal.returns-clause-fault
+returns-clause-fault g c = grind (arith, common_steps)

@@ -1,4 +1,6 @@
-use Rattle.std.proofs.Common.{◌≡◌, ℕ, ◌+◌, slice_index, ap, sym, ◌∙◌, subst, None}
+use Rattle.std.proofs.lemmas.Result.{err_from_is_err_and}
+use Rattle.std.proofs.lemmas.Grind.{common_steps}
+use Rattle.std.proofs.Common.{◌≡◌, ℕ, ◌+◌, slice_index, ap, sym, ◌∙◌, subst, None, arith}
 use Rattle.parshelf.specs.Shelf.{ShelfState, file_of}
 use Rattle.parshelf.proofs.ShelfLaws.{length-file_of}
 use Rattle.parwindow.specs.Window.{WindowState}
@@ -35,3 +37,41 @@ returns-clause-none g c = λ steady.
     c.args.index.now n c.requires.sized c.requires.full c.push_until-count.ensures.until (ap (λ (u : ShelfState). u.is_steady) r.ok ∙ steady) in
     let files : file_of new t.file ≡ file_of s c.args.self.now.file = ap (λ (u : ShelfState). file_of u t.file) r.ok ∙ ap (file_of s) r.same.file_is in
     rw (files, r.same.held_is) at none
+
+pub returns-in_err-ready-clause-tied : goal.returns-in_err-ready-clause-tied
+returns-in_err-ready-clause-tied g c = grind (arith, common_steps)
+
+pub returns-in_err-ready-clause-window : goal.returns-in_err-ready-clause-window
+returns-in_err-ready-clause-window g c = grind (arith, common_steps)
+
+pub returns-in_err-ready-clause-same : goal.returns-in_err-ready-clause-same
+returns-in_err-ready-clause-same g c = grind (arith, common_steps)
+
+pub returns-in_err-ready-clause-reads : goal.returns-in_err-ready-clause-reads
+returns-in_err-ready-clause-reads g c = grind (arith, common_steps)
+
+pub returns-in_err-ready-clause-fault : goal.returns-in_err-ready-clause-fault
+returns-in_err-ready-clause-fault g c =
+    let failed = err_from_is_err_and c.from_residual.result c.from_residual.ensures.1 in
+    rw (failed.1, failed.2) (grind (arith, common_steps))
+
+pub returns-clause-window : goal.returns-clause-window
+returns-clause-window g c = grind (arith, common_steps)
+
+pub returns-clause-passes : goal.returns-clause-passes
+returns-clause-passes g c = grind (arith, common_steps)
+
+pub returns-clause-stays : goal.returns-clause-stays
+returns-clause-stays g c = grind (arith, common_steps)
+
+pub returns-clause-same : goal.returns-clause-same
+returns-clause-same g c = grind (arith, common_steps)
+
+pub returns-clause-reads : goal.returns-clause-reads
+returns-clause-reads g c = grind (arith, common_steps)
+
+pub returns-clause-ok : goal.returns-clause-ok
+returns-clause-ok g c = grind (arith, common_steps)
+
+pub returns-clause-fault : goal.returns-clause-fault
+returns-clause-fault g c = grind (arith, common_steps)
