@@ -1,3 +1,4 @@
+use Rattle.std.proofs.lemmas.Grind.{common_steps}
 use Rattle.std.proofs.Common.{◌+◌, List, [], ◌∷◌, ◌++◌, drop, ap, ◌∙◌, arith, subst, Some, None}
 use Rattle.std.specs.List.{Contains}
 use Rattle.std.proofs.lemmas.List.Elements.{Contains-get_or}
@@ -107,3 +108,63 @@ returns g c =
       reads = gave.reads;
       digests = gave.counted;
     })
+
+pub returns-in_err-answers-clause-answer : goal.returns-in_err-answers-clause-answer
+returns-in_err-answers-clause-answer g c = grind (arith, common_steps) steps 100000
+
+pub returns-in_err-answers-clause-each : goal.returns-in_err-answers-clause-each
+returns-in_err-answers-clause-each g c = grind (arith, common_steps) steps 100000
+
+pub returns-in_err-answers-clause-onward : goal.returns-in_err-answers-clause-onward
+returns-in_err-answers-clause-onward g c = grind (arith, common_steps) steps 100000
+
+pub returns-in_err-answers-clause-told : goal.returns-in_err-answers-clause-told
+returns-in_err-answers-clause-told g c = grind (arith, common_steps) steps 100000
+
+pub returns-in_err-answers-clause-untouched : goal.returns-in_err-answers-clause-untouched
+returns-in_err-answers-clause-untouched g c = grind (arith, common_steps) steps 100000
+
+pub returns-in_err-answers-clause-reads : goal.returns-in_err-answers-clause-reads
+returns-in_err-answers-clause-reads g c = grind (arith, common_steps) steps 100000
+
+pub returns-in_err-answers-clause-digests : goal.returns-in_err-answers-clause-digests
+returns-in_err-answers-clause-digests g c = grind (arith, common_steps) steps 400000
+
+pub returns-in_err-finder-clause-answer : goal.returns-in_err-finder-clause-answer
+returns-in_err-finder-clause-answer g c = grind (arith, common_steps) steps 100000
+
+pub returns-in_err-finder-clause-each : goal.returns-in_err-finder-clause-each
+returns-in_err-finder-clause-each g c = grind (arith, common_steps) steps 100000
+
+pub returns-in_err-finder-clause-onward : goal.returns-in_err-finder-clause-onward
+returns-in_err-finder-clause-onward g c = grind (arith, common_steps) steps 100000
+
+pub returns-in_err-finder-clause-told : goal.returns-in_err-finder-clause-told
+returns-in_err-finder-clause-told g c = grind (arith, common_steps) steps 100000
+
+pub returns-in_err-finder-clause-untouched : goal.returns-in_err-finder-clause-untouched
+returns-in_err-finder-clause-untouched g c = grind (arith, common_steps) steps 100000
+
+pub returns-in_err-finder-clause-reads : goal.returns-in_err-finder-clause-reads
+returns-in_err-finder-clause-reads g c = grind (arith, common_steps) steps 100000
+
+pub returns-in_err-finder-clause-digests : goal.returns-in_err-finder-clause-digests
+returns-in_err-finder-clause-digests g c = grind (arith, common_steps) steps 400000
+
+pub loop-call-init : goal.loop-call-init
+loop-call-init g c = grind (arith, common_steps) steps 1500000
+
+pub offset_bounds-calls-call-index : goal.offset_bounds-calls-call-index
+offset_bounds-calls-call-index g c = grind (arith, common_steps) steps 400000
+
+pub step-requires-clause-budget : goal.step-requires-clause-budget
+step-requires-clause-budget g c = grind (arith, common_steps) steps 1500000
+
+pub step-requires-clause-belongs : goal.step-requires-clause-belongs
+step-requires-clause-belongs g c = grind (arith, common_steps) steps 100000
+
+pub put-requires : goal.put-requires
+put-requires g c = grind (arith, common_steps) steps 400000
+
+pub put-requires-in-loop-call : goal.put-requires-in-loop-call
+put-requires-in-loop-call g c = grind (arith, common_steps) steps 100000

@@ -1,4 +1,5 @@
-use Rattle.std.proofs.Common.{rules, ◌≡◌, ◌∙◌, sym, false}
+use Rattle.std.proofs.Common.{arith, rules, ◌≡◌, ◌∙◌, sym, false}
+use Rattle.std.proofs.lemmas.Grind.{common_steps}
 use Rattle.parwindow.specs.Crc32.{crc_of}
 use Rattle.parwindow.specs.Index.{sums_of}
 use Rattle.parwindow.specs.Missing.{is_missing_in}
@@ -19,3 +20,27 @@ returns-else-is_missing-clause-marks c =
 pub returns-then-is_missing-clause-settled : goal.returns-then-is_missing-clause-settled
 returns-then-is_missing-clause-settled c =
     settled_more c.args.index.now c.args.found.now c.mark_matches.new.found c.args.left _ c.args.settled.now c.mark_matches.ensures.marks c.requires.settled
+
+pub returns-then-eq-clause-settled : goal.returns-then-eq-clause-settled
+returns-then-eq-clause-settled c = grind (arith, common_steps) steps 100000
+
+pub returns-then-eq-clause-digest : goal.returns-then-eq-clause-digest
+returns-then-eq-clause-digest c = grind (arith, common_steps) steps 100000
+
+pub is_missing-requires : goal.is_missing-requires
+is_missing-requires c = grind (arith, common_steps) steps 100000
+
+pub mark_matches-requires : goal.mark_matches-requires
+mark_matches-requires c = grind (arith, common_steps) steps 100000
+
+pub returns-then-is_missing-clause-marks : goal.returns-then-is_missing-clause-marks
+returns-then-is_missing-clause-marks c = grind (arith, common_steps) steps 100000
+
+pub returns-then-is_missing-clause-digest : goal.returns-then-is_missing-clause-digest
+returns-then-is_missing-clause-digest c = grind (arith, common_steps) steps 100000
+
+pub returns-else-is_missing-clause-settled : goal.returns-else-is_missing-clause-settled
+returns-else-is_missing-clause-settled c = grind (arith, common_steps) steps 100000
+
+pub returns-else-is_missing-clause-digest : goal.returns-else-is_missing-clause-digest
+returns-else-is_missing-clause-digest c = grind (arith, common_steps) steps 100000

@@ -94,46 +94,67 @@ returns-in-Err-clause-so_far g c = λ steady.
     surveyed_fault set old new ends.cursor ends.surveyed steady ends.first c.sweep.new.track.file ends.file_is
 
 pub returns-in-Ok-clause-no_other : goal.returns-in-Ok-clause-no_other
-returns-in-Ok-clause-no_other g c = grind (arith, common_steps)
+returns-in-Ok-clause-no_other g c = grind (arith, common_steps) steps 100000
 
 pub returns-in-Ok-clause-so_far : goal.returns-in-Ok-clause-so_far
-returns-in-Ok-clause-so_far g c = grind (arith, common_steps)
+returns-in-Ok-clause-so_far g c = grind (arith, common_steps) steps 100000
 
 pub returns-in-Ok-clause-kept : goal.returns-in-Ok-clause-kept
-returns-in-Ok-clause-kept g c = grind (arith, common_steps)
+returns-in-Ok-clause-kept g c = grind (arith, common_steps) steps 1500000
 
 pub returns-in-Ok-clause-ok : goal.returns-in-Ok-clause-ok
-returns-in-Ok-clause-ok g c = grind (arith, common_steps)
+returns-in-Ok-clause-ok g c = grind (arith, common_steps) steps 100000
 
 pub returns-in-Ok-clause-fault : goal.returns-in-Ok-clause-fault
-returns-in-Ok-clause-fault g c = grind (arith, common_steps)
+returns-in-Ok-clause-fault g c = grind (arith, common_steps) steps 100000
 
 pub returns-in-Ok-clause-unfit : goal.returns-in-Ok-clause-unfit
-returns-in-Ok-clause-unfit g c = grind (arith, common_steps)
+returns-in-Ok-clause-unfit g c = grind (arith, common_steps) steps 100000
 
 pub returns-in-Ok-clause-none : goal.returns-in-Ok-clause-none
-returns-in-Ok-clause-none g c = grind (arith, common_steps)
+returns-in-Ok-clause-none g c = grind (arith, common_steps) steps 100000
 
 pub returns-in-Ok-clause-window : goal.returns-in-Ok-clause-window
-returns-in-Ok-clause-window g c = grind (arith, common_steps)
+returns-in-Ok-clause-window g c = grind (arith, common_steps) steps 100000
 
 pub returns-in-Err-clause-found : goal.returns-in-Err-clause-found
-returns-in-Err-clause-found g c = grind (arith, common_steps)
+returns-in-Err-clause-found g c = grind (arith, common_steps) steps 100000
 
 pub returns-in-Err-clause-kept : goal.returns-in-Err-clause-kept
-returns-in-Err-clause-kept g c = grind (arith, common_steps)
+returns-in-Err-clause-kept g c = grind (arith, common_steps) steps 1500000
 
 pub returns-in-Err-clause-ok : goal.returns-in-Err-clause-ok
-returns-in-Err-clause-ok g c = grind (arith, common_steps)
+returns-in-Err-clause-ok g c = grind (arith, common_steps) steps 100000
 
 pub returns-in-Err-clause-fault : goal.returns-in-Err-clause-fault
-returns-in-Err-clause-fault g c = grind (arith, common_steps)
+returns-in-Err-clause-fault g c = grind (arith, common_steps) steps 100000
 
 pub returns-in-Err-clause-unfit : goal.returns-in-Err-clause-unfit
-returns-in-Err-clause-unfit g c = grind (arith, common_steps)
+returns-in-Err-clause-unfit g c = grind (arith, common_steps) steps 100000
 
 pub returns-in-Err-clause-none : goal.returns-in-Err-clause-none
-returns-in-Err-clause-none g c = grind (arith, common_steps)
+returns-in-Err-clause-none g c = grind (arith, common_steps) steps 100000
 
 pub returns-in-Err-clause-window : goal.returns-in-Err-clause-window
-returns-in-Err-clause-window g c = grind (arith, common_steps)
+returns-in-Err-clause-window g c = grind (arith, common_steps) steps 100000
+
+pub prove-unreachable-requires : goal.prove-unreachable-requires
+prove-unreachable-requires g c = grind (arith, common_steps) steps 100000
+
+pub unreachable-prove : goal.unreachable-prove
+unreachable-prove g c = grind (arith, common_steps) steps 100000
+
+pub sweep-requires-clause-sized : goal.sweep-requires-clause-sized
+sweep-requires-clause-sized g c = grind (arith, common_steps) steps 100000
+
+pub sweep-requires-clause-each : goal.sweep-requires-clause-each
+sweep-requires-clause-each g c = grind (arith, common_steps) steps 100000
+
+pub sweep-requires-clause-few : goal.sweep-requires-clause-few
+sweep-requires-clause-few g c = grind (arith, common_steps) steps 100000
+
+pub sweep-requires-clause-empty : goal.sweep-requires-clause-empty
+sweep-requires-clause-empty g c = grind (arith, common_steps) steps 100000
+
+pub sweep-requires-clause-unread : goal.sweep-requires-clause-unread
+sweep-requires-clause-unread g c = grind (arith, common_steps) steps 100000

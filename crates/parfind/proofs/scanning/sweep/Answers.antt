@@ -56,7 +56,7 @@ loop-missing-preserved-then-left-eq0 g c =
     let entered = c.enter.ensures.other (λ e. absurd (omega arith)) in
     let none : (left ≡ 0) ⊎ (has_fit_in set left ≡ false) = elim c.then-left-eq0.branch [
       | then-left-eq0-via-then-left-eq0 w ↦ inl (omega (arith, w.if-left-eq0))
-      | then-left-eq0-via-else-left-eq0+then-not-fits w ↦ inr (search rules)
+      | then-left-eq0-via-else-left-eq0+then-not-fits w ↦ inr (search rules steps 600000)
     ] in
     record {
       reads = inv.reads;
@@ -91,7 +91,7 @@ returns-in_err-fill-clause-ends g c =
     let sized : c.loop-missing.window.capacity ≡ set.slice_size = inv.surveyed.capacity ∙ c.requires.sized in
     let full : ShelfState = g.H.Shelf.state c.fill.new.shelf in
     let filled : SurveyState = record { shelf = full; window = c.fill.new.window; found = c.loop-missing.found; track = c.fill.new.self } in
-    let fits : has_fit_in set left ≡ true = search rules in
+    let fits : has_fit_in set left ≡ true = search rules steps 600000 in
     let r = c.fill.ensures in
     let failed = err_from_is_err_and c.from_residual.result c.from_residual.ensures.1 in
     record {
@@ -153,7 +153,7 @@ loop-missing-preserved g c =
     let sized : c.loop-missing.window.capacity ≡ set.slice_size = inv.surveyed.capacity ∙ c.requires.sized in
     let full : ShelfState = g.H.Shelf.state c.fill.new.shelf in
     let filled : SurveyState = record { shelf = full; window = c.fill.new.window; found = c.loop-missing.found; track = c.fill.new.self } in
-    let fits : has_fit_in set left ≡ true = search rules in
+    let fits : has_fit_in set left ≡ true = search rules steps 600000 in
     let r = c.in_ok-fill.ensures in
     let seen : SurveyState = record { shelf = full; window = c.mark_seen.new.window; found = c.mark_seen.new.found; track = c.fill.new.self } in
     let some : 0 < left = omega (arith, c.if-left-eq0.false) in
@@ -225,7 +225,7 @@ returns-in_err-pass-clause-ends g c =
     let sized : c.loop-missing.window.capacity ≡ set.slice_size = inv.surveyed.capacity ∙ c.requires.sized in
     let full : ShelfState = g.H.Shelf.state c.fill.new.shelf in
     let filled : SurveyState = record { shelf = full; window = c.fill.new.window; found = c.loop-missing.found; track = c.fill.new.self } in
-    let fits : has_fit_in set left ≡ true = search rules in
+    let fits : has_fit_in set left ≡ true = search rules steps 600000 in
     let r = c.in_ok-fill.ensures in
     let seen : SurveyState = record { shelf = full; window = c.mark_seen.new.window; found = c.mark_seen.new.found; track = c.fill.new.self } in
     let some : 0 < left = omega (arith, c.if-left-eq0.false) in
@@ -306,7 +306,7 @@ returns-then-missing-found-clause-ends g c =
     let sized : c.loop-missing.window.capacity ≡ set.slice_size = inv.surveyed.capacity ∙ c.requires.sized in
     let full : ShelfState = g.H.Shelf.state c.fill.new.shelf in
     let filled : SurveyState = record { shelf = full; window = c.fill.new.window; found = c.loop-missing.found; track = c.fill.new.self } in
-    let fits : has_fit_in set left ≡ true = search rules in
+    let fits : has_fit_in set left ≡ true = search rules steps 600000 in
     let r = c.in_ok-fill.ensures in
     let seen : SurveyState = record { shelf = full; window = c.mark_seen.new.window; found = c.mark_seen.new.found; track = c.fill.new.self } in
     let some : 0 < left = omega (arith, c.if-left-eq0.false) in
@@ -345,88 +345,91 @@ pub fill-requires-clause-tied : goal.fill-requires-clause-tied
 fill-requires-clause-tied g c = search rules steps 300000
 
 pub returns-in_err-fill-clause-ok : goal.returns-in_err-fill-clause-ok
-returns-in_err-fill-clause-ok g c = grind (arith, common_steps)
+returns-in_err-fill-clause-ok g c = grind (arith, common_steps) steps 400000
 
 pub returns-in_err-fill-clause-window : goal.returns-in_err-fill-clause-window
-returns-in_err-fill-clause-window g c = grind (arith, common_steps)
+returns-in_err-fill-clause-window g c = grind (arith, common_steps) steps 400000
 
 pub loop-missing-smaller : goal.loop-missing-smaller
-loop-missing-smaller g c = grind (arith, common_steps)
+loop-missing-smaller g c = grind (arith, common_steps) steps 400000
 
 pub returns-in_err-pass-clause-window : goal.returns-in_err-pass-clause-window
-returns-in_err-pass-clause-window g c = grind (arith, common_steps)
+returns-in_err-pass-clause-window g c = grind (arith, common_steps) steps 400000
 
 pub returns-else-track-count-clause-ends : goal.returns-else-track-count-clause-ends
-returns-else-track-count-clause-ends g c = grind (arith, common_steps)
+returns-else-track-count-clause-ends g c = grind (arith, common_steps) steps 400000
 
 pub returns-else-track-count-clause-ok : goal.returns-else-track-count-clause-ok
-returns-else-track-count-clause-ok g c = grind (arith, common_steps)
+returns-else-track-count-clause-ok g c = grind (arith, common_steps) steps 100000
 
 pub returns-else-track-count-clause-fault : goal.returns-else-track-count-clause-fault
-returns-else-track-count-clause-fault g c = grind (arith, common_steps)
+returns-else-track-count-clause-fault g c = grind (arith, common_steps) steps 100000
 
 pub returns-else-track-count-clause-none : goal.returns-else-track-count-clause-none
-returns-else-track-count-clause-none g c = grind (arith, common_steps)
+returns-else-track-count-clause-none g c = grind (arith, common_steps) steps 100000
 
 pub returns-else-track-count-clause-window : goal.returns-else-track-count-clause-window
-returns-else-track-count-clause-window g c = grind (arith, common_steps)
+returns-else-track-count-clause-window g c = grind (arith, common_steps) steps 100000
 
 pub returns-after-loop-missing-clause-ok : goal.returns-after-loop-missing-clause-ok
-returns-after-loop-missing-clause-ok g c = grind (arith, common_steps)
+returns-after-loop-missing-clause-ok g c = grind (arith, common_steps) steps 100000
 
 pub returns-after-loop-missing-clause-fault : goal.returns-after-loop-missing-clause-fault
-returns-after-loop-missing-clause-fault g c = grind (arith, common_steps)
+returns-after-loop-missing-clause-fault g c = grind (arith, common_steps) steps 100000
 
 pub returns-after-loop-missing-clause-none : goal.returns-after-loop-missing-clause-none
-returns-after-loop-missing-clause-none g c = grind (arith, common_steps)
+returns-after-loop-missing-clause-none g c = grind (arith, common_steps) steps 100000
 
 pub returns-after-loop-missing-clause-window : goal.returns-after-loop-missing-clause-window
-returns-after-loop-missing-clause-window g c = grind (arith, common_steps)
+returns-after-loop-missing-clause-window g c = grind (arith, common_steps) steps 100000
 
 pub returns-then-missing-found-clause-ok : goal.returns-then-missing-found-clause-ok
-returns-then-missing-found-clause-ok g c = grind (arith, common_steps)
+returns-then-missing-found-clause-ok g c = grind (arith, common_steps) steps 400000
 
 pub returns-then-missing-found-clause-fault : goal.returns-then-missing-found-clause-fault
-returns-then-missing-found-clause-fault g c = grind (arith, common_steps)
+returns-then-missing-found-clause-fault g c = grind (arith, common_steps) steps 100000
 
 pub returns-then-missing-found-clause-window : goal.returns-then-missing-found-clause-window
-returns-then-missing-found-clause-window g c = grind (arith, common_steps)
+returns-then-missing-found-clause-window g c = grind (arith, common_steps) steps 400000
 
 pub next_missing-missing-requires : goal.next_missing-missing-requires
-next_missing-missing-requires g c = grind (arith, common_steps)
+next_missing-missing-requires g c = grind (arith, common_steps) steps 100000
 
 pub length-requires : goal.length-requires
-length-requires g c = grind (arith, common_steps)
+length-requires g c = grind (arith, common_steps) steps 100000
 
 pub overflow_sub-left : goal.overflow_sub-left
-overflow_sub-left g c = grind (arith, common_steps)
+overflow_sub-left g c = grind (arith, common_steps) steps 100000
 
 pub overflow_add-next : goal.overflow_add-next
-overflow_add-next g c = grind (arith, common_steps)
+overflow_add-next g c = grind (arith, common_steps) steps 100000
 
 pub fill-requires-clause-file : goal.fill-requires-clause-file
-fill-requires-clause-file g c = grind (arith, common_steps)
+fill-requires-clause-file g c = grind (arith, common_steps) steps 100000
 
 pub fill-requires-clause-inside : goal.fill-requires-clause-inside
-fill-requires-clause-inside g c = grind (arith, common_steps)
+fill-requires-clause-inside g c = grind (arith, common_steps) steps 100000
 
 pub mark_seen-requires-clause-each : goal.mark_seen-requires-clause-each
-mark_seen-requires-clause-each g c = grind (arith, common_steps)
+mark_seen-requires-clause-each g c = grind (arith, common_steps) steps 400000
 
 pub next_missing-missing-requires-in-loop-missing : goal.next_missing-missing-requires-in-loop-missing
-next_missing-missing-requires-in-loop-missing g c = grind (arith, common_steps)
+next_missing-missing-requires-in-loop-missing g c = grind (arith, common_steps) steps 400000
 
 pub pass-requires-clause-some : goal.pass-requires-clause-some
-pass-requires-clause-some g c = grind (arith, common_steps)
+pass-requires-clause-some g c = grind (arith, common_steps) steps 100000
 
 pub pass-requires-clause-file : goal.pass-requires-clause-file
-pass-requires-clause-file g c = grind (arith, common_steps)
+pass-requires-clause-file g c = grind (arith, common_steps) steps 400000
 
 pub pass-requires-clause-inside : goal.pass-requires-clause-inside
-pass-requires-clause-inside g c = grind (arith, common_steps)
+pass-requires-clause-inside g c = grind (arith, common_steps) steps 400000
 
 pub pass-requires-clause-sized : goal.pass-requires-clause-sized
-pass-requires-clause-sized g c = grind (arith, common_steps)
+pass-requires-clause-sized g c = grind (arith, common_steps) steps 400000
 
 pub pass-requires-clause-full : goal.pass-requires-clause-full
-pass-requires-clause-full g c = grind (arith, common_steps)
+pass-requires-clause-full g c = grind (arith, common_steps) steps 400000
+
+pub returns-in_err-pass-clause-ok : goal.returns-in_err-pass-clause-ok
+returns-in_err-pass-clause-ok g c = grind (arith, common_steps) steps 400000

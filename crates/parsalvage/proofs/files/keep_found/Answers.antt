@@ -1,4 +1,5 @@
-use Rattle.std.proofs.Common.{rules}
+use Rattle.std.proofs.Common.{arith, rules}
+use Rattle.std.proofs.lemmas.Grind.{common_steps}
 use Rattle.parsalvage.proofs.files.keep_found.Goals as goal
 
 pub returns-clause-some : goal.returns-clause-some
@@ -6,3 +7,18 @@ returns-clause-some c = search rules steps 3000000
 
 pub returns-in_err-store-clause-some : goal.returns-in_err-store-clause-some
 returns-in_err-store-clause-some c = search rules steps 3000000
+
+pub returns-then-is_empty-clause-kept : goal.returns-then-is_empty-clause-kept
+returns-then-is_empty-clause-kept c = grind (arith, common_steps) steps 100000
+
+pub returns-then-is_empty-clause-some : goal.returns-then-is_empty-clause-some
+returns-then-is_empty-clause-some c = grind (arith, common_steps) steps 100000
+
+pub returns-in_err-store-clause-kept : goal.returns-in_err-store-clause-kept
+returns-in_err-store-clause-kept c = grind (arith, common_steps) steps 100000
+
+pub keep_notes-requires : goal.keep_notes-requires
+keep_notes-requires c = grind (arith, common_steps) steps 100000
+
+pub returns-clause-kept : goal.returns-clause-kept
+returns-clause-kept c = grind (arith, common_steps) steps 100000

@@ -1,4 +1,5 @@
-use Rattle.std.proofs.Common.{◌∙◌}
+use Rattle.std.proofs.Common.{arith, ◌∙◌}
+use Rattle.std.proofs.lemmas.Grind.{common_steps}
 use Rattle.parshelf.proofs.ShelfLaws.{length-file_of}
 use Rattle.parsalvage.proofs.FoundLaws.{found_all, found_none, found_inside}
 use Rattle.parsalvage.proofs.files.salvage_file.Goals as goal
@@ -16,3 +17,60 @@ pub returns-in_err-keep_found-clause-empty : goal.returns-in_err-keep_found-clau
 returns-in_err-keep_found-clause-empty g c = λ steady none _.
     let long = length-file_of _ c.args.file (g.met.H.Shelf.in_order c.args.shelf.now) steady in
     c.in_err-keep_found.ensures.some (found_none _ _ _ _ (c.in_ok-found.ensures.found steady) long none)
+
+pub slice_bounds-search_file-end : goal.slice_bounds-search_file-end
+slice_bounds-search_file-end g c = grind (arith, common_steps) steps 100000
+
+pub search_file-requires-clause-file : goal.search_file-requires-clause-file
+search_file-requires-clause-file g c = grind (arith, common_steps) steps 100000
+
+pub search_file-requires-clause-buffer : goal.search_file-requires-clause-buffer
+search_file-requires-clause-buffer g c = grind (arith, common_steps) steps 100000
+
+pub returns-in_err-found-clause-kept : goal.returns-in_err-found-clause-kept
+returns-in_err-found-clause-kept g c = grind (arith, common_steps) steps 400000
+
+pub returns-in_err-found-clause-inside : goal.returns-in_err-found-clause-inside
+returns-in_err-found-clause-inside g c = grind (arith, common_steps) steps 400000
+
+pub returns-in_err-found-clause-ok : goal.returns-in_err-found-clause-ok
+returns-in_err-found-clause-ok g c = grind (arith, common_steps) steps 400000
+
+pub returns-in_err-found-clause-fault : goal.returns-in_err-found-clause-fault
+returns-in_err-found-clause-fault g c = grind (arith, common_steps) steps 400000
+
+pub returns-in_err-found-clause-bound : goal.returns-in_err-found-clause-bound
+returns-in_err-found-clause-bound g c = grind (arith, common_steps) steps 400000
+
+pub returns-in_err-found-clause-empty : goal.returns-in_err-found-clause-empty
+returns-in_err-found-clause-empty g c = grind (arith, common_steps) steps 400000
+
+pub keep_found-requires : goal.keep_found-requires
+keep_found-requires g c = grind (arith, common_steps) steps 400000
+
+pub returns-in_err-keep_found-clause-kept : goal.returns-in_err-keep_found-clause-kept
+returns-in_err-keep_found-clause-kept g c = grind (arith, common_steps) steps 400000
+
+pub returns-in_err-keep_found-clause-inside : goal.returns-in_err-keep_found-clause-inside
+returns-in_err-keep_found-clause-inside g c = grind (arith, common_steps) steps 400000
+
+pub returns-in_err-keep_found-clause-ok : goal.returns-in_err-keep_found-clause-ok
+returns-in_err-keep_found-clause-ok g c = grind (arith, common_steps) steps 400000
+
+pub returns-in_err-keep_found-clause-fault : goal.returns-in_err-keep_found-clause-fault
+returns-in_err-keep_found-clause-fault g c = grind (arith, common_steps) steps 400000
+
+pub returns-in_err-keep_found-clause-bound : goal.returns-in_err-keep_found-clause-bound
+returns-in_err-keep_found-clause-bound g c = grind (arith, common_steps) steps 400000
+
+pub returns-clause-ok : goal.returns-clause-ok
+returns-clause-ok g c = grind (arith, common_steps) steps 400000
+
+pub returns-clause-fault : goal.returns-clause-fault
+returns-clause-fault g c = grind (arith, common_steps) steps 100000
+
+pub returns-clause-bound : goal.returns-clause-bound
+returns-clause-bound g c = grind (arith, common_steps) steps 400000
+
+pub returns-clause-empty : goal.returns-clause-empty
+returns-clause-empty g c = grind (arith, common_steps) steps 100000

@@ -1,3 +1,4 @@
+use Rattle.std.proofs.lemmas.Grind.{common_steps}
 use Rattle.std.proofs.Common.{◌≡◌, ◌<◌, ◌+◌, ◌++◌, ◌∷◌, ◌∙◌, ℕ, List, [], length, map, drop}
 use Rattle.std.proofs.Common.{ap, sym, arith}
 use Rattle.std.proofs.Math.ListN.{get_or}
@@ -42,3 +43,21 @@ loop-packet-preserved c =
     one_more c.args.file c.loop-packet.kept.items c.args.packets.now c.loop-packet.packet-index
     _ _ _ _ (omega arith) c.loop-packet.invariant c.in_ok-keep_body.ensures
     c.in_ok-push.ensures.items
+
+pub loop-packet-init : goal.loop-packet-init
+loop-packet-init c = grind (arith, common_steps) steps 100000
+
+pub offset_bounds-packets-packet-index : goal.offset_bounds-packets-packet-index
+offset_bounds-packets-packet-index c = grind (arith, common_steps) steps 100000
+
+pub bounds-packets-packet-index : goal.bounds-packets-packet-index
+bounds-packets-packet-index c = grind (arith, common_steps) steps 100000
+
+pub returns : goal.returns
+returns c = grind (arith, common_steps) steps 100000
+
+pub returns-in_err-keep_body : goal.returns-in_err-keep_body
+returns-in_err-keep_body c = grind (arith, common_steps) steps 100000
+
+pub returns-in_err-push : goal.returns-in_err-push
+returns-in_err-push c = grind (arith, common_steps) steps 400000

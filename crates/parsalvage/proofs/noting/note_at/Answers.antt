@@ -1,3 +1,4 @@
+use Rattle.std.proofs.lemmas.Grind.{common_steps}
 use Rattle.std.proofs.Common.{◌≡◌, ◌≤◌, ◌+◌, ◌*◌, ◌∙◌, ℕ, List, drop, false, true, sym, ap, arith}
 use Rattle.parfield.specs.declared.fields.Header.{Header}
 use Rattle.parfield.specs.Packet.{header_of}
@@ -56,3 +57,75 @@ returns-in-None-clause-found g c = λ steady.
     (λ k low high.
     let here : k ≡ c.args.at = omega arith in
     ap (is_packet_at (file_of (g.H.Shelf.state c.args.shelf.now) c.args.file)) here ∙ sym none)
+
+pub overflow_sub-length : goal.overflow_sub-length
+overflow_sub-length g c = grind (arith, common_steps) steps 100000
+
+pub returns-then-length-at-lt64-clause-lies : goal.returns-then-length-at-lt64-clause-lies
+returns-then-length-at-lt64-clause-lies g c = grind (arith, common_steps) steps 1500000
+
+pub returns-then-length-at-lt64-clause-fault : goal.returns-then-length-at-lt64-clause-fault
+returns-then-length-at-lt64-clause-fault g c = grind (arith, common_steps) steps 100000
+
+pub examine-requires-clause-file : goal.examine-requires-clause-file
+examine-requires-clause-file g c = grind (arith, common_steps) steps 100000
+
+pub examine-requires-clause-within : goal.examine-requires-clause-within
+examine-requires-clause-within g c = grind (arith, common_steps) steps 100000
+
+pub examine-requires-clause-buffer : goal.examine-requires-clause-buffer
+examine-requires-clause-buffer g c = grind (arith, common_steps) steps 100000
+
+pub examine-requires-clause-piece : goal.examine-requires-clause-piece
+examine-requires-clause-piece g c = grind (arith, common_steps) steps 100000
+
+pub returns-in_err-head-clause-lies : goal.returns-in_err-head-clause-lies
+returns-in_err-head-clause-lies g c = grind (arith, common_steps) steps 100000
+
+pub returns-in_err-head-clause-found : goal.returns-in_err-head-clause-found
+returns-in_err-head-clause-found g c = grind (arith, common_steps) steps 100000
+
+pub returns-in_err-head-clause-ok : goal.returns-in_err-head-clause-ok
+returns-in_err-head-clause-ok g c = grind (arith, common_steps) steps 400000
+
+pub returns-in_err-head-clause-fault : goal.returns-in_err-head-clause-fault
+returns-in_err-head-clause-fault g c = grind (arith, common_steps) steps 400000
+
+pub note_packet-requires-clause-file : goal.note_packet-requires-clause-file
+note_packet-requires-clause-file g c = grind (arith, common_steps) steps 100000
+
+pub note_packet-requires-clause-within : goal.note_packet-requires-clause-within
+note_packet-requires-clause-within g c = grind (arith, common_steps) steps 100000
+
+pub note_packet-requires-clause-long : goal.note_packet-requires-clause-long
+note_packet-requires-clause-long g c = grind (arith, common_steps) steps 100000
+
+pub note_packet-requires-clause-piece : goal.note_packet-requires-clause-piece
+note_packet-requires-clause-piece g c = grind (arith, common_steps) steps 400000
+
+pub note_packet-requires-clause-packet : goal.note_packet-requires-clause-packet
+note_packet-requires-clause-packet g c = grind (arith, common_steps) steps 1500000
+
+pub note_packet-requires-clause-fields : goal.note_packet-requires-clause-fields
+note_packet-requires-clause-fields g c = grind (arith, common_steps) steps 1500000
+
+pub note_packet-requires-clause-lies : goal.note_packet-requires-clause-lies
+note_packet-requires-clause-lies g c = grind (arith, common_steps) steps 100000
+
+pub note_packet-requires-clause-found : goal.note_packet-requires-clause-found
+note_packet-requires-clause-found g c = grind (arith, common_steps) steps 400000
+
+pub returns-in-Some-clause-lies : goal.returns-in-Some-clause-lies
+returns-in-Some-clause-lies g c = grind (arith, common_steps) steps 100000
+
+pub returns-in-Some-clause-found : goal.returns-in-Some-clause-found
+returns-in-Some-clause-found g c = grind (arith, common_steps) steps 400000
+
+pub returns-in-None-clause-lies : goal.returns-in-None-clause-lies
+returns-in-None-clause-lies g c = grind (arith, common_steps) steps 1500000
+
+pub returns-in-None-clause-ok : goal.returns-in-None-clause-ok
+returns-in-None-clause-ok g c = grind (arith, common_steps) steps 400000
+
+pub returns-in-None-clause-fault : goal.returns-in-None-clause-fault
+returns-in-None-clause-fault g c = grind (arith, common_steps) steps 100000

@@ -136,28 +136,97 @@ returns-in_err-search_piece-clause-fault g c =
     (g.H.Shelf.state c.search_piece.new.shelf) _ c.in_err-search_piece.ensures.fault)
 
 pub returns-in_err-fill-clause-lies : goal.returns-in_err-fill-clause-lies
-returns-in_err-fill-clause-lies g c = grind (arith, common_steps)
+returns-in_err-fill-clause-lies g c = grind (arith, common_steps) steps 400000
 
 pub returns-in_err-fill-clause-found : goal.returns-in_err-fill-clause-found
-returns-in_err-fill-clause-found g c = grind (arith, common_steps)
+returns-in_err-fill-clause-found g c = grind (arith, common_steps) steps 400000
 
 pub returns-in_err-fill-clause-ok : goal.returns-in_err-fill-clause-ok
-returns-in_err-fill-clause-ok g c = grind (arith, common_steps)
+returns-in_err-fill-clause-ok g c = grind (arith, common_steps) steps 400000
 
 pub returns-in_err-search_piece-clause-lies : goal.returns-in_err-search_piece-clause-lies
-returns-in_err-search_piece-clause-lies g c = grind (arith, common_steps)
+returns-in_err-search_piece-clause-lies g c = grind (arith, common_steps) steps 400000
 
 pub returns-in_err-search_piece-clause-found : goal.returns-in_err-search_piece-clause-found
-returns-in_err-search_piece-clause-found g c = grind (arith, common_steps)
+returns-in_err-search_piece-clause-found g c = grind (arith, common_steps) steps 400000
 
 pub returns-in_err-search_piece-clause-ok : goal.returns-in_err-search_piece-clause-ok
-returns-in_err-search_piece-clause-ok g c = grind (arith, common_steps)
+returns-in_err-search_piece-clause-ok g c = grind (arith, common_steps) steps 400000
 
 pub loop-base-smaller : goal.loop-base-smaller
-loop-base-smaller g c = grind (arith, common_steps)
+loop-base-smaller g c = grind (arith, common_steps) steps 400000
 
 pub returns-clause-lies : goal.returns-clause-lies
-returns-clause-lies g c = grind (arith, common_steps)
+returns-clause-lies g c = grind (arith, common_steps) steps 1500000
 
 pub returns-clause-fault : goal.returns-clause-fault
-returns-clause-fault g c = grind (arith, common_steps)
+returns-clause-fault g c = grind (arith, common_steps) steps 100000
+
+pub overflow_add-base : goal.overflow_add-base
+overflow_add-base g c = grind (arith, common_steps) steps 100000
+
+pub overflow_sub-end : goal.overflow_sub-end
+overflow_sub-end g c = grind (arith, common_steps) steps 100000
+
+pub overflow_add-base-in-loop-base : goal.overflow_add-base-in-loop-base
+overflow_add-base-in-loop-base g c = grind (arith, common_steps) steps 100000
+
+pub slice_bounds-fill-count : goal.slice_bounds-fill-count
+slice_bounds-fill-count g c = grind (arith, common_steps) steps 100000
+
+pub slice_bounds-window-start : goal.slice_bounds-window-start
+slice_bounds-window-start g c = grind (arith, common_steps) steps 100000
+
+pub slice_bounds-window-end : goal.slice_bounds-window-end
+slice_bounds-window-end g c = grind (arith, common_steps) steps 100000
+
+pub fill-requires-clause-file : goal.fill-requires-clause-file
+fill-requires-clause-file g c = grind (arith, common_steps) steps 100000
+
+pub fill-requires-clause-within : goal.fill-requires-clause-within
+fill-requires-clause-within g c = grind (arith, common_steps) steps 100000
+
+pub slice_bounds-window-end-in-loop-base : goal.slice_bounds-window-end-in-loop-base
+slice_bounds-window-end-in-loop-base g c = grind (arith, common_steps) steps 400000
+
+pub slice_bounds-piece-end : goal.slice_bounds-piece-end
+slice_bounds-piece-end g c = grind (arith, common_steps) steps 400000
+
+pub search_piece-requires-clause-file : goal.search_piece-requires-clause-file
+search_piece-requires-clause-file g c = grind (arith, common_steps) steps 400000
+
+pub search_piece-requires-clause-within : goal.search_piece-requires-clause-within
+search_piece-requires-clause-within g c = grind (arith, common_steps) steps 400000
+
+pub search_piece-requires-clause-long : goal.search_piece-requires-clause-long
+search_piece-requires-clause-long g c = grind (arith, common_steps) steps 400000
+
+pub search_piece-requires-clause-buffer : goal.search_piece-requires-clause-buffer
+search_piece-requires-clause-buffer g c = grind (arith, common_steps) steps 400000
+
+pub search_piece-requires-clause-lies : goal.search_piece-requires-clause-lies
+search_piece-requires-clause-lies g c = grind (arith, common_steps) steps 400000
+
+pub slice_bounds-copy_within-end : goal.slice_bounds-copy_within-end
+slice_bounds-copy_within-end g c = grind (arith, common_steps) steps 400000
+
+pub overflow_sub-size : goal.overflow_sub-size
+overflow_sub-size g c = grind (arith, common_steps) steps 400000
+
+pub copy_within-requires-clause-start_le_end : goal.copy_within-requires-clause-start_le_end
+copy_within-requires-clause-start_le_end g c = grind (arith, common_steps) steps 100000
+
+pub copy_within-requires-clause-in_bounds : goal.copy_within-requires-clause-in_bounds
+copy_within-requires-clause-in_bounds g c = grind (arith, common_steps) steps 400000
+
+pub copy_within-requires-clause-dest_in_bounds : goal.copy_within-requires-clause-dest_in_bounds
+copy_within-requires-clause-dest_in_bounds g c = grind (arith, common_steps) steps 400000
+
+pub copy_within-requires-clause-not_exhausted : goal.copy_within-requires-clause-not_exhausted
+copy_within-requires-clause-not_exhausted g c = grind (arith, common_steps) steps 100000
+
+pub overflow_sub-base : goal.overflow_sub-base
+overflow_sub-base g c = grind (arith, common_steps) steps 400000
+
+pub overflow_add-base-in-loop-base-2 : goal.overflow_add-base-in-loop-base-2
+overflow_add-base-in-loop-base-2 g c = grind (arith, common_steps) steps 400000

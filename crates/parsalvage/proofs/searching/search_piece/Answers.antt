@@ -1,3 +1,4 @@
+use Rattle.std.proofs.lemmas.Grind.{elements, common_steps}
 use Rattle.std.proofs.Common.{◌≡◌, refl, arith}
 use Rattle.std.proofs.lemmas.Result.{err_from_is_err_and}
 use Rattle.memchr.specs.Find.{matches}
@@ -54,3 +55,30 @@ returns-clause-found g c =
 pub returns-clause-ok : goal.returns-clause-ok
 returns-clause-ok g c =
     hands_after _ _ _ _ _ _ _ c.requires.piece (rw c.in-None.ensures.steps.0 at c.loop-place.invariant)
+
+pub next-requires : goal.next-requires
+next-requires g c = grind (arith, common_steps) steps 100000
+
+pub note_at-requires-clause-file : goal.note_at-requires-clause-file
+note_at-requires-clause-file g c = grind (arith, common_steps) steps 400000
+
+pub note_at-requires-clause-buffer : goal.note_at-requires-clause-buffer
+note_at-requires-clause-buffer g c = grind (arith, common_steps) steps 400000
+
+pub note_at-requires-clause-piece : goal.note_at-requires-clause-piece
+note_at-requires-clause-piece g c = grind (arith, common_steps) steps 400000
+
+pub returns-clause-fault : goal.returns-clause-fault
+returns-clause-fault g c = grind (arith, common_steps) steps 100000
+
+pub returns-in_err-note_at-clause-lies : goal.returns-in_err-note_at-clause-lies
+returns-in_err-note_at-clause-lies g c = grind (arith, elements) steps 400000
+
+pub returns-in_err-note_at-clause-found : goal.returns-in_err-note_at-clause-found
+returns-in_err-note_at-clause-found g c = grind (arith, elements) steps 400000
+
+pub returns-in_err-note_at-clause-ok : goal.returns-in_err-note_at-clause-ok
+returns-in_err-note_at-clause-ok g c = grind (arith, elements) steps 400000
+
+pub returns-clause-lies : goal.returns-clause-lies
+returns-clause-lies g c = grind (arith, common_steps, g.met.H.Shelf.in_order)

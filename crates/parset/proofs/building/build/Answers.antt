@@ -1,4 +1,5 @@
-use Rattle.std.proofs.Common.{◌∙◌, ap, map, sym}
+use Rattle.std.proofs.Common.{arith, ◌∙◌, ap, map, sym}
+use Rattle.std.proofs.lemmas.Grind.{common_steps}
 use Rattle.parset.proofs.MainLaws.{first_main_bounds}
 use Rattle.parset.proofs.SetLaws.{no_main, with_main}
 use Rattle.parset.proofs.building.build.Goals as goal
@@ -15,3 +16,9 @@ returns-in_ok-own-in-Some c =
 
 pub returns-in-None : goal.returns-in-None
 returns-in-None c = no_main c.args.choice c.args.packets.now (sym c.in_ok-set.ensures ∙ c.in-None.is)
+
+pub returns-in_err-set : goal.returns-in_err-set
+returns-in_err-set c = grind (arith, common_steps) steps 100000
+
+pub returns-in_err-own-in-Some : goal.returns-in_err-own-in-Some
+returns-in_err-own-in-Some c = grind (arith, common_steps) steps 100000

@@ -1,3 +1,4 @@
+use Rattle.std.proofs.lemmas.Grind.{common_steps}
 use Rattle.std.proofs.Common.{◌≡◌, ◌∙◌, Ok, Some, ap, arith, length, map, subst, sym}
 use Rattle.std.proofs.lemmas.Result.{err_from_is_err_and}
 use Rattle.std.proofs.lemmas.List.Elements.{All-same}
@@ -67,3 +68,18 @@ pub set_over-requires-clause-names : goal.set_over-requires-clause-names
 set_over-requires-clause-names c =
     let differ = files_differ c.args.main.now.size c.in_ok-described.described c.in_ok-named.named c.in_ok-files.files c.in_ok-named.ensures c.in_ok-files.ensures in
     subst (λ files. IsDistinct bytes_eq (map (λ file. file.name) files)) (sym c.as_slice-3.ensures) differ
+
+pub returns-in_err-ids : goal.returns-in_err-ids
+returns-in_err-ids c = grind (arith, common_steps) steps 100000
+
+pub slices_checked-requires : goal.slices_checked-requires
+slices_checked-requires c = grind (arith, common_steps) steps 100000
+
+pub set_over-requires-clause-limits : goal.set_over-requires-clause-limits
+set_over-requires-clause-limits c = grind (arith, common_steps) steps 100000
+
+pub set_over-requires-clause-few_slices : goal.set_over-requires-clause-few_slices
+set_over-requires-clause-few_slices c = grind (arith, common_steps) steps 400000
+
+pub returns-in_err-set_over : goal.returns-in_err-set_over
+returns-in_err-set_over c = grind (arith, common_steps) steps 400000

@@ -1,3 +1,4 @@
+use Rattle.std.proofs.lemmas.Grind.{common_steps}
 use Rattle.std.proofs.Common.{◌<◌, ◌≤◌, ◌∙◌, ap, arith, length, map, subst, sym}
 use Rattle.std.specs.List.{IsDistinct, flat_map}
 use Rattle.std.specs.Str.{bytes_eq}
@@ -48,3 +49,30 @@ invariant_of-result c =
       have = subst (λ n. n ≤ 65535) (sym c.in_ok-exponent_count.ensures) (exponents_within main.size own);
       creator = text_within own _ c.in_ok-creator.ensures;
     }
+
+pub sums_of-requires-clause-size : goal.sums_of-requires-clause-size
+sums_of-requires-clause-size c = grind (arith, common_steps) steps 100000
+
+pub sums_of-requires-clause-first : goal.sums_of-requires-clause-first
+sums_of-requires-clause-first c = grind (arith, common_steps) steps 100000
+
+pub returns-in_err-sums : goal.returns-in_err-sums
+returns-in_err-sums c = grind (arith, common_steps) steps 100000
+
+pub returns-in_err-set_files : goal.returns-in_err-set_files
+returns-in_err-set_files c = grind (arith, common_steps) steps 100000
+
+pub set_slices-requires-clause-size : goal.set_slices-requires-clause-size
+set_slices-requires-clause-size c = grind (arith, common_steps) steps 100000
+
+pub set_slices-requires-clause-few : goal.set_slices-requires-clause-few
+set_slices-requires-clause-few c = grind (arith, common_steps) steps 100000
+
+pub returns-in_err-set_slices : goal.returns-in_err-set_slices
+returns-in_err-set_slices c = grind (arith, common_steps) steps 400000
+
+pub overflow_cast-result : goal.overflow_cast-result
+overflow_cast-result c = grind (arith, common_steps) steps 400000
+
+pub returns-in_err-exponent_count : goal.returns-in_err-exponent_count
+returns-in_err-exponent_count c = grind (arith, common_steps) steps 400000

@@ -1,3 +1,4 @@
+use Rattle.std.proofs.lemmas.Grind.{common_steps}
 use Rattle.std.proofs.Common.{Bor, ℕ, ◌≡◌, ◌∙◌, map, count_by, ap, arith}
 use Rattle.std.specs.List.{list_any}
 use Rattle.parsalvage.specs.declared.kept.Kept.{Kept}
@@ -16,3 +17,6 @@ pub returns : goal.returns
 returns c =
     let seen = λ (e : ℕ). list_any (has_exponent c.args.size e) (map (λ (k : Bor Kept). k.now) c.args.own.now) in
     c.set_flags.ensures ∙ ap (count_by (λ b. b)) (c.as_slice.ensures.value ∙ c.in_ok-seen.ensures) ∙ count_by-map seen all_exponents
+
+pub returns-in_err-seen : goal.returns-in_err-seen
+returns-in_err-seen c = grind (arith, common_steps) steps 100000

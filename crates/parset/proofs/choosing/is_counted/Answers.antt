@@ -1,5 +1,9 @@
-use Rattle.std.proofs.Common.{rules}
+use Rattle.std.proofs.Common.{arith, rules}
+use Rattle.std.proofs.lemmas.Grind.{common_steps}
 use Rattle.parset.proofs.choosing.is_counted.Goals as goal
 
 pub returns-in-Some : goal.returns-in-Some
 returns-in-Some c = search rules steps 1000000
+
+pub returns-in-None : goal.returns-in-None
+returns-in-None c = grind (arith, common_steps) steps 100000

@@ -1,4 +1,5 @@
-use Rattle.std.proofs.Common.{◌≡◌, ◌+◌, ◌∙◌, ap, drop, map, sym, Some, None, Ok, get_or, []}
+use Rattle.std.proofs.Common.{arith, ◌≡◌, ◌+◌, ◌∙◌, ap, drop, map, sym, Some, None, Ok, get_or, []}
+use Rattle.std.proofs.lemmas.Grind.{common_steps}
 use Rattle.parfield.specs.declared.hash16.Hash16.{Hash16}
 use Rattle.parset.specs.Choosing.{file_description_of}
 use Rattle.parset.proofs.DescribingLaws.{behind, described_all, described_more, described_none}
@@ -28,3 +29,15 @@ returns c =
     c.loop-id.invariant
     ∙ (described_all (map (λ k. k.now) c.args.own.now) c.args.ids.now c.loop-id.id-index c.loop-id.files.items c.loop-id-test.false
     ∙ ap Ok (sym c.from_vec.ensures))
+
+pub returns-in_err-found : goal.returns-in_err-found
+returns-in_err-found c = grind (arith, common_steps) steps 100000
+
+pub loop-id-init : goal.loop-id-init
+loop-id-init c = grind (arith, common_steps) steps 100000
+
+pub offset_bounds-ids-id-index : goal.offset_bounds-ids-id-index
+offset_bounds-ids-id-index c = grind (arith, common_steps) steps 100000
+
+pub returns-in_err-add_copy-in-Some : goal.returns-in_err-add_copy-in-Some
+returns-in_err-add_copy-in-Some c = grind (arith, common_steps) steps 400000

@@ -9,7 +9,13 @@ pub returns-then-count-left : goal.returns-then-count-left
 returns-then-count-left c = grind (arith, common_steps)
 
 pub loop-file-preserved : goal.loop-file-preserved
-loop-file-preserved c = grind (arith, common_steps)
+loop-file-preserved c = grind (arith, common_steps) steps 100000
 
 pub returns : goal.returns
-returns c = grind (arith, common_steps)
+returns c = grind (arith, common_steps) steps 100000
+
+pub offset_bounds-files-file-index : goal.offset_bounds-files-file-index
+offset_bounds-files-file-index c = grind (arith, common_steps) steps 100000
+
+pub slice_count-count-requires : goal.slice_count-count-requires
+slice_count-count-requires c = grind (arith, common_steps) steps 100000

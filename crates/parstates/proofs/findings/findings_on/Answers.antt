@@ -1,4 +1,5 @@
-use Rattle.std.proofs.Common.{◌≡◌, ◌∙◌, ◌&&◌, IsTrue, ap, map, subst, sym}
+use Rattle.std.proofs.Common.{arith, ◌≡◌, ◌∙◌, ◌&&◌, IsTrue, ap, map, subst, sym}
+use Rattle.std.proofs.lemmas.Grind.{common_steps}
 use Rattle.std.specs.BTreeSet.{contains}
 use Rattle.std.specs.List.{list_any}
 use Rattle.std.specs.Str.{bytes_eq}
@@ -49,3 +50,102 @@ returns-in_err-found-clause-unsearched g c =
     unsearched c.args.set.now.files c.in_ok-whole.whole c.args.set.now.slices old now _
     (subst (λ files. HandsAsked files old now) c.files-set_files.ensures.field c.in_ok-contents.ensures.bytes)
     c.found_slices.ensures.none
+
+pub returns-in_err-contents-clause-findings : goal.returns-in_err-contents-clause-findings
+returns-in_err-contents-clause-findings g c = grind (arith, common_steps) steps 100000
+
+pub returns-in_err-contents-clause-states : goal.returns-in_err-contents-clause-states
+returns-in_err-contents-clause-states g c = grind (arith, common_steps) steps 100000
+
+pub returns-in_err-contents-clause-slices : goal.returns-in_err-contents-clause-slices
+returns-in_err-contents-clause-slices g c = grind (arith, common_steps) steps 100000
+
+pub returns-in_err-contents-clause-handed : goal.returns-in_err-contents-clause-handed
+returns-in_err-contents-clause-handed g c = grind (arith, common_steps) steps 1500000
+
+pub returns-in_err-contents-clause-unsearched : goal.returns-in_err-contents-clause-unsearched
+returns-in_err-contents-clause-unsearched g c = grind (arith, common_steps) steps 1500000
+
+pub returns-in_err-contents-clause-ok : goal.returns-in_err-contents-clause-ok
+returns-in_err-contents-clause-ok g c = grind (arith, common_steps) steps 100000
+
+pub returns-in_err-contents-clause-fault : goal.returns-in_err-contents-clause-fault
+returns-in_err-contents-clause-fault g c = grind (arith, common_steps) steps 100000
+
+pub returns-in_err-states-clause-findings : goal.returns-in_err-states-clause-findings
+returns-in_err-states-clause-findings g c = grind (arith, common_steps) steps 100000
+
+pub returns-in_err-states-clause-states : goal.returns-in_err-states-clause-states
+returns-in_err-states-clause-states g c = grind (arith, common_steps) steps 100000
+
+pub returns-in_err-states-clause-slices : goal.returns-in_err-states-clause-slices
+returns-in_err-states-clause-slices g c = grind (arith, common_steps) steps 100000
+
+pub returns-in_err-states-clause-handed : goal.returns-in_err-states-clause-handed
+returns-in_err-states-clause-handed g c = grind (arith, common_steps) steps 1500000
+
+pub returns-in_err-states-clause-unsearched : goal.returns-in_err-states-clause-unsearched
+returns-in_err-states-clause-unsearched g c = grind (arith, common_steps) steps 1500000
+
+pub returns-in_err-states-clause-ok : goal.returns-in_err-states-clause-ok
+returns-in_err-states-clause-ok g c = grind (arith, common_steps) steps 100000
+
+pub returns-in_err-states-clause-fault : goal.returns-in_err-states-clause-fault
+returns-in_err-states-clause-fault g c = grind (arith, common_steps) steps 100000
+
+pub whole_ids-requires : goal.whole_ids-requires
+whole_ids-requires g c = grind (arith, common_steps) steps 400000
+
+pub returns-in_err-whole-clause-findings : goal.returns-in_err-whole-clause-findings
+returns-in_err-whole-clause-findings g c = grind (arith, common_steps) steps 400000
+
+pub returns-in_err-whole-clause-states : goal.returns-in_err-whole-clause-states
+returns-in_err-whole-clause-states g c = grind (arith, common_steps) steps 400000
+
+pub returns-in_err-whole-clause-slices : goal.returns-in_err-whole-clause-slices
+returns-in_err-whole-clause-slices g c = grind (arith, common_steps) steps 400000
+
+pub returns-in_err-whole-clause-handed : goal.returns-in_err-whole-clause-handed
+returns-in_err-whole-clause-handed g c = grind (arith, common_steps) steps 1500000
+
+pub returns-in_err-whole-clause-unsearched : goal.returns-in_err-whole-clause-unsearched
+returns-in_err-whole-clause-unsearched g c = grind (arith, common_steps) steps 1500000
+
+pub returns-in_err-whole-clause-ok : goal.returns-in_err-whole-clause-ok
+returns-in_err-whole-clause-ok g c = grind (arith, common_steps) steps 400000
+
+pub returns-in_err-whole-clause-fault : goal.returns-in_err-whole-clause-fault
+returns-in_err-whole-clause-fault g c = grind (arith, common_steps) steps 400000
+
+pub returns-in_err-found-clause-findings : goal.returns-in_err-found-clause-findings
+returns-in_err-found-clause-findings g c = grind (arith, common_steps) steps 400000
+
+pub returns-in_err-found-clause-states : goal.returns-in_err-found-clause-states
+returns-in_err-found-clause-states g c = grind (arith, common_steps) steps 400000
+
+pub returns-in_err-found-clause-slices : goal.returns-in_err-found-clause-slices
+returns-in_err-found-clause-slices g c = grind (arith, common_steps) steps 400000
+
+pub returns-in_err-found-clause-ok : goal.returns-in_err-found-clause-ok
+returns-in_err-found-clause-ok g c = grind (arith, common_steps) steps 400000
+
+pub returns-in_err-found-clause-fault : goal.returns-in_err-found-clause-fault
+returns-in_err-found-clause-fault g c = grind (arith, common_steps) steps 1500000
+
+pub returns-clause-states : goal.returns-clause-states
+returns-clause-states g c = grind (arith, common_steps) steps 400000
+
+pub returns-clause-slices : goal.returns-clause-slices
+returns-clause-slices g c = grind (arith, common_steps) steps 100000
+
+pub returns-clause-ok : goal.returns-clause-ok
+returns-clause-ok g c = grind (arith, common_steps) steps 400000
+
+pub returns-clause-fault : goal.returns-clause-fault
+returns-clause-fault g c = grind (arith, common_steps) steps 100000
+
+pub returns-in_err-found-clause-handed : goal.returns-in_err-found-clause-handed
+returns-in_err-found-clause-handed g c = grind (arith, common_steps, g.met.Q.Shelf.in_order)
+
+pub returns-clause-handed : goal.returns-clause-handed
+returns-clause-handed g c = grind (arith, common_steps, g.met.Q.Shelf.in_order)

@@ -46,73 +46,73 @@ returns-in_err-survey-clause-none g c = λ settled.
     c.survey.ensures.none (all_settled c.args.whole.now c.args.set.now.slices c.deref_mut.result.now was settled)
 
 pub returns-in_err-index-clause-found : goal.returns-in_err-index-clause-found
-returns-in_err-index-clause-found g c = grind (arith, common_steps)
+returns-in_err-index-clause-found g c = grind (arith, common_steps) steps 100000
 
 pub returns-in_err-index-clause-stops : goal.returns-in_err-index-clause-stops
-returns-in_err-index-clause-stops g c = grind (arith, common_steps)
+returns-in_err-index-clause-stops g c = grind (arith, common_steps) steps 100000
 
 pub returns-in_err-index-clause-slices : goal.returns-in_err-index-clause-slices
-returns-in_err-index-clause-slices g c = grind (arith, common_steps)
+returns-in_err-index-clause-slices g c = grind (arith, common_steps) steps 100000
 
 pub returns-in_err-index-clause-handed : goal.returns-in_err-index-clause-handed
-returns-in_err-index-clause-handed g c = grind (arith, common_steps)
+returns-in_err-index-clause-handed g c = grind (arith, common_steps) steps 100000
 
 pub returns-in_err-index-clause-none : goal.returns-in_err-index-clause-none
-returns-in_err-index-clause-none g c = grind (arith, common_steps)
+returns-in_err-index-clause-none g c = grind (arith, common_steps) steps 100000
 
 pub returns-in_err-index-clause-ok : goal.returns-in_err-index-clause-ok
-returns-in_err-index-clause-ok g c = grind (arith, common_steps)
+returns-in_err-index-clause-ok g c = grind (arith, common_steps) steps 100000
 
 pub returns-in_err-index-clause-fault : goal.returns-in_err-index-clause-fault
-returns-in_err-index-clause-fault g c = grind (arith, common_steps)
+returns-in_err-index-clause-fault g c = grind (arith, common_steps) steps 100000
 
 pub returns-in_err-found-clause-found : goal.returns-in_err-found-clause-found
-returns-in_err-found-clause-found g c = grind (arith, common_steps)
+returns-in_err-found-clause-found g c = grind (arith, common_steps) steps 400000
 
 pub returns-in_err-found-clause-stops : goal.returns-in_err-found-clause-stops
-returns-in_err-found-clause-stops g c = grind (arith, common_steps)
+returns-in_err-found-clause-stops g c = grind (arith, common_steps) steps 100000
 
 pub returns-in_err-found-clause-slices : goal.returns-in_err-found-clause-slices
-returns-in_err-found-clause-slices g c = grind (arith, common_steps)
+returns-in_err-found-clause-slices g c = grind (arith, common_steps) steps 400000
 
 pub returns-in_err-found-clause-handed : goal.returns-in_err-found-clause-handed
-returns-in_err-found-clause-handed g c = grind (arith, common_steps)
+returns-in_err-found-clause-handed g c = grind (arith, common_steps) steps 100000
 
 pub returns-in_err-found-clause-none : goal.returns-in_err-found-clause-none
-returns-in_err-found-clause-none g c = grind (arith, common_steps)
+returns-in_err-found-clause-none g c = grind (arith, common_steps) steps 100000
 
 pub returns-in_err-found-clause-ok : goal.returns-in_err-found-clause-ok
-returns-in_err-found-clause-ok g c = grind (arith, common_steps)
+returns-in_err-found-clause-ok g c = grind (arith, common_steps) steps 400000
 
 pub returns-in_err-found-clause-fault : goal.returns-in_err-found-clause-fault
-returns-in_err-found-clause-fault g c = grind (arith, common_steps)
+returns-in_err-found-clause-fault g c = grind (arith, common_steps) steps 400000
 
 pub returns-in_err-survey-clause-found : goal.returns-in_err-survey-clause-found
-returns-in_err-survey-clause-found g c = grind (arith, common_steps)
+returns-in_err-survey-clause-found g c = grind (arith, common_steps) steps 1500000
 
 pub returns-in_err-survey-clause-slices : goal.returns-in_err-survey-clause-slices
-returns-in_err-survey-clause-slices g c = grind (arith, common_steps)
+returns-in_err-survey-clause-slices g c = grind (arith, common_steps) steps 1500000
 
 pub returns-in_err-survey-clause-handed : goal.returns-in_err-survey-clause-handed
-returns-in_err-survey-clause-handed g c = grind (arith, common_steps)
+returns-in_err-survey-clause-handed g c = grind (arith, common_steps) steps 400000
 
 pub returns-in_err-survey-clause-ok : goal.returns-in_err-survey-clause-ok
-returns-in_err-survey-clause-ok g c = grind (arith, common_steps)
+returns-in_err-survey-clause-ok g c = grind (arith, common_steps) steps 1500000
 
 pub returns-in_err-survey-clause-fault : goal.returns-in_err-survey-clause-fault
-returns-in_err-survey-clause-fault g c = grind (arith, common_steps)
+returns-in_err-survey-clause-fault g c = grind (arith, common_steps) steps 1500000
 
 pub returns-clause-slices : goal.returns-clause-slices
-returns-clause-slices g c = grind (arith, common_steps)
+returns-clause-slices g c = grind (arith, common_steps) steps 400000
 
 pub returns-clause-handed : goal.returns-clause-handed
-returns-clause-handed g c = grind (arith, common_steps)
+returns-clause-handed g c = grind (arith, common_steps) steps 400000
 
 pub returns-clause-ok : goal.returns-clause-ok
-returns-clause-ok g c = grind (arith, common_steps)
+returns-clause-ok g c = grind (arith, common_steps) steps 400000
 
 pub returns-clause-fault : goal.returns-clause-fault
-returns-clause-fault g c = grind (arith, common_steps)
+returns-clause-fault g c = grind (arith, common_steps) steps 100000
 
 pub returns-clause-stops : goal.returns-clause-stops
 returns-clause-stops g c = λ steady.
@@ -133,3 +133,6 @@ returns-in_err-survey-clause-stops g c = λ steady.
     = c.deref_mut.ensures.value ∙ (c.in_ok-found.ensures ∙ ap (map (is_settled c.args.whole.now)) c.slices.ensures.field) in
     subst (λ marks. StopsOnceFound own old new marks) was
     (subst (λ set. StopsOnceFound set old new c.deref_mut.result.now) c.in_ok-index.ensures (c.survey.ensures.stops steady))
+
+pub take_back-requires : goal.take_back-requires
+take_back-requires g c = grind (arith, common_steps) steps 400000

@@ -46,28 +46,28 @@ returns-clause-text g c =
     (last_waits lines last start mid waiting waits) after c.write_whole.ensures.fault
 
 pub returns-in_err-count-clause-no_read : goal.returns-in_err-count-clause-no_read
-returns-in_err-count-clause-no_read g c = grind (arith, common_steps)
+returns-in_err-count-clause-no_read g c = grind (arith, common_steps) steps 400000
 
 pub returns-in_err-count-clause-silent : goal.returns-in_err-count-clause-silent
-returns-in_err-count-clause-silent g c = grind (arith, common_steps)
+returns-in_err-count-clause-silent g c = grind (arith, common_steps) steps 400000
 
 pub returns-in_err-count-clause-sink : goal.returns-in_err-count-clause-sink
-returns-in_err-count-clause-sink g c = grind (arith, common_steps)
+returns-in_err-count-clause-sink g c = grind (arith, common_steps) steps 400000
 
 pub returns-in_err-push_count-clause-no_read : goal.returns-in_err-push_count-clause-no_read
-returns-in_err-push_count-clause-no_read g c = grind (arith, common_steps)
+returns-in_err-push_count-clause-no_read g c = grind (arith, common_steps) steps 100000
 
 pub returns-in_err-push_count-clause-silent : goal.returns-in_err-push_count-clause-silent
-returns-in_err-push_count-clause-silent g c = grind (arith, common_steps)
+returns-in_err-push_count-clause-silent g c = grind (arith, common_steps) steps 1500000
 
 pub returns-in_err-push_count-clause-sink : goal.returns-in_err-push_count-clause-sink
-returns-in_err-push_count-clause-sink g c = grind (arith, common_steps)
+returns-in_err-push_count-clause-sink g c = grind (arith, common_steps) steps 400000
 
 pub returns-clause-no_read : goal.returns-clause-no_read
-returns-clause-no_read g c = grind (arith, common_steps)
+returns-clause-no_read g c = grind (arith, common_steps) steps 100000
 
 pub returns-clause-silent : goal.returns-clause-silent
-returns-clause-silent g c = grind (arith, common_steps)
+returns-clause-silent g c = grind (arith, common_steps) steps 100000
 
 pub returns-clause-sink : goal.returns-clause-sink
-returns-clause-sink g c = grind (arith, common_steps)
+returns-clause-sink g c = grind (arith, common_steps) steps 400000

@@ -28,31 +28,31 @@ returns-clause-text g c =
     (listed_ends c.write_whole.result (Ok Listed) start mid (g.W.Sink.state c.write_whole.new.out) text (string_bytes c.put_set.new.waiting) waits after c.write_whole.ensures.fault)
 
 pub returns-in_err-set-clause-text : goal.returns-in_err-set-clause-text
-returns-in_err-set-clause-text g c = grind (arith, common_steps)
+returns-in_err-set-clause-text g c = grind (arith, common_steps) steps 100000
 
 pub returns-in_err-set-clause-no_read : goal.returns-in_err-set-clause-no_read
-returns-in_err-set-clause-no_read g c = grind (arith, common_steps)
+returns-in_err-set-clause-no_read g c = grind (arith, common_steps) steps 100000
 
 pub returns-in_err-set-clause-silent : goal.returns-in_err-set-clause-silent
-returns-in_err-set-clause-silent g c = grind (arith, common_steps)
+returns-in_err-set-clause-silent g c = grind (arith, common_steps) steps 100000
 
 pub returns-in_err-set-clause-sink : goal.returns-in_err-set-clause-sink
-returns-in_err-set-clause-sink g c = grind (arith, common_steps)
+returns-in_err-set-clause-sink g c = grind (arith, common_steps) steps 100000
 
 pub returns-in_err-put_set-clause-no_read : goal.returns-in_err-put_set-clause-no_read
-returns-in_err-put_set-clause-no_read g c = grind (arith, common_steps)
+returns-in_err-put_set-clause-no_read g c = grind (arith, common_steps) steps 400000
 
 pub returns-in_err-put_set-clause-silent : goal.returns-in_err-put_set-clause-silent
-returns-in_err-put_set-clause-silent g c = grind (arith, common_steps)
+returns-in_err-put_set-clause-silent g c = grind (arith, common_steps) steps 400000
 
 pub returns-in_err-put_set-clause-sink : goal.returns-in_err-put_set-clause-sink
-returns-in_err-put_set-clause-sink g c = grind (arith, common_steps)
+returns-in_err-put_set-clause-sink g c = grind (arith, common_steps) steps 400000
 
 pub returns-clause-no_read : goal.returns-clause-no_read
-returns-clause-no_read g c = grind (arith, common_steps)
+returns-clause-no_read g c = grind (arith, common_steps) steps 400000
 
 pub returns-clause-silent : goal.returns-clause-silent
-returns-clause-silent g c = grind (arith, common_steps)
+returns-clause-silent g c = grind (arith, common_steps) steps 400000
 
 pub returns-clause-sink : goal.returns-clause-sink
-returns-clause-sink g c = grind (arith, common_steps)
+returns-clause-sink g c = grind (arith, common_steps) steps 400000

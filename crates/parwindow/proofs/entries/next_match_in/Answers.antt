@@ -1,4 +1,5 @@
-use Rattle.std.proofs.Common.{sym, ◌∙◌, ◌≤◌, length}
+use Rattle.std.proofs.Common.{arith, sym, ◌∙◌, ◌≤◌, length}
+use Rattle.std.proofs.lemmas.Grind.{common_steps}
 use Rattle.parwindow.proofs.SearchLaws.{next_found, none_past, none_other, same_bytes, other_bytes}
 use Rattle.parwindow.proofs.entries.next_match_in.Goals as goal
 
@@ -36,3 +37,9 @@ returns-in_default-3 c =
     λ slices indexed.
     none_past slices c.args.entries.now indexed c.args.crc c.args.digest.0 c.args.from c.floor_of.result
     c.floor_of.ensures past
+
+pub floor_of-requires : goal.floor_of-requires
+floor_of-requires c = grind (arith, common_steps) steps 100000
+
+pub eq-requires : goal.eq-requires
+eq-requires c = grind (arith, common_steps) steps 100000

@@ -228,37 +228,49 @@ pub returns-then-eq-clause-ok : goal.returns-then-eq-clause-ok
 returns-then-eq-clause-ok g c = search rules steps 300000
 
 pub returns-in_err-step-clause-belongs : goal.returns-in_err-step-clause-belongs
-returns-in_err-step-clause-belongs g c = grind (arith, common_steps)
+returns-in_err-step-clause-belongs g c = grind (arith, common_steps) steps 100000
 
 pub returns-in_err-step-clause-opening : goal.returns-in_err-step-clause-opening
-returns-in_err-step-clause-opening g c = grind (arith, common_steps)
+returns-in_err-step-clause-opening g c = grind (arith, common_steps) steps 100000
 
 pub returns-in_err-step-clause-no_fewer : goal.returns-in_err-step-clause-no_fewer
-returns-in_err-step-clause-no_fewer g c = grind (arith, common_steps)
+returns-in_err-step-clause-no_fewer g c = grind (arith, common_steps) steps 100000
 
 pub returns-then-eq-clause-fault : goal.returns-then-eq-clause-fault
-returns-then-eq-clause-fault g c = grind (arith, common_steps)
+returns-then-eq-clause-fault g c = grind (arith, common_steps) steps 100000
 
 pub returns-then-eq-clause-opening : goal.returns-then-eq-clause-opening
-returns-then-eq-clause-opening g c = grind (arith, common_steps)
+returns-then-eq-clause-opening g c = grind (arith, common_steps) steps 100000
 
 pub returns-then-eq-clause-no_fewer : goal.returns-then-eq-clause-no_fewer
-returns-then-eq-clause-no_fewer g c = grind (arith, common_steps)
+returns-then-eq-clause-no_fewer g c = grind (arith, common_steps) steps 100000
 
 pub loop-step-smaller : goal.loop-step-smaller
-loop-step-smaller g c = grind (arith, common_steps)
+loop-step-smaller g c = grind (arith, common_steps) steps 100000
 
 pub returns-in_default-clause-belongs : goal.returns-in_default-clause-belongs
-returns-in_default-clause-belongs g c = grind (arith, common_steps)
+returns-in_default-clause-belongs g c = grind (arith, common_steps) steps 100000
 
 pub returns-in_default-clause-ok : goal.returns-in_default-clause-ok
-returns-in_default-clause-ok g c = grind (arith, common_steps)
+returns-in_default-clause-ok g c = grind (arith, common_steps) steps 100000
 
 pub returns-in_default-clause-fault : goal.returns-in_default-clause-fault
-returns-in_default-clause-fault g c = grind (arith, common_steps)
+returns-in_default-clause-fault g c = grind (arith, common_steps) steps 100000
 
 pub returns-in_default-clause-opening : goal.returns-in_default-clause-opening
-returns-in_default-clause-opening g c = grind (arith, common_steps)
+returns-in_default-clause-opening g c = grind (arith, common_steps) steps 100000
 
 pub returns-in_default-clause-no_fewer : goal.returns-in_default-clause-no_fewer
-returns-in_default-clause-no_fewer g c = grind (arith, common_steps)
+returns-in_default-clause-no_fewer g c = grind (arith, common_steps) steps 100000
+
+pub visit-requires-clause-belongs : goal.visit-requires-clause-belongs
+visit-requires-clause-belongs g c = grind (arith, common_steps) steps 100000
+
+pub returns-in_err-step-clause-advances : goal.returns-in_err-step-clause-advances
+returns-in_err-step-clause-advances g c = grind (arith, common_steps) steps 400000
+
+pub returns-in_err-step-clause-ok : goal.returns-in_err-step-clause-ok
+returns-in_err-step-clause-ok g c = grind (arith, common_steps) steps 400000
+
+pub fewer-left-requires : goal.fewer-left-requires
+fewer-left-requires g c = grind (arith, common_steps) steps 100000

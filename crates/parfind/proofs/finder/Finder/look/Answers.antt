@@ -216,73 +216,85 @@ pub overflow_add-self : goal.overflow_add-self
 overflow_add-self g c = search rules steps 300000
 
 pub returns-in-Some-clause-within : goal.returns-in-Some-clause-within
-returns-in-Some-clause-within g c = grind (arith, common_steps)
+returns-in-Some-clause-within g c = grind (arith, common_steps) steps 400000
 
 pub returns-in-Some-clause-ok : goal.returns-in-Some-clause-ok
-returns-in-Some-clause-ok g c = grind (arith, common_steps)
+returns-in-Some-clause-ok g c = grind (arith, common_steps) steps 100000
 
 pub returns-in-Some-clause-fault : goal.returns-in-Some-clause-fault
-returns-in-Some-clause-fault g c = grind (arith, common_steps)
+returns-in-Some-clause-fault g c = grind (arith, common_steps) steps 100000
 
 pub returns-in-Some-clause-reads : goal.returns-in-Some-clause-reads
-returns-in-Some-clause-reads g c = grind (arith, common_steps)
+returns-in-Some-clause-reads g c = grind (arith, common_steps) steps 400000
 
 pub returns-in-Some-clause-opening : goal.returns-in-Some-clause-opening
-returns-in-Some-clause-opening g c = grind (arith, common_steps)
+returns-in-Some-clause-opening g c = grind (arith, common_steps) steps 100000
 
 pub returns-in-Some-clause-no_fewer : goal.returns-in-Some-clause-no_fewer
-returns-in-Some-clause-no_fewer g c = grind (arith, common_steps)
+returns-in-Some-clause-no_fewer g c = grind (arith, common_steps) steps 100000
 
 pub returns-in_err-count-clause-reads : goal.returns-in_err-count-clause-reads
-returns-in_err-count-clause-reads g c = grind (arith, common_steps)
+returns-in_err-count-clause-reads g c = grind (arith, common_steps) steps 100000
 
 pub returns-in_err-count-clause-opening : goal.returns-in_err-count-clause-opening
-returns-in_err-count-clause-opening g c = grind (arith, common_steps)
+returns-in_err-count-clause-opening g c = grind (arith, common_steps) steps 100000
 
 pub returns-in_err-count-clause-no_fewer : goal.returns-in_err-count-clause-no_fewer
-returns-in_err-count-clause-no_fewer g c = grind (arith, common_steps)
+returns-in_err-count-clause-no_fewer g c = grind (arith, common_steps) steps 400000
 
 pub returns-clause-ok : goal.returns-clause-ok
-returns-clause-ok g c = grind (arith, common_steps)
+returns-clause-ok g c = grind (arith, common_steps) steps 100000
 
 pub returns-clause-fault : goal.returns-clause-fault
-returns-clause-fault g c = grind (arith, common_steps)
+returns-clause-fault g c = grind (arith, common_steps) steps 100000
 
 pub returns-clause-reads : goal.returns-clause-reads
-returns-clause-reads g c = grind (arith, common_steps)
+returns-clause-reads g c = grind (arith, common_steps) steps 400000
 
 pub returns-clause-opening : goal.returns-clause-opening
-returns-clause-opening g c = grind (arith, common_steps)
+returns-clause-opening g c = grind (arith, common_steps) steps 400000
 
 pub returns-clause-no_fewer : goal.returns-clause-no_fewer
-returns-clause-no_fewer g c = grind (arith, common_steps)
+returns-clause-no_fewer g c = grind (arith, common_steps) steps 400000
 
 pub rest_of-rest-requires-clause-counted : goal.rest_of-rest-requires-clause-counted
-rest_of-rest-requires-clause-counted g c = grind (arith, common_steps)
+rest_of-rest-requires-clause-counted g c = grind (arith, common_steps) steps 100000
 
 pub rest_of-rest-requires-clause-there : goal.rest_of-rest-requires-clause-there
-rest_of-rest-requires-clause-there g c = grind (arith, common_steps)
+rest_of-rest-requires-clause-there g c = grind (arith, common_steps) steps 100000
 
 pub first_seen-requires-clause-remembers : goal.first_seen-requires-clause-remembers
-first_seen-requires-clause-remembers g c = grind (arith, common_steps)
+first_seen-requires-clause-remembers g c = grind (arith, common_steps) steps 100000
 
 pub first_seen-requires-clause-full : goal.first_seen-requires-clause-full
-first_seen-requires-clause-full g c = grind (arith, common_steps)
+first_seen-requires-clause-full g c = grind (arith, common_steps) steps 100000
 
 pub pass-requires-clause-some : goal.pass-requires-clause-some
-pass-requires-clause-some g c = grind (arith, common_steps)
+pass-requires-clause-some g c = grind (arith, common_steps) steps 100000
 
 pub pass-requires-clause-file : goal.pass-requires-clause-file
-pass-requires-clause-file g c = grind (arith, common_steps)
+pass-requires-clause-file g c = grind (arith, common_steps) steps 100000
 
 pub pass-requires-clause-inside : goal.pass-requires-clause-inside
-pass-requires-clause-inside g c = grind (arith, common_steps)
+pass-requires-clause-inside g c = grind (arith, common_steps) steps 100000
 
 pub pass-requires-clause-sized : goal.pass-requires-clause-sized
-pass-requires-clause-sized g c = grind (arith, common_steps)
+pass-requires-clause-sized g c = grind (arith, common_steps) steps 100000
 
 pub pass-requires-clause-full : goal.pass-requires-clause-full
-pass-requires-clause-full g c = grind (arith, common_steps)
+pass-requires-clause-full g c = grind (arith, common_steps) steps 100000
 
 pub pass-requires-clause-tied : goal.pass-requires-clause-tied
-pass-requires-clause-tied g c = grind (arith, common_steps)
+pass-requires-clause-tied g c = grind (arith, common_steps) steps 400000
+
+pub returns-in_err-count-clause-advances : goal.returns-in_err-count-clause-advances
+returns-in_err-count-clause-advances g c = grind (arith, common_steps) steps 400000
+
+pub returns-in_err-count-clause-within : goal.returns-in_err-count-clause-within
+returns-in_err-count-clause-within g c = grind (arith, common_steps) steps 400000
+
+pub returns-in_err-count-clause-ok : goal.returns-in_err-count-clause-ok
+returns-in_err-count-clause-ok g c = grind (arith, common_steps) steps 400000
+
+pub returns-in_err-count-clause-fault : goal.returns-in_err-count-clause-fault
+returns-in_err-count-clause-fault g c = grind (arith, common_steps) steps 400000

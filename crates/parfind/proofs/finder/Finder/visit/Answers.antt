@@ -111,151 +111,163 @@ returns-clause-reads g c =
     c.in_ok-arrive.ensures.reads (rw (ap (λ (u : ShelfState). u.lengths) c.in_ok-arrive.ensures.ok) at c.look.ensures.reads)
 
 pub returns-then-self-count-clause-belongs : goal.returns-then-self-count-clause-belongs
-returns-then-self-count-clause-belongs g c = grind (arith, common_steps)
+returns-then-self-count-clause-belongs g c = grind (arith, common_steps) steps 100000
 
 pub returns-then-self-count-clause-advances : goal.returns-then-self-count-clause-advances
-returns-then-self-count-clause-advances g c = grind (arith, common_steps)
+returns-then-self-count-clause-advances g c = grind (arith, common_steps) steps 100000
 
 pub returns-then-self-count-clause-within : goal.returns-then-self-count-clause-within
-returns-then-self-count-clause-within g c = grind (arith, common_steps)
+returns-then-self-count-clause-within g c = grind (arith, common_steps) steps 100000
 
 pub returns-then-self-count-clause-ok : goal.returns-then-self-count-clause-ok
-returns-then-self-count-clause-ok g c = grind (arith, common_steps)
+returns-then-self-count-clause-ok g c = grind (arith, common_steps) steps 100000
 
 pub returns-then-self-count-clause-fault : goal.returns-then-self-count-clause-fault
-returns-then-self-count-clause-fault g c = grind (arith, common_steps)
+returns-then-self-count-clause-fault g c = grind (arith, common_steps) steps 100000
 
 pub returns-then-self-count-clause-reads : goal.returns-then-self-count-clause-reads
-returns-then-self-count-clause-reads g c = grind (arith, common_steps)
+returns-then-self-count-clause-reads g c = grind (arith, common_steps) steps 100000
 
 pub returns-then-self-count-clause-opening : goal.returns-then-self-count-clause-opening
-returns-then-self-count-clause-opening g c = grind (arith, common_steps)
+returns-then-self-count-clause-opening g c = grind (arith, common_steps) steps 100000
 
 pub returns-then-self-count-clause-no_fewer : goal.returns-then-self-count-clause-no_fewer
-returns-then-self-count-clause-no_fewer g c = grind (arith, common_steps)
+returns-then-self-count-clause-no_fewer g c = grind (arith, common_steps) steps 100000
 
 pub returns-else-self-count-clause-belongs : goal.returns-else-self-count-clause-belongs
-returns-else-self-count-clause-belongs g c = grind (arith, common_steps)
+returns-else-self-count-clause-belongs g c = grind (arith, common_steps) steps 100000
 
 pub returns-else-self-count-clause-advances : goal.returns-else-self-count-clause-advances
-returns-else-self-count-clause-advances g c = grind (arith, common_steps)
+returns-else-self-count-clause-advances g c = grind (arith, common_steps) steps 100000
 
 pub returns-else-self-count-clause-within : goal.returns-else-self-count-clause-within
-returns-else-self-count-clause-within g c = grind (arith, common_steps)
+returns-else-self-count-clause-within g c = grind (arith, common_steps) steps 100000
 
 pub returns-else-self-count-clause-ok : goal.returns-else-self-count-clause-ok
-returns-else-self-count-clause-ok g c = grind (arith, common_steps)
+returns-else-self-count-clause-ok g c = grind (arith, common_steps) steps 100000
 
 pub returns-else-self-count-clause-fault : goal.returns-else-self-count-clause-fault
-returns-else-self-count-clause-fault g c = grind (arith, common_steps)
+returns-else-self-count-clause-fault g c = grind (arith, common_steps) steps 100000
 
 pub returns-else-self-count-clause-reads : goal.returns-else-self-count-clause-reads
-returns-else-self-count-clause-reads g c = grind (arith, common_steps)
+returns-else-self-count-clause-reads g c = grind (arith, common_steps) steps 100000
 
 pub returns-else-self-count-clause-opening : goal.returns-else-self-count-clause-opening
-returns-else-self-count-clause-opening g c = grind (arith, common_steps)
+returns-else-self-count-clause-opening g c = grind (arith, common_steps) steps 100000
 
 pub returns-else-self-count-clause-no_fewer : goal.returns-else-self-count-clause-no_fewer
-returns-else-self-count-clause-no_fewer g c = grind (arith, common_steps)
+returns-else-self-count-clause-no_fewer g c = grind (arith, common_steps) steps 100000
 
 pub returns-then-not-fits-clause-belongs : goal.returns-then-not-fits-clause-belongs
-returns-then-not-fits-clause-belongs g c = grind (arith, common_steps)
+returns-then-not-fits-clause-belongs g c = grind (arith, common_steps) steps 100000
 
 pub returns-then-not-fits-clause-sees : goal.returns-then-not-fits-clause-sees
-returns-then-not-fits-clause-sees g c = grind (arith, common_steps)
+returns-then-not-fits-clause-sees g c = grind (arith, common_steps) steps 100000
 
 pub returns-then-not-fits-clause-moves : goal.returns-then-not-fits-clause-moves
-returns-then-not-fits-clause-moves g c = grind (arith, common_steps)
+returns-then-not-fits-clause-moves g c = grind (arith, common_steps) steps 100000
 
 pub returns-then-not-fits-clause-advances : goal.returns-then-not-fits-clause-advances
-returns-then-not-fits-clause-advances g c = grind (arith, common_steps)
+returns-then-not-fits-clause-advances g c = grind (arith, common_steps) steps 100000
 
 pub returns-then-not-fits-clause-within : goal.returns-then-not-fits-clause-within
-returns-then-not-fits-clause-within g c = grind (arith, common_steps)
+returns-then-not-fits-clause-within g c = grind (arith, common_steps) steps 100000
 
 pub returns-then-not-fits-clause-ok : goal.returns-then-not-fits-clause-ok
-returns-then-not-fits-clause-ok g c = grind (arith, common_steps)
+returns-then-not-fits-clause-ok g c = grind (arith, common_steps) steps 100000
 
 pub returns-then-not-fits-clause-fault : goal.returns-then-not-fits-clause-fault
-returns-then-not-fits-clause-fault g c = grind (arith, common_steps)
+returns-then-not-fits-clause-fault g c = grind (arith, common_steps) steps 100000
 
 pub returns-then-not-fits-clause-reads : goal.returns-then-not-fits-clause-reads
-returns-then-not-fits-clause-reads g c = grind (arith, common_steps)
+returns-then-not-fits-clause-reads g c = grind (arith, common_steps) steps 400000
 
 pub returns-then-not-fits-clause-opening : goal.returns-then-not-fits-clause-opening
-returns-then-not-fits-clause-opening g c = grind (arith, common_steps)
+returns-then-not-fits-clause-opening g c = grind (arith, common_steps) steps 100000
 
 pub returns-then-not-fits-clause-no_fewer : goal.returns-then-not-fits-clause-no_fewer
-returns-then-not-fits-clause-no_fewer g c = grind (arith, common_steps)
+returns-then-not-fits-clause-no_fewer g c = grind (arith, common_steps) steps 100000
 
 pub returns-in_err-arrive-clause-belongs : goal.returns-in_err-arrive-clause-belongs
-returns-in_err-arrive-clause-belongs g c = grind (arith, common_steps)
+returns-in_err-arrive-clause-belongs g c = grind (arith, common_steps) steps 100000
 
 pub returns-in_err-arrive-clause-reads : goal.returns-in_err-arrive-clause-reads
-returns-in_err-arrive-clause-reads g c = grind (arith, common_steps)
+returns-in_err-arrive-clause-reads g c = grind (arith, common_steps) steps 100000
 
 pub returns-in_err-arrive-clause-opening : goal.returns-in_err-arrive-clause-opening
-returns-in_err-arrive-clause-opening g c = grind (arith, common_steps)
+returns-in_err-arrive-clause-opening g c = grind (arith, common_steps) steps 100000
 
 pub returns-in_err-arrive-clause-no_fewer : goal.returns-in_err-arrive-clause-no_fewer
-returns-in_err-arrive-clause-no_fewer g c = grind (arith, common_steps)
+returns-in_err-arrive-clause-no_fewer g c = grind (arith, common_steps) steps 100000
 
 pub returns-clause-belongs : goal.returns-clause-belongs
-returns-clause-belongs g c = grind (arith, common_steps)
+returns-clause-belongs g c = grind (arith, common_steps) steps 100000
 
 pub returns-clause-within : goal.returns-clause-within
-returns-clause-within g c = grind (arith, common_steps)
+returns-clause-within g c = grind (arith, common_steps) steps 100000
 
 pub returns-clause-ok : goal.returns-clause-ok
-returns-clause-ok g c = grind (arith, common_steps)
+returns-clause-ok g c = grind (arith, common_steps) steps 100000
 
 pub returns-clause-opening : goal.returns-clause-opening
-returns-clause-opening g c = grind (arith, common_steps)
+returns-clause-opening g c = grind (arith, common_steps) steps 100000
 
 pub returns-clause-no_fewer : goal.returns-clause-no_fewer
-returns-clause-no_fewer g c = grind (arith, common_steps)
+returns-clause-no_fewer g c = grind (arith, common_steps) steps 100000
 
 pub rest_of-requires-clause-counted : goal.rest_of-requires-clause-counted
-rest_of-requires-clause-counted g c = grind (arith, common_steps)
+rest_of-requires-clause-counted g c = grind (arith, common_steps) steps 100000
 
 pub rest_of-requires-clause-there : goal.rest_of-requires-clause-there
-rest_of-requires-clause-there g c = grind (arith, common_steps)
+rest_of-requires-clause-there g c = grind (arith, common_steps) steps 100000
 
 pub skip-requires-clause-left : goal.skip-requires-clause-left
-skip-requires-clause-left g c = grind (arith, common_steps)
+skip-requires-clause-left g c = grind (arith, common_steps) steps 100000
 
 pub skip-requires-clause-next : goal.skip-requires-clause-next
-skip-requires-clause-next g c = grind (arith, common_steps)
+skip-requires-clause-next g c = grind (arith, common_steps) steps 100000
 
 pub skip-requires-clause-none : goal.skip-requires-clause-none
-skip-requires-clause-none g c = grind (arith, common_steps)
+skip-requires-clause-none g c = grind (arith, common_steps) steps 100000
 
 pub skip-requires-clause-belongs : goal.skip-requires-clause-belongs
-skip-requires-clause-belongs g c = grind (arith, common_steps)
+skip-requires-clause-belongs g c = grind (arith, common_steps) steps 100000
 
 pub arrive-requires-clause-next : goal.arrive-requires-clause-next
-arrive-requires-clause-next g c = grind (arith, common_steps)
+arrive-requires-clause-next g c = grind (arith, common_steps) steps 100000
 
 pub arrive-requires-clause-fits : goal.arrive-requires-clause-fits
-arrive-requires-clause-fits g c = grind (arith, common_steps)
+arrive-requires-clause-fits g c = grind (arith, common_steps) steps 100000
 
 pub arrive-requires-clause-belongs : goal.arrive-requires-clause-belongs
-arrive-requires-clause-belongs g c = grind (arith, common_steps)
+arrive-requires-clause-belongs g c = grind (arith, common_steps) steps 100000
 
 pub look-requires-clause-left : goal.look-requires-clause-left
-look-requires-clause-left g c = grind (arith, common_steps)
+look-requires-clause-left g c = grind (arith, common_steps) steps 100000
 
 pub look-requires-clause-file : goal.look-requires-clause-file
-look-requires-clause-file g c = grind (arith, common_steps)
+look-requires-clause-file g c = grind (arith, common_steps) steps 100000
 
 pub look-requires-clause-there : goal.look-requires-clause-there
-look-requires-clause-there g c = grind (arith, common_steps)
+look-requires-clause-there g c = grind (arith, common_steps) steps 100000
 
 pub look-requires-clause-stands : goal.look-requires-clause-stands
-look-requires-clause-stands g c = grind (arith, common_steps)
+look-requires-clause-stands g c = grind (arith, common_steps) steps 100000
 
 pub look-requires-clause-full : goal.look-requires-clause-full
-look-requires-clause-full g c = grind (arith, common_steps)
+look-requires-clause-full g c = grind (arith, common_steps) steps 100000
 
 pub look-requires-clause-belongs : goal.look-requires-clause-belongs
-look-requires-clause-belongs g c = grind (arith, common_steps)
+look-requires-clause-belongs g c = grind (arith, common_steps) steps 100000
+
+pub returns-in_err-arrive-clause-advances : goal.returns-in_err-arrive-clause-advances
+returns-in_err-arrive-clause-advances g c = grind (arith, common_steps) steps 400000
+
+pub returns-in_err-arrive-clause-within : goal.returns-in_err-arrive-clause-within
+returns-in_err-arrive-clause-within g c = grind (arith, common_steps) steps 100000
+
+pub returns-in_err-arrive-clause-ok : goal.returns-in_err-arrive-clause-ok
+returns-in_err-arrive-clause-ok g c = grind (arith, common_steps) steps 400000
+
+pub returns-in_err-arrive-clause-fault : goal.returns-in_err-arrive-clause-fault
+returns-in_err-arrive-clause-fault g c = grind (arith, common_steps) steps 400000

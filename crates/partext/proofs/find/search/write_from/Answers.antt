@@ -1,4 +1,4 @@
-use Rattle.std.proofs.lemmas.Grind.{common_steps}
+use Rattle.std.proofs.lemmas.Grind.{elements, common_steps}
 use Rattle.std.proofs.Common.{rules, ◌≢◌, ◌≡◌, Some, Ok, Err, List, ℕ, arith}
 use Rattle.std.proofs.lemmas.Result.{err_from_is_err_and}
 use Rattle.parset.specs.RecoverySet.{SetView}
@@ -110,28 +110,28 @@ returns-in-Err-clause-text g c = λ steady.
     hands_front _ _ _ _ _ c.loop-left.left c.loop-left.finder.cursor _ _ (c.loop-left.invariant.handed steady)
 
 pub returns-in_err-put_sighting-in-Ok-Hit-clause-lines : goal.returns-in_err-put_sighting-in-Ok-Hit-clause-lines
-returns-in_err-put_sighting-in-Ok-Hit-clause-lines g c = grind (arith, common_steps)
+returns-in_err-put_sighting-in-Ok-Hit-clause-lines g c = grind (arith, common_steps) steps 1500000
 
 pub loop-left-smaller-in-Ok-Hit : goal.loop-left-smaller-in-Ok-Hit
-loop-left-smaller-in-Ok-Hit g c = grind (arith, common_steps)
+loop-left-smaller-in-Ok-Hit g c = grind (arith, common_steps) steps 100000
 
 pub loop-left-smaller : goal.loop-left-smaller
-loop-left-smaller g c = grind (arith, common_steps)
+loop-left-smaller g c = grind (arith, common_steps) steps 100000
 
 pub loop-left-preserved : goal.loop-left-preserved
-loop-left-preserved g c = grind (arith, common_steps)
+loop-left-preserved g c = grind (arith, common_steps) steps 100000
 
 pub returns-in-Err-clause-sink : goal.returns-in-Err-clause-sink
-returns-in-Err-clause-sink g c = grind (arith, common_steps)
+returns-in-Err-clause-sink g c = grind (arith, common_steps) steps 100000
 
 pub returns-clause-lines : goal.returns-clause-lines
-returns-clause-lines g c = grind (arith, common_steps)
+returns-clause-lines g c = grind (arith, common_steps) steps 400000
 
 pub returns-clause-reads : goal.returns-clause-reads
-returns-clause-reads g c = grind (arith, common_steps)
+returns-clause-reads g c = grind (arith, common_steps) steps 100000
 
 pub returns-clause-sink : goal.returns-clause-sink
-returns-clause-sink g c = grind (arith, common_steps)
+returns-clause-sink g c = grind (arith, common_steps) steps 100000
 
 pub returns-in-Ok-Done-clause-reads : goal.returns-in-Ok-Done-clause-reads
 returns-in-Ok-Done-clause-reads g c =
@@ -166,3 +166,12 @@ returns-in_err-put_sighting-in-Ok-Hit-clause-sink g c =
     rw (failed.1, failed.2)
     (line_sink _ (Err c.in_err-put_sighting-in-Ok-Hit.field-0.0) (g.W.Sink.state c.args.out.now) (g.W.Sink.state c.loop-left.out)
     (g.W.Sink.state c.put_sighting.new.out) c.in_err-put_sighting-in-Ok-Hit.ensures c.loop-left.invariant.failures)
+
+pub fewer-left-requires : goal.fewer-left-requires
+fewer-left-requires g c = grind (arith, common_steps) steps 400000
+
+pub returns-in-Err-clause-reads : goal.returns-in-Err-clause-reads
+returns-in-Err-clause-reads g c = grind (arith, elements) steps 400000
+
+pub loop-left-init : goal.loop-left-init
+loop-left-init g c = search rules steps 2000000

@@ -38,37 +38,73 @@ loop-self-preserved g c =
     }
 
 pub returns-in_err-ready-clause-tied : goal.returns-in_err-ready-clause-tied
-returns-in_err-ready-clause-tied g c = grind (arith, common_steps)
+returns-in_err-ready-clause-tied g c = grind (arith, common_steps) steps 100000
 
 pub returns-in_err-ready-clause-full : goal.returns-in_err-ready-clause-full
-returns-in_err-ready-clause-full g c = grind (arith, common_steps)
+returns-in_err-ready-clause-full g c = grind (arith, common_steps) steps 100000
 
 pub returns-in_err-ready-clause-same : goal.returns-in_err-ready-clause-same
-returns-in_err-ready-clause-same g c = grind (arith, common_steps)
+returns-in_err-ready-clause-same g c = grind (arith, common_steps) steps 100000
 
 pub returns-in_err-ready-clause-window : goal.returns-in_err-ready-clause-window
-returns-in_err-ready-clause-window g c = grind (arith, common_steps)
+returns-in_err-ready-clause-window g c = grind (arith, common_steps) steps 100000
 
 pub returns-in_err-ready-clause-ok : goal.returns-in_err-ready-clause-ok
-returns-in_err-ready-clause-ok g c = grind (arith, common_steps)
+returns-in_err-ready-clause-ok g c = grind (arith, common_steps) steps 100000
 
 pub returns-clause-tied : goal.returns-clause-tied
-returns-clause-tied g c = grind (arith, common_steps)
+returns-clause-tied g c = grind (arith, common_steps) steps 100000
 
 pub returns-clause-full : goal.returns-clause-full
-returns-clause-full g c = grind (arith, common_steps)
+returns-clause-full g c = grind (arith, common_steps) steps 100000
 
 pub returns-clause-same : goal.returns-clause-same
-returns-clause-same g c = grind (arith, common_steps)
+returns-clause-same g c = grind (arith, common_steps) steps 100000
 
 pub returns-clause-window : goal.returns-clause-window
-returns-clause-window g c = grind (arith, common_steps)
+returns-clause-window g c = grind (arith, common_steps) steps 100000
 
 pub returns-clause-reads : goal.returns-clause-reads
-returns-clause-reads g c = grind (arith, common_steps)
+returns-clause-reads g c = grind (arith, common_steps) steps 100000
 
 pub returns-clause-ok : goal.returns-clause-ok
-returns-clause-ok g c = grind (arith, common_steps)
+returns-clause-ok g c = grind (arith, common_steps) steps 100000
 
 pub returns-clause-fault : goal.returns-clause-fault
-returns-clause-fault g c = grind (arith, common_steps)
+returns-clause-fault g c = grind (arith, common_steps) steps 100000
+
+pub loop-self-init : goal.loop-self-init
+loop-self-init g c = grind (arith, common_steps) steps 100000
+
+pub ready-requires-clause-file : goal.ready-requires-clause-file
+ready-requires-clause-file g c = grind (arith, common_steps) steps 100000
+
+pub ready-requires-clause-inside : goal.ready-requires-clause-inside
+ready-requires-clause-inside g c = grind (arith, common_steps) steps 100000
+
+pub ready-requires-clause-tied : goal.ready-requires-clause-tied
+ready-requires-clause-tied g c = grind (arith, common_steps) steps 100000
+
+pub returns-in_err-ready-clause-fault : goal.returns-in_err-ready-clause-fault
+returns-in_err-ready-clause-fault g c = grind (arith, common_steps) steps 100000
+
+pub overflow_sub-room : goal.overflow_sub-room
+overflow_sub-room g c = grind (arith, common_steps) steps 100000
+
+pub piece-requires-clause-some : goal.piece-requires-clause-some
+piece-requires-clause-some g c = grind (arith, common_steps) steps 100000
+
+pub piece-requires-clause-small : goal.piece-requires-clause-small
+piece-requires-clause-small g c = grind (arith, common_steps) steps 400000
+
+pub piece-requires-clause-fits : goal.piece-requires-clause-fits
+piece-requires-clause-fits g c = grind (arith, common_steps) steps 100000
+
+pub piece-requires-clause-behind : goal.piece-requires-clause-behind
+piece-requires-clause-behind g c = grind (arith, common_steps) steps 100000
+
+pub piece-requires-clause-ready : goal.piece-requires-clause-ready
+piece-requires-clause-ready g c = grind (arith, common_steps) steps 400000
+
+pub append-requires : goal.append-requires
+append-requires g c = grind (arith, common_steps) steps 100000

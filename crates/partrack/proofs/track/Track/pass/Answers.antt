@@ -39,16 +39,16 @@ returns-clause-none g c = λ steady.
     rw (files, r.same.held_is) at none
 
 pub returns-in_err-ready-clause-tied : goal.returns-in_err-ready-clause-tied
-returns-in_err-ready-clause-tied g c = grind (arith, common_steps)
+returns-in_err-ready-clause-tied g c = grind (arith, common_steps) steps 100000
 
 pub returns-in_err-ready-clause-window : goal.returns-in_err-ready-clause-window
-returns-in_err-ready-clause-window g c = grind (arith, common_steps)
+returns-in_err-ready-clause-window g c = grind (arith, common_steps) steps 100000
 
 pub returns-in_err-ready-clause-same : goal.returns-in_err-ready-clause-same
-returns-in_err-ready-clause-same g c = grind (arith, common_steps)
+returns-in_err-ready-clause-same g c = grind (arith, common_steps) steps 100000
 
 pub returns-in_err-ready-clause-reads : goal.returns-in_err-ready-clause-reads
-returns-in_err-ready-clause-reads g c = grind (arith, common_steps)
+returns-in_err-ready-clause-reads g c = grind (arith, common_steps) steps 100000
 
 pub returns-in_err-ready-clause-fault : goal.returns-in_err-ready-clause-fault
 returns-in_err-ready-clause-fault g c =
@@ -56,22 +56,67 @@ returns-in_err-ready-clause-fault g c =
     rw (failed.1, failed.2) (grind (arith, common_steps))
 
 pub returns-clause-window : goal.returns-clause-window
-returns-clause-window g c = grind (arith, common_steps)
+returns-clause-window g c = grind (arith, common_steps) steps 100000
 
 pub returns-clause-passes : goal.returns-clause-passes
-returns-clause-passes g c = grind (arith, common_steps)
+returns-clause-passes g c = grind (arith, common_steps) steps 400000
 
 pub returns-clause-stays : goal.returns-clause-stays
-returns-clause-stays g c = grind (arith, common_steps)
+returns-clause-stays g c = grind (arith, common_steps) steps 100000
 
 pub returns-clause-same : goal.returns-clause-same
-returns-clause-same g c = grind (arith, common_steps)
+returns-clause-same g c = grind (arith, common_steps) steps 100000
 
 pub returns-clause-reads : goal.returns-clause-reads
-returns-clause-reads g c = grind (arith, common_steps)
+returns-clause-reads g c = grind (arith, common_steps) steps 100000
 
 pub returns-clause-ok : goal.returns-clause-ok
-returns-clause-ok g c = grind (arith, common_steps)
+returns-clause-ok g c = grind (arith, common_steps) steps 100000
 
 pub returns-clause-fault : goal.returns-clause-fault
-returns-clause-fault g c = grind (arith, common_steps)
+returns-clause-fault g c = grind (arith, common_steps) steps 100000
+
+pub ready-requires-clause-file : goal.ready-requires-clause-file
+ready-requires-clause-file g c = grind (arith, common_steps) steps 100000
+
+pub ready-requires-clause-inside : goal.ready-requires-clause-inside
+ready-requires-clause-inside g c = grind (arith, common_steps) steps 100000
+
+pub ready-requires-clause-tied : goal.ready-requires-clause-tied
+ready-requires-clause-tied g c = grind (arith, common_steps) steps 100000
+
+pub returns-in_err-ready-clause-passes : goal.returns-in_err-ready-clause-passes
+returns-in_err-ready-clause-passes g c = grind (arith, common_steps) steps 100000
+
+pub returns-in_err-ready-clause-none : goal.returns-in_err-ready-clause-none
+returns-in_err-ready-clause-none g c = grind (arith, common_steps) steps 100000
+
+pub returns-in_err-ready-clause-stays : goal.returns-in_err-ready-clause-stays
+returns-in_err-ready-clause-stays g c = grind (arith, common_steps) steps 100000
+
+pub returns-in_err-ready-clause-ok : goal.returns-in_err-ready-clause-ok
+returns-in_err-ready-clause-ok g c = grind (arith, common_steps) steps 100000
+
+pub overflow_sub-file_end : goal.overflow_sub-file_end
+overflow_sub-file_end g c = grind (arith, common_steps) steps 100000
+
+pub piece-piece-requires-clause-some : goal.piece-piece-requires-clause-some
+piece-piece-requires-clause-some g c = grind (arith, common_steps) steps 100000
+
+pub piece-piece-requires-clause-small : goal.piece-piece-requires-clause-small
+piece-piece-requires-clause-small g c = grind (arith, common_steps) steps 100000
+
+pub piece-piece-requires-clause-fits : goal.piece-piece-requires-clause-fits
+piece-piece-requires-clause-fits g c = grind (arith, common_steps) steps 100000
+
+pub piece-piece-requires-clause-behind : goal.piece-piece-requires-clause-behind
+piece-piece-requires-clause-behind g c = grind (arith, common_steps) steps 100000
+
+pub piece-piece-requires-clause-ready : goal.piece-piece-requires-clause-ready
+piece-piece-requires-clause-ready g c = grind (arith, common_steps) steps 400000
+
+pub push_until-count-requires : goal.push_until-count-requires
+push_until-count-requires g c = grind (arith, common_steps) steps 100000
+
+pub overflow_add-self : goal.overflow_add-self
+overflow_add-self g c = grind (arith, common_steps) steps 100000

@@ -28,43 +28,52 @@ pub returns-in-Ok-eq0-clause-ok : goal.returns-in-Ok-eq0-clause-ok
 returns-in-Ok-eq0-clause-ok g c = search rules steps 300000
 
 pub returns-in-Ok-eq0-clause-on : goal.returns-in-Ok-eq0-clause-on
-returns-in-Ok-eq0-clause-on g c = grind (arith, common_steps)
+returns-in-Ok-eq0-clause-on g c = grind (arith, common_steps) steps 100000
 
 pub returns-in-Ok-eq0-clause-bytes : goal.returns-in-Ok-eq0-clause-bytes
-returns-in-Ok-eq0-clause-bytes g c = grind (arith, common_steps)
+returns-in-Ok-eq0-clause-bytes g c = grind (arith, common_steps) steps 100000
 
 pub returns-in-Ok-eq0-clause-reads : goal.returns-in-Ok-eq0-clause-reads
-returns-in-Ok-eq0-clause-reads g c = grind (arith, common_steps)
+returns-in-Ok-eq0-clause-reads g c = grind (arith, common_steps) steps 1500000
 
 pub returns-in-Ok-eq0-clause-fault : goal.returns-in-Ok-eq0-clause-fault
-returns-in-Ok-eq0-clause-fault g c = grind (arith, common_steps)
+returns-in-Ok-eq0-clause-fault g c = grind (arith, common_steps) steps 100000
 
 pub returns-in-Ok-clause-on : goal.returns-in-Ok-clause-on
-returns-in-Ok-clause-on g c = grind (arith, common_steps)
+returns-in-Ok-clause-on g c = grind (arith, common_steps) steps 100000
 
 pub returns-in-Ok-clause-some : goal.returns-in-Ok-clause-some
-returns-in-Ok-clause-some g c = grind (arith, common_steps)
+returns-in-Ok-clause-some g c = grind (arith, common_steps) steps 100000
 
 pub returns-in-Ok-clause-bytes : goal.returns-in-Ok-clause-bytes
-returns-in-Ok-clause-bytes g c = grind (arith, common_steps)
+returns-in-Ok-clause-bytes g c = grind (arith, common_steps) steps 1500000
 
 pub returns-in-Ok-clause-ok : goal.returns-in-Ok-clause-ok
-returns-in-Ok-clause-ok g c = grind (arith, common_steps)
+returns-in-Ok-clause-ok g c = grind (arith, common_steps) steps 100000
 
 pub returns-in-Ok-clause-fault : goal.returns-in-Ok-clause-fault
-returns-in-Ok-clause-fault g c = grind (arith, common_steps)
+returns-in-Ok-clause-fault g c = grind (arith, common_steps) steps 100000
 
 pub returns-in-Err-clause-some : goal.returns-in-Err-clause-some
-returns-in-Err-clause-some g c = grind (arith, common_steps)
+returns-in-Err-clause-some g c = grind (arith, common_steps) steps 100000
 
 pub returns-in-Err-clause-bytes : goal.returns-in-Err-clause-bytes
-returns-in-Err-clause-bytes g c = grind (arith, common_steps)
+returns-in-Err-clause-bytes g c = grind (arith, common_steps) steps 100000
 
 pub returns-in-Err-clause-reads : goal.returns-in-Err-clause-reads
-returns-in-Err-clause-reads g c = grind (arith, common_steps)
+returns-in-Err-clause-reads g c = grind (arith, common_steps) steps 100000
 
 pub returns-in-Err-clause-ok : goal.returns-in-Err-clause-ok
-returns-in-Err-clause-ok g c = grind (arith, common_steps)
+returns-in-Err-clause-ok g c = grind (arith, common_steps) steps 100000
 
 pub returns-in-Err-clause-fault : goal.returns-in-Err-clause-fault
-returns-in-Err-clause-fault g c = grind (arith, common_steps)
+returns-in-Err-clause-fault g c = grind (arith, common_steps) steps 100000
+
+pub overflow_add-self : goal.overflow_add-self
+overflow_add-self g c = grind (arith, common_steps) steps 100000
+
+pub overflow_sub-file_end : goal.overflow_sub-file_end
+overflow_sub-file_end g c = grind (arith, common_steps) steps 100000
+
+pub slice_bounds-read_at-end : goal.slice_bounds-read_at-end
+slice_bounds-read_at-end g c = grind (arith, common_steps) steps 100000

@@ -1,8 +1,8 @@
 use Rattle.std.proofs.lemmas.Grind.{common_steps}
 use Rattle.std.proofs.Common.{arith}
 use Rattle.parwindow.proofs.FilterLaws.{has_none, has_some}
-use Rattle.parwindow.proofs.filter.Filter.of.Goals as goal
 use Rattle.parwindow.proofs.filter.Filter.of.Goals.{in-Some, in_default}
+use Rattle.parwindow.proofs.filter.Filter.of.Goals as goal
 
 pub loop-slice-preserved : goal.loop-slice-preserved
 loop-slice-preserved c =
@@ -20,4 +20,19 @@ loop-slice-preserved c =
     ]
 
 pub returns : goal.returns
-returns c = grind (arith, common_steps)
+returns c = grind (arith, common_steps) steps 1500000
+
+pub returns-in_err-new : goal.returns-in_err-new
+returns-in_err-new c = grind (arith, common_steps) steps 100000
+
+pub returns-in_err-new-2 : goal.returns-in_err-new-2
+returns-in_err-new-2 c = grind (arith, common_steps) steps 400000
+
+pub loop-slice-init : goal.loop-slice-init
+loop-slice-init c = grind (arith, common_steps) steps 100000
+
+pub offset_bounds-slices-slice-index : goal.offset_bounds-slices-slice-index
+offset_bounds-slices-slice-index c = grind (arith, common_steps) steps 400000
+
+pub bounds-slices-slice-index : goal.bounds-slices-slice-index
+bounds-slices-slice-index c = grind (arith, common_steps) steps 100000

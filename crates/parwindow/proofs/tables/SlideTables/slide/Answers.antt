@@ -1,3 +1,4 @@
+use Rattle.std.proofs.lemmas.Grind.{common_steps}
 use Rattle.std.proofs.Common.{◌≡◌, sym, arith}
 use Rattle.parwindow.specs.Slide.{rolled, HasRegister}
 use Rattle.parwindow.proofs.RollLaws.{rolled-start, rolled-once, rolled-twice}
@@ -70,3 +71,42 @@ returns c =
     (ends_at (HasRegister c.args.index.now) (rolled n c.args.start c.args.gone.now c.args.come.now) c.loop-i.i
     c.loop-i.register _ c.min-len.result _
     c.loop-i.invariant.on once (omega arith) c.has_register-2.ensures)
+
+pub overflow_add-i : goal.overflow_add-i
+overflow_add-i c = grind (arith, common_steps) steps 100000
+
+pub bounds-gone-i : goal.bounds-gone-i
+bounds-gone-i c = grind (arith, common_steps) steps 100000
+
+pub bounds-come-i : goal.bounds-come-i
+bounds-come-i c = grind (arith, common_steps) steps 100000
+
+pub overflow_add-i-then-has_register : goal.overflow_add-i-then-has_register
+overflow_add-i-then-has_register c = grind (arith, common_steps) steps 100000
+
+pub bounds-gone-i-in-loop-i : goal.bounds-gone-i-in-loop-i
+bounds-gone-i-in-loop-i c = grind (arith, common_steps) steps 100000
+
+pub bounds-come-i-in-loop-i : goal.bounds-come-i-in-loop-i
+bounds-come-i-in-loop-i c = grind (arith, common_steps) steps 100000
+
+pub overflow_add-i-in-loop-i : goal.overflow_add-i-in-loop-i
+overflow_add-i-in-loop-i c = grind (arith, common_steps) steps 100000
+
+pub bounds-gone-i-in-loop-i-2 : goal.bounds-gone-i-in-loop-i-2
+bounds-gone-i-in-loop-i-2 c = grind (arith, common_steps) steps 100000
+
+pub overflow_add-i-in-loop-i-2 : goal.overflow_add-i-in-loop-i-2
+overflow_add-i-in-loop-i-2 c = grind (arith, common_steps) steps 100000
+
+pub bounds-come-i-in-loop-i-2 : goal.bounds-come-i-in-loop-i-2
+bounds-come-i-in-loop-i-2 c = grind (arith, common_steps) steps 100000
+
+pub overflow_add-i-in-loop-i-3 : goal.overflow_add-i-in-loop-i-3
+overflow_add-i-in-loop-i-3 c = grind (arith, common_steps) steps 100000
+
+pub bounds-gone-i-2 : goal.bounds-gone-i-2
+bounds-gone-i-2 c = grind (arith, common_steps) steps 100000
+
+pub bounds-come-i-2 : goal.bounds-come-i-2
+bounds-come-i-2 c = grind (arith, common_steps) steps 100000

@@ -9,10 +9,19 @@ returns-clause-until c =
     (pushes_until c.args.index.now _ c.args.bytes.now c.slide_over-slid.result c.slide_over-slid.ensures)
 
 pub invariant_of-self : goal.invariant_of-self
-invariant_of-self c = grind (arith, common_steps) steps 3000000
+invariant_of-self c = grind (arith, common_steps) steps 1500000
 
 pub returns-clause-content : goal.returns-clause-content
-returns-clause-content c = grind (arith, common_steps) steps 3000000
+returns-clause-content c = grind (arith, common_steps) steps 1500000
 
 pub returns-clause-full : goal.returns-clause-full
-returns-clause-full c = grind (arith, common_steps)
+returns-clause-full c = grind (arith, common_steps) steps 100000
+
+pub slide_over-slid-requires-clause-full : goal.slide_over-slid-requires-clause-full
+slide_over-slid-requires-clause-full c = grind (arith, common_steps) steps 100000
+
+pub slide_over-slid-requires-clause-start : goal.slide_over-slid-requires-clause-start
+slide_over-slid-requires-clause-start c = grind (arith, common_steps) steps 100000
+
+pub slice_bounds-extend_from_slice-end : goal.slice_bounds-extend_from_slice-end
+slice_bounds-extend_from_slice-end c = grind (arith, common_steps) steps 100000

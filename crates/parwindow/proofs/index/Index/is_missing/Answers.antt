@@ -1,0 +1,12 @@
+use Rattle.std.proofs.Common.{arith}
+use Rattle.std.proofs.lemmas.Grind.{common_steps}
+use Rattle.parwindow.proofs.index.Index.is_missing.Goals as goal
+
+pub is_missing-requires-clause-indexed : goal.is_missing-requires-clause-indexed
+is_missing-requires-clause-indexed c = grind (arith, common_steps) steps 100000
+
+pub is_missing-requires-clause-each : goal.is_missing-requires-clause-each
+is_missing-requires-clause-each c = grind (arith, common_steps) steps 100000
+
+pub returns : goal.returns
+returns c = grind (arith, common_steps) steps 100000
