@@ -3,7 +3,7 @@
 
 usage: packet_files.py FOLDER
 
-FOLDER gets packet_files.rt, packet_sets.rt and packet_edges.rt, to lie in crates/parruns/src, and each
+FOLDER gets packet_files.rt, packet_sets.rt and packet_edges.rt, to lie in crates/runs_tests/src/runs, and each
 packet file as NAME.par2. All hashes come from hashlib and zlib alone.
 """
 

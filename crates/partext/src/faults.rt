@@ -48,7 +48,7 @@ pub enum RunFault {
 }
 
 /// Why a search did not write all that it was asked for.
-#[derive(Clone, Copy, Debug, PartialEq, Eq)]
+#[derive(Clone, Copy)]
 pub enum FindFault {
     /// The scanned file of this number could not be read.
     Read { file: u32, fault: ReadFault },

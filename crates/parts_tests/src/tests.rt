@@ -10,3 +10,8 @@ use std::process::Abort;
 fn is<T: Debug + PartialEq>(rt: &impl Abort, got: &T, wanted: &T) {
     assert_eq!(rt; got, wanted);
 }
+
+// Wants that a value is this one, and else names its row.
+fn is_in<R: Debug, T: Debug + PartialEq>(rt: &impl Abort, row: &R, got: &T, wanted: &T) {
+    assert_eq!(rt; got, wanted, "{row:?}");
+}

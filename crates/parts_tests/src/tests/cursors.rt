@@ -1,3 +1,4 @@
+use super::{is, is_in};
 use parcursor::{Cursor, CursorFault, read_cursor, split_cursor};
 use parfield::Hash16;
 use std::process::Abort;
@@ -12,7 +13,7 @@ const SET: Hash16 = Hash16([
 // Wants that this is the text of a cursor of the set.
 fn is_written(rt: &(impl Abort + AllocGlobal), cursor: Cursor, wanted: &[u8]) -> Result<(), Fail> {
     let text = cursor.text(rt.alloc(), SET)?;
-    assert_eq!(rt; text.as_slice(), wanted);
+    is(rt, &text.as_slice(), &wanted);
     Ok(())
 }
 
@@ -34,8 +35,8 @@ fn the_greatest_cursor_has_75_bytes(rt: HostRuntime) -> Result<(), Fail> {
         slice: 4_294_967_295,
     };
     let text = b"617cdc72ba53d94fe713fea2ae18f776:4294967295:18446744073709551615:4294967295";
-    assert_eq!(rt; text.len(), 75);
-    assert_eq!(rt; split_cursor(text), Some((SET, greatest)));
+    is(&rt, &text.len(), &75);
+    is(&rt, &split_cursor(text), &Some((SET, greatest)));
     is_written(&rt, greatest, text)
 }
 
@@ -47,9 +48,9 @@ fn a_cursor_is_read_for_its_set(rt: HostRuntime) {
         offset: 1,
         slice: 1,
     };
-    assert_eq!(rt; split_cursor(text), Some((ZEROS, cursor)));
-    assert_eq!(rt; read_cursor(text, ZEROS), Ok(cursor));
-    assert_eq!(rt; read_cursor(text, SET), Err(CursorFault::OtherSet));
+    is(&rt, &split_cursor(text), &Some((ZEROS, cursor)));
+    is(&rt, &read_cursor(text, ZEROS), &Ok(cursor));
+    is(&rt, &read_cursor(text, SET), &Err(CursorFault::OtherSet));
 }
 
 // Texts that are no cursor's.
@@ -75,11 +76,12 @@ static TEXTS: [&[u8]; 17] = [
 
 // Wants that no cursor can be read from a text.
 fn is_refused(rt: &impl Abort, text: &[u8]) {
-    assert_eq!(rt; split_cursor(text), None, "{text:?}");
-    assert_eq!(rt;
-        read_cursor(text, ZEROS),
-        Err(CursorFault::Form),
-        "{text:?}"
+    is_in(rt, &text, &split_cursor(text), &None);
+    is_in(
+        rt,
+        &text,
+        &read_cursor(text, ZEROS),
+        &Err(CursorFault::Form),
     );
 }
 

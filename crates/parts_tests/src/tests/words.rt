@@ -1,3 +1,4 @@
+use super::{is, is_in};
 use parplan::Plan;
 use parwords::plan;
 use std::alloc::{AllocError, Global};
@@ -208,7 +209,7 @@ fn is_right(rt: &(impl Abort + AllocGlobal), row: &str, part: Part) -> Result<()
     let (words, wanted) = row.rsplit_once(" = ").ok_or("no row")?;
     let words = words_of(rt.alloc(), words)?;
     let found = told(rt.alloc(), &words, part)?;
-    assert_eq!(rt; found.as_str(), wanted, "{row}");
+    is_in(rt, &row, &found.as_str(), &wanted);
     Ok(())
 }
 
@@ -226,7 +227,7 @@ fn are_right(
             rows = rows.saturating_add(1);
         }
     }
-    assert_eq!(rt; rows, count);
+    is(rt, &rows, &count);
     Ok(())
 }
 
@@ -266,7 +267,7 @@ fn words_over(alloc: Global, others: usize) -> Result<Vec<String>, AllocError> {
 fn is_told_over(rt: &(impl Abort + AllocGlobal), others: usize, wanted: &str) -> Result<(), Fail> {
     let words = words_over(rt.alloc(), others)?;
     let found = told(rt.alloc(), &words, Part::Command)?;
-    assert_eq!(rt; found.as_str(), wanted, "{others}");
+    is_in(rt, &others, &found.as_str(), &wanted);
     Ok(())
 }
 

@@ -1,7 +1,7 @@
 // Texts of more than a block of 65,536 bytes.
+use crate::runs::{Outcome, Room, is_same, packet_file, ran, words_of};
 use parfixtures::shelf_of;
 use parreport::RunFault;
-use parruns::{Outcome, Room, is_same, packet_file, ran, words_of};
 use std::alloc::{AllocError, Global};
 use std::test::Fail;
 

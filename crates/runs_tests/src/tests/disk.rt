@@ -1,6 +1,6 @@
+use crate::runs::{Outcome, ROOMY, Row, is_same, is_text, packet_file, ran, rows_of, words_of};
 use parfixtures::shelf_of;
 use parreport::{End, ending};
-use parruns::{Outcome, ROOMY, Row, is_same, is_text, packet_file, ran, rows_of, words_of};
 use parshelf::{DiskShelf, OpenFault};
 use std::alloc::AllocError;
 use std::test::Fail;

@@ -1,5 +1,5 @@
+use crate::runs::{is_same, is_text};
 use parreport::{End, PlanFault, RunFault, Sink, Status, WriteSink, ending};
-use parruns::{is_same, is_text};
 use parshelf::{Failed, ReadFault};
 use std::alloc::Global;
 use std::test::Fail;

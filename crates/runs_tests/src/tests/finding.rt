@@ -1,4 +1,4 @@
-use parruns::all_end_so;
+use crate::runs::all_end_so;
 use std::test::Fail;
 
 // Files, and where slices of a set are seen in them.

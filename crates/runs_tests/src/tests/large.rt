@@ -1,7 +1,7 @@
-use parfixtures::shelf_of;
-use parruns::{
+use crate::runs::{
     READS, ROOMY, Row, has_ended, packet_file, parted, ran, rows_of, scanned_in, words_of,
 };
+use parfixtures::shelf_of;
 use std::alloc::{AllocError, Global};
 use std::test::Fail;
 

@@ -1,4 +1,4 @@
-use parruns::all_end_so;
+use crate::runs::all_end_so;
 use std::test::Fail;
 
 // Packets and what stands between them; several files; a chosen set.

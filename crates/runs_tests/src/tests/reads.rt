@@ -1,6 +1,8 @@
+use crate::runs::{
+    Outcome, ROOMY, Reads, Row, has_ended, is_same, is_text, parted, ran_row, rows_of,
+};
 use crate::tests::whole_rows::{OPTIONS_COUNT, WHOLE, WHOLE_COUNT, WITH_OPTIONS};
 use parreport::RunFault;
-use parruns::{Outcome, ROOMY, Reads, Row, has_ended, is_same, is_text, parted, ran_row, rows_of};
 use parshelf::ReadFault;
 use std::alloc::Global;
 use std::test::Fail;

@@ -1,4 +1,4 @@
-use parruns::all_end_so;
+use crate::runs::all_end_so;
 use std::test::Fail;
 
 // What of a set is there.

@@ -1,6 +1,6 @@
+use crate::runs::{Outcome, READS, Room, Row, is_same, ran_row, rows_of};
 use crate::tests::whole_rows::{OPTIONS_COUNT, WHOLE, WHOLE_COUNT, WITH_OPTIONS};
 use parreport::RunFault;
-use parruns::{Outcome, READS, Room, Row, is_same, ran_row, rows_of};
 use std::alloc::Global;
 use std::test::Fail;
 

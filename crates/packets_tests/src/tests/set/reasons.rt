@@ -225,9 +225,14 @@ fn has_reason(
     );
 }
 
+// These bodies. A table is proved again in each function that names it.
+fn bodies() -> Rows {
+    BODIES
+}
+
 #[test]
 fn bodies_have_their_first_reason(rt: HostRuntime) -> Result<(), AllocError> {
-    for (place, row) in BODIES.iter().enumerate() {
+    for (place, row) in bodies().iter().enumerate() {
         has_reason(&rt, place, &bytes_of(rt.alloc(), row.2)?, row.0, row.1);
     }
     Ok(())
@@ -330,15 +335,6 @@ fn put_aside(
     Ok(())
 }
 
-// Puts a packet of each of the first bodies behind others, and what is put aside of them.
-fn keep_bodies(
-    alloc: Global,
-    packets: &mut Vec<Kept>,
-    asides: &mut Vec<SetAside>,
-) -> Result<(), AllocError> {
-    keep_rows(alloc, packets, asides, BODIES)
-}
-
 // Puts packets of all those bodies behind others, and then the Main packet of their set and its
 // description; those that are put aside, each that is not usable, stand in the other list.
 fn keep_all(
@@ -346,7 +342,7 @@ fn keep_all(
     packets: &mut Vec<Kept>,
     asides: &mut Vec<SetAside>,
 ) -> Result<(), AllocError> {
-    keep_bodies(alloc, packets, asides)?;
+    keep_rows(alloc, packets, asides, bodies())?;
     keep_rows(alloc, packets, asides, OTHERS)?;
     keep(alloc, packets, Kind::Main, MAIN)?;
     keep(alloc, packets, Kind::FileDesc, DESC)

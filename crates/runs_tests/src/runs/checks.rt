@@ -1,6 +1,6 @@
 // What tests want of runs.
-use crate::rows::{Row, rows_of};
-use crate::runs::{Outcome, READS, ROOMY, ran_row};
+use crate::runs::rows::{Row, rows_of};
+use crate::runs::running::{Outcome, READS, ROOMY, ran_row};
 use std::alloc::Global;
 use std::fmt::Debug;
 use std::test::Fail;

@@ -1,8 +1,8 @@
 // Runs of command lines over files in memory.
 ghost use Rattle.parplan.specs.Commands.{HasLimit};
 
-use crate::archives::packet_file;
-use crate::rows::{Row, words_of};
+use crate::runs::archives::packet_file;
+use crate::runs::rows::{Row, words_of};
 use parfixtures::shelf_of;
 use parreport::{
     End, MemSink, Plan, PlanFault, RunFault, Status, ending, reads_scanned, run, run_end,

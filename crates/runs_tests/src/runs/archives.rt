@@ -1,7 +1,7 @@
 // Packet files by their names.
-use crate::packet_edges::PACKET_EDGES;
-use crate::packet_files::PACKET_FILES;
-use crate::packet_sets::PACKET_SETS;
+use crate::runs::packet_edges::PACKET_EDGES;
+use crate::runs::packet_files::PACKET_FILES;
+use crate::runs::packet_sets::PACKET_SETS;
 
 // More than an archive has files.
 const MOST: u32 = 100;

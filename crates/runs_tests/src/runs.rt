@@ -1,0 +1,14 @@
+// Runs of command lines over files in memory: packet files by name, tables of command lines as
+// texts, and how such a run ended.
+mod archives;
+mod checks;
+mod packet_edges;
+mod packet_files;
+mod packet_sets;
+mod rows;
+mod running;
+
+pub use self::archives::packet_file;
+pub use self::checks::{all_end_so, has_ended, is_same, is_text};
+pub use self::rows::{Row, parted, rows_of, words_of};
+pub use self::running::{Outcome, READS, ROOMY, Reads, Room, ran, ran_row, scanned_in};
