@@ -11,7 +11,7 @@
 # SHORT lets every read and every write of a run move at most 1, then 3, then 64 bytes: each is the
 # undisturbed run.
 # Usage: disturb.sh REFUSE|FAIL_OPEN|FAIL_STAT|FAIL_READ|CUT_READ|FAIL_WRITE|EMPTY_WRITE|SHORT ARGUMENTS, in the
-# folder of the files.
+# folder of the files. DISTURB, where it is set, is the library that disturbs, built there by the first that lacks it.
 set -uo pipefail
 tools=$(cd "$(dirname "$0")" && pwd)
 parv=${PARV:-$tools/../crates/parv/out/parv}
@@ -25,13 +25,14 @@ fail() {
     exit 1
 }
 
-# The run that is disturbed at place n (0: nowhere), and what it left: `status`, `text`, `err` and `met`.
+# The run that is disturbed at place n (0: nowhere), and what it left: `status`, `text`, `err`, `line` and `met`.
 run() {
-    rm -f "$work/report"
-    timeout 20 env "$what=$n" REPORT="$work/report" LD_PRELOAD="$work/disturb.so" "$parv" "$@" \
+    : > "$work/report"
+    timeout 20 env "$what=$n" REPORT="$work/report" LD_PRELOAD="$library" "$parv" "$@" \
         > "$work/text" 2> "$work/err" < /dev/null
     status=$?
-    [ -e "$work/report" ] || fail "status $status, and no report"
+    line=$(< "$work/err")
+    [ -s "$work/report" ] || fail "status $status, and no report"
     read -r met live opened _ behind _ changing _ < "$work/report"
     [ "$changing" = 0 ] || fail "$changing files opened for more than reading"
     [ "$behind" = 0 ] || fail "$behind reads behind the one that was disturbed"
@@ -40,8 +41,6 @@ run() {
 
 # Whether the end is the one that the disturbance asks for.
 ends_so() {
-    local line
-    line=$(cat "$work/err")
     case $what in
     REFUSE) [ $status -eq 8 ] && [ "$line" = "parv: out of memory" ] ;;
     FAIL_OPEN | FAIL_STAT)
@@ -55,7 +54,7 @@ ends_so() {
         ;;
     FAIL_WRITE | EMPTY_WRITE) [ $status -eq 6 ] && [ "$line" = "parv: write fault" ] ;;
     *) [ $status -eq 6 ] && [[ $line == "parv: read fault in "?* ]] ;;
-    esac && cmp -s <(head -c "$(stat -c %s "$work/text")" "$work/whole") "$work/text"
+    esac && cmp -s -n "$(stat -c %s "$work/text")" "$work/whole" "$work/text"
 }
 
 is_undisturbed() {
@@ -64,7 +63,8 @@ is_undisturbed() {
 
 words=$*
 n=0
-gcc -shared -fPIC -O1 -o "$work/disturb.so" "$tools/disturb.c" -ldl || fail "no compiler"
+library=${DISTURB:-$work/disturb.so}
+[ -e "$library" ] || gcc -shared -fPIC -O1 -o "$library" "$tools/disturb.c" -ldl || fail "no compiler"
 run "$@"
 whole=$status
 [ -z "${FAIL_OPEN-}${FAIL_STAT-}${FAIL_READ-}${CUT_READ-}${FAIL_WRITE-}" ] || [ $whole -eq 6 ] || fail "nothing else failed"
@@ -90,12 +90,10 @@ for ((n = 1; n <= 100000; n++)); do
         exit 0
     fi
     [ "$what" = REFUSE ] && is_undisturbed && continue
-    ends_so || fail "status $status, $(cat "$work/err")"
+    ends_so || fail "status $status, $line"
     ended=$((ended + 1))
-    case $(cat "$work/err") in
-    *"read fault in "* | *"cannot open "*)
-        [[ "$named," == *"$(cat "$work/err"),"* ]] || named+=", $(cat "$work/err")"
-        ;;
+    case $line in
+    *"read fault in "* | *"cannot open "*) [[ "$named," == *"$line,"* ]] || named+=", $line" ;;
     esac
 done
 fail "no end"

@@ -1,5 +1,5 @@
-//! Tests of `parfield`, `parcursor`, `parshelf` with `parsink`, and `parwords` with `parplan`. A
-//! check of tests proves their crate anew, so they stand in a crate of their own.
+//! Tests of `parfield`, `parcursor`, and `parshelf` with `parsink`. A check of tests proves their
+//! crate anew, so they stand in a crate of their own.
 #![tactic(auto)]
 
 #[cfg(test)]

@@ -1,7 +1,6 @@
 mod cursors;
 mod fields;
 mod shelves;
-mod words;
 
 use std::fmt::Debug;
 use std::process::Abort;

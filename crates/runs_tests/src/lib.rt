@@ -1,5 +1,5 @@
-//! Tests of `packets`, `set`, `find` and `verify` over files in memory, of reads and writes that
-//! fail in turn, of long texts, of files on disk and of ends.
+//! Tests of the plans of words, and of `packets`, `set`, `find` and `verify` over files in memory, of
+//! reads and writes that fail in turn, of long texts, of files on disk and of ends.
 #![tactic(auto)]
 
 #[cfg(test)]

@@ -8,4 +8,5 @@ mod listing;
 mod reads;
 mod verifying;
 mod whole_rows;
+mod words;
 mod writers;

@@ -1,8 +1,7 @@
-use super::{is, is_in};
+use crate::runs::is_same;
 use parplan::Plan;
 use parwords::plan;
 use std::alloc::{AllocError, Global};
-use std::process::Abort;
 use std::test::Fail;
 
 // What a table tells of the plans of words.
@@ -205,55 +204,48 @@ fn told(alloc: Global, words: &[String], part: Part) -> Result<String, AllocErro
 }
 
 // Wants that a row is right.
-fn is_right(rt: &(impl Abort + AllocGlobal), row: &str, part: Part) -> Result<(), Fail> {
+fn is_right(alloc: Global, row: &str, part: Part) -> Result<(), Fail> {
     let (words, wanted) = row.rsplit_once(" = ").ok_or("no row")?;
-    let words = words_of(rt.alloc(), words)?;
-    let found = told(rt.alloc(), &words, part)?;
-    is_in(rt, &row, &found.as_str(), &wanted);
-    Ok(())
+    let words = words_of(alloc, words)?;
+    let found = told(alloc, &words, part)?;
+    is_same(&found.as_str(), &wanted, &row)
 }
 
 // Wants that each row of a table is right, and that it has so many.
-fn are_right(
-    rt: &(impl Abort + AllocGlobal),
-    table: &str,
-    part: Part,
-    count: usize,
-) -> Result<(), Fail> {
+fn are_right(alloc: Global, table: &str, part: Part, count: usize) -> Result<(), Fail> {
     let mut rows = 0usize;
     for row in table.lines() {
         if !row.starts_with('#') {
-            is_right(rt, row, part)?;
+            is_right(alloc, row, part)?;
             rows = rows.saturating_add(1);
         }
     }
-    is(rt, &rows, &count);
-    Ok(())
+    is_same(&rows, &count, &"rows")
 }
 
 #[test]
 fn words_that_are_no_plan_are_refused(rt: HostRuntime) -> Result<(), Fail> {
-    are_right(&rt, NO_PLANS, Part::Command, 48)
+    are_right(rt.alloc(), NO_PLANS, Part::Command, 48)
 }
 
 #[test]
 fn each_command_takes_its_options(rt: HostRuntime) -> Result<(), Fail> {
-    are_right(&rt, COMMANDS, Part::Command, 19)
+    are_right(rt.alloc(), COMMANDS, Part::Command, 19)
 }
 
 #[test]
 fn a_limit_is_canonical_and_from_1(rt: HostRuntime) -> Result<(), Fail> {
-    are_right(&rt, LIMITS, Part::Command, 14)
+    are_right(rt.alloc(), LIMITS, Part::Command, 14)
 }
 
 #[test]
 fn a_set_is_32_hexadecimal_digits(rt: HostRuntime) -> Result<(), Fail> {
-    are_right(&rt, SETS, Part::Set, 7)
+    are_right(rt.alloc(), SETS, Part::Set, 7)
 }
 
 #[test]
 fn files_are_told_by_their_ending_and_named_under_the_base(rt: HostRuntime) -> Result<(), Fail> {
-    are_right(&rt, FILES, Part::Files, 14)
+    are_right(rt.alloc(), FILES, Part::Files, 14)
 }
 
 // The words of `packets` over one packet file and so many other files.
@@ -264,15 +256,14 @@ fn words_over(alloc: Global, others: usize) -> Result<Vec<String>, AllocError> {
 }
 
 // Wants this of the command of `packets` over one packet file and so many other files.
-fn is_told_over(rt: &(impl Abort + AllocGlobal), others: usize, wanted: &str) -> Result<(), Fail> {
-    let words = words_over(rt.alloc(), others)?;
-    let found = told(rt.alloc(), &words, Part::Command)?;
-    is_in(rt, &others, &found.as_str(), &wanted);
-    Ok(())
+fn is_told_over(alloc: Global, others: usize, wanted: &str) -> Result<(), Fail> {
+    let words = words_over(alloc, others)?;
+    let found = told(alloc, &words, Part::Command)?;
+    is_same(&found.as_str(), &wanted, &others)
 }
 
 #[test]
 fn a_plan_has_at_most_65535_files(rt: HostRuntime) -> Result<(), Fail> {
-    is_told_over(&rt, 65_534, "Packets")?;
-    is_told_over(&rt, 65_535, "Value")
+    is_told_over(rt.alloc(), 65_534, "Packets")?;
+    is_told_over(rt.alloc(), 65_535, "Value")
 }

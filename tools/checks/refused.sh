@@ -1,0 +1,45 @@
+#!/usr/bin/env bash
+# Allocations of runs that are refused in turn, at every kind of end, also where an opening, a read or a write
+# fails too; each end leaves nothing behind. (More sets: refused_sets.sh.)
+. "$(dirname "$0")/disturbing.sh"
+head -c 92 v.par2 > main.par2
+
+disturb REFUSE packets v.par2
+disturb REFUSE set v.par2
+disturb REFUSE set v.par2 w.par2
+set=617cdc72ba53d94fe713fea2ae18f776
+disturb REFUSE find v.par2 x.bin
+disturb REFUSE find --limit 1 v.par2 x.bin
+disturb REFUSE find --limit 2 v.par2 x.bin
+disturb REFUSE find --cursor $set:0:2:1 v.par2 x.bin
+disturb REFUSE find --cursor $set:4294967295:18446744073709551615:4294967295 v.par2 x.bin
+disturb REFUSE find --limit 1 --cursor $set:0:2:1 -B d v.par2 x.bin
+disturb REFUSE verify v.par2 x.bin
+disturb REFUSE verify -q v.par2 y.bin
+# Ends at a fault of another kind.
+disturb REFUSE packets none.par2
+disturb REFUSE find v.par2 w.par2 x.bin none.bin
+disturb REFUSE find v.par2 x.bin .
+disturb REFUSE set main.par2
+disturb REFUSE packets x.bin
+disturb REFUSE find x.bin
+disturb REFUSE find --limit 0 v.par2
+disturb REFUSE find --limit 07 v.par2
+disturb REFUSE find --limit 0 v.par2 x.bin
+disturb REFUSE find --cursor 00000000000000000000000000000000:0:0:0 v.par2 x.bin
+disturb REFUSE --help
+disturb REFUSE packets
+disturb REFUSE verify
+disturb REFUSE
+# The same where a read, an opening or a write fails too: memory is then also refused to the line of that.
+FAIL_READ=2 disturb REFUSE packets v.par2 w.par2
+CUT_READ=1 disturb REFUSE set v.par2 w.par2
+FAIL_READ=3 disturb REFUSE find v.par2 x.bin y.bin
+CUT_READ=2 disturb REFUSE verify v.par2 x.bin
+FAIL_OPEN=2 disturb REFUSE find v.par2 x.bin
+FAIL_STAT=2 disturb REFUSE find v.par2 x.bin
+for words in "packets v.par2" "set v.par2" "find v.par2 x.bin" "verify v.par2 x.bin"; do
+    # shellcheck disable=SC2086
+    FAIL_WRITE=1 disturb REFUSE $words
+done
+exit $failed
