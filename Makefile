@@ -8,8 +8,8 @@ CRATE ?= parv
 SIZE ?= small
 PARV = crates/parv/out/parv
 
-# The prover keeps what memory it was given until it ends: giving back and taking anew costs 3 to 9 %
-# of a check's processor time. (Its allocator is mimalloc.)
+# The prover keeps what memory it was given until it ends: giving back and taking anew costs 3 to
+# 10 % of a check's processor time. (Its allocator is mimalloc.)
 export MIMALLOC_PURGE_DELAY ?= -1
 
 .PHONY: demo build test checks bench check try plant mustfail format install uninstall

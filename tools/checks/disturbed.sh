@@ -2,6 +2,7 @@
 # Runs that are disturbed at each place in turn, and that each end leaves nothing behind: openings, reads and
 # writes that fail, and files that end while they are read. (Memory that is refused: refused.sh.)
 . "$(dirname "$0")/disturbing.sh"
+"$tools/packet_files.py" sets > made || exit 1
 printf 'abcdXXXX' > z.bin
 
 # A disturbance that ends runs, and the lines that it must have made, each once and in this order.

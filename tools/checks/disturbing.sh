@@ -1,12 +1,11 @@
-# Read by the checks that disturb runs: the worked set with files that have its slices, more sets in `sets`, and
-# what disturbs a run of the program over them.
+# Read by the checks that disturb runs: the worked set with files that have its slices, and what disturbs a run of
+# the program, by a library that is built once.
 . "$(dirname "$0")/wants.sh"
 cd "$work" || exit 1
 cp "$top/crates/parv/data/v.par2" v.par2
 cp v.par2 w.par2
 printf 'XXabcdefgh' > x.bin
 printf 'abcdefgh' > y.bin
-"$tools/packet_files.py" sets > made || exit 1
 export DISTURB=$work/disturb.so
 
 disturb() {
