@@ -6,14 +6,19 @@ use std::{env, io};
 
 /// Does what the command line asks for, and gives the exit status and the line for standard error.
 pub fn perform(rt: &HostRuntime) -> Result<(u8, Vec<u8>), AllocError> {
-    let alloc = rt.alloc();
     let args = match env::args(rt) {
         Ok(args) => args,
         Err(error) if error.kind() == io::ErrorKind::OutOfMemory => return Err(AllocError),
-        Err(_) => return ending(alloc, &End::Plan(PlanFault::Usage), ""),
+        Err(_) => return ending(rt.alloc(), &End::Plan(PlanFault::Usage), ""),
     };
-    let args: Vec<String> = args.collect(alloc)?;
-    let plan = match plan(alloc, words_behind(&args)) {
+    let args: Vec<String> = args.collect(rt.alloc())?;
+    perform_words(rt, words_behind(&args))
+}
+
+// Does what the words behind the program's name ask for.
+fn perform_words(rt: &HostRuntime, words: &[String]) -> Result<(u8, Vec<u8>), AllocError> {
+    let alloc = rt.alloc();
+    let plan = match plan(alloc, words) {
         Ok(plan) => plan,
         Err(fault) => return ending(alloc, &End::Plan(fault), ""),
     };
