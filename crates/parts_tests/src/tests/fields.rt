@@ -1,8 +1,10 @@
-use super::is;
+use super::{is, is_in, must};
+use md5::{Digest, Md5};
 use parfield::{
-    Counts, Hash16, HeaderFault, Kind, Sequence, Tally, Text, Transcript, header,
+    Counts, Hash16, HeaderFault, Kind, Packet, Sequence, Tally, Text, Transcript, header,
     ids_follow_numbers, packet_at, show_name,
 };
+use std::cmp::Ordering;
 use std::process::Abort;
 use std::test::Fail;
 
@@ -11,9 +13,8 @@ const CREATOR: [u8; 64] =
     *b"PAR2\0PKT\x40\0\0\0\0\0\0\0\x90\xb7\x2c\x62\xf3\xda\xe9\x4b\x3d\xe0\x28\xf3\x1e\x19\x95\x02\0\0\0\0\0\0\0\0\0\0\0\0\0\0\0\0PAR 2.0\0Creator\0";
 
 // Wants that these bytes have a header of this length.
-fn has_length(rt: &impl Abort, bytes: &[u8], length: u64) -> Result<(), Fail> {
-    is(rt, &header(bytes).ok().ok_or("header")?.length, &length);
-    Ok(())
+fn has_length(rt: &impl Abort, bytes: &[u8], length: u64) {
+    is(rt, &must(rt, header(bytes)).length, &length);
 }
 
 // Wants that these bytes have no header for this fault.
@@ -22,10 +23,9 @@ fn has_fault(rt: &impl Abort, bytes: &[u8], fault: HeaderFault) {
 }
 
 // Wants that a hash is written with these digits.
-fn is_written(rt: &(impl Abort + AllocGlobal), hash: Hash16, digits: &str) -> Result<(), Fail> {
-    let written = hash.to_string(rt.alloc())?;
+fn is_written(rt: &(impl Abort + AllocGlobal), hash: Hash16, digits: &str) {
+    let written = must(rt, hash.to_string(rt.alloc()));
     is(rt, &written.as_str(), &digits);
-    Ok(())
 }
 
 // Wants that a name is shown so.
@@ -40,31 +40,32 @@ fn has_no_packet(rt: &impl Abort, bytes: &[u8], at: usize) {
     is(rt, &packet_at(bytes, at), &None);
 }
 
+// Messages and their MD5s, as RFC 1321 has them.
+static DIGESTS: [(&[u8], &str); 4] = [
+    (b"", "d41d8cd98f00b204e9800998ecf8427e"),
+    (b"a", "0cc175b9c0f1b6a831c399e269772661"),
+    (b"abc", "900150983cd24fb0d6963f7d28e17f72"),
+    (b"message digest", "f96b697d7cb7938d525a2f31aaf161d0"),
+];
+
 #[test]
-fn md5_gives_the_digests_of_standard_vectors(rt: HostRuntime) -> Result<(), Fail> {
-    for (message, digest) in [
-        ("", "d41d8cd98f00b204e9800998ecf8427e"),
-        ("a", "0cc175b9c0f1b6a831c399e269772661"),
-        ("abc", "900150983cd24fb0d6963f7d28e17f72"),
-        ("message digest", "f96b697d7cb7938d525a2f31aaf161d0"),
-    ] {
-        let hash = Hash16(<md5::Md5 as md5::Digest>::digest(message.as_bytes()));
-        is_written(&rt, hash, digest)?;
+fn md5_gives_the_digests_of_standard_vectors(rt: HostRuntime) {
+    for (message, digest) in &DIGESTS {
+        is_written(&rt, Hash16(Md5::digest(message)), digest);
     }
-    Ok(())
+}
+
+// A packet's bytes with this length field.
+fn with_length(field: [u8; 8]) -> [u8; 64] {
+    let mut bytes = CREATOR;
+    bytes[8..16].copy_from_slice(&field);
+    bytes
 }
 
 #[test]
-fn length_fields_are_little_endian(rt: HostRuntime) -> Result<(), Fail> {
-    for (field, length) in [
-        ([0x40, 0, 0, 0, 0, 0, 0, 0], 64),
-        ([0x84, 0, 0, 0, 0, 0, 0, 0], 132),
-    ] {
-        let mut bytes = CREATOR;
-        bytes[8..16].copy_from_slice(&field);
-        has_length(&rt, &bytes, length)?;
-    }
-    Ok(())
+fn length_fields_are_little_endian(rt: HostRuntime) {
+    has_length(&rt, &with_length([0x40, 0, 0, 0, 0, 0, 0, 0]), 64);
+    has_length(&rt, &with_length([0x84, 0, 0, 0, 0, 0, 0, 0]), 132);
 }
 
 #[test]
@@ -81,56 +82,62 @@ fn faults_of_a_header_come_in_order(rt: HostRuntime) {
 }
 
 #[test]
-fn the_fields_of_a_header_are_read(rt: HostRuntime) -> Result<(), Fail> {
-    let head = header(&CREATOR).ok().ok_or("header")?;
-    is(&rt, &head.length, &64);
-    is(
-        &rt,
-        &(head.set, head.kind),
-        &(Hash16([0; 16]), Kind::Creator),
-    );
-    is_written(&rt, head.hash, "90b72c62f3dae94b3de028f31e199502")
+fn the_fields_of_a_header_are_read(rt: HostRuntime) {
+    let head = must(&rt, header(&CREATOR));
+    let fields = (head.length, head.set, head.kind);
+    is(&rt, &fields, &(64, Hash16([0; 16]), Kind::Creator));
+    is_written(&rt, head.hash, "90b72c62f3dae94b3de028f31e199502");
 }
+
+static KINDS: [([u8; 16], Kind); 6] = [
+    (*b"PAR 2.0\0Main\0\0\0\0", Kind::Main),
+    (*b"PAR 2.0\0FileDesc", Kind::FileDesc),
+    (*b"PAR 2.0\0IFSC\0\0\0\0", Kind::Ifsc),
+    (*b"PAR 2.0\0RecvSlic", Kind::RecvSlic),
+    (*b"PAR 2.0\0Creator\0", Kind::Creator),
+    (*b"PAR 2.0\0CommASCI", Kind::Other(*b"PAR 2.0\0CommASCI")),
+];
 
 #[test]
 fn each_type_field_names_its_kind(rt: HostRuntime) {
-    for (field, kind) in [
-        (*b"PAR 2.0\0Main\0\0\0\0", Kind::Main),
-        (*b"PAR 2.0\0FileDesc", Kind::FileDesc),
-        (*b"PAR 2.0\0IFSC\0\0\0\0", Kind::Ifsc),
-        (*b"PAR 2.0\0RecvSlic", Kind::RecvSlic),
-        (*b"PAR 2.0\0Creator\0", Kind::Creator),
-        (*b"PAR 2.0\0CommASCI", Kind::Other(*b"PAR 2.0\0CommASCI")),
-    ] {
-        is(&rt, &Kind::of_type(field), &kind);
+    for (field, kind) in &KINDS {
+        is(&rt, &Kind::of_type(*field), kind);
     }
 }
 
 #[test]
-fn a_packet_without_a_body_is_found(rt: HostRuntime) -> Result<(), Fail> {
-    let packet = packet_at(&CREATOR, 0).ok_or("packet")?;
-    is(&rt, &(packet.at, packet.length), &(0, 64));
-    is(&rt, &packet.kind, &Kind::Creator);
-    is(&rt, &packet.body.len(), &0);
-    Ok(())
+fn a_packet_without_a_body_is_found(rt: HostRuntime) {
+    let packet = Packet {
+        at: 0,
+        length: 64,
+        set: Hash16([0; 16]),
+        kind: Kind::Creator,
+        body: &[],
+    };
+    is(&rt, &packet_at(&CREATOR, 0), &Some(packet));
 }
+
+// Length fields of which none fits the hash and the file.
+static LENGTHS: [[u8; 8]; 6] = [
+    [0, 0, 0, 0, 0, 0, 0, 0],
+    [60, 0, 0, 0, 0, 0, 0, 0],
+    [66, 0, 0, 0, 0, 0, 0, 0],
+    [68, 0, 0, 0, 0, 0, 0, 0],
+    [128, 0, 0, 0, 0, 0, 0, 0],
+    [0xfc, 0xff, 0xff, 0xff, 0xff, 0xff, 0xff, 0xff],
+];
 
 #[test]
 fn no_packet_is_found_with_another_type_length_or_offset(rt: HostRuntime) {
     let mut changed = CREATOR;
     changed[63] = 1;
     has_no_packet(&rt, &changed, 0);
-    for length in [0, 60, 66, 68, 128] {
-        let mut changed = CREATOR;
-        changed[8] = length;
-        has_no_packet(&rt, &changed, 0);
+    for field in &LENGTHS {
+        has_no_packet(&rt, &with_length(*field), 0);
     }
-    let mut far = CREATOR;
-    far[8..16].copy_from_slice(&[0xfc, 0xff, 0xff, 0xff, 0xff, 0xff, 0xff, 0xff]);
-    has_no_packet(&rt, &far, 0);
-    for at in [1, 64, usize::MAX] {
-        has_no_packet(&rt, &CREATOR, at);
-    }
+    has_no_packet(&rt, &CREATOR, 1);
+    has_no_packet(&rt, &CREATOR, 64);
+    has_no_packet(&rt, &CREATOR, usize::MAX);
 }
 
 #[test]
@@ -139,14 +146,23 @@ fn names_are_shown_in_printable_ascii(rt: HostRuntime) -> Result<(), Fail> {
     is_shown(&rt, b"\x1f ~\x7f\0", b"\\x1f ~\\x7f\\x00")
 }
 
+// Wants that a sequence holds these items.
+fn are_items(rt: &impl Abort, items: &Sequence<u32>, wanted: &[u32]) {
+    is(rt, &items.as_slice(), &wanted);
+    is(rt, &items.len(), &wanted.len());
+    is(rt, &items.is_empty(), &wanted.is_empty());
+}
+
 #[test]
-fn sequences_and_texts_give_back_what_they_hold(rt: HostRuntime) -> Result<(), Fail> {
-    let items = Sequence::from_vec([1u32, 2].to_vec(rt.alloc())?);
-    is(&rt, &items.as_slice(), &[1, 2].as_slice());
-    is(&rt, &(items.len(), items.is_empty()), &(2, false));
-    let text = Text::from_string(String::from_str(rt.alloc(), "name")?);
+fn a_sequence_gives_back_what_it_holds(rt: HostRuntime) {
+    let items = must(&rt, [1u32, 2].to_vec(rt.alloc()));
+    are_items(&rt, &Sequence::from_vec(items), &[1, 2]);
+}
+
+#[test]
+fn a_text_gives_back_what_it_holds(rt: HostRuntime) {
+    let text = Text::from_string(must(&rt, String::from_str(rt.alloc(), "name")));
     is(&rt, &text.as_str(), &"name");
-    Ok(())
 }
 
 #[test]
@@ -162,41 +178,34 @@ fn counts_take_no_bytes() {
     transcript.append(b"abc");
 }
 
+const BYTES: [u8; 16] = *b"\xab\0\0\0\0\0\0\0\0\0\0\0\0\0\0\x1f";
+
+// Texts, and the hashes that they are read as.
+static HASHES: [(&[u8], Option<Hash16>); 7] = [
+    (b"ab00000000000000000000000000001f", Some(Hash16(BYTES))),
+    (b"AB00000000000000000000000000001F", Some(Hash16(BYTES))),
+    (b"ab00000000000000000000000000001", None),
+    (b"ab00000000000000000000000000001f0", None),
+    (b"ab00000000000000000000000000001g", None),
+    (b" b00000000000000000000000000001f", None),
+    (b"", None),
+];
+
 #[test]
 fn hashes_are_read_from_digits_of_either_case(rt: HostRuntime) {
-    let mut bytes = [0; 16];
-    bytes[0] = 0xab;
-    bytes[15] = 0x1f;
-    for (text, hash) in [
-        (
-            b"ab00000000000000000000000000001f".as_slice(),
-            Some(Hash16(bytes)),
-        ),
-        (
-            b"AB00000000000000000000000000001F".as_slice(),
-            Some(Hash16(bytes)),
-        ),
-        (b"ab00000000000000000000000000001".as_slice(), None),
-        (b"ab00000000000000000000000000001f0".as_slice(), None),
-        (b"ab00000000000000000000000000001g".as_slice(), None),
-        (b" b00000000000000000000000000001f".as_slice(), None),
-        (b"".as_slice(), None),
-    ] {
-        is(&rt, &Hash16::read(text), &hash);
+    for (text, hash) in &HASHES {
+        is_in(&rt, text, &Hash16::read(text), hash);
     }
 }
 
+const LAST: Hash16 = Hash16(*b"\0\0\0\0\0\0\0\0\0\0\0\0\0\0\0\x01");
+
+const FIRST: Hash16 = Hash16(*b"\x02\0\0\0\0\0\0\0\0\0\0\0\0\0\0\0");
+
 #[test]
 fn the_last_byte_of_an_id_weighs_most(rt: HostRuntime) {
-    let mut last = [0; 16];
-    last[15] = 1;
-    let mut first = [0; 16];
-    first[0] = 2;
-    assert!(rt; Hash16(first) < Hash16(last));
-    is(
-        &rt,
-        &Hash16(first).cmp(&Hash16(first)),
-        &std::cmp::Ordering::Equal,
-    );
+    is(&rt, &FIRST.cmp(&LAST), &Ordering::Less);
+    is(&rt, &FIRST.cmp(&FIRST), &Ordering::Equal);
+    is(&rt, &(FIRST < LAST), &true);
     ids_follow_numbers();
 }

@@ -1,46 +1,45 @@
 ghost use Rattle.std.specs.Prelude.{◌≤◌, length};
 
 use super::*;
-use std::fs::File;
+use std::fs::{File, Files};
 use std::os::unix::fs::FileExt;
 use std::{fs, io, process};
 
-// A path for this process's file of a number below four.
-fn own_path(rt: &HostRuntime, number: u8) -> Result<String, AllocError> {
-    let own = process::id(rt.process()) as u64 * 4 + number as u64;
-    format!(in rt.alloc(); "/tmp/parshelf_{own}")
-}
-
-// Writes that file, and gives its path.
-fn written(rt: &HostRuntime, number: u8, bytes: &[u8]) -> Result<String, Fail> {
-    let path = own_path(rt, number)?;
-    fs::write(rt, path.as_str(), bytes)?;
-    Ok(path)
-}
-
-// Removes the files at paths.
-fn removed(rt: &HostRuntime, paths: &[String]) -> io::Result<()> {
-    for path in paths {
-        fs::remove_file(rt, path.as_str())?;
-    }
-    Ok(())
+// Writes a file that has the number of a process and a letter in its path, and gives that.
+fn written(
+    rt: &(impl Abort + AllocGlobal + Files),
+    own: u32,
+    letter: char,
+    bytes: &[u8],
+) -> String {
+    let path = must(rt, format!(in rt.alloc(); "/tmp/parshelf_{own}{letter}"));
+    must(rt, fs::write(rt, path.as_str(), bytes));
+    path
 }
 
 // The shelf of files at paths, which are removed once they are open or refused.
-fn opened(rt: &HostRuntime, paths: &[String]) -> Result<DiskShelf, Fail>
+fn opened(
+    rt: &(impl Abort + AllocGlobal + Files<File = File>),
+    paths: &[&str],
+) -> Result<DiskShelf, OpenFault>
     requires { length paths.now ≤ 65535 }
 {
     let opened = DiskShelf::open(rt, rt.alloc(), paths);
-    removed(rt, paths)?;
-    Ok(opened?)
+    for path in paths {
+        must(rt, fs::remove_file(rt, *path));
+    }
+    opened
 }
 
-// The paths of files of three letters, of no byte and of 100,000 bytes.
-fn three_files(rt: &HostRuntime) -> Result<[String; 3], Fail> {
-    let letters = written(rt, 0, b"abc")?;
-    let empty = written(rt, 1, b"")?;
-    let long = written(rt, 2, &[b'x'; 100_000])?;
-    Ok([letters, empty, long])
+// The shelf of files of three letters, of no byte and of 100,000 bytes.
+fn three_files(
+    rt: &(impl Abort + AllocGlobal + Files<File = File>),
+    own: u32,
+) -> Result<DiskShelf, OpenFault> {
+    let letters = written(rt, own, 'l', b"abc");
+    let empty = written(rt, own, 'e', b"");
+    let long = written(rt, own, 'x', &[b'x'; 100_000]);
+    opened(rt, &[letters.as_str(), empty.as_str(), long.as_str()])
 }
 
 // The MD5 of the third, as `md5sum` has it.
@@ -48,15 +47,20 @@ const OF_LONG: Hash16 = Hash16(
     *b"\xd5\x81\x6f\x35\x91\x6d\x1d\x94\x82\xfb\x0f\x1e\xc2\x01\x10\x1d",
 );
 
-#[test]
-fn files_on_disk_are_read_whole(rt: HostRuntime) -> Result<(), Fail> {
-    let mut shelf = opened(&rt, &three_files(&rt)?)?;
-    for (file, length, digest) in [(0, 3, OF_ABC), (1, 0, OF_NOTHING), (2, 100_000, OF_LONG)] {
-        is(&rt, &digested(&rt, &mut shelf, file), &(length, Ok(digest)));
-    }
+// Wants that the files are those, and that a part of the second is read.
+fn are_read(rt: &impl Abort, shelf: &mut DiskShelf) {
+    is(rt, &digested(rt, shelf, 0), &(3, Ok(OF_ABC)));
+    is(rt, &digested(rt, shelf, 1), &(0, Ok(OF_NOTHING)));
+    is(rt, &digested(rt, shelf, 2), &(100_000, Ok(OF_LONG)));
     let mut buf = [0; 2];
-    is(&rt, &filled(&rt, &mut shelf, 1, &mut buf), &Ok(()));
-    is(&rt, &buf, b"bc");
+    is(rt, &filled(rt, shelf, 1, &mut buf), &Ok(()));
+    is(rt, &buf, b"bc");
+}
+
+#[test]
+fn files_on_disk_are_read_whole(rt: HostRuntime) -> Result<(), OpenFault> {
+    let mut shelf = three_files(&rt, process::id(rt.process()))?;
+    are_read(&rt, &mut shelf);
     Ok(())
 }
 
@@ -69,16 +73,17 @@ fn spread(file: &File) -> io::Result<()> {
     file.set_len(LONG)
 }
 
-// Writes a file of this length with some letters at 4 GiB, and gives its path.
-fn sparse(rt: &HostRuntime) -> Result<String, Fail> {
-    let path = written(rt, 3, b"first")?;
-    spread(&File::options().write(true).open(rt, path.as_str())?)?;
-    Ok(path)
+// The shelf of a file of this length with some letters at 4 GiB.
+fn sparse_file(rt: &(impl Abort + AllocGlobal + Files<File = File>), own: u32) -> DiskShelf {
+    let path = written(rt, own, 's', b"first");
+    let file = must(rt, File::options().write(true).open(rt, path.as_str()));
+    must(rt, spread(&file));
+    must(rt, opened(rt, &[path.as_str()]))
 }
 
 // Reads of that file: offsets, the answers, and what is then in a buffer of four. The system
 // refuses the last offset, which is no file's.
-const SPARSE: [(u64, Result<usize, Failed>, [u8; 4]); 7] = [
+static SPARSE: [(u64, Result<usize, Failed>, [u8; 4]); 7] = [
     (0, Ok(4), *b"firs"),
     ((1 << 32) - 4, Ok(4), *b"abcd"),
     ((1 << 32) - 2, Ok(4), *b"cdef"),
@@ -88,13 +93,23 @@ const SPARSE: [(u64, Result<usize, Failed>, [u8; 4]); 7] = [
     (1 << 63, Err(Failed), *b"????"),
 ];
 
+// Wants that a read has this answer, and that this is then in the buffer.
+fn gives(
+    rt: &impl Abort,
+    shelf: &mut DiskShelf,
+    offset: u64,
+    answer: Result<usize, Failed>,
+    bytes: [u8; 4],
+) {
+    let mut buf = *b"????";
+    is(rt, &read(rt, shelf, offset, &mut buf), &answer);
+    is(rt, &buf, &bytes);
+}
+
 #[test]
-fn a_file_above_4_gib_is_read_at_each_offset(rt: HostRuntime) -> Result<(), Fail> {
-    let mut shelf = opened(&rt, &[sparse(&rt)?])?;
-    for (offset, answer, bytes) in SPARSE {
-        let mut buf = *b"????";
-        is(&rt, &read(&rt, &mut shelf, offset, &mut buf), &answer);
-        is(&rt, &buf, &bytes);
+fn a_file_above_4_gib_is_read_at_each_offset(rt: HostRuntime) {
+    let mut shelf = sparse_file(&rt, process::id(rt.process()));
+    for row in &SPARSE {
+        gives(&rt, &mut shelf, row.0, row.1, row.2);
     }
-    Ok(())
 }
