@@ -1,7 +1,10 @@
 // Packet files by their names.
+use crate::runs::checks::{must, there};
 use crate::runs::packet_edges::PACKET_EDGES;
 use crate::runs::packet_files::PACKET_FILES;
 use crate::runs::packet_sets::PACKET_SETS;
+use crate::runs::rows::{cut, number};
+use std::process::Abort;
 
 // More than an archive has files.
 const MOST: u32 = 100;
@@ -14,30 +17,44 @@ struct Member {
     behind: &'static [u8],
 }
 
-// The line that an archive begins with, and what stands behind its end.
-fn first_line(archive: &'static [u8]) -> Option<(&'static str, &'static [u8])> {
-    let end = archive.iter().position(|byte| *byte == b'\n')?;
-    let (line, rest) = archive.split_at_checked(end)?;
-    Some((std::str::from_utf8(line).ok()?, rest.get(1..)?))
+// How many bytes the line has that an archive begins with.
+fn line_of(archive: &[u8]) -> usize {
+    let mut end = 0usize;
+    for byte in archive {
+        if *byte == b'\n' {
+            return end;
+        }
+        end = end.saturating_add(1);
+    }
+    end
+}
+
+// The bytes before and behind an offset.
+fn cut_at(rt: &impl Abort, bytes: &'static [u8], at: usize) -> (&'static [u8], &'static [u8]) {
+    there(rt, "bytes", bytes.split_at_checked(at))
 }
 
 // The first file of an archive: a line with its name and how many bytes it has, and then those.
-fn first_member(archive: &'static [u8]) -> Option<Member> {
-    let (line, rest) = first_line(archive)?;
-    let (name, length) = line.split_once(' ')?;
-    let (bytes, behind) = rest.split_at_checked(length.parse::<usize>().ok()?)?;
-    Some(Member {
+fn first_member(rt: &impl Abort, archive: &'static [u8]) -> Member {
+    let (line, rest) = cut_at(rt, archive, line_of(archive));
+    let (_, rest) = cut_at(rt, rest, 1);
+    let (name, size) = cut(rt, must(rt, std::str::from_utf8(line)), " ");
+    let (bytes, behind) = cut_at(rt, rest, number(rt, size));
+    Member {
         name,
         bytes,
         behind,
-    })
+    }
 }
 
-// The bytes of the file of this name in an archive.
-fn found_in(archive: &'static [u8], name: &str) -> Option<&'static [u8]> {
+// The bytes of the file of this name in an archive, where it has one.
+fn found_in(rt: &impl Abort, archive: &'static [u8], name: &str) -> Option<&'static [u8]> {
     let mut rest = archive;
     for _ in 0..MOST {
-        let member = first_member(rest)?;
+        if rest.is_empty() {
+            return None;
+        }
+        let member = first_member(rt, rest);
         if member.name == name {
             return Some(member.bytes);
         }
@@ -47,12 +64,12 @@ fn found_in(archive: &'static [u8], name: &str) -> Option<&'static [u8]> {
 }
 
 /// The bytes of the packet file of this name.
-pub fn packet_file(name: &str) -> Result<&'static [u8], &'static str> {
-    if let Some(bytes) = found_in(PACKET_FILES, name) {
-        return Ok(bytes);
+pub fn packet_file(rt: &impl Abort, name: &str) -> &'static [u8] {
+    if let Some(bytes) = found_in(rt, PACKET_FILES, name) {
+        return bytes;
     }
-    match found_in(PACKET_SETS, name) {
-        Some(bytes) => Ok(bytes),
-        None => found_in(PACKET_EDGES, name).ok_or("no such packet file"),
+    if let Some(bytes) = found_in(rt, PACKET_SETS, name) {
+        return bytes;
     }
+    there(rt, name, found_in(rt, PACKET_EDGES, name))
 }

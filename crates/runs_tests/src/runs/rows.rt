@@ -1,6 +1,8 @@
 // Command lines and how they end, as the rows of a text.
-use std::alloc::{AllocError, Global};
-use std::test::Fail;
+use crate::runs::checks::{holds, must, there};
+use std::fmt::Debug;
+use std::process::Abort;
+use std::str::FromStr;
 
 /// A command line over files, and how it ends. In a table it has these lines:
 ///
@@ -9,7 +11,7 @@ use std::test::Fail;
 /// - The text that is written, or the line for standard error, which begins with `parv: `.
 /// - `= ` and the exit status. Behind a bar may stand what else a test wants of the row.
 ///
-/// Before a row may stand empty lines, and remarks, which begin with `#`.
+/// Before a row may stand empty lines, and a remark, which begins with `#`.
 #[derive(Clone, Copy)]
 pub struct Row<'t> {
     pub words: &'t str,
@@ -21,9 +23,22 @@ pub struct Row<'t> {
     pub beside: &'t str,
 }
 
+/// What stands before and behind a mark in a text.
+pub fn cut<'t>(rt: &impl Abort, text: &'t str, mark: &str) -> (&'t str, &'t str) {
+    there(rt, mark, text.split_once(mark))
+}
+
 /// What stands before the first bar of a text, and what stands behind it.
 pub fn parted(text: &str) -> (&str, &str) {
     text.split_once('|').unwrap_or((text, ""))
+}
+
+/// The number that a text has.
+pub fn number<N: FromStr>(rt: &impl Abort, text: &str) -> N
+where
+    N::Err: Debug,
+{
+    must(rt, text.trim().parse::<N>())
 }
 
 // What is written to standard output, and to standard error.
@@ -35,78 +50,72 @@ fn streams(written: &str) -> (&str, &str) {
     }
 }
 
-// Whether all lines are remarks or empty.
-fn are_remarks(lines: &str) -> bool {
-    for line in lines.lines() {
-        if !line.is_empty() && !line.starts_with('#') {
-            return false;
-        }
-    }
-    true
+// Wants that this is empty lines, with a remark or none.
+fn is_remark(rt: &impl Abort, lines: &str) {
+    let remark = lines.trim();
+    holds(rt, &remark, remark.is_empty() || remark.starts_with('#'));
 }
 
-// The exit status by which a row ends, and what stands beside it.
-fn status_of(end: &str) -> Option<(u8, &str)> {
-    let (line, remarks) = end.split_once('\n')?;
-    let (status, beside) = parted(line);
-    if are_remarks(remarks) {
-        Some((status.trim().parse::<u8>().ok()?, beside))
-    } else {
-        None
-    }
+// The first row of a table, and what stands behind it.
+fn first_row<'t>(rt: &impl Abort, table: &'t str) -> (Row<'t>, &'t str) {
+    let (remark, lines) = cut(rt, table, "$ ");
+    is_remark(rt, remark);
+    let (head, lines) = cut(rt, lines, "\n");
+    let (written, lines) = cut(rt, lines, "= ");
+    let (end, behind) = cut(rt, lines, "\n");
+    (row_of(rt, head, written, end), behind)
 }
 
-// The row of a command line with its files that ends so.
-fn row_with<'t>(head: &'t str, written: &'t str, status: u8, beside: &'t str) -> Row<'t> {
+// The row of a command line with its files that writes this and ends so.
+fn row_of<'t>(rt: &impl Abort, head: &'t str, written: &'t str, end: &'t str) -> Row<'t> {
     let (words, files) = parted(head);
     let (packets, scanned) = parted(files);
     let (text, line) = streams(written);
+    let (status, beside) = parted(end);
     Row {
         words,
         packets,
         scanned,
         text,
         line,
-        status,
+        status: number(rt, status),
         beside,
     }
 }
 
-// The row whose lines these are, without its `$ `.
-fn row_of(lines: &str) -> Option<Row<'_>> {
-    let (head, rest) = lines.split_once('\n')?;
-    let (written, end) = rest.split_once("= ")?;
-    let (status, beside) = status_of(end)?;
-    Some(row_with(head, written, status, beside))
-}
-
-// The lines of a table from its first row on, without its `$ `.
-fn first_row(table: &str) -> Option<&str> {
-    let (remarks, rows) = table.split_once("$ ")?;
-    if are_remarks(remarks) {
-        Some(rows)
-    } else {
-        None
-    }
-}
-
 /// The rows of a table, which has so many.
-pub fn rows_of(alloc: Global, table: &str, count: usize) -> Result<Vec<Row<'_>>, Fail> {
-    let mut rows = Vec::new(alloc);
-    for lines in first_row(table).ok_or("a table of no rows")?.split("$ ") {
-        rows.push(row_of(lines).ok_or("lines that are no row")?)?;
+pub fn rows_of<'t>(rt: &(impl Abort + AllocGlobal), table: &'t str, count: usize) -> Vec<Row<'t>> {
+    let mut rest = table;
+    let mut rows = Vec::new(rt.alloc());
+    for _ in 0..count {
+        let (row, behind) = first_row(rt, rest);
+        must(rt, rows.push(row));
+        rest = behind;
     }
-    if rows.len() != count {
-        return Err("another number of rows".into());
-    }
-    Ok(rows)
+    holds(rt, &rest, rest.is_empty());
+    rows
 }
 
-/// The words of a command line.
-pub fn words_of(alloc: Global, words: &str) -> Result<Vec<String>, AllocError> {
-    let mut all = Vec::new(alloc);
-    for word in words.split_whitespace() {
-        all.push(word.replace(alloc, "~", "\n")?)?;
+// What a word stands for: `''` has no letter, and `_1` and `1_` a space in place of the dash.
+fn word_of(word: &str) -> &str {
+    match word {
+        "''" => "",
+        "_1" => " 1",
+        "1_" => "1 ",
+        word => word,
     }
-    Ok(all)
+}
+
+/// Text with this in place of each mark.
+pub fn replaced(rt: &(impl Abort + AllocGlobal), text: &str, mark: &str, by: &str) -> String {
+    must(rt, text.replace(rt.alloc(), mark, by))
+}
+
+/// The words of a command line, in which `~` stands for a line end.
+pub fn words_of(rt: &(impl Abort + AllocGlobal), words: &str) -> Vec<String> {
+    let mut all = Vec::new(rt.alloc());
+    for word in words.split_whitespace() {
+        must(rt, all.push(replaced(rt, word_of(word), "~", "\n")));
+    }
+    all
 }

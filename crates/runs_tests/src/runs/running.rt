@@ -2,15 +2,14 @@
 ghost use Rattle.parplan.specs.Commands.{HasLimit};
 
 use crate::runs::archives::packet_file;
+use crate::runs::checks::must;
 use crate::runs::rows::{Row, words_of};
-use parfixtures::shelf_of;
-use parreport::{
-    End, MemSink, Plan, PlanFault, RunFault, Status, ending, reads_scanned, run, run_end,
-};
+use parfield::Text;
+use parreport::{MemSink, Plan, RunFault, Status, ending, reads_scanned, run, run_end};
 use parshelf::{MemShelf, Shelf};
 use parwords::plan;
-use std::alloc::{AllocError, Global};
-use std::test::Fail;
+use std::panic::Expect;
+use std::process::Abort;
 
 /// How a command line ended: the fault of its run, its exit status, what it wrote, and the line for
 /// standard error.
@@ -18,7 +17,7 @@ use std::test::Fail;
 pub struct Outcome {
     pub fault: Option<RunFault>,
     pub status: u8,
-    pub text: Vec<u8>,
+    pub out: MemSink,
     pub line: Vec<u8>,
 }
 
@@ -54,137 +53,141 @@ pub const ROOMY: Room = Room {
     takes_zero: false,
 };
 
-// The bytes of the packet files of these names.
-fn packet_files(alloc: Global, names: &str) -> Result<Vec<&'static [u8]>, Fail> {
-    let mut files = Vec::new(alloc);
-    for name in names.split_whitespace() {
-        files.push(packet_file(name)?)?;
+// What a word stands for: a packet file of this name, or the bytes of a scanned file.
+fn bytes_of<'t>(rt: &impl Abort, word: &'t str, packet: bool) -> &'t [u8] {
+    if packet {
+        packet_file(rt, word)
+    } else if word == "''" {
+        b""
+    } else {
+        word.as_bytes()
     }
-    Ok(files)
 }
 
-// The bytes of the scanned files that hold these.
-fn scanned_files<'t>(alloc: Global, contents: &'t str) -> Result<Vec<&'t [u8]>, AllocError> {
-    let mut files = Vec::new(alloc);
-    for content in contents.split_whitespace() {
-        files.push(if content == "''" {
-            b""
-        } else {
-            content.as_bytes()
-        })?;
+/// Puts a file of these bytes behind others.
+pub fn put_file(rt: &(impl Abort + AllocGlobal), files: &mut Vec<Vec<u8>>, bytes: &[u8]) {
+    let file = must(rt, Vec::from_slice(rt.alloc(), bytes));
+    must(rt, files.push(file));
+}
+
+/// At most nine files in memory that are read `piece` bytes at a time, and at least one; the read of
+/// this number fails.
+pub fn shelf_of(
+    rt: &(impl Abort + AllocGlobal),
+    files: Vec<Vec<u8>>,
+    piece: usize,
+    failing: u64,
+) -> MemShelf {
+    if files.len() > 9 {
+        rt.panic("more than nine files");
     }
-    Ok(files)
+    let failing = must(rt, Vec::from_slice(rt.alloc(), &[failing]));
+    MemShelf::new(files, piece.max(1), failing)
+}
+
+// The files that words stand for.
+fn files_of(rt: &(impl Abort + AllocGlobal), words: &str, packet: bool) -> Vec<Vec<u8>> {
+    let mut files = Vec::new(rt.alloc());
+    for word in words.split_whitespace() {
+        put_file(rt, &mut files, bytes_of(rt, word, packet));
+    }
+    files
 }
 
 // The packet files of a row in memory.
-fn packets_in(alloc: Global, row: &Row<'_>, reads: Reads) -> Result<MemShelf, Fail> {
-    let files = packet_files(alloc, row.packets)?;
-    shelf_of(alloc, &files, reads.piece, &[reads.failing_packet])
+fn packets_in(rt: &(impl Abort + AllocGlobal), row: &Row<'_>, reads: Reads) -> MemShelf {
+    let files = files_of(rt, row.packets, true);
+    shelf_of(rt, files, reads.piece, reads.failing_packet)
 }
 
 /// The scanned files of a row in memory.
-pub fn scanned_in(alloc: Global, row: &Row<'_>, reads: Reads) -> Result<MemShelf, Fail> {
-    let files = scanned_files(alloc, row.scanned)?;
-    shelf_of(alloc, &files, reads.piece, &[reads.failing_scanned])
+pub fn scanned_in(rt: &(impl Abort + AllocGlobal), row: &Row<'_>, reads: Reads) -> MemShelf {
+    let files = files_of(rt, row.scanned, false);
+    shelf_of(rt, files, reads.piece, reads.failing_scanned)
+}
+
+// The plan of words, which are one.
+fn plan_of(rt: &(impl Abort + AllocGlobal), words: &str) -> Plan
+    ensures { HasLimit result.command }
+{
+    plan(rt.alloc(), &words_of(rt, words)).expect(rt, "error")
 }
 
 // A sink in memory with this room.
-fn sink_with(alloc: Global, room: Room) -> Result<MemSink, Fail> {
-    if room.piece == 0 {
-        return Err("a sink that takes pieces of no byte".into());
-    }
-    Ok(MemSink::new(alloc, room.bytes, room.piece, room.takes_zero)?)
+fn sink_with(rt: &(impl Abort + AllocGlobal), room: Room) -> MemSink {
+    let piece = room.piece.max(1);
+    must(
+        rt,
+        MemSink::new(rt.alloc(), room.bytes, piece, room.takes_zero),
+    )
 }
 
 // Runs a plan over as many files as it has.
 fn answer_of(
-    alloc: Global,
+    rt: &(impl Abort + AllocGlobal),
     plan: &Plan,
     packets: &mut impl Shelf,
     scanned: &mut MemShelf,
     out: &mut MemSink,
-) -> Option<Result<Status, RunFault>>
+) -> Result<Status, RunFault>
     requires { HasLimit plan.now.command }
 {
     if packets.count() as usize != plan.packets.len() {
-        return None;
+        rt.panic("another number of packet files");
     }
     if reads_scanned(plan.command) && scanned.count() as usize != plan.scanned.len() {
-        return None;
+        rt.panic("another number of scanned files");
     }
-    Some(run(alloc, plan, packets, scanned, out))
+    run(rt.alloc(), plan, packets, scanned, out)
 }
 
-// How a run of a plan ended that wrote a text.
-fn outcome_of(
-    alloc: Global,
-    plan: &Plan,
-    answer: Result<Status, RunFault>,
-    text: &[u8],
-) -> Result<Outcome, AllocError> {
-    let (end, argument) = run_end(plan, answer);
-    let argument = match argument {
+// The argument that an end is about, or nothing.
+fn text_of(argument: Option<&Text>) -> &str {
+    match argument {
         Some(argument) => argument.as_str(),
         None => "",
-    };
-    let (status, line) = ending(alloc, &end, argument)?;
-    Ok(Outcome {
+    }
+}
+
+// How a run of a plan ended that wrote to a sink.
+fn outcome_of(
+    rt: &(impl Abort + AllocGlobal),
+    plan: &Plan,
+    answer: Result<Status, RunFault>,
+    out: MemSink,
+) -> Outcome {
+    let (end, argument) = run_end(plan, answer);
+    let (status, line) = must(rt, ending(rt.alloc(), &end, text_of(argument)));
+    Outcome {
         fault: answer.err(),
         status,
-        text: Vec::from_slice(alloc, text)?,
+        out,
         line,
-    })
-}
-
-// Runs a plan over files, with a sink of some room.
-fn ran_plan(
-    alloc: Global,
-    plan: &Plan,
-    packets: &mut impl Shelf,
-    scanned: &mut MemShelf,
-    room: Room,
-) -> Result<Outcome, Fail>
-    requires { HasLimit plan.now.command }
-{
-    let mut out = sink_with(alloc, room)?;
-    let answer = answer_of(alloc, plan, packets, scanned, &mut out);
-    Ok(outcome_of(
-        alloc,
-        plan,
-        answer.ok_or("another number of files")?,
-        out.text(),
-    )?)
-}
-
-// How words end that are no plan.
-fn no_plan(alloc: Global, fault: PlanFault) -> Result<Outcome, AllocError> {
-    let (status, line) = ending(alloc, &End::Plan(fault), "")?;
-    Ok(Outcome {
-        fault: None,
-        status,
-        text: Vec::new(alloc),
-        line,
-    })
+    }
 }
 
 /// Runs a command line over files, with a sink of some room.
 pub fn ran(
-    alloc: Global,
-    words: &[String],
+    rt: &(impl Abort + AllocGlobal),
+    words: &str,
     packets: &mut impl Shelf,
     scanned: &mut MemShelf,
     room: Room,
-) -> Result<Outcome, Fail> {
-    match plan(alloc, words) {
-        Ok(plan) => ran_plan(alloc, &plan, packets, scanned, room),
-        Err(fault) => Ok(no_plan(alloc, fault)?),
-    }
+) -> Outcome {
+    let plan = plan_of(rt, words);
+    let mut out = sink_with(rt, room);
+    let answer = answer_of(rt, &plan, packets, scanned, &mut out);
+    outcome_of(rt, &plan, answer, out)
 }
 
 /// Runs the command line of a row over its files.
-pub fn ran_row(alloc: Global, row: &Row<'_>, reads: Reads, room: Room) -> Result<Outcome, Fail> {
-    let words = words_of(alloc, row.words)?;
-    let mut packets = packets_in(alloc, row, reads)?;
-    let mut scanned = scanned_in(alloc, row, reads)?;
-    ran(alloc, &words, &mut packets, &mut scanned, room)
+pub fn ran_row(
+    rt: &(impl Abort + AllocGlobal),
+    row: &Row<'_>,
+    reads: Reads,
+    room: Room,
+) -> Outcome {
+    let mut packets = packets_in(rt, row, reads);
+    let mut scanned = scanned_in(rt, row, reads);
+    ran(rt, row.words, &mut packets, &mut scanned, room)
 }

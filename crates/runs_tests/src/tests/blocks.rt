@@ -1,9 +1,10 @@
 // Texts of more than a block of 65,536 bytes.
-use crate::runs::{Outcome, Room, is_same, packet_file, ran, words_of};
-use parfixtures::shelf_of;
+use crate::runs::{
+    Outcome, READS, Room, Row, holds, is_same, must, packet_file, ran, replaced, scanned_in, there,
+};
+use parfixtures::file_of;
 use parreport::RunFault;
-use std::alloc::{AllocError, Global};
-use std::test::Fail;
+use std::process::Abort;
 
 // How many packets are listed; the Creator packet of g has 68 bytes.
 const PACKETS: usize = 1300;
@@ -17,127 +18,145 @@ const NAME: usize = 70_000;
 // So many bytes of a text are taken, and then the sink fails.
 static ROOMS: [usize; 8] = [0, 1, 65_535, 65_536, 65_600, 66_500, 70_100, 1_000_000];
 
-// Wants as many bytes of the list as there was room for, and a fault where it was less.
-fn shows(ran: &Outcome, list: &[u8], room: usize) -> Result<(), Fail> {
-    let size = room.min(list.len());
-    let fault = if size < list.len() {
+// The fault of a run that writes so many bytes where there is room for these.
+fn fault_in(room: usize, size: usize) -> Option<RunFault> {
+    if room < size {
         Some(RunFault::Write)
     } else {
         None
-    };
-    let found = (list.get(..size) == Some(ran.text.as_slice()), ran.fault);
-    is_same(&found, &(true, fault), &room)
+    }
 }
 
-// Wants the list of a command line over one packet file and scanned files, where there is so much
-// room.
-fn lists_in(
-    alloc: Global,
-    words: &str,
-    packets: &[u8],
-    scanned: &[&[u8]],
-    bytes: usize,
-) -> Result<Outcome, Fail> {
-    let words = words_of(alloc, words)?;
-    let mut packets = shelf_of(alloc, &[packets], 65_536, &[])?;
-    let mut scanned = shelf_of(alloc, scanned, 65_536, &[])?;
+// Wants as many bytes of the list as there was room for, and a fault where it was less.
+fn shows(rt: &impl Abort, ran: &Outcome, list: &[u8], room: usize) {
+    let size = room.min(list.len());
+    is_same(rt, &room, &ran.fault, &fault_in(room, list.len()));
+    holds(rt, &room, list.get(..size) == Some(ran.out.text()));
+}
+
+// Wants the list of a row over one packet file where there is so much room.
+fn lists_in(rt: &(impl Abort + AllocGlobal), row: &Row<'_>, packets: &[u8], bytes: usize) {
+    let mut packets = must(rt, file_of(rt.alloc(), packets, 65_536, &[]));
+    let mut scanned = scanned_in(rt, row, READS);
     let room = Room {
         bytes,
         piece: 4096,
         takes_zero: false,
     };
-    ran(alloc, &words, &mut packets, &mut scanned, room)
+    let ran = ran(rt, row.words, &mut packets, &mut scanned, room);
+    shows(rt, &ran, row.text.as_bytes(), bytes);
 }
 
-// The same by sinks of each room.
-fn lists(
-    alloc: Global,
-    words: &str,
-    packets: &[u8],
-    scanned: &[&[u8]],
-    list: &[u8],
-) -> Result<(), Fail> {
-    is_same(&(list.len() > 66_500), &true, &words)?;
-    for bytes in ROOMS {
-        let ran = lists_in(alloc, words, packets, scanned, bytes)?;
-        shows(&ran, list, bytes)?;
+// Wants that words over one packet file and scanned files write this text into sinks of each room.
+fn lists(rt: &(impl Abort + AllocGlobal), words: &str, packets: &[u8], scanned: &str, text: &str) {
+    holds(rt, &words, text.len() > 66_500);
+    let row = Row {
+        words,
+        packets: "",
+        scanned,
+        text,
+        line: "",
+        status: 0,
+        beside: "",
+    };
+    for bytes in &ROOMS {
+        lists_in(rt, &row, packets, *bytes);
     }
-    Ok(())
 }
 
-// The list of so many Creator packets of 68 bytes.
-fn packets_list(alloc: Global) -> Result<String, AllocError> {
-    let mut text = String::new(alloc);
-    for i in 0..PACKETS {
-        let at = 68 * i;
-        writeln!(
-            text,
-            "v.par2 {at} 68 creator 617cdc72ba53d94fe713fea2ae18f776"
-        )?;
+// Puts a line for each of so many packets of one size behind a text, the first of them at this
+// offset.
+fn put_lines(
+    rt: &impl Abort,
+    text: &mut String,
+    count: usize,
+    first: usize,
+    size: usize,
+    head: &str,
+    tail: &str,
+) {
+    let mut at = first;
+    for _ in 0..count {
+        must(rt, writeln!(text, "{head} {at} {tail}"));
+        at = at.saturating_add(size);
     }
-    writeln!(text, "packets {PACKETS}")?;
-    Ok(text)
+}
+
+// Wants the list of so many Creator packets.
+fn many_packets_are_listed(rt: &(impl Abort + AllocGlobal)) {
+    let packets = must(
+        rt,
+        packet_file(rt, "creator_of_g").repeat(rt.alloc(), PACKETS),
+    );
+    let mut text = String::new(rt.alloc());
+    let tail = "68 creator 617cdc72ba53d94fe713fea2ae18f776";
+    put_lines(rt, &mut text, PACKETS, 0, 68, "v.par2", tail);
+    must(rt, text.push_str("packets 1300\n"));
+    lists(rt, "packets v.par2", &packets, "", text.as_str());
 }
 
 #[test]
-fn packets_writes_each_block_once(rt: HostRuntime) -> Result<(), Fail> {
-    let packets = packet_file("creator_of_g")?.repeat(rt.alloc(), PACKETS)?;
-    let list = packets_list(rt.alloc())?;
-    lists(rt.alloc(), "packets v.par2", &packets, &[], list.as_bytes())
+fn packets_writes_each_block_once(rt: HostRuntime) {
+    many_packets_are_listed(&rt);
 }
 
-// The text of `set` over g and so many packets of 76 bytes that are put aside.
-fn set_list(alloc: Global) -> Result<String, AllocError> {
-    let mut text = String::from_str(
-        alloc,
-        "set 617cdc72ba53d94fe713fea2ae18f776 size 4 slices 2\n\
-         file e345eacbe656c0e6fd20ed63cb7b062c 8 2 yes g.bin\nothers 0\nhave 0\n",
-    )?;
-    for i in 0..ASIDES {
-        let at = 340 + 76 * i;
-        writeln!(text, "aside v.par2 {at} 1")?;
-    }
-    Ok(text)
-}
+// The text of `set` over g in front of the packets that are put aside.
+const SET: &str = "\
+set 617cdc72ba53d94fe713fea2ae18f776 size 4 slices 2
+file e345eacbe656c0e6fd20ed63cb7b062c 8 2 yes g.bin
+others 0
+have 0
+";
 
 // The set of g, and its packet that is put aside so many times in place of once.
-fn with_asides(alloc: Global, set: &[u8]) -> Result<Vec<u8>, Fail> {
-    let (front, aside) = set.split_at_checked(340).ok_or("too short")?;
-    let mut packets = Vec::from_slice(alloc, front)?;
-    let asides = aside.repeat(alloc, ASIDES)?;
-    packets.extend_from_slice(&asides)?;
-    Ok(packets)
+fn with_asides(rt: &(impl Abort + AllocGlobal)) -> Vec<u8> {
+    let set = packet_file(rt, "g");
+    let (front, aside) = there(rt, "packet", set.split_at_checked(340));
+    let mut packets = must(rt, Vec::from_slice(rt.alloc(), front));
+    let mut asides = must(rt, aside.repeat(rt.alloc(), ASIDES));
+    must(rt, packets.append(&mut asides));
+    packets
+}
+
+// Wants that `set` over those tells of each packet that is put aside.
+fn many_asides_are_listed(rt: &(impl Abort + AllocGlobal)) {
+    let packets = with_asides(rt);
+    let mut text = must(rt, String::from_str(rt.alloc(), SET));
+    put_lines(rt, &mut text, ASIDES, 340, 76, "aside v.par2", "1");
+    lists(rt, "set v.par2", &packets, "", text.as_str());
 }
 
 #[test]
-fn set_writes_each_block_once(rt: HostRuntime) -> Result<(), Fail> {
-    let packets = with_asides(rt.alloc(), packet_file("g")?)?;
-    let list = set_list(rt.alloc())?;
-    lists(rt.alloc(), "set v.par2", &packets, &[], list.as_bytes())
+fn set_writes_each_block_once(rt: HostRuntime) {
+    many_asides_are_listed(&rt);
 }
 
-// The text of `verify` where a.bin and b.bin are there under these names.
-fn renamed_list(alloc: Global, first: &str, second: &str) -> Result<String, AllocError> {
-    format!(in alloc;
-        "set bfbb8cc347c88c9b3dd072ec0e2f6a1d size 4 slices 3\n\
-         renamed a.bin from {first}\nrenamed b.bin from {second}\n\
-         need 0 have 0\nresult possible\n"
-    )
+// The text of `verify` where a.bin and b.bin are there under the names X and Y.
+const RENAMED: &str = "\
+set bfbb8cc347c88c9b3dd072ec0e2f6a1d size 4 slices 3
+renamed a.bin from X
+renamed b.bin from Y
+need 0 have 0
+result possible
+";
+
+// A text in which the names X and Y are longer than a block.
+fn with_names(rt: &(impl Abort + AllocGlobal), text: &str) -> String {
+    let first = must(rt, "x".repeat(rt.alloc(), NAME));
+    let second = must(rt, "y".repeat(rt.alloc(), NAME));
+    let text = replaced(rt, text, "X", first.as_str());
+    replaced(rt, text.as_str(), "Y", second.as_str())
+}
+
+// Wants that `verify` over files of such names tells of them.
+fn long_names_are_listed(rt: &(impl Abort + AllocGlobal)) {
+    let words = with_names(rt, "verify v.par2 X Y");
+    let text = with_names(rt, RENAMED);
+    let packets = packet_file(rt, "a_and_b");
+    lists(rt, words.as_str(), packets, "abcd abcdefgh", text.as_str());
 }
 
 #[test]
-fn verify_writes_each_block_once(rt: HostRuntime) -> Result<(), Fail> {
-    let first = "x".repeat(rt.alloc(), NAME)?;
-    let second = "y".repeat(rt.alloc(), NAME)?;
-    let words = format!(in rt.alloc(); "verify v.par2 {first} {second}")?;
-    let list = renamed_list(rt.alloc(), first.as_str(), second.as_str())?;
-    let packets = packet_file("a_and_b")?;
-    let scanned: [&[u8]; 2] = [b"abcd", b"abcdefgh"];
-    lists(
-        rt.alloc(),
-        words.as_str(),
-        packets,
-        &scanned,
-        list.as_bytes(),
-    )
+fn verify_writes_each_block_once(rt: HostRuntime) {
+    long_names_are_listed(&rt);
 }

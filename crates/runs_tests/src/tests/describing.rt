@@ -1,5 +1,4 @@
 use crate::runs::all_end_so;
-use std::test::Fail;
 
 // Packets, and the set that they describe, or why there is none.
 const SETS: &str = r"
@@ -179,6 +178,6 @@ parv: no usable set: too many slices
 ";
 
 #[test]
-fn set_shows_the_set_or_why_there_is_none(rt: HostRuntime) -> Result<(), Fail> {
-    all_end_so(rt.alloc(), SETS, 23)
+fn set_shows_the_set_or_why_there_is_none(rt: HostRuntime) {
+    all_end_so(&rt, SETS, 23);
 }

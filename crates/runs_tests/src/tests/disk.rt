@@ -1,9 +1,11 @@
-use crate::runs::{Outcome, ROOMY, Row, is_same, is_text, packet_file, ran, rows_of, words_of};
-use parfixtures::shelf_of;
+use crate::runs::{
+    READS, ROOMY, Row, has_ended, is_same, is_text, must, packet_file, ran, replaced, rows_of,
+    scanned_in,
+};
 use parreport::{End, ending};
 use parshelf::{DiskShelf, OpenFault};
-use std::alloc::AllocError;
-use std::test::Fail;
+use std::fs::{File, Files};
+use std::process::Abort;
 use std::{fs, process};
 
 // Packet files, in place of whose name stands a path on disk, in the words and in the text.
@@ -28,57 +30,68 @@ packets 4
 = 0
 ";
 
-// The path of a file of this test's own.
-fn path_for(rt: &HostRuntime, name: &str) -> Result<String, AllocError> {
-    let number = process::id(rt.process());
-    format!(in rt.alloc(); "/tmp/parv_{number}_{name}.par2")
-}
-
 // The packet file at a path, which is written first and taken away again.
-fn written_first(rt: &HostRuntime, path: &str, bytes: &[u8]) -> Result<DiskShelf, Fail> {
-    fs::write(rt, path, bytes)?;
+fn written_first(
+    rt: &(impl Abort + AllocGlobal + Files<File = File>),
+    path: &str,
+    bytes: &[u8],
+) -> DiskShelf {
+    must(rt, fs::write(rt, path, bytes));
     let shelf = DiskShelf::open(rt, rt.alloc(), &[path]);
-    fs::remove_file(rt, path)?;
-    Ok(shelf?)
+    must(rt, fs::remove_file(rt, path));
+    must(rt, shelf)
 }
 
-// Runs words over a packet file that is written to this path first.
-fn ran_on_disk(rt: &HostRuntime, words: &str, path: &str, bytes: &[u8]) -> Result<Outcome, Fail> {
-    let words = words_of(rt.alloc(), words)?;
-    let mut packets = written_first(rt, path, bytes)?;
-    let mut scanned = shelf_of(rt.alloc(), &[], 1, &[])?;
-    ran(rt.alloc(), &words, &mut packets, &mut scanned, ROOMY)
+// The path of a file of the process that has this number.
+fn path_for(rt: &(impl Abort + AllocGlobal), number: u32, name: &str) -> String {
+    must(rt, format!(in rt.alloc(); "/tmp/parv_{number}_{name}.par2"))
 }
 
-// Runs a row over its packet file at this path.
-fn is_listed(rt: &HostRuntime, row: &Row<'_>, path: &str, bytes: &[u8]) -> Result<(), Fail> {
-    let words = row.words.replace(rt.alloc(), "p.par2", path)?;
-    let text = row.text.replace(rt.alloc(), "p.par2", path)?;
-    let ran = ran_on_disk(rt, words.as_str(), path, bytes)?;
-    is_same(&ran.status, &row.status, &path)?;
-    is_text(&ran.text, text.as_str(), &path)
+// Runs a row over its packet file, which is at this path; wants the end that it has.
+fn is_listed(rt: &(impl Abort + AllocGlobal), row: &Row<'_>, path: &str, packets: &mut DiskShelf) {
+    let words = replaced(rt, row.words, "p.par2", path);
+    let text = replaced(rt, row.text, "p.par2", path);
+    let row = Row {
+        words: words.as_str(),
+        text: text.as_str(),
+        ..*row
+    };
+    let mut scanned = scanned_in(rt, &row, READS);
+    has_ended(rt, &ran(rt, row.words, packets, &mut scanned, ROOMY), &row);
 }
 
-#[test]
-fn packets_lists_the_packets_of_files_on_disk(rt: HostRuntime) -> Result<(), Fail> {
-    for row in rows_of(rt.alloc(), LISTED, 3)?.as_slice() {
+// Runs the rows over files of the process that has this number.
+fn are_listed(rt: &(impl Abort + AllocGlobal + Files<File = File>), number: u32) {
+    for row in rows_of(rt, LISTED, 3).as_slice() {
         let name = row.packets.trim();
-        let path = path_for(&rt, name)?;
-        is_listed(&rt, row, path.as_str(), packet_file(name)?)?;
+        let path = path_for(rt, number, name);
+        let mut packets = written_first(rt, path.as_str(), packet_file(rt, name));
+        is_listed(rt, row, path.as_str(), &mut packets);
     }
-    Ok(())
 }
 
 #[test]
-fn a_packet_file_that_is_not_there_cannot_be_opened(rt: HostRuntime) -> Result<(), Fail> {
+fn packets_lists_the_packets_of_files_on_disk(rt: HostRuntime) {
+    are_listed(&rt, process::id(rt.process()));
+}
+
+// Wants that this file is not there, and that this line tells that it can't be opened.
+fn is_not_opened(
+    rt: &(impl Abort + AllocGlobal),
+    path: &str,
+    fault: Option<OpenFault>,
+    told: &str,
+) {
+    is_same(rt, &path, &fault, &Some(OpenFault::CannotOpen(0)));
+    let (status, line) = must(rt, ending(rt.alloc(), &End::CannotOpen, path));
+    is_same(rt, &path, &status, &6);
+    is_text(rt, &path, &line, told);
+}
+
+#[test]
+fn a_packet_file_that_is_not_there_cannot_be_opened(rt: HostRuntime) {
     let path = "/tmp/parv_has_no_such_file.par2";
     let fault = DiskShelf::open(&rt, rt.alloc(), &[path]).err();
-    is_same(&fault, &Some(OpenFault::CannotOpen(0)), &path)?;
-    let (status, line) = ending(rt.alloc(), &End::CannotOpen, path)?;
-    is_same(&status, &6, &path)?;
-    is_text(
-        &line,
-        "parv: cannot open /tmp/parv_has_no_such_file.par2\n",
-        &path,
-    )
+    let told = "parv: cannot open /tmp/parv_has_no_such_file.par2\n";
+    is_not_opened(&rt, path, fault, told);
 }

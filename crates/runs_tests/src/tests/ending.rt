@@ -1,8 +1,7 @@
-use crate::runs::{is_same, is_text};
+use crate::runs::{is_same, is_text, must};
 use parreport::{End, PlanFault, RunFault, Sink, Status, WriteSink, ending};
 use parshelf::{Failed, ReadFault};
-use std::alloc::Global;
-use std::test::Fail;
+use std::process::Abort;
 
 const READ: RunFault = RunFault::Read {
     packet: true,
@@ -10,60 +9,50 @@ const READ: RunFault = RunFault::Read {
     fault: ReadFault::Failed,
 };
 
-static ENDS: [End; 14] = [
-    End::Status(Status::Listed),
-    End::Status(Status::Complete),
-    End::Status(Status::Possible),
-    End::Status(Status::Impossible),
-    End::Plan(PlanFault::Usage),
-    End::Plan(PlanFault::Value),
-    End::Plan(PlanFault::NoPacketFile),
-    End::Plan(PlanFault::Memory),
-    End::CannotOpen,
-    End::Memory,
-    End::Run(READ),
-    End::Run(RunFault::Write),
-    End::Run(RunFault::Memory),
-    End::Run(RunFault::OtherSet),
+// An end, and its exit status and line where the argument is a, a line end and b.
+type Ending = (End, u8, &'static str);
+
+static ENDINGS: [Ending; 14] = [
+    (End::Status(Status::Listed), 0, ""),
+    (End::Status(Status::Complete), 0, ""),
+    (End::Status(Status::Possible), 1, ""),
+    (End::Status(Status::Impossible), 2, ""),
+    (
+        End::Plan(PlanFault::Usage),
+        3,
+        "parv: usage: parv packets|set|find|verify [options] FILES\n",
+    ),
+    (End::Plan(PlanFault::Value), 3, "parv: bad value\n"),
+    (
+        End::Plan(PlanFault::NoPacketFile),
+        3,
+        "parv: no packet file\n",
+    ),
+    (End::Plan(PlanFault::Memory), 8, "parv: out of memory\n"),
+    (End::CannotOpen, 6, "parv: cannot open a\\x0ab\n"),
+    (End::Memory, 8, "parv: out of memory\n"),
+    (End::Run(READ), 6, "parv: read fault in a\\x0ab\n"),
+    (End::Run(RunFault::Write), 6, "parv: write fault\n"),
+    (End::Run(RunFault::Memory), 8, "parv: out of memory\n"),
+    (
+        End::Run(RunFault::OtherSet),
+        3,
+        "parv: cursor of another set\n",
+    ),
 ];
 
-// These ends, and their exit status and line where the argument is a, a line end and b.
-const ENDINGS: &str = r"Status(Listed): 0
-Status(Complete): 0
-Status(Possible): 1
-Status(Impossible): 2
-Plan(Usage): 3 parv: usage: parv packets|set|find|verify [options] FILES
-Plan(Value): 3 parv: bad value
-Plan(NoPacketFile): 3 parv: no packet file
-Plan(Memory): 8 parv: out of memory
-CannotOpen: 6 parv: cannot open a\x0ab
-Memory: 8 parv: out of memory
-Run(Read { packet: true, file: 0, fault: Failed }): 6 parv: read fault in a\x0ab
-Run(Write): 6 parv: write fault
-Run(Memory): 8 parv: out of memory
-Run(OtherSet): 3 parv: cursor of another set
-";
-
-// Puts an end, its exit status and its line behind others.
-fn put_ending(alloc: Global, all: &mut String, end: &End) -> Result<(), Fail> {
-    let (status, line) = ending(alloc, end, "a\nb")?;
-    let line = std::str::from_utf8(&line)?;
-    // An end with no line has no line end either.
-    if line.is_empty() {
-        writeln!(all, "{end:?}: {status}")?;
-    } else {
-        write!(all, "{end:?}: {status} {line}")?;
-    }
-    Ok(())
+// Wants that an end has its exit status and line.
+fn is_told(rt: &(impl Abort + AllocGlobal), (end, status, line): &Ending) {
+    let (found, told) = must(rt, ending(rt.alloc(), end, "a\nb"));
+    is_same(rt, end, &found, status);
+    is_text(rt, end, &told, line);
 }
 
 #[test]
-fn each_end_has_its_exit_status_and_line(rt: HostRuntime) -> Result<(), Fail> {
-    let mut all = String::new(rt.alloc());
-    for end in &ENDS {
-        put_ending(rt.alloc(), &mut all, end)?;
+fn each_end_has_its_exit_status_and_line(rt: HostRuntime) {
+    for end in &ENDINGS {
+        is_told(&rt, end);
     }
-    is_text(all.as_bytes(), ENDINGS, &"ends")
 }
 
 // Puts three parts into a sink over bytes: how many of each it takes.
@@ -73,9 +62,9 @@ fn taken(bytes: &mut Vec<u8>) -> [Result<usize, Failed>; 3] {
 }
 
 #[test]
-fn writer_sinks_write_what_they_take(rt: HostRuntime) -> Result<(), Fail> {
+fn writer_sinks_write_what_they_take(rt: HostRuntime) {
     let mut bytes = Vec::new(rt.alloc());
     let counts = taken(&mut bytes);
-    is_same(&counts, &[Ok(0), Ok(3), Ok(1)], &"counts")?;
-    is_text(&bytes, "abcd", &"bytes")
+    is_same(&rt, &"counts", &counts, &[Ok(0), Ok(3), Ok(1)]);
+    is_text(&rt, &"bytes", &bytes, "abcd");
 }

@@ -1,5 +1,4 @@
 use crate::runs::all_end_so;
-use std::test::Fail;
 
 // Files, and where slices of a set are seen in them.
 const SEARCHES: &str = r"
@@ -75,6 +74,6 @@ parv: no usable set: too many slices
 ";
 
 #[test]
-fn find_lists_where_slices_are_seen(rt: HostRuntime) -> Result<(), Fail> {
-    all_end_so(rt.alloc(), SEARCHES, 13)
+fn find_lists_where_slices_are_seen(rt: HostRuntime) {
+    all_end_so(&rt, SEARCHES, 13);
 }

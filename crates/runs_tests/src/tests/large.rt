@@ -1,23 +1,16 @@
 use crate::runs::{
-    READS, ROOMY, Row, has_ended, packet_file, parted, ran, rows_of, scanned_in, words_of,
+    READS, ROOMY, Row, cut, has_ended, is_same, must, number, packet_file, parted, put_file, ran,
+    replaced, rows_of, scanned_in, shelf_of,
 };
-use parfixtures::shelf_of;
-use std::alloc::{AllocError, Global};
-use std::test::Fail;
+use std::process::Abort;
 
 // Runs a row over packet files that hold these bytes and are read by so many; wants the end that it
 // has.
-fn ends_over(alloc: Global, row: &Row<'_>, files: &[&[u8]], piece: usize) -> Result<(), Fail> {
-    let words = words_of(alloc, row.words)?;
-    let mut packets = shelf_of(alloc, files, piece, &[])?;
-    let mut scanned = scanned_in(alloc, row, READS)?;
-    let ran = ran(alloc, &words, &mut packets, &mut scanned, ROOMY)?;
-    has_ended(&ran, row)
-}
-
-// The number that a text has.
-fn number(text: &str) -> Result<usize, &'static str> {
-    text.trim().parse::<usize>().ok().ok_or("no number")
+fn ends_over(rt: &(impl Abort + AllocGlobal), row: &Row<'_>, files: Vec<Vec<u8>>, piece: usize) {
+    let mut packets = shelf_of(rt, files, piece, 0);
+    let mut scanned = scanned_in(rt, row, READS);
+    let ran = ran(rt, row.words, &mut packets, &mut scanned, ROOMY);
+    has_ended(rt, &ran, row);
 }
 
 // Packets with large bodies. The front of a packet; then the bytes behind it, as `120*4096` for 4,096
@@ -40,92 +33,78 @@ front_of_32768_ids 7*524288 = 3
 front_of_32769_ids 7*524304 = 7
 ";
 
-// The text of `set` over the set of g.bin in one file and such a packet in another, which is usable.
-const USABLE: &str = "\
+// The text of `set` over the set of g.bin in one file and such a packet in another, and at its end
+// the line that may tell of that packet.
+const TOLD: &str = "\
 set 617cdc72ba53d94fe713fea2ae18f776 size 4 slices 2
 file e345eacbe656c0e6fd20ed63cb7b062c 8 2 yes g.bin
 others 0
 have 0
 aside g.par2 340 1
-";
+LINE";
 
 // Puts a byte behind others so often as a text says.
-fn put_bytes(packet: &mut Vec<u8>, bytes: &str) -> Result<(), Fail> {
-    let (byte, count) = bytes.split_once('*').ok_or("no bytes")?;
-    let byte = byte.parse::<u8>().ok().ok_or("no byte")?;
-    packet.resize(packet.len().saturating_add(number(count)?), byte)?;
-    Ok(())
+fn put_bytes(rt: &impl Abort, packet: &mut Vec<u8>, bytes: &str) {
+    let (byte, count) = cut(rt, bytes, "*");
+    let size = packet.len().saturating_add(number(rt, count));
+    must(rt, packet.resize(size, number(rt, byte)));
 }
 
 // The packet of a front and the bytes behind it.
-fn large_packet(alloc: Global, front: &str, behind: &str) -> Result<Vec<u8>, Fail> {
-    let mut packet = Vec::from_slice(alloc, packet_file(front)?)?;
+fn large_packet(rt: &(impl Abort + AllocGlobal), front: &str, behind: &str) -> Vec<u8> {
+    let mut packet = must(rt, Vec::from_slice(rt.alloc(), packet_file(rt, front)));
     for bytes in behind.split_whitespace() {
-        put_bytes(&mut packet, bytes)?;
+        put_bytes(rt, &mut packet, bytes);
     }
-    Ok(packet)
+    packet
 }
 
 // The text of `set` where such a packet is put aside for this, or is usable.
-fn large_text(alloc: Global, aside: &str) -> Result<String, AllocError> {
-    if aside == "0" {
-        String::from_str(alloc, USABLE)
+fn large_text(rt: &(impl Abort + AllocGlobal), aside: &str) -> String {
+    let line = if aside == "0" {
+        ""
     } else {
-        format!(in alloc; "{USABLE}aside c.par2 0 {aside}\n")
-    }
+        "aside c.par2 0 REASON\n"
+    };
+    let text = replaced(rt, TOLD, "LINE", line);
+    replaced(rt, text.as_str(), "REASON", aside)
 }
 
-// Wants that these words of `set` over two packet files write this.
-fn writes_of<'p>(
-    alloc: Global,
-    words: &str,
-    set: &'p [u8],
-    large: &'p [u8],
-    text: &str,
-) -> Result<(), Fail> {
+// Two packet files: the set of g.bin, and this one.
+fn with_set(rt: &(impl Abort + AllocGlobal), large: &[u8]) -> Vec<Vec<u8>> {
+    let mut files = Vec::new(rt.alloc());
+    put_file(rt, &mut files, packet_file(rt, "g"));
+    put_file(rt, &mut files, large);
+    files
+}
+
+// Wants that a line of the table is right. A base, which `set` does not ask for, names the packet.
+fn is_right(rt: &(impl Abort + AllocGlobal), line: &str) {
+    let (packet, aside) = cut(rt, line, " = ");
+    let (front, behind) = cut(rt, packet, " ");
+    let text = large_text(rt, aside);
+    let words = replaced(rt, "set -B FRONT g.par2 c.par2", "FRONT", front);
     let row = Row {
-        words,
+        words: words.as_str(),
         packets: "",
         scanned: "",
-        text,
+        text: text.as_str(),
         line: "",
         status: 0,
         beside: "",
     };
-    ends_over(alloc, &row, &[set, large], 65_536)
-}
-
-// Wants that `set` over the set of g.bin and the packet of a front writes the text for this reason. A
-// base, which it does not ask for, names the packet.
-fn is_aside(alloc: Global, front: &str, large: &[u8], aside: &str) -> Result<(), Fail> {
-    let text = large_text(alloc, aside)?;
-    let words = format!(in alloc; "set -B {front} g.par2 c.par2")?;
-    writes_of(
-        alloc,
-        words.as_str(),
-        packet_file("g")?,
-        large,
-        text.as_str(),
-    )
-}
-
-// Wants that a line of the table is right.
-fn is_right(alloc: Global, line: &str) -> Result<(), Fail> {
-    let (packet, aside) = line.split_once(" = ").ok_or("no reason")?;
-    let (front, behind) = packet.split_once(' ').ok_or("no front")?;
-    let large = large_packet(alloc, front, behind)?;
-    is_aside(alloc, front, &large, aside)
+    let files = with_set(rt, &large_packet(rt, front, behind));
+    ends_over(rt, &row, files, 65_536);
 }
 
 #[test]
-fn bodies_are_usable_up_to_their_limits(rt: HostRuntime) -> Result<(), Fail> {
+fn bodies_are_usable_up_to_their_limits(rt: HostRuntime) {
     let mut count = 0u32;
     for line in LARGE.lines() {
-        is_right(rt.alloc(), line)?;
+        is_right(&rt, line);
         count = count.saturating_add(1);
     }
-    assert_eq!(rt; count, 13);
-    Ok(())
+    is_same(&rt, &"rows", &count, &13);
 }
 
 // Command lines over the set of g.bin behind 1,001 Creator packets.
@@ -153,30 +132,31 @@ result possible
 = 1
 ";
 
-// These bytes, so many times, and others behind them.
+// One packet file: these bytes, so many times, and those of a packet file behind them.
 fn behind_many(
-    alloc: Global,
+    rt: &(impl Abort + AllocGlobal),
     before: &[u8],
     times: usize,
-    last: &[u8],
-) -> Result<Vec<u8>, AllocError> {
-    let mut all = before.repeat(alloc, times)?;
-    all.extend_from_slice(last)?;
-    Ok(all)
+    last: &str,
+) -> Vec<Vec<u8>> {
+    let mut all = must(rt, before.repeat(rt.alloc(), times));
+    must(rt, all.extend_from_slice(packet_file(rt, last)));
+    let mut files = Vec::new(rt.alloc());
+    must(rt, files.push(all));
+    files
+}
+
+// Wants that a row of this table is right.
+fn is_right_behind(rt: &(impl Abort + AllocGlobal), row: &Row<'_>) {
+    let files = behind_many(rt, packet_file(rt, "creator_of_g"), 1001, "g");
+    ends_over(rt, row, files, 65_536);
 }
 
 #[test]
-fn a_set_behind_more_than_a_thousand_packets_is_found(rt: HostRuntime) -> Result<(), Fail> {
-    let many = behind_many(
-        rt.alloc(),
-        packet_file("creator_of_g")?,
-        1001,
-        packet_file("g")?,
-    )?;
-    for row in rows_of(rt.alloc(), BEHIND, 3)?.as_slice() {
-        ends_over(rt.alloc(), row, &[&many], 65_536)?;
+fn a_set_behind_more_than_a_thousand_packets_is_found(rt: HostRuntime) {
+    for row in rows_of(&rt, BEHIND, 3).as_slice() {
+        is_right_behind(&rt, row);
     }
-    Ok(())
 }
 
 // Packets behind so many bytes; beside the exit status their value, how many there are and by how
@@ -195,19 +175,18 @@ packets 2
 ";
 
 // Wants that a row of this table is right.
-fn is_right_so_far(alloc: Global, row: &Row<'_>) -> Result<(), Fail> {
+fn is_right_so_far(rt: &(impl Abort + AllocGlobal), row: &Row<'_>) {
     let (byte, beside) = parted(row.beside);
     let (times, piece) = parted(beside);
-    let byte = byte.trim().parse::<u8>().ok().ok_or("no byte")?;
-    let last = packet_file(row.packets.trim())?;
-    let far = behind_many(alloc, &[byte], number(times)?, last)?;
-    ends_over(alloc, row, &[&far], number(piece)?)
+    let before = [number(rt, byte)];
+    let last = row.packets.trim();
+    let files = behind_many(rt, &before, number(rt, times), last);
+    ends_over(rt, row, files, number(rt, piece));
 }
 
 #[test]
-fn packets_behind_the_first_piece_are_listed(rt: HostRuntime) -> Result<(), Fail> {
-    for row in rows_of(rt.alloc(), FAR, 2)?.as_slice() {
-        is_right_so_far(rt.alloc(), row)?;
+fn packets_behind_the_first_piece_are_listed(rt: HostRuntime) {
+    for row in rows_of(&rt, FAR, 2).as_slice() {
+        is_right_so_far(&rt, row);
     }
-    Ok(())
 }

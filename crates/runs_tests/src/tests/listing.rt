@@ -1,5 +1,4 @@
 use crate::runs::all_end_so;
-use std::test::Fail;
 
 // Packets and what stands between them; several files; a chosen set.
 const LISTINGS: &str = r"
@@ -100,6 +99,6 @@ packets 0
 ";
 
 #[test]
-fn packets_lists_the_packets_of_packet_files(rt: HostRuntime) -> Result<(), Fail> {
-    all_end_so(rt.alloc(), LISTINGS, 19)
+fn packets_lists_the_packets_of_packet_files(rt: HostRuntime) {
+    all_end_so(&rt, LISTINGS, 19);
 }

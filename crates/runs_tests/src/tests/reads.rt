@@ -1,11 +1,11 @@
 use crate::runs::{
-    Outcome, ROOMY, Reads, Row, has_ended, is_same, is_text, parted, ran_row, rows_of,
+    Outcome, ROOMY, Reads, Row, cut, has_ended, holds, is_same, is_text, number, parted, ran_row,
+    replaced, rows_of, there,
 };
 use crate::tests::whole_rows::{OPTIONS_COUNT, WHOLE, WHOLE_COUNT, WITH_OPTIONS};
 use parreport::RunFault;
 use parshelf::ReadFault;
-use std::alloc::Global;
-use std::test::Fail;
+use std::process::Abort;
 
 // The number beside the exit status is that of the read of the scanned files that fails.
 const FAULTY: &str = r"
@@ -74,11 +74,6 @@ result possible
 = 1 | 3
 ";
 
-// The number that a text has.
-fn number(text: &str) -> Result<u64, &'static str> {
-    text.trim().parse::<u64>().ok().ok_or("no number")
-}
-
 // The reads of a row of which one fails: of packet files, or else of scanned files, by pieces of so
 // many bytes.
 #[derive(Clone, Copy)]
@@ -87,72 +82,52 @@ struct Turn {
     piece: usize,
 }
 
-// The reads of a turn where that of a number fails.
-fn reads_in(turn: Turn, number: u64) -> Reads {
-    Reads {
+// Runs a row where the read of a number fails.
+fn ran_failing(rt: &(impl Abort + AllocGlobal), row: &Row<'_>, turn: Turn, number: u64) -> Outcome {
+    let reads = Reads {
         piece: turn.piece,
         failing_packet: if turn.packet { number } else { 0 },
         failing_scanned: if turn.packet { 0 } else { number },
-    }
+    };
+    ran_row(rt, row, reads, ROOMY)
 }
 
 // Runs a row of the table of faults.
-fn is_faulty(alloc: Global, row: &Row<'_>) -> Result<(), Fail> {
+fn is_faulty(rt: &(impl Abort + AllocGlobal), row: &Row<'_>) {
     let turn = Turn {
         packet: false,
         piece: 64,
     };
-    let ran = ran_row(alloc, row, reads_in(turn, number(row.beside)?), ROOMY)?;
-    has_ended(&ran, row)
+    let ran = ran_failing(rt, row, turn, number(rt, row.beside));
+    has_ended(rt, &ran, row);
 }
 
 #[test]
-fn scanned_files_are_read_no_more_than_is_needed(rt: HostRuntime) -> Result<(), Fail> {
-    for row in rows_of(rt.alloc(), FAULTY, 10)?.as_slice() {
-        is_faulty(rt.alloc(), row)?;
+fn scanned_files_are_read_no_more_than_is_needed(rt: HostRuntime) {
+    for row in rows_of(&rt, FAULTY, 10).as_slice() {
+        is_faulty(&rt, row);
     }
-    Ok(())
 }
 
-// The number of the file that the read of a number is of, where each file has so many reads.
-fn file_read(reads: &str, read: u64) -> Result<Option<u32>, &'static str> {
-    let mut left = read;
-    let mut index = 0u32;
-    for count in reads.split_whitespace() {
-        let count = number(count)?;
-        if left <= count {
-            return Ok(Some(index));
-        }
-        left = left.saturating_sub(count);
-        index = index.saturating_add(1);
+// The name, without its ending, of the file of a number among those with this ending in the words.
+fn name_of<'t>(rt: &impl Abort, words: &'t str, ending: &str, file: u32) -> &'t str {
+    let mut rest = words;
+    for _ in 0..file {
+        let (_, behind) = cut(rt, rest, ending);
+        rest = behind;
     }
-    Ok(None)
+    let (front, _) = cut(rt, rest, ending);
+    there(rt, "name", front.rsplit_once(' ')).1
 }
 
-// Whether a word names a packet file, or else a scanned file.
-fn is_path(word: &str, packet: bool) -> bool {
-    word.ends_with(if packet { ".par2" } else { ".bin" })
-}
-
-// The packet file, or else the scanned file, of a number, as the words name it.
-fn path_of(words: &str, packet: bool, file: u32) -> Result<&str, &'static str> {
-    let mut left = file;
-    for word in words.split_whitespace() {
-        if is_path(word, packet) {
-            if left == 0 {
-                return Ok(word);
-            }
-            left = left.saturating_sub(1);
-        }
-    }
-    Err("no such file")
-}
-
-// The path in the line of a read fault.
-fn path_in(line: &[u8]) -> Option<&str> {
-    let line = std::str::from_utf8(line).ok()?;
-    line.strip_prefix("parv: read fault in ")?
-        .strip_suffix("\n")
+// The line that tells of a read fault in the packet file, or else the scanned file, of a number.
+fn fault_line(rt: &(impl Abort + AllocGlobal), words: &str, packet: bool, file: u32) -> String {
+    let (ending, line) = if packet {
+        (".par2", "parv: read fault in NAME.par2\n")
+    } else {
+        (".bin", "parv: read fault in NAME.bin\n")
+    };
+    replaced(rt, line, "NAME", name_of(rt, words, ending, file))
 }
 
 // Whether the text is that of the first lines of the whole one, or of none.
@@ -163,147 +138,134 @@ fn is_front(text: &[u8], whole: &str) -> bool {
 // Wants that a run of a row ended with the fault of a read of this file, after a beginning of the
 // text in whole lines.
 fn has_failed(
+    rt: &(impl Abort + AllocGlobal),
     ran: &Outcome,
     row: &Row<'_>,
     packet: bool,
     file: u32,
     text: &str,
-) -> Result<(), Fail> {
-    let path = path_of(row.words, packet, file)?;
+) {
     let fault = RunFault::Read {
         packet,
         file,
         fault: ReadFault::Failed,
     };
-    let found = (
-        ran.fault,
-        ran.status,
-        path_in(&ran.line),
-        is_front(&ran.text, text),
-    );
-    is_same(&found, &(Some(fault), 6, Some(path), true), &row.words)
+    is_same(rt, &row.words, &ran.fault, &Some(fault));
+    is_same(rt, &row.words, &ran.status, &6);
+    let line = fault_line(rt, row.words, packet, file);
+    is_text(rt, &row.words, &ran.line, line.as_str());
+    holds(rt, &row.words, is_front(ran.out.text(), text));
 }
 
-// Each read of the packet files of a row failing in turn, where each file has so many: the fault of
-// that file, and no text, until a read isn't made.
-fn packet_reads_fail(alloc: Global, row: &Row<'_>, piece: usize, reads: &str) -> Result<(), Fail> {
+// The reads of a packet file of a row, so many behind others, failing in turn: the fault of that
+// file, and no text. Gives the number of the last.
+fn file_reads_fail(
+    rt: &(impl Abort + AllocGlobal),
+    row: &Row<'_>,
+    turn: Turn,
+    file: u32,
+    others: u64,
+    count: u64,
+) -> u64 {
+    let mut read = others;
+    for _ in 0..count {
+        read = read.saturating_add(1);
+        let ran = ran_failing(rt, row, turn, read);
+        has_failed(rt, &ran, row, true, file, "");
+    }
+    read
+}
+
+// Each read of the packet files of a row failing in turn, where each file has so many; the next read
+// isn't made.
+fn packet_reads_fail(rt: &(impl Abort + AllocGlobal), row: &Row<'_>, piece: usize, reads: &str) {
     let turn = Turn {
         packet: true,
         piece,
     };
-    for read in 1..1000u64 {
-        let ran = ran_row(alloc, row, reads_in(turn, read), ROOMY)?;
-        match file_read(reads, read)? {
-            Some(file) => has_failed(&ran, row, true, file, "")?,
-            None => return has_ended(&ran, row),
-        }
+    let mut read = 0;
+    let mut file = 0u32;
+    for count in reads.split_whitespace() {
+        read = file_reads_fail(rt, row, turn, file, read, number(rt, count));
+        file = file.saturating_add(1);
     }
-    Err("reads without end".into())
+    let ran = ran_failing(rt, row, turn, read.saturating_add(1));
+    has_ended(rt, &ran, row);
 }
 
-// What the failing reads of a scanned file left so far: how many bytes of the text at most, and
-// whether one of them left this part of it.
-#[derive(Clone, Copy)]
-struct Left<'t> {
+// Wants that a further read of a scanned file leaves no less of the text than those before it, of
+// which the last left so many bytes, and that the first read leaves none. Gives how many it leaves.
+fn left_by(rt: &impl Abort, text: &[u8], read: u64, left: usize) -> usize {
+    let bytes = text.len();
+    holds(rt, &read, bytes >= left);
+    holds(rt, &read, read > 1 || bytes == 0);
+    bytes
+}
+
+// Each read of the one scanned file of a row failing in turn, the last of which leaves so many bytes
+// of the text: how many are made.
+fn scanned_reads(
+    rt: &(impl Abort + AllocGlobal),
+    row: &Row<'_>,
+    piece: usize,
     bytes: usize,
-    part: &'t str,
-    left_part: bool,
-}
-
-// The same behind a further read; wants that the first leaves no text, none less than one before it,
-// and none any where the part is empty.
-fn left_by<'t>(ran: &Outcome, read: u64, left: Left<'t>) -> Result<Left<'t>, Fail> {
-    let bytes = ran.text.len();
-    let may_leave = read > 1 && !left.part.is_empty();
-    is_same(
-        &(bytes >= left.bytes, bytes == 0 || may_leave),
-        &(true, true),
-        &read,
-    )?;
-    Ok(Left {
-        bytes,
-        part: left.part,
-        left_part: left.left_part || ran.text.as_slice() == left.part.as_bytes(),
-    })
-}
-
-// Each read of the one scanned file of a row failing in turn, one of which leaves the part: how many
-// are made.
-fn scanned_reads(alloc: Global, row: &Row<'_>, piece: usize, part: &str) -> Result<u64, Fail> {
+) -> u64 {
     let turn = Turn {
         packet: false,
         piece,
     };
-    let mut left = Left {
-        bytes: 0,
-        part,
-        left_part: part.is_empty(),
-    };
+    let mut left = 0;
     for read in 1..1000u64 {
-        let ran = ran_row(alloc, row, reads_in(turn, read), ROOMY)?;
+        let ran = ran_failing(rt, row, turn, read);
         if ran.fault.is_none() {
-            has_ended(&ran, row)?;
-            is_same(&left.left_part, &true, &row.words)?;
-            return Ok(read.saturating_sub(1));
+            has_ended(rt, &ran, row);
+            is_same(rt, &row.words, &left, &bytes);
+            return read.saturating_sub(1);
         }
-        has_failed(&ran, row, false, 0, row.text)?;
-        left = left_by(&ran, read, left)?;
+        has_failed(rt, &ran, row, false, 0, row.text);
+        left = left_by(rt, ran.out.text(), read, left);
     }
-    Err("reads without end".into())
-}
-
-// So many lines of a text, which are one or none.
-fn first_lines<'t>(text: &'t str, lines: &str) -> Option<&'t str> {
-    match lines.trim() {
-        "0" => Some(""),
-        "1" => text.split_inclusive('\n').next(),
-        _ => None,
-    }
+    rt.panic("reads without end")
 }
 
 // Each read of the scanned file failing in turn, by 1 byte and by 64: as many bytes are read as the
 // text needs at least, and as are ahead at most.
-fn scanned_reads_fail(alloc: Global, row: &Row<'_>, needs: &str, lines: &str) -> Result<(), Fail> {
-    let (least, most) = needs.trim().split_once(' ').ok_or("no numbers")?;
-    let most = number(most)?;
-    let part = first_lines(row.text, lines).ok_or("no lines")?;
-    let made = scanned_reads(alloc, row, 1, part)?;
-    is_same(
-        &(number(least)? <= made, made <= most),
-        &(true, true),
-        &(row.words, made),
-    )?;
+fn scanned_reads_fail(rt: &(impl Abort + AllocGlobal), row: &Row<'_>, needs: &str, bytes: &str) {
+    let (least, most) = cut(rt, needs.trim(), " ");
+    let (least, most) = (number::<u64>(rt, least), number::<u64>(rt, most));
+    let made = scanned_reads(rt, row, 1, number(rt, bytes));
+    holds(rt, &row.words, least <= made);
+    holds(rt, &row.words, made <= most);
     // One read gives the whole scanned file then, so its failing leaves no text.
-    let made = scanned_reads(alloc, row, 64, "")?;
-    is_same(&made, &most.min(1), &row.words)
+    let made = scanned_reads(rt, row, 64, 0);
+    is_same(rt, &row.words, &made, &most.min(1));
 }
 
 // Each read of both shelves of a row failing in turn, by 1 byte and by 64.
-fn both_fail_in_turn(alloc: Global, row: &Row<'_>) -> Result<(), Fail> {
+fn both_fail_in_turn(rt: &(impl Abort + AllocGlobal), row: &Row<'_>) {
     let (by_1, beside) = parted(row.beside);
     let (by_64, beside) = parted(beside);
-    let (needs, lines) = parted(beside);
-    scanned_reads_fail(alloc, row, needs, lines)?;
-    packet_reads_fail(alloc, row, 1, by_1)?;
-    packet_reads_fail(alloc, row, 64, by_64)
+    let (needs, bytes) = parted(beside);
+    scanned_reads_fail(rt, row, needs, bytes);
+    packet_reads_fail(rt, row, 1, by_1);
+    packet_reads_fail(rt, row, 64, by_64);
 }
 
 // Each read of each row of a table failing in turn.
-fn all_fail_in_turn(alloc: Global, table: &str, count: usize) -> Result<(), Fail> {
-    for row in rows_of(alloc, table, count)?.as_slice() {
-        both_fail_in_turn(alloc, row)?;
+fn all_fail_in_turn(rt: &(impl Abort + AllocGlobal), table: &str, count: usize) {
+    for row in rows_of(rt, table, count).as_slice() {
+        both_fail_in_turn(rt, row);
     }
-    Ok(())
 }
 
 #[test]
-fn each_failing_read_is_told_behind_whole_lines(rt: HostRuntime) -> Result<(), Fail> {
-    all_fail_in_turn(rt.alloc(), WHOLE, WHOLE_COUNT)
+fn each_failing_read_is_told_behind_whole_lines(rt: HostRuntime) {
+    all_fail_in_turn(&rt, WHOLE, WHOLE_COUNT);
 }
 
 #[test]
-fn each_failing_read_is_told_behind_whole_lines_with_options(rt: HostRuntime) -> Result<(), Fail> {
-    all_fail_in_turn(rt.alloc(), WITH_OPTIONS, OPTIONS_COUNT)
+fn each_failing_read_is_told_behind_whole_lines_with_options(rt: HostRuntime) {
+    all_fail_in_turn(&rt, WITH_OPTIONS, OPTIONS_COUNT);
 }
 
 // A file with both slices of the set of g.bin, and one into which a slice fits at a single place,
@@ -315,28 +277,30 @@ x.bin 6 e345eacbe656c0e6fd20ed63cb7b062c 1
 = 6
 ";
 
-// Whether the read of a number is that of the second file; wants the lines of the first then.
-fn second_fails(alloc: Global, row: &Row<'_>, read: u64) -> Result<bool, Fail> {
+// Whether a run told of a read fault in the second file.
+fn second_failed(ran: &Outcome) -> bool {
+    ran.line.as_slice() == b"parv: read fault in y.bin\n".as_slice()
+}
+
+// Wants that a read of the second file of a row fails, and leaves the lines of the first.
+fn second_fails(rt: &(impl Abort + AllocGlobal), row: &Row<'_>) {
     let turn = Turn {
         packet: false,
         piece: 64,
     };
-    let ran = ran_row(alloc, row, reads_in(turn, read), ROOMY)?;
-    let fails = path_in(&ran.line) == Some("y.bin");
-    if fails {
-        is_text(&ran.text, row.text, &row.words)?;
+    for read in 1..20u64 {
+        let ran = ran_failing(rt, row, turn, read);
+        if second_failed(&ran) {
+            is_text(rt, &row.words, ran.out.text(), row.text);
+            return;
+        }
     }
-    Ok(fails)
+    rt.panic("no read of the second file failed")
 }
 
 #[test]
-fn the_lines_of_files_before_one_that_fails_are_written(rt: HostRuntime) -> Result<(), Fail> {
-    for row in rows_of(rt.alloc(), TWO_FILES, 1)?.as_slice() {
-        for read in 1..20u64 {
-            if second_fails(rt.alloc(), row, read)? {
-                return Ok(());
-            }
-        }
+fn the_lines_of_files_before_one_that_fails_are_written(rt: HostRuntime) {
+    for row in rows_of(&rt, TWO_FILES, 1).as_slice() {
+        second_fails(&rt, row);
     }
-    Err("no read of the second file failed".into())
 }

@@ -1,5 +1,4 @@
 use crate::runs::all_end_so;
-use std::test::Fail;
 
 // What of a set is there.
 const VERDICTS: &str = r"
@@ -141,6 +140,6 @@ result complete
 ";
 
 #[test]
-fn verify_tells_what_of_a_set_is_there(rt: HostRuntime) -> Result<(), Fail> {
-    all_end_so(rt.alloc(), VERDICTS, 23)
+fn verify_tells_what_of_a_set_is_there(rt: HostRuntime) {
+    all_end_so(&rt, VERDICTS, 23);
 }

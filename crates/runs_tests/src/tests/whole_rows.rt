@@ -1,8 +1,8 @@
 // Command lines whose reads and writes fail in turn.
 
 /// Beside the exit status: how many reads of 1 byte each packet file has; how many of 64; how many
-/// bytes of the scanned file the text needs, and how many of them are ahead; how many lines of the
-/// text one of the failing reads of the scanned file leaves, which each of them leaves where it is 0.
+/// bytes of the scanned file the text needs, and how many of them are ahead; how many bytes of the
+/// text the last of the failing reads of the scanned file leaves.
 pub const WHOLE: &str = r"
 $ packets v.par2 | g
 v.par2 0 92 main 617cdc72ba53d94fe713fea2ae18f776
@@ -24,7 +24,7 @@ $ find v.par2 x.bin | g | XXabcdefgh
 x.bin 2 e345eacbe656c0e6fd20ed63cb7b062c 0
 x.bin 6 e345eacbe656c0e6fd20ed63cb7b062c 1
 end
-= 0 | 416 | 7 | 10 10 | 1
+= 0 | 416 | 7 | 10 10 | 43
 
 $ verify v.par2 a.bin | a_with_a_slice_twice | abcd
 set 2b5d19a47ee4561a2c85b51d7f6d65c4 size 4 slices 2
@@ -63,7 +63,7 @@ $ find --limit 2 v.par2 x.bin | g | XXabcdefgh
 x.bin 2 e345eacbe656c0e6fd20ed63cb7b062c 0
 x.bin 6 e345eacbe656c0e6fd20ed63cb7b062c 1
 cursor 617cdc72ba53d94fe713fea2ae18f776:0:6:2
-= 0 | 416 | 7 | 10 10 | 1
+= 0 | 416 | 7 | 10 10 | 43
 
 $ find --cursor 617cdc72ba53d94fe713fea2ae18f776:4294967295:18446744073709551615:4294967295 v.par2 x.bin | g | XXabcdefgh
 end

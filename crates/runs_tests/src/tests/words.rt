@@ -1,8 +1,8 @@
-use crate::runs::is_same;
+use crate::runs::{is_same, is_text, must, replaced, there, words_of};
 use parplan::Plan;
 use parwords::plan;
-use std::alloc::{AllocError, Global};
-use std::test::Fail;
+use std::fmt::Debug;
+use std::process::Abort;
 
 // What a table tells of the plans of words.
 #[derive(Clone, Copy)]
@@ -14,7 +14,7 @@ enum Part {
 
 // The tables have a row a line: words with a space between them; ` = `; and what the table tells of
 // their plan, or the fault by which they are none. The word `''` has no letter, and `_1` and `1_` a
-// space in place of the dash. Lines that begin with `#` are remarks.
+// space in place of the dash.
 
 const NO_PLANS: &str = "\
 frobnicate v.par2 = Usage
@@ -45,7 +45,10 @@ v.par2 packets = Usage
 v.par2 set = Usage
 v.par2 find = Usage
 v.par2 verify = Usage
-# A request for help or the version.
+";
+
+// A request for help or the version.
+const NO_HELP: &str = "\
 help v.par2 = Usage
 help = Usage
 --help = Usage
@@ -56,13 +59,19 @@ packets -h v.par2 = Usage
 packets --version v.par2 = Usage
 packets -V v.par2 = Usage
 find --help = Usage
-# An option with a value that stands twice.
+";
+
+// An option with a value that stands twice.
+const TWICE: &str = "\
 find --set 00000000000000000000000000000000 --set 00000000000000000000000000000000 v.par2 = Usage
 find --set 00000000000000000000000000000000 --set=Z v.par2 = Usage
 find -Bd -Bd v.par2 = Usage
 find --limit=1 --limit=1 v.par2 = Usage
 find --cursor=a --cursor=b v.par2 = Usage
-# A cursor that can't be read, and a base that is empty.
+";
+
+// A cursor that can't be read, and a base that is empty.
+const NO_VALUES: &str = "\
 find --cursor bad v.par2 = Value
 find --cursor bad = Usage
 find --cursor bad x.bin = Value
@@ -143,127 +152,102 @@ packets x.bin .par2 b.PaR2 par2 a.par2 = .par2|b.PaR2|a.par2|x.bin as x.bin|par2
 packets - v.par2 -- -q -- = v.par2|- as -|-q as -q|-- as --|
 ";
 
-// The word that a row has.
-fn word_of(word: &str) -> &str {
-    match word {
-        "''" => "",
-        "_1" => " 1",
-        "1_" => "1 ",
-        word => word,
-    }
+// Puts a file behind a text, and this behind it.
+fn put(rt: &impl Abort, text: &mut String, file: &str, behind: &str) {
+    must(rt, text.push_str(file));
+    must(rt, text.push_str(behind));
 }
 
-// The words of a row.
-fn words_of(alloc: Global, words: &str) -> Result<Vec<String>, AllocError> {
-    let mut all = Vec::new(alloc);
-    for word in words.split_whitespace() {
-        all.push(String::from_str(alloc, word_of(word))?)?;
-    }
-    Ok(all)
-}
-
-// Puts the packet files of a plan behind a text, with a bar behind each.
-fn put_packets(text: &mut String, plan: &Plan) -> Result<(), AllocError> {
+// The packet files of a plan and the files that it scans, with a bar behind each.
+fn files_of(rt: &(impl Abort + AllocGlobal), plan: &Plan) -> String {
+    let mut text = String::new(rt.alloc());
     for file in plan.packets.as_slice() {
-        write!(text, "{}|", file.as_str())?;
+        put(rt, &mut text, file.as_str(), "|");
     }
-    Ok(())
-}
-
-// Puts the files that a plan scans behind a text, with a bar behind each.
-fn put_scanned(text: &mut String, plan: &Plan) -> Result<(), AllocError> {
     for file in plan.scanned.as_slice() {
-        write!(text, "{} as {}|", file.path.as_str(), file.name.as_str())?;
+        put(rt, &mut text, file.path.as_str(), " as ");
+        put(rt, &mut text, file.name.as_str(), "|");
     }
-    Ok(())
+    text
 }
 
-// The files of a plan.
-fn files_of(alloc: Global, plan: &Plan) -> Result<String, AllocError> {
-    let mut text = String::new(alloc);
-    put_packets(&mut text, plan)?;
-    put_scanned(&mut text, plan)?;
-    Ok(text)
+// A value as a table shows it.
+fn shown(rt: &(impl Abort + AllocGlobal), value: &impl Debug) -> String {
+    must(rt, format!(in rt.alloc(); "{value:?}"))
 }
 
 // What a table tells of a plan.
-fn part_of(alloc: Global, plan: &Plan, part: Part) -> Result<String, AllocError> {
+fn part_of(rt: &(impl Abort + AllocGlobal), plan: &Plan, part: Part) -> String {
     match part {
-        Part::Command => format!(in alloc; "{:?}", plan.command),
-        Part::Set => format!(in alloc; "{:?}", plan.set),
-        Part::Files => files_of(alloc, plan),
+        Part::Command => shown(rt, &plan.command),
+        Part::Set => shown(rt, &plan.set),
+        Part::Files => files_of(rt, plan),
     }
 }
 
 // What a table tells of words.
-fn told(alloc: Global, words: &[String], part: Part) -> Result<String, AllocError> {
-    match plan(alloc, words) {
-        Ok(plan) => part_of(alloc, &plan, part),
-        Err(fault) => format!(in alloc; "{fault:?}"),
+fn told(rt: &(impl Abort + AllocGlobal), words: &str, part: Part) -> String {
+    match plan(rt.alloc(), &words_of(rt, words)) {
+        Ok(plan) => part_of(rt, &plan, part),
+        Err(fault) => shown(rt, &fault),
     }
 }
 
 // Wants that a row is right.
-fn is_right(alloc: Global, row: &str, part: Part) -> Result<(), Fail> {
-    let (words, wanted) = row.rsplit_once(" = ").ok_or("no row")?;
-    let words = words_of(alloc, words)?;
-    let found = told(alloc, &words, part)?;
-    is_same(&found.as_str(), &wanted, &row)
+fn is_right(rt: &(impl Abort + AllocGlobal), row: &str, part: Part) {
+    let (words, wanted) = there(rt, " = ", row.rsplit_once(" = "));
+    let found = told(rt, words, part);
+    is_text(rt, &row, found.as_bytes(), wanted);
 }
 
 // Wants that each row of a table is right, and that it has so many.
-fn are_right(alloc: Global, table: &str, part: Part, count: usize) -> Result<(), Fail> {
+fn are_right(rt: &(impl Abort + AllocGlobal), table: &str, part: Part, count: usize) {
     let mut rows = 0usize;
     for row in table.lines() {
-        if !row.starts_with('#') {
-            is_right(alloc, row, part)?;
-            rows = rows.saturating_add(1);
-        }
+        is_right(rt, row, part);
+        rows = rows.saturating_add(1);
     }
-    is_same(&rows, &count, &"rows")
+    is_same(rt, &"rows", &rows, &count);
 }
 
 #[test]
-fn words_that_are_no_plan_are_refused(rt: HostRuntime) -> Result<(), Fail> {
-    are_right(rt.alloc(), NO_PLANS, Part::Command, 48)
+fn words_that_are_no_plan_are_refused(rt: HostRuntime) {
+    are_right(&rt, NO_PLANS, Part::Command, 28);
+    are_right(&rt, NO_HELP, Part::Command, 10);
+    are_right(&rt, TWICE, Part::Command, 5);
+    are_right(&rt, NO_VALUES, Part::Command, 5);
 }
 
 #[test]
-fn each_command_takes_its_options(rt: HostRuntime) -> Result<(), Fail> {
-    are_right(rt.alloc(), COMMANDS, Part::Command, 19)
+fn each_command_takes_its_options(rt: HostRuntime) {
+    are_right(&rt, COMMANDS, Part::Command, 19);
 }
 
 #[test]
-fn a_limit_is_canonical_and_from_1(rt: HostRuntime) -> Result<(), Fail> {
-    are_right(rt.alloc(), LIMITS, Part::Command, 14)
+fn a_limit_is_canonical_and_from_1(rt: HostRuntime) {
+    are_right(&rt, LIMITS, Part::Command, 14);
 }
 
 #[test]
-fn a_set_is_32_hexadecimal_digits(rt: HostRuntime) -> Result<(), Fail> {
-    are_right(rt.alloc(), SETS, Part::Set, 7)
+fn a_set_is_32_hexadecimal_digits(rt: HostRuntime) {
+    are_right(&rt, SETS, Part::Set, 7);
 }
 
 #[test]
-fn files_are_told_by_their_ending_and_named_under_the_base(rt: HostRuntime) -> Result<(), Fail> {
-    are_right(rt.alloc(), FILES, Part::Files, 14)
-}
-
-// The words of `packets` over one packet file and so many other files.
-fn words_over(alloc: Global, others: usize) -> Result<Vec<String>, AllocError> {
-    let files = "x ".repeat(alloc, others)?;
-    let words = format!(in alloc; "packets a.par2 {files}")?;
-    words_of(alloc, words.as_str())
+fn files_are_told_by_their_ending_and_named_under_the_base(rt: HostRuntime) {
+    are_right(&rt, FILES, Part::Files, 14);
 }
 
 // Wants this of the command of `packets` over one packet file and so many other files.
-fn is_told_over(alloc: Global, others: usize, wanted: &str) -> Result<(), Fail> {
-    let words = words_over(alloc, others)?;
-    let found = told(alloc, &words, Part::Command)?;
-    is_same(&found.as_str(), &wanted, &others)
+fn is_told_over(rt: &(impl Abort + AllocGlobal), others: usize, wanted: &str) {
+    let files = must(rt, "x ".repeat(rt.alloc(), others));
+    let words = replaced(rt, "packets a.par2 FILES", "FILES", files.as_str());
+    let found = told(rt, words.as_str(), Part::Command);
+    is_text(rt, &others, found.as_bytes(), wanted);
 }
 
 #[test]
-fn a_plan_has_at_most_65535_files(rt: HostRuntime) -> Result<(), Fail> {
-    is_told_over(rt.alloc(), 65_534, "Packets")?;
-    is_told_over(rt.alloc(), 65_535, "Value")
+fn a_plan_has_at_most_65535_files(rt: HostRuntime) {
+    is_told_over(&rt, 65_534, "Packets");
+    is_told_over(&rt, 65_535, "Value");
 }

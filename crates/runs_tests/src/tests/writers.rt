@@ -1,101 +1,74 @@
-use crate::runs::{Outcome, READS, Room, Row, is_same, ran_row, rows_of};
+use crate::runs::{Outcome, READS, Room, Row, has_ended, is_same, ran_row, rows_of, there};
 use crate::tests::whole_rows::{OPTIONS_COUNT, WHOLE, WHOLE_COUNT, WITH_OPTIONS};
 use parreport::RunFault;
-use std::alloc::Global;
-use std::test::Fail;
+use std::process::Abort;
+
+// The row that has only so much room for its text.
+fn row_in<'t>(rt: &impl Abort, row: &Row<'t>, room: usize) -> Row<'t> {
+    Row {
+        text: there(rt, "text", row.text.get(..room)),
+        line: "parv: write fault\n",
+        status: 6,
+        ..*row
+    }
+}
 
 // Wants that a run of a row got as much of the text as there was room for, and that it ended with a
 // fault unless that was all.
-fn is_written(ran: &Outcome, row: &Row<'_>, room: usize) -> Result<(), Fail> {
-    let size = room.min(row.text.len());
-    let (fault, status, line) = if size == row.text.len() {
-        (None, row.status, "")
+fn is_written(rt: &impl Abort, ran: &Outcome, row: &Row<'_>, room: usize) {
+    if room < row.text.len() {
+        is_same(rt, &room, &ran.fault, &Some(RunFault::Write));
+        has_ended(rt, ran, &row_in(rt, row, room));
     } else {
-        (Some(RunFault::Write), 6, "parv: write fault\n")
+        is_same(rt, &room, &ran.fault, &None);
+        has_ended(rt, ran, row);
+    }
+}
+
+// Runs a row with a writer with room for so many bytes, which are taken in pieces; then no byte is
+// taken, or the writer fails.
+fn writes(
+    rt: &(impl Abort + AllocGlobal),
+    row: &Row<'_>,
+    bytes: usize,
+    piece: usize,
+    takes_zero: bool,
+) {
+    let room = Room {
+        bytes,
+        piece,
+        takes_zero,
     };
-    let found = (
-        ran.text.get(..),
-        ran.fault,
-        ran.status,
-        std::str::from_utf8(&ran.line),
-    );
-    let wanted = (row.text.as_bytes().get(..size), fault, status, Ok(line));
-    is_same(&found, &wanted, &(row.words, room))
+    is_written(rt, &ran_row(rt, row, READS, room), row, bytes);
 }
 
-// Runs a row with a writer with some room.
-fn writes(alloc: Global, row: &Row<'_>, room: Room) -> Result<(), Fail> {
-    let ran = ran_row(alloc, row, READS, room)?;
-    is_written(&ran, row, room.bytes)
-}
-
-// Room for so many bytes, which are taken in pieces; then no byte is taken, or the writer fails.
-static ROOMS: [(usize, usize, bool); 5] = [
-    (10, 4096, false),
-    (10, 4096, true),
-    (10, 1, false),
-    (4096, 1, false),
-    (4096, 7, true),
-];
-
-// Runs a row with all those writers.
-fn writes_in_rooms(alloc: Global, row: &Row<'_>) -> Result<(), Fail> {
-    for (bytes, piece, takes_zero) in ROOMS {
-        writes(
-            alloc,
-            row,
-            Room {
-                bytes,
-                piece,
-                takes_zero,
-            },
-        )?;
-    }
-    Ok(())
-}
-
-// Runs a row, for each number of bytes of its text, with two writers with room for so many, behind
-// which one takes no byte and the other fails.
-fn writes_in_each_room(alloc: Global, row: &Row<'_>) -> Result<(), Fail> {
-    let piece = 5;
+// Runs a row with some writers, and then, for each number of bytes of its text, with two with room
+// for so many.
+fn writes_in_rooms(rt: &(impl Abort + AllocGlobal), row: &Row<'_>) {
+    writes(rt, row, 10, 4096, false);
+    writes(rt, row, 10, 4096, true);
+    writes(rt, row, 10, 1, false);
+    writes(rt, row, 4096, 1, false);
+    writes(rt, row, 4096, 7, true);
     for bytes in 0..row.text.len().saturating_add(1) {
-        writes(
-            alloc,
-            row,
-            Room {
-                bytes,
-                piece,
-                takes_zero: false,
-            },
-        )?;
-        writes(
-            alloc,
-            row,
-            Room {
-                bytes,
-                piece,
-                takes_zero: true,
-            },
-        )?;
+        writes(rt, row, bytes, 5, false);
+        writes(rt, row, bytes, 5, true);
     }
-    Ok(())
 }
 
 // Runs each row of a table with all those writers.
-fn all_write(alloc: Global, table: &str, count: usize) -> Result<(), Fail> {
-    for row in rows_of(alloc, table, count)?.as_slice() {
-        writes_in_rooms(alloc, row)?;
-        writes_in_each_room(alloc, row)?;
+fn all_write(rt: &(impl Abort + AllocGlobal), table: &str, count: usize) {
+    for row in rows_of(rt, table, count).as_slice() {
+        writes_in_rooms(rt, row);
     }
-    Ok(())
 }
 
 #[test]
-fn writers_get_the_text_that_they_have_room_for(rt: HostRuntime) -> Result<(), Fail> {
-    all_write(rt.alloc(), WHOLE, WHOLE_COUNT)
+fn writers_get_the_text_that_they_have_room_for(rt: HostRuntime) {
+    all_write(&rt, WHOLE, WHOLE_COUNT);
 }
 
 #[test]
-fn writers_get_the_text_that_they_have_room_for_with_options(rt: HostRuntime) -> Result<(), Fail> {
-    all_write(rt.alloc(), WITH_OPTIONS, OPTIONS_COUNT)
+fn writers_get_the_text_that_they_have_room_for_with_options(rt: HostRuntime) {
+    all_write(&rt, WITH_OPTIONS, OPTIONS_COUNT);
 }
