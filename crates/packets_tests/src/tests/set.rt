@@ -4,12 +4,11 @@ mod packets;
 mod reasons;
 mod sets;
 
-use super::{holds, is, put};
+use super::{extend, holds, is, join, must, put};
 use md5::{Digest, Md5};
 use parfield::Hash16;
-use parfixtures::{CREATOR_TYPE, DESC_TYPE, IFSC_TYPE, MAIN_TYPE, SLICE_TYPE, joined};
+use parfixtures::{CREATOR_TYPE, DESC_TYPE, IFSC_TYPE, MAIN_TYPE, SLICE_TYPE};
 use parset::*;
-use std::alloc::{AllocError, Global};
 use std::process::Abort;
 
 // The set of one file `g.bin` of the bytes `abcdefgh`, in slices of 4 bytes, as `tools/vectors.py`
@@ -42,69 +41,85 @@ fn digest_of(bytes: &[u8]) -> Hash16 {
 type Runs = &'static [(u8, usize)];
 
 // The bytes of these runs.
-fn bytes_of(alloc: Global, runs: Runs) -> Result<Vec<u8>, AllocError> {
-    let mut bytes = Vec::new(alloc);
+fn bytes_of(rt: &(impl Abort + AllocGlobal), runs: Runs) -> Vec<u8> {
+    let mut bytes = Vec::new(rt.alloc());
     for (byte, count) in runs {
-        bytes.resize(bytes.len().saturating_add(*count), *byte)?;
+        must(rt, bytes.resize(bytes.len().saturating_add(*count), *byte));
     }
-    Ok(bytes)
+    bytes
 }
 
-// Main bodies and their MD5s, with the slice sizes, the recovery IDs and the others.
-static MAINS: [(&[u8], Hash16, u64, &[Hash16], &[Hash16]); 2] = [
-    (MAIN, SET, 4, &[FILE], &[]),
+// A slice size, recovery IDs and others.
+type MainFields<'a> = (u64, &'a [Hash16], &'a [Hash16]);
+
+// Main bodies and their MD5s, with their fields.
+static MAINS: [(&[u8], Hash16, MainFields<'static>); 2] = [
+    (MAIN, SET, (4, &[FILE], &[])),
     (
         b"\x08\0\0\0\0\0\0\0\x01\0\0\0\x01\x01\x01\x01\x01\x01\x01\x01\x01\x01\x01\x01\x01\x01\x01\x01\x02\x02\x02\x02\x02\x02\x02\x02\x02\x02\x02\x02\x02\x02\x02\x02",
         Hash16(*b"Z\xa4\xe0\x8c-\x8c\x8a\xe7\xbd\xa6\xa1\xc1\xe4!\xcf\xa0"),
-        8,
-        &[Hash16([1; 16])],
-        &[Hash16([2; 16])],
+        (8, &[Hash16([1; 16])], &[Hash16([2; 16])]),
     ),
 ];
 
-// Whether these are the slice size, the recovery IDs and the others.
-fn is_main(main: &Main, size: u64, recovery: &[Hash16], others: &[Hash16]) -> bool {
-    main.size == size && main.recovery.as_slice() == recovery && main.others.as_slice() == others
+// Whether a Main body has these fields.
+fn is_main(main: &Main, fields: &MainFields<'_>) -> bool {
+    main.size == fields.0
+        && main.recovery.as_slice() == fields.1
+        && main.others.as_slice() == fields.2
+}
+
+// The fields of a Main body of a set of this ID are these.
+fn has_main(rt: &(impl Abort + AllocGlobal), body: &[u8], set: Hash16, fields: &MainFields<'_>) {
+    let main = must(rt, main_body(rt.alloc(), body, set));
+    holds(rt, &set, is_main(&main, fields));
 }
 
 #[test]
-fn the_fields_of_main_bodies_are_read(rt: HostRuntime) -> Result<(), BodyFault> {
+fn the_fields_of_main_bodies_are_read(rt: HostRuntime) {
     for row in &MAINS {
-        let main = main_body(rt.alloc(), row.0, row.1)?;
-        holds(&rt, &row.1, is_main(&main, row.2, row.3, row.4));
+        has_main(&rt, row.0, row.1, &row.2);
     }
-    Ok(())
 }
 
-// Descriptions, with the ID, the MD5s of the whole file and of its front, the length and the name.
-static DESCS: [(&[u8], [Hash16; 3], u64, &[u8]); 2] = [
-    (DESC, [FILE, CONTENT, CONTENT], 8, b"g.bin"),
+// An ID, the MD5s of a whole file and of its front, its length and its name.
+type DescFields<'a> = ([Hash16; 3], u64, &'a [u8]);
+
+// Descriptions, with their fields.
+static DESCS: [(&[u8], DescFields<'static>); 2] = [
+    (DESC, ([FILE, CONTENT, CONTENT], 8, b"g.bin")),
     (
         LONG_DESC,
-        [
-            Hash16(*b"\x10\xa1\xa0\xe8\xa38\x16\xd0RjVdEU\xa3\xe7"),
-            Hash16(*b"\x8d\x07_r5V\xe7v\xf6\xf5\xdc\xf2\x8eh\x89\xa7"),
-            Hash16(*b"\t\xb4|\xf0|\x9d\x0e\xa5\x89\xe0\xe2\xaa}\r5P"),
-        ],
-        16_385,
-        b"l.bin",
+        (
+            [
+                Hash16(*b"\x10\xa1\xa0\xe8\xa38\x16\xd0RjVdEU\xa3\xe7"),
+                Hash16(*b"\x8d\x07_r5V\xe7v\xf6\xf5\xdc\xf2\x8eh\x89\xa7"),
+                Hash16(*b"\t\xb4|\xf0|\x9d\x0e\xa5\x89\xe0\xe2\xaa}\r5P"),
+            ],
+            16_385,
+            b"l.bin",
+        ),
     ),
 ];
 
-// Whether these are the ID with the MD5s, the length and the name.
-fn is_desc(desc: &Desc, sums: &[Hash16; 3], length: u64, name: &[u8]) -> bool {
-    [desc.id, desc.whole, desc.front] == *sums
-        && desc.length == length
-        && desc.name.as_slice() == name
+// Whether a description has these fields.
+fn is_desc(desc: &Desc, fields: &DescFields<'_>) -> bool {
+    [desc.id, desc.whole, desc.front] == fields.0
+        && desc.length == fields.1
+        && desc.name.as_slice() == fields.2
+}
+
+// The fields of a FileDesc body are these.
+fn has_desc(rt: &(impl Abort + AllocGlobal), body: &[u8], fields: &DescFields<'_>) {
+    let desc = must(rt, desc_body(rt.alloc(), body));
+    holds(rt, &fields.2, is_desc(&desc, fields));
 }
 
 #[test]
-fn the_fields_of_descriptions_are_read(rt: HostRuntime) -> Result<(), BodyFault> {
+fn the_fields_of_descriptions_are_read(rt: HostRuntime) {
     for row in &DESCS {
-        let desc = desc_body(rt.alloc(), row.0)?;
-        holds(&rt, &row.3, is_desc(&desc, &row.1, row.2, row.3));
+        has_desc(&rt, row.0, &row.1);
     }
-    Ok(())
 }
 
 static SUMS: [(Hash16, u32); 2] = [
@@ -118,12 +133,20 @@ static SUMS: [(Hash16, u32); 2] = [
     ),
 ];
 
+// Whether an IFSC body has these fields.
+fn are_sums(ifsc: &Ifsc, id: Hash16, sums: &[(Hash16, u32)]) -> bool {
+    ifsc.id == id && ifsc.sums.as_slice() == sums
+}
+
+// The fields of an IFSC body are these.
+fn has_sums(rt: &(impl Abort + AllocGlobal), body: &[u8], id: Hash16, sums: &[(Hash16, u32)]) {
+    let ifsc = must(rt, ifsc_body(rt.alloc(), body));
+    holds(rt, &sums, are_sums(&ifsc, id, sums));
+}
+
 #[test]
-fn the_fields_of_a_checksum_body_are_read(rt: HostRuntime) -> Result<(), BodyFault> {
-    let ifsc = ifsc_body(rt.alloc(), IFSC)?;
-    holds(&rt, &"ID", ifsc.id == FILE);
-    holds(&rt, &"sums", ifsc.sums.as_slice() == SUMS.as_slice());
-    Ok(())
+fn the_fields_of_a_checksum_body_are_read(rt: HostRuntime) {
+    has_sums(&rt, IFSC, FILE, &SUMS);
 }
 
 // Creator bodies and their texts.
@@ -133,13 +156,17 @@ static TEXTS: [(&[u8], &[u8]); 3] = [
     (b"\0\0\0\0", b""),
 ];
 
+// A Creator body has this text.
+fn is_text(rt: &(impl Abort + AllocGlobal), body: &[u8], text: &[u8]) {
+    let found = must(rt, creator_body(rt.alloc(), body));
+    holds(rt, &body, found.as_slice() == text);
+}
+
 #[test]
-fn the_texts_of_creator_bodies_are_read(rt: HostRuntime) -> Result<(), BodyFault> {
+fn the_texts_of_creator_bodies_are_read(rt: HostRuntime) {
     for row in &TEXTS {
-        let text = creator_body(rt.alloc(), row.0)?;
-        holds(&rt, row, text.as_slice() == row.1);
+        is_text(&rt, row.0, row.1);
     }
-    Ok(())
 }
 
 // The first four bytes of a recovery slice's body, its length, the slice size, and the answer.

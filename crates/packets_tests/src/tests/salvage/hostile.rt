@@ -3,15 +3,8 @@ use md5::{Digest, Md5};
 use parfixtures::{WORKED, inverted};
 
 // Bytes, and a file of them, have so many packets, which are those of the model.
-fn has_packets(
-    rt: &(impl Abort + AllocGlobal),
-    row: &impl Debug,
-    bytes: &[u8],
-    count: usize,
-) -> Result<(), SalvageFault> {
-    let packets = agrees(rt, row, bytes, &[50])?;
-    is(rt, row, &packets.len(), &count);
-    Ok(())
+fn has_packets(rt: &(impl Abort + AllocGlobal), row: &impl Debug, bytes: &[u8], count: usize) {
+    is(rt, row, &agrees(rt, row, bytes, &[50]), &count);
 }
 
 // How many packets a beginning of the worked file of this size has: those that end in it.
@@ -26,22 +19,23 @@ fn ends_in(size: usize) -> usize {
 }
 
 #[test]
-fn packets_agree_with_the_model_at_each_cut(rt: HostRuntime) -> Result<(), SalvageFault> {
+fn packets_agree_with_the_model_at_each_cut(rt: HostRuntime) {
     for size in 0..=WORKED.len() {
-        has_packets(&rt, &size, &WORKED[..size], ends_in(size))?;
+        has_packets(&rt, &size, &WORKED[..size], ends_in(size));
     }
-    Ok(())
+}
+
+// Where this byte of the worked file is inverted, the packet that has it is gone.
+fn has_others(rt: &(impl Abort + AllocGlobal), at: usize) {
+    let bytes = must(rt, inverted(rt.alloc(), at));
+    has_packets(rt, &at, &bytes, 3);
 }
 
 #[test]
-fn packets_agree_with_the_model_for_each_inverted_byte(
-    rt: HostRuntime,
-) -> Result<(), SalvageFault> {
+fn packets_agree_with_the_model_for_each_inverted_byte(rt: HostRuntime) {
     for at in 0..WORKED.len() {
-        // The packet that has the byte is gone.
-        has_packets(&rt, &at, &inverted(rt.alloc(), at)?, 3)?;
+        has_others(&rt, at);
     }
-    Ok(())
 }
 
 // Length fields, of how many bytes behind the hash field that is the MD5, and how many packets
@@ -77,12 +71,13 @@ static LENGTHS: [(u64, usize, usize); 24] = [
 const REST: [u8; 96] =
     *b"\0\0\0\0\0\0\0\0\0\0\0\0\0\0\0\0PAR 2.0\0Creator\0PAR2\0PKT\x40\0\0\0\0\0\0\0\x90\xb7\x2c\x62\xf3\xda\xe9\x4b\x3d\xe0\x28\xf3\x1e\x19\x95\x02\0\0\0\0\0\0\0\0\0\0\0\0\0\0\0\0PAR 2.0\0Creator\0";
 
-// Behind 64 bytes a header with this length field and the hash of so many bytes behind that field,
-// and then a Creator packet.
-fn with_length(alloc: Global, length: u64, hashed: usize) -> Result<Vec<u8>, AllocError> {
+// Behind 64 bytes stand a header with this length field and the hash of so many bytes behind that
+// field, and then a Creator packet; there are so many packets.
+fn has_with_length(rt: &(impl Abort + AllocGlobal), row: &(u64, usize, usize)) {
+    let (length, hashed, count) = *row;
     let hash = Md5::digest(&REST[..hashed.min(96)]);
-    joined(
-        alloc,
+    let bytes = join(
+        rt,
         &[
             &[b'x'; 64],
             b"PAR2\0PKT",
@@ -90,28 +85,26 @@ fn with_length(alloc: Global, length: u64, hashed: usize) -> Result<Vec<u8>, All
             &hash,
             &REST,
         ],
-    )
+    );
+    has_packets(rt, row, &bytes, count);
 }
 
 #[test]
-fn headers_of_each_length_agree_with_the_model(rt: HostRuntime) -> Result<(), SalvageFault> {
+fn headers_of_each_length_agree_with_the_model(rt: HostRuntime) {
     for row in &LENGTHS {
-        let bytes = with_length(rt.alloc(), row.0, row.1)?;
-        has_packets(&rt, row, &bytes, row.2)?;
+        has_with_length(&rt, row);
     }
-    Ok(())
 }
 
 // A Creator packet stands behind the first so many bytes of another.
-fn behind_beginning(rt: &(impl Abort + AllocGlobal), size: usize) -> Result<(), SalvageFault> {
-    let bytes = joined(rt.alloc(), &[&CREATOR[..size.min(64)], &CREATOR])?;
-    agrees_at(rt, &bytes, &[50], &[(Kind::Creator, size)])
+fn behind_beginning(rt: &(impl Abort + AllocGlobal), size: usize) {
+    let bytes = join(rt, &[&CREATOR[..size.min(64)], &CREATOR]);
+    agrees_at(rt, &bytes, &[50], &[(Kind::Creator, size)]);
 }
 
 #[test]
-fn a_packet_behind_each_beginning_of_one_is_found(rt: HostRuntime) -> Result<(), SalvageFault> {
+fn a_packet_behind_each_beginning_of_one_is_found(rt: HostRuntime) {
     for size in 0..CREATOR.len() {
-        behind_beginning(&rt, size)?;
+        behind_beginning(&rt, size);
     }
-    Ok(())
 }

@@ -43,14 +43,15 @@ fn packet_of<'a>(standing: &Standing<'a>) -> Packet<'a> {
 
 /// Whether packets are these.
 pub fn are_packets(packets: &[Packet<'_>], wanted: &[Standing<'_>]) -> bool {
-    for (place, packet) in packets.iter().enumerate() {
-        if let Some(standing) = wanted.get(place)
-            && *packet != packet_of(standing)
-        {
+    if packets.len() != wanted.len() {
+        return false;
+    }
+    for place in 0..packets.len() {
+        if packets[place] != packet_of(&wanted[place]) {
             return false;
         }
     }
-    packets.len() == wanted.len()
+    true
 }
 
 /// What is kept of a packet of file 0, whose body is not longer than those that are held. As the

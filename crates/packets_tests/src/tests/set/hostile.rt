@@ -1,10 +1,10 @@
 use super::model::{
-    File, Own, all_aside, all_slices, cause_in, exponent_count, file_of, first_text, ids_of, own_of,
+    File, Own, all_aside, all_files, all_slices, cause_in, exponent_count, first_text, own_of,
 };
 use super::packets::{id_at, ids_in};
 use super::*;
 use parfixtures::{WORKED, all_standing, inverted, packet_of};
-use parsalvage::{Kept, kept_of, salvage};
+use parsalvage::{kept_of, salvage};
 
 // Whether a file is that of the model.
 fn is_file(found: &SetFile, wanted: &File<'_>) -> bool {
@@ -13,69 +13,47 @@ fn is_file(found: &SetFile, wanted: &File<'_>) -> bool {
     fields == (wanted.id, wanted.whole, wanted.length, sums) && found.name.as_slice() == wanted.name
 }
 
-// Whether the files are those of the model, by the numbers of these IDs.
-fn are_files(found: &[SetFile], own: &Own<'_>, numbers: &[u128]) -> bool {
-    for (file, number) in found.iter().zip(numbers) {
-        match file_of(own, *number) {
-            Some(wanted) if is_file(file, &wanted) => (),
-            _ => return false,
+// Whether the files are those of the model.
+fn are_files(found: &[SetFile], wanted: &[File<'_>]) -> bool {
+    if found.len() != wanted.len() {
+        return false;
+    }
+    for place in 0..found.len() {
+        if !is_file(&found[place], &wanted[place]) {
+            return false;
         }
     }
-    found.len() == numbers.len()
+    true
 }
 
-// A set has the ID, the slice size and the number of files that the model has.
-fn has_numbers(rt: &impl Abort, built: &RecoverySet, own: &Own<'_>, of: usize) {
+// Whether a set has the numbers and the text that the model has.
+fn has_numbers(built: &RecoverySet, own: &Own<'_>) -> bool {
     let files = built.files().len() + built.others() as usize;
-    is(rt, &of, &built.id(), &Hash16(own.main.set));
-    is(rt, &of, &built.size(), &own.size);
-    is(rt, &of, &files, &ids_in(own.main.body).len());
+    built.id() == Hash16(own.main.set)
+        && built.size() == own.size
+        && files == ids_in(own.main.body).len()
+        && built.have() as usize == exponent_count(own)
+        && built.creator() == first_text(own)
 }
 
-// A set has the exponents and the text that the model has.
-fn has_rest(rt: &impl Abort, built: &RecoverySet, own: &Own<'_>, of: usize) {
-    is(rt, &of, &(built.have() as usize), &exponent_count(own));
-    is(rt, &of, &built.creator(), &first_text(own));
-}
-
-// A set has the slices that the model has.
-fn has_slices(
+// A set has these files and the slices that the model has of them.
+fn has_files(
     rt: &(impl Abort + AllocGlobal),
     built: &RecoverySet,
     own: &Own<'_>,
-    numbers: &[u128],
+    files: &[File<'_>],
     of: usize,
-) -> Result<(), AllocError> {
-    let slices = all_slices(rt.alloc(), own, numbers)?;
-    is(rt, &of, &built.slices(), &slices.as_slice());
-    Ok(())
+) {
+    holds(rt, &("files", of), are_files(built.files(), files));
+    let slices = all_slices(rt, files, own.size);
+    holds(rt, &("slices", of), built.slices() == slices.as_slice());
 }
 
-// A set puts aside what the model does.
-fn has_aside(
-    rt: &(impl Abort + AllocGlobal),
-    built: &RecoverySet,
-    own: &Own<'_>,
-    of: usize,
-) -> Result<(), AllocError> {
-    let aside = all_aside(rt.alloc(), own)?;
-    is(rt, &of, &built.aside(), &aside.as_slice());
-    Ok(())
-}
-
-// A set is what the model has.
-fn is_set(
-    rt: &(impl Abort + AllocGlobal),
-    built: &RecoverySet,
-    own: &Own<'_>,
-    numbers: &[u128],
-    of: usize,
-) -> Result<(), AllocError> {
-    has_numbers(rt, built, own, of);
-    holds(rt, &of, are_files(built.files(), own, numbers));
-    has_slices(rt, built, own, numbers, of)?;
-    has_rest(rt, built, own, of);
-    has_aside(rt, built, own, of)
+// A set has the rest that the model has.
+fn has_rest(rt: &(impl Abort + AllocGlobal), built: &RecoverySet, own: &Own<'_>, of: usize) {
+    holds(rt, &("numbers", of), has_numbers(built, own));
+    let aside = all_aside(rt, own);
+    holds(rt, &("aside", of), built.aside() == aside.as_slice());
 }
 
 // Why there is no set, if so.
@@ -92,12 +70,12 @@ fn is_answer(
     built: &Result<RecoverySet, SetFault>,
     own: &Own<'_>,
     of: usize,
-) -> Result<(), AllocError> {
-    let numbers = ids_of(rt.alloc(), own)?;
-    is(rt, &of, &fault_of(built), &cause_in(own, &numbers));
-    match built {
-        Ok(built) => is_set(rt, built, own, &numbers, of),
-        Err(_) => Ok(()),
+) {
+    let files = all_files(rt, own);
+    is(rt, &of, &fault_of(built), &cause_in(&files, own.size));
+    if let Ok(built) = built {
+        has_files(rt, built, own, &files, of);
+        has_rest(rt, built, own, of);
     }
 }
 
@@ -108,50 +86,35 @@ fn is_answer_of(
     bytes: &[u8],
     choice: Option<Hash16>,
     of: usize,
-) -> Result<(), AllocError> {
-    let standing = all_standing(rt.alloc(), bytes)?;
-    match own_of(&standing, choice) {
+) {
+    let packets = must(rt, all_standing(rt.alloc(), bytes));
+    match own_of(&packets, choice) {
         Some(own) => is_answer(rt, built, &own, of),
-        None => {
-            is(rt, &of, &fault_of(built), &Some(SetFault::NoMain));
-            Ok(())
-        }
+        None => is(rt, &of, &fault_of(built), &Some(SetFault::NoMain)),
     }
 }
 
-// What is kept of bytes.
-fn kept_in(alloc: Global, bytes: &[u8]) -> Result<Vec<Kept>, AllocError> {
-    let packets = salvage(alloc, bytes)?;
-    kept_of(alloc, 0, &packets)
+/// What is built of bytes.
+pub fn built_of(
+    rt: &(impl Abort + AllocGlobal),
+    bytes: &[u8],
+    choice: Option<Hash16>,
+) -> Result<RecoverySet, SetFault> {
+    let packets = must(rt, salvage(rt.alloc(), bytes));
+    let kept = must(rt, kept_of(rt.alloc(), 0, &packets));
+    build(rt.alloc(), &kept, choice)
 }
 
-// What is built of bytes.
-fn built_of(alloc: Global, bytes: &[u8], choice: Option<Hash16>) -> Result<RecoverySet, SetFault> {
-    let kept = kept_in(alloc, bytes)?;
-    build(alloc, &kept, choice)
-}
-
-/// The packets of bytes give what the model has: the set, or why there is none.
+/// The packets of bytes give what the model has: the set, or why there is none, which is returned.
 pub fn agrees(
     rt: &(impl Abort + AllocGlobal),
     bytes: &[u8],
     choice: Option<Hash16>,
     of: usize,
-) -> Result<Result<RecoverySet, SetFault>, AllocError> {
-    let built = built_of(rt.alloc(), bytes, choice);
-    is_answer_of(rt, &built, bytes, choice, of)?;
-    Ok(built)
-}
-
-// Why there is no set, if so, where the model has that too.
-fn agreed_fault(
-    rt: &(impl Abort + AllocGlobal),
-    bytes: &[u8],
-    choice: Option<Hash16>,
-    of: usize,
-) -> Result<Option<SetFault>, AllocError> {
-    let built = agrees(rt, bytes, choice, of)?;
-    Ok(fault_of(&built))
+) -> Option<SetFault> {
+    let built = built_of(rt, bytes, choice);
+    is_answer_of(rt, &built, bytes, choice, of);
+    fault_of(&built)
 }
 
 // The place of an answer among the counts: no Main packet, no description, many slices, a set.
@@ -167,22 +130,11 @@ fn place_of(fault: Option<SetFault>) -> usize {
     }
 }
 
-// Bytes give what the model has, by their first Main packet and as the set of the worked file; the
-// place of the answer by the first.
-fn agrees_twice(
-    rt: &(impl Abort + AllocGlobal),
-    bytes: &[u8],
-    of: usize,
-) -> Result<usize, AllocError> {
-    agreed_fault(rt, bytes, Some(SET), of)?;
-    Ok(place_of(agreed_fault(rt, bytes, None, of)?))
-}
-
 // Where the packets of the worked file begin and end.
 static PLACES: [(usize, usize); 4] = [(0, 92), (92, 220), (220, 340), (340, 416)];
 
 // What becomes of the worked file at a place.
-#[derive(Clone, Copy, Debug, PartialEq)]
+#[derive(Clone, Copy)]
 enum Change {
     // It is cut.
     Cut,
@@ -194,32 +146,42 @@ enum Change {
     SetAndHashes,
 }
 
-// The packets of bytes that are as long as those of the worked file, with their hashes made anew,
-// and with this set ID, or else with their own.
-fn with_hashes(alloc: Global, bytes: &[u8], set: Option<Hash16>) -> Result<Vec<u8>, AllocError> {
-    let mut made = Vec::new(alloc);
-    for (from, end) in &PLACES {
-        let packet = bytes.get(*from..*end).unwrap_or(&[]);
-        let set = set.unwrap_or(id_at(packet, 32));
-        let body = packet.get(64..).unwrap_or(&[]);
-        put(alloc, &mut made, set.0, id_at(packet, 48).0, body)?;
-    }
-    Ok(made)
+// Puts a packet behind others, with its hash made anew, and with this set ID, or else with its own.
+fn put_anew(
+    rt: &(impl Abort + AllocGlobal),
+    bytes: &mut Vec<u8>,
+    packet: &[u8],
+    set: Option<Hash16>,
+) {
+    let set = set.unwrap_or(id_at(packet, 32));
+    let body = packet.get(64..).unwrap_or(&[]);
+    put(rt, bytes, set.0, id_at(packet, 48).0, body);
 }
 
-// Those packets with the set ID that the Main body has.
-fn with_set(alloc: Global, bytes: &[u8]) -> Result<Vec<u8>, AllocError> {
-    let main = bytes.get(64..92).unwrap_or(&[]);
-    with_hashes(alloc, bytes, Some(digest_of(main)))
+// The packets of bytes that are as long as those of the worked file, made anew so.
+fn with_hashes(rt: &(impl Abort + AllocGlobal), bytes: &[u8], set: Option<Hash16>) -> Vec<u8> {
+    let mut made = Vec::new(rt.alloc());
+    for (from, end) in &PLACES {
+        put_anew(rt, &mut made, bytes.get(*from..*end).unwrap_or(&[]), set);
+    }
+    made
+}
+
+// The worked file with a byte inverted and its packets made anew, where that is wanted with the set
+// ID that the Main body has.
+fn anew(rt: &(impl Abort + AllocGlobal), at: usize, with_set: bool) -> Vec<u8> {
+    let bytes = must(rt, inverted(rt.alloc(), at));
+    let set = digest_of(bytes.get(64..92).unwrap_or(&[]));
+    with_hashes(rt, &bytes, with_set.then_some(set))
 }
 
 // The worked file with this change.
-fn changed(alloc: Global, at: usize, change: Change) -> Result<Vec<u8>, AllocError> {
+fn changed(rt: &(impl Abort + AllocGlobal), at: usize, change: Change) -> Vec<u8> {
     match change {
-        Change::Cut => Vec::from_slice(alloc, WORKED.as_slice().get(..at).unwrap_or(&[])),
-        Change::Inverted => inverted(alloc, at),
-        Change::Hashes => with_hashes(alloc, &inverted(alloc, at)?, None),
-        Change::SetAndHashes => with_set(alloc, &inverted(alloc, at)?),
+        Change::Cut => must(rt, Vec::from_slice(rt.alloc(), &WORKED[..at.min(416)])),
+        Change::Inverted => must(rt, inverted(rt.alloc(), at)),
+        Change::Hashes => anew(rt, at, false),
+        Change::SetAndHashes => anew(rt, at, true),
     }
 }
 
@@ -243,14 +205,12 @@ static CHANGED: [(usize, usize, Change, [usize; 4]); 10] = [
     (76, 92, Change::SetAndHashes, [0, 16, 0, 0]),
 ];
 
-// The place of the answer to the worked file with this change.
-fn answer_to(
-    rt: &(impl Abort + AllocGlobal),
-    at: usize,
-    change: Change,
-) -> Result<usize, AllocError> {
-    let bytes = changed(rt.alloc(), at, change)?;
-    agrees_twice(rt, &bytes, at)
+// The worked file with this change gives what the model has, by its first Main packet and as the
+// set of the worked file; the place of the answer by the first.
+fn answer_to(rt: &(impl Abort + AllocGlobal), at: usize, change: Change) -> usize {
+    let bytes = changed(rt, at, change);
+    agrees(rt, &bytes, Some(SET), at);
+    place_of(agrees(rt, &bytes, None, at))
 }
 
 // How many of the files with this change have which answer.
@@ -259,67 +219,60 @@ fn counts_of(
     from: usize,
     end: usize,
     change: Change,
-) -> Result<[usize; 4], AllocError> {
+) -> [usize; 4] {
     let mut counts = [0; 4];
     for at in from..end {
-        if let Some(count) = counts.get_mut(answer_to(rt, at, change)?) {
+        if let Some(count) = counts.get_mut(answer_to(rt, at, change)) {
             *count = usize::saturating_add(*count, 1);
         }
     }
-    Ok(counts)
+    counts
 }
 
 #[test]
-fn sets_agree_with_the_model_at_each_cut_and_inverted_byte(
-    rt: HostRuntime,
-) -> Result<(), AllocError> {
+fn sets_agree_with_the_model_at_each_cut_and_inverted_byte(rt: HostRuntime) {
     for row in &CHANGED {
-        is(&rt, row, &counts_of(&rt, row.0, row.1, row.2)?, &row.3);
+        let counts = counts_of(&rt, row.0, row.1, row.2);
+        is(&rt, &(row.0, row.1), &counts, &row.3);
     }
-    Ok(())
+}
+
+// The letter of a file, by its place.
+fn letter(place: usize) -> u8 {
+    b'a' + (place % 8) as u8
 }
 
 // Puts the packet of a description of a file of this length, which has its ID as name, behind bytes.
 fn put_desc(
-    alloc: Global,
+    rt: &(impl Abort + AllocGlobal),
     bytes: &mut Vec<u8>,
     set: Hash16,
     id: u8,
     length: u64,
-) -> Result<(), AllocError> {
-    let body = joined(
-        alloc,
-        &[&[id; 16], &[2; 32], &length.to_le_bytes(), &[id; 4]],
-    )?;
-    put(alloc, bytes, set.0, DESC_TYPE, &body)
+) {
+    let body = join(rt, &[&[id; 16], &[2; 32], &length.to_le_bytes(), &[id; 4]]);
+    put(rt, bytes, set.0, DESC_TYPE, &body);
 }
 
 // The Main body of a set of so many files, in slices of 4 bytes.
-fn main_of(alloc: Global, count: usize) -> Result<Vec<u8>, AllocError> {
-    let mut main = joined(
-        alloc,
-        &[b"\x04\0\0\0\0\0\0\0", &(count as u64).to_le_bytes()[..4]],
-    )?;
+fn main_of(rt: &(impl Abort + AllocGlobal), count: usize) -> Vec<u8> {
+    let number = (count as u64).to_le_bytes();
+    let mut main = join(rt, &[b"\x04\0\0\0\0\0\0\0", &number[..4]]);
     for place in 0..count {
-        main.extend_from_slice(&[b'a' + (place % 8) as u8; 16])?;
+        extend(rt, &mut main, &[letter(place); 16]);
     }
-    Ok(main)
-}
-
-// The packets of a set with this Main body, of files of these lengths.
-fn set_with(alloc: Global, main: &[u8], lengths: &[u64]) -> Result<Vec<u8>, AllocError> {
-    let set = digest_of(main);
-    let mut bytes = packet_of(alloc, set.0, MAIN_TYPE, main)?;
-    for (place, length) in lengths.iter().enumerate() {
-        put_desc(alloc, &mut bytes, set, b'a' + (place % 8) as u8, *length)?;
-    }
-    Ok(bytes)
+    main
 }
 
 // The packets of a set of files of these lengths.
-fn set_of_lengths(alloc: Global, lengths: &[u64]) -> Result<Vec<u8>, AllocError> {
-    let main = main_of(alloc, lengths.len())?;
-    set_with(alloc, &main, lengths)
+fn set_of_lengths(rt: &(impl Abort + AllocGlobal), lengths: &[u64]) -> Vec<u8> {
+    let main = main_of(rt, lengths.len());
+    let set = digest_of(&main);
+    let mut bytes = must(rt, packet_of(rt.alloc(), set.0, MAIN_TYPE, &main));
+    for place in 0..lengths.len() {
+        put_desc(rt, &mut bytes, set, letter(place), lengths[place]);
+    }
+    bytes
 }
 
 const MANY: Option<SetFault> = Some(SetFault::TooManySlices);
@@ -343,20 +296,15 @@ static LENGTHS: [(&[u64], Option<SetFault>); 14] = [
     (&[9_223_372_036_854_775_807; 8], MANY),
 ];
 
-// Why there is no set of files of these lengths, if so, where the model has that too.
-fn fault_with(
-    rt: &(impl Abort + AllocGlobal),
-    place: usize,
-    lengths: &[u64],
-) -> Result<Option<SetFault>, AllocError> {
-    let bytes = set_of_lengths(rt.alloc(), lengths)?;
-    agreed_fault(rt, &bytes, None, place)
+// Files of the lengths of a row have its fault or none, where the model has that too.
+fn has_fault(rt: &(impl Abort + AllocGlobal), row: &(&[u64], Option<SetFault>), of: usize) {
+    let bytes = set_of_lengths(rt, row.0);
+    is(rt, &of, &agrees(rt, &bytes, None, of), &row.1);
 }
 
 #[test]
-fn sets_have_at_most_32768_slices(rt: HostRuntime) -> Result<(), AllocError> {
-    for (place, row) in LENGTHS.iter().enumerate() {
-        is(&rt, row, &fault_with(&rt, place, row.0)?, &row.1);
+fn sets_have_at_most_32768_slices(rt: HostRuntime) {
+    for place in 0..LENGTHS.len() {
+        has_fault(&rt, &LENGTHS[place], place);
     }
-    Ok(())
 }

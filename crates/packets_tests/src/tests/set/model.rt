@@ -1,21 +1,23 @@
 // Recovery sets as their definition has them: filters and the first such, over one list of
 // packets. No body here is longer than those that are held.
+use super::must;
 use super::packets::{filled_text, id_at, ids_in, long_at, recovery_ids_in, sums_in, word_at};
 use md5::{Digest, Md5};
 use parfield::Hash16;
 use parfixtures::{CREATOR_TYPE, DESC_TYPE, IFSC_TYPE, MAIN_TYPE, SLICE_TYPE, Standing};
 use parset::{Aside, SetAside, SetFault, SetSlice};
-use std::alloc::{AllocError, Global};
+use std::process::Abort;
 
 /// A set: its Main packet, its slice size, and the packets that its own are among.
 #[derive(Clone, Copy)]
 pub struct Own<'a> {
     pub main: Standing<'a>,
     pub size: u64,
-    packets: &'a [Standing<'a>],
+    pub packets: &'a [Standing<'a>],
 }
 
-/// A file of a set; its slices have sums, or none are known.
+/// A file of a set, whose name is empty where it is not described; its slices have sums, or none
+/// are known.
 #[derive(Clone, Copy)]
 pub struct File<'a> {
     pub id: Hash16,
@@ -27,11 +29,9 @@ pub struct File<'a> {
 
 // Whether an ID stands again behind its place.
 fn stands_twice(ids: &[[u8; 16]]) -> bool {
-    for (place, id) in ids.iter().enumerate() {
-        for other in &ids[..place] {
-            if *id == *other {
-                return true;
-            }
+    for place in 0..ids.len() {
+        if ids[..place].contains(&ids[place]) {
+            return true;
         }
     }
     false
@@ -108,13 +108,16 @@ fn reason(packet: &Standing<'_>, size: u64) -> Option<Aside> {
     }
 }
 
+// Whether a packet is a usable Main, and of the chosen set if one is.
+fn is_chosen(packet: &Standing<'_>, choice: Option<Hash16>) -> bool {
+    let set = Hash16(packet.set);
+    packet.kind == MAIN_TYPE && choice.unwrap_or(set) == set && reason(packet, 0).is_none()
+}
+
 // The first usable Main, or the first one of a chosen set.
 fn first_main<'a>(packets: &[Standing<'a>], choice: Option<Hash16>) -> Option<Standing<'a>> {
     for packet in packets {
-        if packet.kind == MAIN_TYPE
-            && choice.unwrap_or(Hash16(packet.set)) == Hash16(packet.set)
-            && reason(packet, 0).is_none()
-        {
+        if is_chosen(packet, choice) {
             return Some(*packet);
         }
     }
@@ -131,40 +134,43 @@ pub fn own_of<'a>(packets: &'a [Standing<'a>], choice: Option<Hash16>) -> Option
     })
 }
 
-// The reason of a packet of the set.
-fn own_reason(own: &Own<'_>, packet: &Standing<'_>) -> Option<Aside> {
-    if packet.set == own.main.set {
-        reason(packet, own.size)
-    } else {
-        None
-    }
-}
-
 // Whether a packet is of the set and this kind, and has no reason.
 fn is_usable(own: &Own<'_>, packet: &Standing<'_>, kind: [u8; 16]) -> bool {
     packet.set == own.main.set && packet.kind == kind && reason(packet, own.size).is_none()
 }
 
-/// The packets that have a reason.
-pub fn all_aside(alloc: Global, own: &Own<'_>) -> Result<Vec<SetAside>, AllocError> {
-    let mut aside = Vec::new(alloc);
-    for packet in own.packets {
-        if let Some(reason) = own_reason(own, packet) {
-            let at = packet.at as u64;
-            aside.push(SetAside {
-                file: 0,
-                at,
-                reason,
-            })?;
-        }
+// What is put aside of a packet, if it is of the set and has a reason.
+fn aside_of(own: &Own<'_>, packet: &Standing<'_>) -> Option<SetAside> {
+    if packet.set != own.main.set {
+        return None;
     }
-    Ok(aside)
+    Some(SetAside {
+        file: 0,
+        at: packet.at as u64,
+        reason: reason(packet, own.size)?,
+    })
 }
 
-// Whether a usable recovery slice among packets has this exponent.
-fn has_exponent(own: &Own<'_>, packets: &[Standing<'_>], exponent: u32) -> bool {
+/// What is put aside of the packets.
+pub fn all_aside(rt: &(impl Abort + AllocGlobal), own: &Own<'_>) -> Vec<SetAside> {
+    let mut all = Vec::new(rt.alloc());
+    for packet in own.packets {
+        if let Some(aside) = aside_of(own, packet) {
+            must(rt, all.push(aside));
+        }
+    }
+    all
+}
+
+// Whether a packet is a usable recovery slice of this exponent.
+fn is_slice(own: &Own<'_>, packet: &Standing<'_>, exponent: u32) -> bool {
+    is_usable(own, packet, SLICE_TYPE) && word_at(packet.body, 0) == exponent
+}
+
+// Whether one of these packets is such a slice.
+fn has_slice(own: &Own<'_>, packets: &[Standing<'_>], exponent: u32) -> bool {
     for packet in packets {
-        if is_usable(own, packet, SLICE_TYPE) && word_at(packet.body, 0) == exponent {
+        if is_slice(own, packet, exponent) {
             return true;
         }
     }
@@ -174,9 +180,10 @@ fn has_exponent(own: &Own<'_>, packets: &[Standing<'_>], exponent: u32) -> bool 
 /// How many exponents the usable recovery slices have: each counts where it stands first.
 pub fn exponent_count(own: &Own<'_>) -> usize {
     let mut count = 0usize;
-    for (place, packet) in own.packets.iter().enumerate() {
-        if is_usable(own, packet, SLICE_TYPE)
-            && !has_exponent(own, &own.packets[..place], word_at(packet.body, 0))
+    for place in 0..own.packets.len() {
+        let exponent = word_at(own.packets[place].body, 0);
+        if is_slice(own, &own.packets[place], exponent)
+            && !has_slice(own, &own.packets[..place], exponent)
         {
             count = count.saturating_add(1);
         }
@@ -188,7 +195,7 @@ pub fn exponent_count(own: &Own<'_>) -> usize {
 pub fn first_text<'a>(own: &Own<'a>) -> Option<&'a [u8]> {
     for packet in own.packets {
         let text = filled_text(packet.body, 0);
-        if is_usable(own, packet, CREATOR_TYPE) && !text.is_empty() {
+        if !text.is_empty() && is_usable(own, packet, CREATOR_TYPE) {
             return Some(text);
         }
     }
@@ -203,14 +210,17 @@ fn slice_count(length: u64, size: u64) -> u64 {
     (length / size).saturating_add(u64::from(length % size != 0))
 }
 
+// Whether a packet is usable and of this kind, and its body begins with this ID.
+fn is_about(own: &Own<'_>, packet: &Standing<'_>, kind: [u8; 16], id: Hash16) -> bool {
+    is_usable(own, packet, kind) && id_at(packet.body, 0) == id
+}
+
 // The first usable sums of a file that are so many.
 fn first_sums<'a>(own: &Own<'a>, id: Hash16, count: u64) -> Option<&'a [[u8; 20]]> {
     for packet in own.packets {
-        if is_usable(own, packet, IFSC_TYPE) && id_at(packet.body, 0) == id {
-            let sums = sums_in(packet.body);
-            if sums.len() as u64 == count {
-                return Some(sums);
-            }
+        let sums = sums_in(packet.body);
+        if sums.len() as u64 == count && is_about(own, packet, IFSC_TYPE, id) {
+            return Some(sums);
         }
     }
     None
@@ -219,98 +229,95 @@ fn first_sums<'a>(own: &Own<'a>, id: Hash16, count: u64) -> Option<&'a [[u8; 20]
 // The first usable description of the file of this ID.
 fn first_desc<'a>(own: &Own<'a>, id: Hash16) -> Option<&'a [u8]> {
     for packet in own.packets {
-        if is_usable(own, packet, DESC_TYPE) && id_at(packet.body, 0) == id {
+        if is_about(own, packet, DESC_TYPE, id) {
             return Some(packet.body);
         }
     }
     None
 }
 
-/// The file whose ID has this number, by its first description.
-pub fn file_of<'a>(own: &Own<'a>, number: u128) -> Option<File<'a>> {
-    let id = Hash16(number.to_le_bytes());
-    let body = first_desc(own, id)?;
+// The file of this ID, by its first description.
+fn file_of<'a>(own: &Own<'a>, id: Hash16) -> File<'a> {
+    let body = first_desc(own, id).unwrap_or(&[]);
     let length = long_at(body, 48);
-    Some(File {
+    File {
         id,
         whole: id_at(body, 16),
         length,
         name: filled_text(body, 56),
         sums: first_sums(own, id, slice_count(length, own.size)),
-    })
-}
-
-/// The IDs of the files of a set, as numbers whose first byte is the least, in order.
-pub fn ids_of(alloc: Global, own: &Own<'_>) -> Result<Vec<u128>, AllocError> {
-    let mut numbers = Vec::new(alloc);
-    for id in recovery_ids_in(own.main.body) {
-        numbers.push(u128::from_le_bytes(*id))?;
     }
-    numbers.sort()?;
-    Ok(numbers)
 }
 
-// The first of these files that has no description.
-fn not_described(own: &Own<'_>, numbers: &[u128]) -> Option<SetFault> {
+// The recovery IDs of a Main body, as numbers whose first byte is the least, in order.
+fn ids_of(rt: &(impl Abort + AllocGlobal), body: &[u8]) -> Vec<u128> {
+    let mut numbers = Vec::new(rt.alloc());
+    for id in recovery_ids_in(body) {
+        must(rt, numbers.push(u128::from_le_bytes(*id)));
+    }
+    numbers.sort_unstable();
+    numbers
+}
+
+// The files of these numbers.
+fn files_of<'a>(rt: &(impl Abort + AllocGlobal), own: &Own<'a>, numbers: &[u128]) -> Vec<File<'a>> {
+    let mut files = Vec::new(rt.alloc());
     for number in numbers {
-        if file_of(own, *number).is_none() {
-            return Some(SetFault::NoDesc(Hash16(number.to_le_bytes())));
+        must(rt, files.push(file_of(own, Hash16(number.to_le_bytes()))));
+    }
+    files
+}
+
+/// The files of the recovery IDs of a set, by ID.
+pub fn all_files<'a>(rt: &(impl Abort + AllocGlobal), own: &Own<'a>) -> Vec<File<'a>> {
+    files_of(rt, own, &ids_of(rt, own.main.body))
+}
+
+// The first file that has no description: a usable one has a name.
+fn not_described(files: &[File<'_>]) -> Option<SetFault> {
+    for file in files {
+        if file.name.is_empty() {
+            return Some(SetFault::NoDesc(file.id));
         }
     }
     None
 }
 
-// The name of a file that is described.
-fn name_of<'a>(own: &Own<'a>, number: u128) -> &'a [u8] {
-    match file_of(own, number) {
-        Some(file) => file.name,
-        None => &[],
-    }
-}
-
 // Whether one of these files has this name.
-fn has_name(own: &Own<'_>, numbers: &[u128], name: &[u8]) -> bool {
-    for number in numbers {
-        if name_of(own, *number) == name {
+fn has_name(files: &[File<'_>], name: &[u8]) -> bool {
+    for file in files {
+        if file.name == name {
             return true;
         }
     }
     false
 }
 
-// The first of these files, which are described, that has the name of one before it.
-fn named_twice(own: &Own<'_>, numbers: &[u128]) -> Option<SetFault> {
-    for (place, number) in numbers.iter().enumerate() {
-        if has_name(own, &numbers[..place], name_of(own, *number)) {
-            return Some(SetFault::NameTwice(Hash16(number.to_le_bytes())));
+// The first file that has the name of one before it.
+fn named_twice(files: &[File<'_>]) -> Option<SetFault> {
+    for place in 0..files.len() {
+        if has_name(&files[..place], files[place].name) {
+            return Some(SetFault::NameTwice(files[place].id));
         }
     }
     None
 }
 
-// How many slices these files have.
-fn total_of(own: &Own<'_>, numbers: &[u128]) -> u64 {
-    let mut total = 0;
-    for number in numbers {
-        if let Some(file) = file_of(own, *number) {
-            total = slice_count(file.length, own.size).saturating_add(total);
-        }
+// The cause against files that have too many slices, if they do.
+fn too_many(files: &[File<'_>], size: u64) -> Option<SetFault> {
+    let mut total = 0u64;
+    for file in files {
+        total = total.saturating_add(slice_count(file.length, size));
     }
-    total
+    (total > 32_768).then_some(SetFault::TooManySlices)
 }
 
 /// The first cause against a set of these files, if any: of all the files one that has no
 /// description, then one whose name stands twice, then their slices.
-pub fn cause_in(own: &Own<'_>, numbers: &[u128]) -> Option<SetFault> {
-    if let Some(cause) = not_described(own, numbers) {
-        Some(cause)
-    } else if let Some(cause) = named_twice(own, numbers) {
-        Some(cause)
-    } else if total_of(own, numbers) > 32_768 {
-        Some(SetFault::TooManySlices)
-    } else {
-        None
-    }
+pub fn cause_in(files: &[File<'_>], size: u64) -> Option<SetFault> {
+    not_described(files)
+        .or(named_twice(files))
+        .or(too_many(files, size))
 }
 
 // The sums of a slice.
@@ -333,24 +340,17 @@ fn slice_of(file: &File<'_>, size: u64, number: u32) -> SetSlice {
 }
 
 // Puts the slices of a file behind others.
-fn put_slices(slices: &mut Vec<SetSlice>, file: &File<'_>, size: u64) -> Result<(), AllocError> {
+fn put_slices(rt: &impl Abort, slices: &mut Vec<SetSlice>, file: &File<'_>, size: u64) {
     for number in 0..slice_count(file.length, size).min(32_768) as u32 {
-        slices.push(slice_of(file, size, number))?;
+        must(rt, slices.push(slice_of(file, size, number)));
     }
-    Ok(())
 }
 
-/// The slices of these files, which are described.
-pub fn all_slices(
-    alloc: Global,
-    own: &Own<'_>,
-    numbers: &[u128],
-) -> Result<Vec<SetSlice>, AllocError> {
-    let mut slices = Vec::new(alloc);
-    for number in numbers {
-        if let Some(file) = file_of(own, *number) {
-            put_slices(&mut slices, &file, own.size)?;
-        }
+/// The slices of these files.
+pub fn all_slices(rt: &(impl Abort + AllocGlobal), files: &[File<'_>], size: u64) -> Vec<SetSlice> {
+    let mut slices = Vec::new(rt.alloc());
+    for file in files {
+        put_slices(rt, &mut slices, file, size);
     }
-    Ok(slices)
+    slices
 }

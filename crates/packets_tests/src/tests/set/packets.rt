@@ -17,9 +17,14 @@ pub fn id_at(bytes: &[u8], at: usize) -> Hash16 {
     Hash16(field::<16>(bytes, at).unwrap_or([0; 16]))
 }
 
+// What stands in bytes from a place on.
+fn rest_from(bytes: &[u8], from: usize) -> &[u8] {
+    bytes.get(from..).unwrap_or(&[])
+}
+
 /// The IDs of a Main body.
 pub fn ids_in(body: &[u8]) -> &[[u8; 16]] {
-    let (ids, _) = body.get(12..).unwrap_or(&[]).as_chunks::<16>();
+    let (ids, _) = rest_from(body, 12).as_chunks::<16>();
     ids
 }
 
@@ -31,17 +36,17 @@ pub fn recovery_ids_in(body: &[u8]) -> &[[u8; 16]] {
 
 /// The sums in an IFSC body, each an MD5 and a CRC-32.
 pub fn sums_in(body: &[u8]) -> &[[u8; 20]] {
-    let (sums, _) = body.get(16..).unwrap_or(&[]).as_chunks::<20>();
+    let (sums, _) = rest_from(body, 16).as_chunks::<20>();
     sums
 }
 
 /// The bytes from a place on, without the zeros at their end.
 pub fn filled_text(bytes: &[u8], from: usize) -> &[u8] {
-    let text = bytes.get(from..).unwrap_or(&[]);
+    let text = rest_from(bytes, from);
     let mut size = 0;
-    for (at, byte) in text.iter().enumerate() {
-        if *byte != 0 {
-            size = at.saturating_add(1);
+    for at in 0..text.len() {
+        if text[at] != 0 {
+            size = at + 1;
         }
     }
     text.get(..size).unwrap_or(text)

@@ -1,10 +1,11 @@
 use super::*;
 use parfield::{Kind, Packet};
 use parsalvage::{Kept, kept_of};
+use std::alloc::Global;
 
-// Bodies, a row each: the kind of its packet, the first reason why the body is not usable or that
-// it is, and the runs of its bytes. A Main body is in a packet of its own set.
-type Rows = &'static [(Kind, Option<Aside>, Runs)];
+// A body: the kind of its packet, the first reason why the body is not usable or that it is, and
+// the runs of its bytes. A Main body is in a packet of its own set.
+type Row = (Kind, Option<Aside>, Runs);
 
 const USABLE: Option<Aside> = None;
 
@@ -22,7 +23,7 @@ const LIMIT: Option<Aside> = Some(Aside::OverLimit);
 // the small ones, 268,435,456 and 268,435,460, and twice the first; the last Main bodies have 32,769
 // IDs, or are the longest. A FileDesc body has 48 bytes of ID and MD5s, eight of length, and the
 // name; an IFSC body sixteen bytes of ID, and twenty a slice.
-const BODIES: Rows = &[
+static BODIES: [Row; 72] = [
     (Kind::Main, LENGTH, &[]),
     (Kind::Main, LENGTH, &[(4, 1), (0, 10)]),
     (Kind::Main, USABLE, &[(4, 1), (0, 11)]),
@@ -170,7 +171,7 @@ const BODIES: Rows = &[
 ];
 
 // The same of bodies in packets of a set whose slices have four bytes.
-const OTHERS: Rows = &[
+static OTHERS: [Row; 6] = [
     (Kind::RecvSlic, USABLE, &[(0, 8)]),
     (Kind::RecvSlic, LENGTH, &[(0, 9)]),
     (Kind::RecvSlic, LENGTH, &[(0, 12)]),
@@ -206,36 +207,30 @@ fn reason_in_another(kind: Kind, reason: Option<Aside>) -> Option<Aside> {
     }
 }
 
-// A body in a packet of this kind has this reason, in a set of its own and in another.
-fn has_reason(
-    rt: &(impl Abort + AllocGlobal),
-    place: usize,
-    body: &[u8],
-    kind: Kind,
-    reason: Option<Aside>,
-) {
-    let fault = fault_in(rt.alloc(), kind, body, digest_of(body));
-    is(rt, &place, &fault, &fault_of(reason));
-    let fault = fault_in(rt.alloc(), kind, body, SET);
-    is(
-        rt,
-        &place,
-        &fault,
-        &fault_of(reason_in_another(kind, reason)),
-    );
+// A body has its reason in a set of its own and in another.
+fn has_reason(rt: &(impl Abort + AllocGlobal), row: &Row) {
+    let (kind, reason, runs) = *row;
+    let body = bytes_of(rt, runs);
+    let own = fault_in(rt.alloc(), kind, &body, digest_of(&body));
+    let another = fault_in(rt.alloc(), kind, &body, SET);
+    let wanted = (fault_of(reason), fault_of(reason_in_another(kind, reason)));
+    is(rt, &runs, &(own, another), &wanted);
 }
 
-// These bodies. A table is proved again in each function that names it.
-fn bodies() -> Rows {
-    BODIES
+// The bodies, and the others. A table is proved again in each function that names it.
+fn bodies() -> &'static [Row] {
+    &BODIES
+}
+
+fn others() -> &'static [Row] {
+    &OTHERS
 }
 
 #[test]
-fn bodies_have_their_first_reason(rt: HostRuntime) -> Result<(), AllocError> {
-    for (place, row) in bodies().iter().enumerate() {
-        has_reason(&rt, place, &bytes_of(rt.alloc(), row.2)?, row.0, row.1);
+fn bodies_have_their_first_reason(rt: HostRuntime) {
+    for row in bodies() {
+        has_reason(&rt, row);
     }
-    Ok(())
 }
 
 // How many recovery IDs and how many IDs a Main body has, of which no two are the same, how many
@@ -249,51 +244,49 @@ static LONG_MAINS: [(u32, u32, usize, Option<Aside>); 6] = [
     (0, 32_768, 16, Some(Aside::OverLimit)),
 ];
 
-// Puts so many IDs behind bytes.
-fn put_ids(body: &mut Vec<u8>, ids: u32) -> Result<(), AllocError> {
+// A Main body of so many recovery IDs and so many IDs.
+fn long_main(rt: &(impl Abort + AllocGlobal), count: u32, ids: u32) -> Vec<u8> {
+    let mut body = join(rt, &[b"\x04\0\0\0\0\0\0\0", &count.to_le_bytes()]);
     for id in 0..ids {
-        body.extend_from_slice(&u128::from(id).to_le_bytes())?;
+        extend(rt, &mut body, &u128::from(id).to_le_bytes());
     }
-    Ok(())
+    body
 }
 
-// A Main body of such a row.
-fn long_main(alloc: Global, count: u32, ids: u32, zeros: usize) -> Result<Vec<u8>, AllocError> {
-    let mut body = joined(alloc, &[b"\x04\0\0\0\0\0\0\0", &count.to_le_bytes()])?;
-    put_ids(&mut body, ids)?;
-    body.resize(body.len().saturating_add(zeros), 0)?;
-    Ok(body)
+// The body of such a row has its reason.
+fn has_reason_of(rt: &(impl Abort + AllocGlobal), row: &(u32, u32, usize, Option<Aside>)) {
+    let mut body = long_main(rt, row.0, row.1);
+    must(rt, body.resize(body.len().saturating_add(row.2), 0));
+    let fault = fault_in(rt.alloc(), Kind::Main, &body, digest_of(&body));
+    is(rt, row, &fault, &fault_of(row.3));
 }
 
 #[test]
-fn main_bodies_of_many_ids_have_their_first_reason(rt: HostRuntime) -> Result<(), AllocError> {
+fn main_bodies_of_many_ids_have_their_first_reason(rt: HostRuntime) {
     for row in &LONG_MAINS {
-        let body = long_main(rt.alloc(), row.0, row.1, row.2)?;
-        let fault = fault_in(rt.alloc(), Kind::Main, &body, digest_of(&body));
-        is(&rt, row, &fault, &fault_of(row.3));
+        has_reason_of(&rt, row);
     }
-    Ok(())
 }
 
 // Lengths of usable IFSC bodies of zeros, and how many pairs those have.
 static PAIRS: [(usize, usize); 3] = [(16, 0), (36, 1), (655_376, 32_768)];
 
-// How many pairs a usable IFSC body of so many zeros has.
-fn pairs_in(alloc: Global, size: usize) -> Result<usize, BodyFault> {
-    let body = vec![in alloc; 0; size]?;
-    Ok(ifsc_body(alloc, &body)?.sums.len())
+// A usable IFSC body of so many zeros has so many pairs.
+fn has_pairs(rt: &(impl Abort + AllocGlobal), row: &(usize, usize)) {
+    let body = must(rt, vec![in rt.alloc(); 0; row.0]);
+    let ifsc = must(rt, ifsc_body(rt.alloc(), &body));
+    is(rt, row, &ifsc.sums.len(), &row.1);
 }
 
 #[test]
-fn checksums_have_a_pair_for_each_twenty_bytes(rt: HostRuntime) -> Result<(), BodyFault> {
+fn checksums_have_a_pair_for_each_twenty_bytes(rt: HostRuntime) {
     for row in &PAIRS {
-        is(&rt, row, &pairs_in(rt.alloc(), row.0)?, &row.1);
+        has_pairs(&rt, row);
     }
-    Ok(())
 }
 
 // Puts a packet of the set of `g.bin` behind others, at the offset of its number.
-fn keep(alloc: Global, packets: &mut Vec<Kept>, kind: Kind, body: &[u8]) -> Result<(), AllocError> {
+fn keep(rt: &(impl Abort + AllocGlobal), packets: &mut Vec<Kept>, kind: Kind, body: &[u8]) {
     let packet = Packet {
         at: packets.len(),
         length: 64,
@@ -301,76 +294,62 @@ fn keep(alloc: Global, packets: &mut Vec<Kept>, kind: Kind, body: &[u8]) -> Resu
         kind,
         body,
     };
-    let mut kept = kept_of(alloc, 0, &[packet])?;
-    packets.append(&mut kept)
+    let mut kept = must(rt, kept_of(rt.alloc(), 0, &[packet]));
+    must(rt, packets.append(&mut kept));
+}
+
+// The packet of this body is put aside, at this offset, where there is a reason.
+fn put_aside(rt: &impl Abort, asides: &mut Vec<SetAside>, at: usize, row: &Row) {
+    if let Some(reason) = reason_in_another(row.0, row.1) {
+        let aside = SetAside {
+            file: 0,
+            at: at as u64,
+            reason,
+        };
+        must(rt, asides.push(aside));
+    }
 }
 
 // Puts a packet of each of these bodies behind others, and what is put aside of them behind that.
 fn keep_rows(
-    alloc: Global,
-    packets: &mut Vec<Kept>,
-    asides: &mut Vec<SetAside>,
-    rows: Rows,
-) -> Result<(), AllocError> {
-    for (kind, reason, runs) in rows {
-        put_aside(asides, packets.len(), reason_in_another(*kind, *reason))?;
-        keep(alloc, packets, *kind, &bytes_of(alloc, runs)?)?;
-    }
-    Ok(())
-}
-
-// The packet at this offset is put aside where there is a reason.
-fn put_aside(
-    asides: &mut Vec<SetAside>,
-    at: usize,
-    reason: Option<Aside>,
-) -> Result<(), AllocError> {
-    if let Some(reason) = reason {
-        asides.push(SetAside {
-            file: 0,
-            at: at as u64,
-            reason,
-        })?;
-    }
-    Ok(())
-}
-
-// Puts packets of all those bodies behind others, and then the Main packet of their set and its
-// description; those that are put aside, each that is not usable, stand in the other list.
-fn keep_all(
-    alloc: Global,
-    packets: &mut Vec<Kept>,
-    asides: &mut Vec<SetAside>,
-) -> Result<(), AllocError> {
-    keep_rows(alloc, packets, asides, bodies())?;
-    keep_rows(alloc, packets, asides, OTHERS)?;
-    keep(alloc, packets, Kind::Main, MAIN)?;
-    keep(alloc, packets, Kind::FileDesc, DESC)
-}
-
-// The set of `g.bin` has these packets put aside, its file and a recovery slice.
-fn has_aside(rt: &impl Abort, built: &RecoverySet, asides: &[SetAside]) {
-    is(rt, &"aside", &built.aside(), &asides);
-    is(rt, &"files", &built.files().len(), &1);
-    is(rt, &"slices", &built.have(), &1);
-    is(rt, &"text", &built.creator(), &None);
-}
-
-// The set of these packets has them.
-fn puts_aside(
     rt: &(impl Abort + AllocGlobal),
-    packets: &[Kept],
-    asides: &[SetAside],
-) -> Result<(), SetFault> {
-    let built = build(rt.alloc(), packets, None)?;
-    has_aside(rt, &built, asides);
-    Ok(())
+    packets: &mut Vec<Kept>,
+    asides: &mut Vec<SetAside>,
+    rows: &[Row],
+) {
+    for row in rows {
+        put_aside(rt, asides, packets.len(), row);
+        keep(rt, packets, row.0, &bytes_of(rt, row.2));
+    }
+}
+
+// Whether a set has these packets put aside, one file, a recovery slice and no text.
+fn has_aside(built: &RecoverySet, asides: &[SetAside]) -> bool {
+    built.aside() == asides
+        && built.files().len() == 1
+        && built.have() == 1
+        && built.creator().is_none()
+}
+
+// The set of these packets is so.
+fn puts_aside(rt: &(impl Abort + AllocGlobal), packets: &[Kept], asides: &[SetAside]) {
+    let built = must(rt, build(rt.alloc(), packets, None));
+    holds(rt, &asides, has_aside(&built, asides));
+}
+
+// Packets of all those bodies, and then the Main packet of the set of `g.bin` and its description:
+// each is put aside that is not usable.
+fn all_put_aside(rt: &(impl Abort + AllocGlobal)) {
+    let mut asides = Vec::new(rt.alloc());
+    let mut packets = Vec::new(rt.alloc());
+    keep_rows(rt, &mut packets, &mut asides, bodies());
+    keep_rows(rt, &mut packets, &mut asides, others());
+    keep(rt, &mut packets, Kind::Main, MAIN);
+    keep(rt, &mut packets, Kind::FileDesc, DESC);
+    puts_aside(rt, &packets, &asides);
 }
 
 #[test]
-fn a_usable_set_puts_aside_a_packet_for_each_reason(rt: HostRuntime) -> Result<(), SetFault> {
-    let mut asides = Vec::new(rt.alloc());
-    let mut packets = Vec::new(rt.alloc());
-    keep_all(rt.alloc(), &mut packets, &mut asides)?;
-    puts_aside(&rt, &packets, &asides)
+fn a_usable_set_puts_aside_a_packet_for_each_reason(rt: HostRuntime) {
+    all_put_aside(&rt);
 }

@@ -1,37 +1,33 @@
-use super::hostile::agrees;
+use super::hostile::{agrees, built_of};
 use super::*;
 
-// Packets, a row each: the place of the one whose body has its set ID as MD5, or a place behind all
-// for a set ID of zeros; its type; and the runs of its body.
-type Rows = &'static [(usize, [u8; 16], Runs)];
+// A packet: the place of the one whose body has its set ID as MD5, or a place behind all for a set
+// ID of zeros; its type; and the runs of its body.
+type Row = (usize, [u8; 16], Runs);
+
+type Rows = &'static [Row];
 
 // The set ID of a packet with that place.
-fn set_id(alloc: Global, rows: Rows, place: usize) -> Result<Hash16, AllocError> {
+fn set_id(rt: &(impl Abort + AllocGlobal), rows: Rows, place: usize) -> Hash16 {
     match rows.get(place) {
-        Some(row) => Ok(digest_of(&bytes_of(alloc, row.2)?)),
-        None => Ok(Hash16([0; 16])),
+        Some(row) => digest_of(&bytes_of(rt, row.2)),
+        None => Hash16([0; 16]),
     }
 }
 
 // Puts the packet of one of these rows behind bytes.
-fn put_row(
-    alloc: Global,
-    bytes: &mut Vec<u8>,
-    rows: Rows,
-    row: &(usize, [u8; 16], Runs),
-) -> Result<(), AllocError> {
-    let set = set_id(alloc, rows, row.0)?;
-    let body = bytes_of(alloc, row.2)?;
-    put(alloc, bytes, set.0, row.1, &body)
+fn put_row(rt: &(impl Abort + AllocGlobal), bytes: &mut Vec<u8>, rows: Rows, row: &Row) {
+    let set = set_id(rt, rows, row.0);
+    put(rt, bytes, set.0, row.1, &bytes_of(rt, row.2));
 }
 
 // The bytes of these packets.
-fn file_of(alloc: Global, rows: Rows) -> Result<Vec<u8>, AllocError> {
-    let mut bytes = Vec::new(alloc);
+fn file_of(rt: &(impl Abort + AllocGlobal), rows: Rows) -> Vec<u8> {
+    let mut bytes = Vec::new(rt.alloc());
     for row in rows {
-        put_row(alloc, &mut bytes, rows, row)?;
+        put_row(rt, &mut bytes, rows, row);
     }
-    Ok(bytes)
+    bytes
 }
 
 // Main packets of a set, of another, and of the first again; neither set has files.
@@ -190,7 +186,9 @@ type Shown<'a> = (
 
 // Packets, the place of a set that is chosen, and what they give: the place of the set, and the
 // set, or why there is none.
-static SETS: [(Rows, Option<usize>, usize, Result<Shown<'static>, SetFault>); 11] = [
+type Given = (Rows, Option<usize>, usize, Result<Shown<'static>, SetFault>);
+
+static SETS: [Given; 11] = [
     // The first Main packet counts, and of a chosen set the first of its ID.
     (NO_FILES, None, 0, Ok((4, b"", &[], None, &[]))),
     (NO_FILES, Some(0), 0, Ok((4, b"", &[], None, &[]))),
@@ -265,48 +263,36 @@ fn shows(
 }
 
 // The ID of the set that is chosen, if one is.
-fn choice_of(
-    alloc: Global,
-    rows: Rows,
-    place: Option<usize>,
-) -> Result<Option<Hash16>, AllocError> {
+fn choice_of(rt: &(impl Abort + AllocGlobal), rows: Rows, place: Option<usize>) -> Option<Hash16> {
     match place {
-        Some(place) => Ok(Some(set_id(alloc, rows, place)?)),
-        None => Ok(None),
+        Some(place) => Some(set_id(rt, rows, place)),
+        None => None,
     }
 }
 
 // What is built of bytes, or of the set in them that is chosen, has this ID and is what is wanted.
 fn gives(
     rt: &(impl Abort + AllocGlobal),
-    place: usize,
     bytes: &[u8],
     (choice, id): (Option<Hash16>, Hash16),
     wanted: &Result<Shown<'static>, SetFault>,
-) -> Result<(), AllocError> {
-    let built = agrees(rt, bytes, choice, place)?;
-    holds(rt, &place, shows(&built, id, wanted));
-    Ok(())
+    of: usize,
+) {
+    agrees(rt, bytes, choice, of);
+    let built = built_of(rt, bytes, choice);
+    holds(rt, &of, shows(&built, id, wanted));
 }
 
 // That is so of the bytes of these packets.
-fn file_gives(
-    rt: &(impl Abort + AllocGlobal),
-    place: usize,
-    rows: Rows,
-    ids: (Option<Hash16>, Hash16),
-    wanted: &Result<Shown<'static>, SetFault>,
-) -> Result<(), AllocError> {
-    let bytes = file_of(rt.alloc(), rows)?;
-    gives(rt, place, &bytes, ids, wanted)
+fn file_gives(rt: &(impl Abort + AllocGlobal), row: &Given, of: usize) {
+    let choice = choice_of(rt, row.0, row.1);
+    let id = set_id(rt, row.0, row.2);
+    gives(rt, &file_of(rt, row.0), (choice, id), &row.3, of);
 }
 
 #[test]
-fn sets_are_as_wanted_and_agree_with_the_model(rt: HostRuntime) -> Result<(), AllocError> {
-    for (place, row) in SETS.iter().enumerate() {
-        let choice = choice_of(rt.alloc(), row.0, row.1)?;
-        let id = set_id(rt.alloc(), row.0, row.2)?;
-        file_gives(&rt, place, row.0, (choice, id), &row.3)?;
+fn sets_are_as_wanted_and_agree_with_the_model(rt: HostRuntime) {
+    for place in 0..SETS.len() {
+        file_gives(&rt, &SETS[place], place);
     }
-    Ok(())
 }
