@@ -3,9 +3,8 @@ use crate::bytes::joined;
 use crate::sums::pairs_of;
 use parfield::{Hash16, Kind};
 use parsalvage::{Kept, KeptBody, Part};
-use parset::{RecoverySet, build};
+use parset::{RecoverySet, SetFault, build};
 use std::alloc::{AllocError, Global};
-use std::test::Fail;
 
 // The body of the Main packet.
 const MAIN: [u8; 28] = *b"\x04\0\0\0\0\0\0\0\x01\0\0\0ffffffffffffffff";
@@ -13,42 +12,49 @@ const MAIN: [u8; 28] = *b"\x04\0\0\0\0\0\0\0\x01\0\0\0ffffffffffffffff";
 // The MD5 of that body, as Python's `hashlib` has it.
 const SET: Hash16 = Hash16(*b"\x20\xa7\xc3\x3f\xa4\x10\x7d\x0a\x46\xc2\x84\x3a\x68\x0b\xe5\x12");
 
-// A packet of the set, whose body is these bytes and held whole.
-fn packet(alloc: Global, kind: Kind, parts: &[&[u8]]) -> Result<Kept, AllocError> {
+// Puts a packet of the set, whose body is these bytes and held whole, behind others.
+fn put(
+    alloc: Global,
+    packets: &mut Vec<Kept>,
+    kind: Kind,
+    parts: &[&[u8]],
+) -> Result<(), AllocError> {
     let body = joined(alloc, parts)?;
-    let length = 64 + body.len() as u64;
-    Ok(Kept {
+    packets.push(Kept {
         file: 0,
         at: 0,
-        length,
+        length: 64 + body.len() as u64,
         set: SET,
         kind,
         body: KeptBody::Whole(Part::from_vec(body)?),
-    })
+    })?;
+    Ok(())
 }
 
 // The packets of the set.
-fn packets(alloc: Global, length: u64, pairs: &[u8]) -> Result<[Kept; 3], AllocError> {
-    let id = [b'f'; 16];
-    let main = packet(alloc, Kind::Main, &[&MAIN])?;
-    let desc = packet(
+fn packets(alloc: Global, length: u64, pairs: &[u8]) -> Result<Vec<Kept>, AllocError> {
+    let mut all = Vec::new(alloc);
+    put(alloc, &mut all, Kind::Main, &[&MAIN])?;
+    let length = length.to_le_bytes();
+    put(
         alloc,
+        &mut all,
         Kind::FileDesc,
-        &[&[b'f'; 48], &length.to_le_bytes(), b"name"],
+        &[&[b'f'; 48], &length, b"name"],
     )?;
-    let ifsc = packet(alloc, Kind::Ifsc, &[&id, pairs])?;
-    Ok([main, desc, ifsc])
+    put(alloc, &mut all, Kind::Ifsc, &[&[b'f'; 16], pairs])?;
+    Ok(all)
 }
 
 /// The set of one file of this length, in slices of four, with these bytes as their sums, which are
 /// known where there are as many as the slices need.
-pub fn set_with(alloc: Global, length: u64, pairs: &[u8]) -> Result<RecoverySet, Fail> {
+pub fn set_with(alloc: Global, length: u64, pairs: &[u8]) -> Result<RecoverySet, SetFault> {
     let packets = packets(alloc, length, pairs)?;
-    Ok(build(alloc, &packets, None)?)
+    build(alloc, &packets, None)
 }
 
 /// The set of one file of these bytes, in slices of four, whose sums are known.
-pub fn set_of(alloc: Global, content: &[u8]) -> Result<RecoverySet, Fail> {
+pub fn set_of(alloc: Global, content: &[u8]) -> Result<RecoverySet, SetFault> {
     let pairs = pairs_of(alloc, content)?;
     set_with(alloc, content.len() as u64, &pairs)
 }

@@ -1,24 +1,21 @@
 // Files in memory.
 use parshelf::MemShelf;
 use std::alloc::{AllocError, Global};
-use std::test::Fail;
 
-/// At most nine files in memory that are read `piece` bytes at a time; the reads of these numbers
-/// fail, which count from 1.
+/// Files in memory, of which the first nine count, that are read `piece` bytes at a time, and at
+/// least one; the reads of these numbers fail, which count from 1.
 pub fn shelf_of(
     alloc: Global,
     files: &[&[u8]],
     piece: usize,
     failing: &[u64],
-) -> Result<MemShelf, Fail> {
-    if files.len() > 9 || piece == 0 {
-        return Err("more than nine files, or pieces of no byte".into());
-    }
+) -> Result<MemShelf, AllocError> {
     let mut all = Vec::new(alloc);
-    for (_n, file) in files.iter().enumerate() {
+    for file in files {
         all.push(Vec::from_slice(alloc, file)?)?;
     }
-    Ok(MemShelf::new(all, piece, Vec::from_slice(alloc, failing)?))
+    all.truncate(9);
+    Ok(MemShelf::new(all, piece.max(1), Vec::from_slice(alloc, failing)?))
 }
 
 /// One file in memory that is read `piece` bytes at a time, and at least one; the reads of these

@@ -14,36 +14,35 @@ pub struct Standing<'a> {
     pub body: &'a [u8],
 }
 
-/// The bytes of a field, where they are there.
-pub fn field<const N: usize>(bytes: &[u8], at: usize) -> Option<[u8; N]> {
-    let rest = bytes.get(at..)?;
-    if rest.len() < N {
-        return None;
-    }
+/// The bytes of a field, which are zeros where the bytes end before it does.
+pub fn field<const N: usize>(bytes: &[u8], at: usize) -> [u8; N] {
     let mut found = [0; N];
-    found.copy_from_slice(&rest[..N]);
-    Some(found)
+    if at < bytes.len() && N <= bytes.len() - at {
+        found.copy_from_slice(&bytes[at..at + N]);
+    }
+    found
 }
 
 // The packet that the bytes begin with, which stand at this offset.
 fn packet_in_front(bytes: &[u8], at: usize) -> Option<Standing<'_>> {
-    if field::<8>(bytes, 0)? != *b"PAR2\0PKT" {
+    let length = u64::from_le_bytes(field(bytes, 8));
+    if field(bytes, 0) != *b"PAR2\0PKT"
+        || length < 64
+        || length % 4 != 0
+        || length > bytes.len() as u64
+    {
         return None;
     }
-    let length = u64::from_le_bytes(field::<8>(bytes, 8)?);
-    if length < 64 || length % 4 != 0 || length > bytes.len() as u64 {
-        return None;
-    }
-    let packet = bytes.get(..length as usize)?;
-    if digest_of(packet.get(32..)?) != field::<16>(packet, 16)? {
+    let packet = &bytes[..length as usize];
+    if digest_of(&packet[32..]) != field(packet, 16) {
         return None;
     }
     Some(Standing {
         at,
         length,
-        set: field::<16>(packet, 32)?,
-        kind: field::<16>(packet, 48)?,
-        body: packet.get(64..)?,
+        set: field(packet, 32),
+        kind: field(packet, 48),
+        body: &packet[64..],
     })
 }
 

@@ -6,16 +6,13 @@ mod disk;
 mod model;
 mod refused;
 
-use crate::tests::fixtures::{
-    cursor_of, field, files_in, index_of, is, number_of, part, step_named,
-};
+use crate::tests::fixtures::{cursor_of, field, is, must, number_of, part, search_of, step_named};
 use parcursor::Cursor;
 use pardrive::{Answer, Call, Drive, drive};
-use parshelf::{MemShelf, ReadFault, Shelf};
+use parshelf::{ReadFault, Shelf};
 use parwindow::Index;
 use std::alloc::{AllocError, Global};
 use std::process::Abort;
-use std::test::Fail;
 
 const FAILED: Answer = Answer::Step(Err(ReadFault::Failed));
 
@@ -62,56 +59,24 @@ fn are_told(rt: &impl Abort, answers: &[Answer], script: &str) {
     }
 }
 
-// Wants all answers of a script, and gives the cursor behind them. Ends a test in which a reopening
-// was refused.
-fn behind(rt: &impl Abort, done: &Drive, script: &str) -> Result<Cursor, Fail> {
-    let answers = done.answers.as_slice();
-    if answers.last() == Some(&Answer::NoMemory) {
-        return Err("NoMemory at a reopening".into());
-    }
-    is(rt, &answers.len(), &script.lines().count());
-    are_told(rt, answers, script);
-    Ok(done.cursor)
+// Wants all answers of a script, and gives the cursor behind them.
+fn behind(rt: &impl Abort, done: &Drive, script: &str) -> Cursor {
+    are_told(rt, done.answers.as_slice(), script);
+    is(rt, &done.answers.len(), &script.lines().count());
+    done.cursor
 }
 
-// Makes calls, and wants the answers of a script.
-fn drives_by<H: Shelf>(
-    rt: &(impl Abort + AllocGlobal),
-    index: &Index,
-    shelf: &mut H,
-    start: Cursor,
-    calls: &[Call],
-    script: &str,
-) -> Result<Cursor, Fail>
-    requires { All HasBudget calls.now }
-{
-    let done = drive(rt.alloc(), calls, index, shelf, start)?;
-    behind(rt, &done, script)
-}
-
-// Makes the calls of a script for the slices of an index.
-fn drives_for<H: Shelf>(
-    rt: &(impl Abort + AllocGlobal),
-    index: &Index,
-    shelf: &mut H,
-    start: Cursor,
-    script: &str,
-) -> Result<Cursor, Fail> {
-    let calls = calls_of(rt.alloc(), script)?;
-    drives_by(rt, index, shelf, start, &calls, script)
-}
-
-// Makes the calls of a script over files for the slices of these bytes; wants its answers, and
-// gives the cursor behind them.
+// Makes the calls of a script over files; wants its answers, and gives the cursor behind them.
 fn driven<H: Shelf>(
     rt: &(impl Abort + AllocGlobal),
-    content: &str,
+    index: &Index,
     shelf: &mut H,
     start: Cursor,
     script: &str,
-) -> Result<Cursor, Fail> {
-    let index = index_of(rt.alloc(), content.as_bytes())?;
-    drives_for(rt, &index, shelf, start, script)
+) -> Cursor {
+    let calls = must(rt, calls_of(rt.alloc(), script));
+    let done = must(rt, drive(rt.alloc(), &calls, index, shelf, start));
+    behind(rt, &done, script)
 }
 
 // A row has bars between: the bytes of the file whose slices are looked for, the files with commas
@@ -125,31 +90,15 @@ fn has_handed(rt: &impl Abort, bytes: u64, wanted: &str) {
     }
 }
 
-// Makes the calls of a script over files that are there already; wants what a row says.
-fn drives_in(
-    rt: &(impl Abort + AllocGlobal),
-    row: &str,
-    shelf: &mut MemShelf,
-    script: &str,
-) -> Result<(), Fail> {
-    let start = cursor_of(field(row, 2));
-    let at = driven(rt, field(row, 0), shelf, start, script)?;
-    is(rt, &at, &cursor_of(field(row, 3)));
-    has_handed(rt, shelf.handed(), field(row, 4));
-    Ok(())
-}
-
 // Makes the calls of a script over the files of a row, which are read `piece` bytes at a time, some
-// reads failing.
-fn drives(
-    rt: &(impl Abort + AllocGlobal),
-    row: &str,
-    piece: usize,
-    failing: &[u64],
-    script: &str,
-) -> Result<(), Fail> {
-    let mut shelf = files_in(rt.alloc(), field(row, 1), piece, failing)?;
-    drives_in(rt, row, &mut shelf, script)
+// reads failing; wants what the row says.
+fn drives(rt: &(impl Abort + AllocGlobal), row: &str, piece: usize, failing: &[u64], script: &str) {
+    let mut search = search_of(rt, row, piece, failing);
+    let start = cursor_of(field(row, 2));
+    let end = driven(rt, &search.index, &mut search.shelf, start, script);
+    is(rt, &end, &cursor_of(field(row, 3)));
+    has_handed(rt, search.shelf.handed(), field(row, 4));
+    drop(search);
 }
 
 static TWO_FAULTS: &str = "\
@@ -167,16 +116,16 @@ next done
 ";
 
 #[test]
-fn a_search_goes_on_after_two_faults_and_two_reopenings(rt: HostRuntime) -> Result<(), Fail> {
+fn a_search_goes_on_after_two_faults_and_two_reopenings(rt: HostRuntime) {
     let row = "\0\0\0\0\0\0\0\0|\0\0\0\0\0\0|0:0:0|1:0:0";
-    drives(&rt, row, 1, &[2, 3], TWO_FAULTS)
+    drives(&rt, row, 1, &[2, 3], TWO_FAULTS);
 }
 
 // A call that failed isn't made again in the place of the next one.
 #[test]
-fn a_fault_is_the_answer_of_the_call_that_met_it(rt: HostRuntime) -> Result<(), Fail> {
+fn a_fault_is_the_answer_of_the_call_that_met_it(rt: HostRuntime) {
     let row = "\0\0\0\0\0\0\0\0|\0\0\0\0\0\0|0:0:0|0:0:1";
-    drives(&rt, row, 1, &[1], "next failed\nnext 0:0:0\n")
+    drives(&rt, row, 1, &[1], "next failed\nnext 0:0:0\n");
 }
 
 static GIVEN_UP: &str = "\
@@ -197,21 +146,21 @@ reopen reopened
 ";
 
 #[test]
-fn a_finder_is_given_up_after_each_call(rt: HostRuntime) -> Result<(), Fail> {
+fn a_finder_is_given_up_after_each_call(rt: HostRuntime) {
     let row = "\0\0\0\0\0\0\0\0|\0\0\0\0\0\0|0:0:0|1:0:0";
-    drives(&rt, row, 1, &[], GIVEN_UP)
+    drives(&rt, row, 1, &[], GIVEN_UP);
 }
 
 #[test]
-fn a_search_behind_all_files_stays_there(rt: HostRuntime) -> Result<(), Fail> {
+fn a_search_behind_all_files_stays_there(rt: HostRuntime) {
     let row = "\0\0\0\0\0\0\0\0|\0\0\0\0\0\0|7:0:0|7:0:0";
-    drives(&rt, row, 1, &[], "1 done\nreopen reopened\nnext done\n")
+    drives(&rt, row, 1, &[], "1 done\nreopen reopened\nnext done\n");
 }
 
 #[test]
-fn no_calls_give_no_answers(rt: HostRuntime) -> Result<(), Fail> {
+fn no_calls_give_no_answers(rt: HostRuntime) {
     let row = "\0\0\0\0\0\0\0\0|\0\0\0\0\0\0|0:3:1|0:3:1";
-    drives(&rt, row, 1, &[1], "")
+    drives(&rt, row, 1, &[1], "");
 }
 
 static FAULT_FIRST: &str = "\
@@ -230,7 +179,7 @@ next done
 
 // The first slice ends with the sixth byte, and the second one with the tenth.
 #[test]
-fn each_read_that_fails_is_told_once(rt: HostRuntime) -> Result<(), Fail> {
+fn each_read_that_fails_is_told_once(rt: HostRuntime) {
     for failing in 1..11 {
         let script = if failing < 7 {
             FAULT_FIRST
@@ -243,21 +192,20 @@ fn each_read_that_fails_is_told_once(rt: HostRuntime) -> Result<(), Fail> {
             1,
             &[failing],
             script,
-        )?;
+        );
     }
-    Ok(())
 }
 
 // The window goes with the finder that is given up, and the next one reads its bytes again.
 #[test]
-fn a_reopening_reads_its_window_again(rt: HostRuntime) -> Result<(), Fail> {
+fn a_reopening_reads_its_window_again(rt: HostRuntime) {
     let script = "next 0:2:0\nreopen reopened\nnext 0:6:1\n";
-    drives(&rt, "abcdefgh|XXabcdefgh|0:0:0|0:6:2|18", 64, &[], script)
+    drives(&rt, "abcdefgh|XXabcdefgh|0:0:0|0:6:2|18", 64, &[], script);
 }
 
 // A call for the next sighting gives no finder up, so what was read once isn't read again.
 #[test]
-fn no_call_reopens_unasked(rt: HostRuntime) -> Result<(), Fail> {
+fn no_call_reopens_unasked(rt: HostRuntime) {
     let script = "next 0:2:0\nnext 0:6:1\nreopen reopened\n";
-    drives(&rt, "abcdefgh|XXabcdefgh|0:0:0|0:6:2|10", 64, &[], script)
+    drives(&rt, "abcdefgh|XXabcdefgh|0:0:0|0:6:2|10", 64, &[], script);
 }

@@ -1,15 +1,24 @@
 // What tests of searches share: rows of tables that are texts, indexes of the slices of one file, files
 // in memory, and how values are compared.
+ghost use Rattle.std.specs.Prelude.{◌≡◌, Ok};
+
 use parcursor::Cursor;
 use parfind::Step;
 use parfixtures::{Spot, cursor, set_of, set_with, shelf_of, sighting};
-use parset::RecoverySet;
+use parset::{RecoverySet, SetFault};
 use parshelf::{MemShelf, ReadFault};
 use parwindow::Index;
 use std::alloc::{AllocError, Global};
 use std::fmt::Debug;
+use std::panic::Expect;
 use std::process::Abort;
-use std::test::Fail;
+
+/// The value of a result; the test ends where it is a fault.
+pub fn must<T, E: Debug>(rt: &impl Abort, got: Result<T, E>) -> T
+    ensures { got ≡ Ok result }
+{
+    got.expect(rt, "error")
+}
 
 /// Wants that a value is this one.
 pub fn is<T: Debug + PartialEq>(rt: &impl Abort, got: &T, wanted: &T) {
@@ -91,42 +100,64 @@ fn file_count(files: &str) -> usize {
     files.split(',').count()
 }
 
-/// The files of a text that has commas between, or `-` for none, and at most four. They are read
-/// `piece` bytes at a time, and the reads of these numbers fail, which count from 1.
+/// The files of a text that has commas between, of which the first four count, or `-` for none.
+/// They are read `piece` bytes at a time, and the reads of these numbers fail, which count from 1.
 pub fn files_in(
     alloc: Global,
     files: &str,
     piece: usize,
     failing: &[u64],
-) -> Result<MemShelf, Fail> {
+) -> Result<MemShelf, AllocError> {
     let all = [
         file_at(files, 0),
         file_at(files, 1),
         file_at(files, 2),
         file_at(files, 3),
     ];
-    let named = all.get(..file_count(files)).ok_or("more than four files")?;
+    let named = all.get(..file_count(files)).unwrap_or(&all);
     shelf_of(alloc, named, piece, failing)
 }
 
 /// A file of this length: these bytes, and `x` behind them.
-pub fn long_file(alloc: Global, front: &[u8], length: usize) -> Result<Vec<u8>, AllocError> {
-    let mut bytes = Vec::from_slice(alloc, front)?;
-    bytes.resize(length, b'x')?;
-    Ok(bytes)
+pub fn long_file(rt: &(impl Abort + AllocGlobal), front: &[u8], length: usize) -> Vec<u8> {
+    let mut bytes = must(rt, Vec::from_slice(rt.alloc(), front));
+    must(rt, bytes.resize(length, b'x'));
+    bytes
 }
 
-// An index of the slices of a set that was built.
-fn index_in(alloc: Global, set: Result<RecoverySet, Fail>) -> Result<Index, Fail> {
-    Ok(Index::new(alloc, &set?)?)
+// An index of the slices of a set.
+fn index_in(alloc: Global, set: RecoverySet) -> Result<Index, AllocError> {
+    Index::new(alloc, &set)
 }
 
 /// An index of the slices of a file of this length, of four each, with these sums, if they are all.
-pub fn index_with(alloc: Global, length: u64, pairs: &[u8]) -> Result<Index, Fail> {
-    index_in(alloc, set_with(alloc, length, pairs))
+pub fn index_with(alloc: Global, length: u64, pairs: &[u8]) -> Result<Index, SetFault> {
+    Ok(index_in(alloc, set_with(alloc, length, pairs)?)?)
 }
 
 /// An index of the slices of a file of these bytes, of four each, whose sums are known.
-pub fn index_of(alloc: Global, content: &[u8]) -> Result<Index, Fail> {
-    index_in(alloc, set_of(alloc, content))
+pub fn index_of(alloc: Global, content: &[u8]) -> Result<Index, SetFault> {
+    Ok(index_in(alloc, set_of(alloc, content)?)?)
+}
+
+/// The slices that are looked for, and the files that are searched. Who holds one, or an index, ends
+/// it by `drop`: where a scope ends it, each of its parts is proved there once more.
+#[derive(Drop)]
+pub struct Search {
+    pub index: Index,
+    pub shelf: MemShelf,
+}
+
+/// The search of a row: for the slices of the bytes that stand first, in the files behind them,
+/// which are read `piece` bytes at a time, the reads of these numbers failing.
+pub fn search_of(
+    rt: &(impl Abort + AllocGlobal),
+    row: &str,
+    piece: usize,
+    failing: &[u64],
+) -> Search {
+    Search {
+        index: must(rt, index_of(rt.alloc(), field(row, 0).as_bytes())),
+        shelf: must(rt, files_in(rt.alloc(), field(row, 1), piece, failing)),
+    }
 }

@@ -1,7 +1,9 @@
 // Checksums, and the windows that have them.
+ghost use Rattle.std.specs.Prelude.{◌<◌, ◌≤◌};
+
 mod slices;
 
-use crate::tests::fixtures::is;
+use crate::tests::fixtures::{is, must};
 use parwindow::{Window, crc32};
 use std::process::Abort;
 use std::test::Fail;
@@ -53,10 +55,9 @@ fn slides(rt: &impl Abort, window: &mut Window) {
 }
 
 #[test]
-fn a_window_of_four_slides_over_six_bytes(rt: HostRuntime) -> Result<(), Fail> {
-    let mut window = Window::new(rt.alloc(), 4)?;
+fn a_window_of_four_slides_over_six_bytes(rt: HostRuntime) {
+    let mut window = must(&rt, Window::new(rt.alloc(), 4));
     slides(&rt, &mut window);
-    Ok(())
 }
 
 // The CRC-32 of a window of this size is that of its content after each of these bytes.
@@ -68,14 +69,28 @@ fn follows(rt: &impl Abort, window: &mut Window, size: usize, bytes: &[u8]) {
     }
 }
 
+// A new window of this size does so.
+fn has_crcs(rt: &(impl Abort + AllocGlobal), size: usize)
+    requires some { 0 < size }
+    requires within { size ≤ 268435456 }
+{
+    let mut window = must(rt, Window::new(rt.alloc(), size));
+    follows(
+        rt,
+        &mut window,
+        size,
+        b"\x00\xff\x00the bytes of a stream\x80",
+    );
+}
+
 #[test]
-fn the_crc_follows_windows_of_any_size(rt: HostRuntime) -> Result<(), Fail> {
-    let bytes = b"\x00\xff\x00the bytes of a stream\x80";
-    for size in [1, 2, 3, 5, 16, 64usize] {
-        let mut window = Window::new(rt.alloc(), size)?;
-        follows(&rt, &mut window, size, bytes);
-    }
-    Ok(())
+fn the_crc_follows_windows_of_any_size(rt: HostRuntime) {
+    has_crcs(&rt, 1);
+    has_crcs(&rt, 2);
+    has_crcs(&rt, 3);
+    has_crcs(&rt, 5);
+    has_crcs(&rt, 16);
+    has_crcs(&rt, 64);
 }
 
 // The window holds so many bytes, and has this CRC-32.

@@ -67,6 +67,6 @@ pub fn held_of<'a>(packet: &Standing<'a>) -> Held<'a> {
         0,
         (packet.at as u64, packet.length, Hash16(packet.set), kind),
         whole,
-        (field(body, 0).unwrap_or([0; 4]), body.len() as u64),
+        (field(body, 0), body.len() as u64),
     )
 }

@@ -4,17 +4,17 @@ use parfixtures::field;
 
 /// The number of eight bytes, or 0 where they are not there.
 pub fn long_at(bytes: &[u8], at: usize) -> u64 {
-    u64::from_le_bytes(field::<8>(bytes, at).unwrap_or([0; 8]))
+    u64::from_le_bytes(field(bytes, at))
 }
 
 /// The number of four bytes, or 0 where they are not there.
 pub fn word_at(bytes: &[u8], at: usize) -> u32 {
-    u32::from_le_bytes(field::<4>(bytes, at).unwrap_or([0; 4]))
+    u32::from_le_bytes(field(bytes, at))
 }
 
 /// The ID or MD5 of sixteen bytes, or zeros where they are not there.
 pub fn id_at(bytes: &[u8], at: usize) -> Hash16 {
-    Hash16(field::<16>(bytes, at).unwrap_or([0; 16]))
+    Hash16(field(bytes, at))
 }
 
 // What stands in bytes from a place on.

@@ -3,16 +3,14 @@ ghost use Rattle.std.specs.Prelude.{All, IfOk};
 ghost use Rattle.pardrive.specs.Runs.{HasBudget};
 
 use crate::tests::drives::FAILED;
-use crate::tests::fixtures::{holds, index_of};
+use crate::tests::fixtures::{holds, index_of, is, must};
 use parcursor::Cursor;
 use pardrive::{Answer, Call, Drive, drive};
 use parfind::Step;
 use parfixtures::{cursor, shelf_of, sighting};
 use parshelf::MemShelf;
-use parwindow::Index;
 use std::alloc::{AllocError, Global};
 use std::process::Abort;
-use std::test::Fail;
 
 // What is searched: the bytes of the file whose slices are looked for, the files, and from where on.
 #[derive(Clone, Copy)]
@@ -83,22 +81,15 @@ fn step_from(case: &Case, at: Cursor, budget: u64) -> (Step, Cursor) {
     (Step::Done, if at < end { end } else { at })
 }
 
-// How many places there are from one cursor's on and before another's.
-fn places_between(case: &Case, from: Cursor, to: Cursor) -> u64 {
-    let mut count: u64 = 0;
-    let mut file: u32 = 0;
-    for bytes in case.files.iter() {
-        for place in 0..bytes.len() {
-            let here = cursor((file, place as u64, 0));
-            if here >= cursor((from.file, from.offset, 0))
-                && here < cursor((to.file, to.offset, 0))
-            {
-                count = count.saturating_add(1);
-            }
-        }
-        file = file.saturating_add(1);
+// How many places there are before a cursor's.
+fn places_before(case: &Case, at: Cursor) -> u64 {
+    let [first, second] = case.files;
+    let (first, second) = (first.len() as u64, second.len() as u64);
+    match at.file {
+        0 => at.offset.min(first),
+        1 => first.saturating_add(at.offset.min(second)),
+        _ => first.saturating_add(second),
     }
-    count
 }
 
 // Whether a fault may leave a step there: it passes no sighting, and no more places than it may.
@@ -107,7 +98,8 @@ fn may_stop(case: &Case, at: Cursor, budget: u64, to: Cursor) -> bool {
         Step::Hit(x) => cursor((x.file, x.offset, x.slice)) >= to,
         _ => true,
     };
-    none && to >= at && places_between(case, at, to) <= budget
+    let passed = places_before(case, to).saturating_sub(places_before(case, at));
+    none && to >= at && passed <= budget
 }
 
 // The budget of a call, if it is a step.
@@ -252,75 +244,57 @@ fn some_case(seed: u64) -> Case {
 }
 
 // Its files, of which one read may fail.
-fn some_shelf(alloc: Global, seed: u64) -> Result<MemShelf, Fail> {
+fn some_shelf(alloc: Global, case: &Case, seed: u64) -> Result<MemShelf, AllocError> {
     let piece = 1 + (seed >> 27) as usize % 3;
-    shelf_of(alloc, &some_case(seed).files, piece, &[(seed >> 43) % 10])
+    shelf_of(alloc, &case.files, piece, &[(seed >> 43) % 10])
 }
 
-// Wants what comparing gives. The answer is whether a read failed.
-fn is_told(rt: &impl Abort, case: &Case, calls: &[Call], done: &Drive) -> Result<bool, Fail> {
+// Wants what comparing gives, also up to a reopening that is refused, which ends the test. The
+// answer is whether a read failed.
+fn is_told(rt: &impl Abort, case: &Case, calls: &[Call], done: &Drive) -> bool {
     let answers = done.answers.as_slice();
-    let refused = answers.last() == Some(&Answer::NoMemory);
-    holds(rt, refused || answers.len() == calls.len());
     holds(rt, is_right(case, calls, answers, done.cursor));
-    if refused {
-        return Err("NoMemory at a reopening".into());
+    if answers.last() == Some(&Answer::NoMemory) {
+        rt.panic("NoMemory at a reopening");
     }
-    Ok(answers.contains(&FAILED))
+    is(rt, &answers.len(), &calls.len());
+    answers.contains(&FAILED)
 }
 
-// Makes these calls over files for the slices of an index.
-fn drives_for(
+// Makes these calls; wants what comparing gives. The answer is whether a read failed.
+fn drives_in(
     rt: &(impl Abort + AllocGlobal),
     case: &Case,
-    index: &Index,
     shelf: &mut MemShelf,
     calls: &[Call],
-) -> Result<bool, Fail>
+) -> bool
     requires { All HasBudget calls.now }
 {
-    let done = drive(rt.alloc(), calls, index, shelf, case.start)?;
+    let index = must(rt, index_of(rt.alloc(), case.content));
+    let done = must(rt, drive(rt.alloc(), calls, &index, shelf, case.start));
+    drop(index);
     is_told(rt, case, calls, &done)
 }
 
-// Makes these calls over files.
-fn drives_over(
-    rt: &(impl Abort + AllocGlobal),
-    case: &Case,
-    shelf: &mut MemShelf,
-    calls: &[Call],
-) -> Result<bool, Fail>
-    requires { All HasBudget calls.now }
-{
-    let index = index_of(rt.alloc(), case.content)?;
-    drives_for(rt, case, &index, shelf, calls)
-}
-
-// Makes these calls over files by chance.
-fn drives_in(rt: &(impl Abort + AllocGlobal), seed: u64, calls: &[Call]) -> Result<bool, Fail>
-    requires { All HasBudget calls.now }
-{
-    let mut shelf = some_shelf(rt.alloc(), seed)?;
-    drives_over(rt, &some_case(seed), &mut shelf, calls)
-}
-
-// Makes calls by chance over files by chance, of which one read may fail; wants what comparing
-// gives. The answer is whether a read failed.
-fn drives_by_chance(rt: &(impl Abort + AllocGlobal), seed: u64) -> Result<bool, Fail> {
-    let calls = some_calls(rt.alloc(), seed)?;
-    drives_in(rt, seed, &calls)
+// Makes calls by chance over files by chance, of which one read may fail.
+fn drives_by_chance(rt: &(impl Abort + AllocGlobal), seed: u64) -> bool {
+    let case = some_case(seed);
+    let calls = must(rt, some_calls(rt.alloc(), seed));
+    let mut shelf = must(rt, some_shelf(rt.alloc(), &case, seed));
+    let failed = drives_in(rt, &case, &mut shelf, &calls);
+    drop(shelf);
+    failed
 }
 
 #[test]
-fn calls_by_chance_give_what_comparing_gives(rt: HostRuntime) -> Result<(), Fail> {
+fn calls_by_chance_give_what_comparing_gives(rt: HostRuntime) {
     let mut seed = 0x9E37_79B9_7F4A_7C15;
     let mut faults: u32 = 0;
     for _ in 0..40 {
         seed = xorshift(seed);
-        if drives_by_chance(&rt, seed)? {
+        if drives_by_chance(&rt, seed) {
             faults = faults.saturating_add(1);
         }
     }
     holds(&rt, faults > 4);
-    Ok(())
 }

@@ -2,20 +2,19 @@
 ghost use Rattle.std.specs.Prelude.{All};
 ghost use Rattle.pardrive.specs.Runs.{HasBudget};
 
-use crate::tests::drives::{are_told, behind, calls_of, drives_by};
-use crate::tests::fixtures::{cursor_of, files_in, index_of, is, part};
+use crate::tests::drives::{are_told, behind, call_on, calls_of};
+use crate::tests::fixtures::{Search, cursor_of, index_of, is, must, part};
 use parcursor::Cursor;
 use pardrive::{Answer, Call, Drive, drive};
-use parfixtures::{START, cursor};
+use parfixtures::{START, Spot, cursor, file_of};
 use parshelf::MemShelf;
 use parwindow::Index;
+use std::panic::Expect;
 use std::process::Abort;
 use std::test::Fail;
 
-// The file that is searched.
-static SIX_ZEROS: &str = "\0\0\0\0\0\0";
-
-// The answers where no memory is refused.
+// Calls, and the answers where no memory is refused. The call behind a reopening finds a sighting
+// where that one stands.
 static UNDISTURBED: &str = "\
 next failed
 reopen reopened
@@ -27,55 +26,34 @@ reopen reopened
 next 0:1:0
 ";
 
-// Where the search stands at each reopening: behind how many answers, and the next call, which finds
-// a sighting there.
-static STOPS: [(usize, &str); 3] = [(1, "next 0:0:0"), (3, "next 0:0:1"), (6, "next 0:1:0")];
-
-// The next call behind so many answers.
-fn next_behind(count: usize) -> Option<&'static str> {
-    for (stop, next) in &STOPS {
-        if *stop == count {
-            return Some(*next);
-        }
-    }
-    None
-}
-
-// Wants the answers up to a reopening that was refused, its own behind them, and the cursor where
-// the search stood; gives the next call from there on.
-fn stopped_at(rt: &impl Abort, done: &Drive) -> Result<&'static str, Fail> {
-    let Some((last, before)) = done.answers.as_slice().split_last() else {
-        return Err("no answer".into());
-    };
-    is(rt, last, &Answer::NoMemory);
-    are_told(rt, before, UNDISTURBED);
-    let next = next_behind(before.len()).ok_or("no reopening stands there")?;
-    is(rt, &done.cursor, &sighted(next));
-    Ok(next)
-}
+static REOPENED_FIRST: &str = "\
+reopen reopened
+next 0:0:0
+";
 
 // The cursor at the sighting that a call finds.
 fn sighted(call: &str) -> Cursor {
     cursor_of(part(call, ' ', 1))
 }
 
-// Wants what calls came to where a reopening was refused: another search goes on from where the one
-// stopped.
-fn is_refused(
-    rt: &(impl Abort + AllocGlobal),
-    done: &Drive,
-    index: &Index,
-    shelf: &mut MemShelf,
-) -> Result<(), Fail> {
-    let next = stopped_at(rt, done)?;
-    let _at = drives_by(rt, index, shelf, sighted(next), &[Call::Next], next)?;
-    Err("NoMemory told at a reopening".into())
+// Wants the answers up to a reopening that was refused, its own behind them, and the cursor where
+// the search stood; gives the next call.
+fn stopped_at<'s>(rt: &impl Abort, done: &Drive, script: &'s str) -> &'s str {
+    let (last, before) = done.answers.as_slice().split_last().expect(rt, "no answer");
+    is(rt, last, &Answer::NoMemory);
+    are_told(rt, before, script);
+    let refused = call_on(part(script, '\n', before.len()));
+    is(rt, &refused, &Call::Reopen);
+    let next = part(script, '\n', done.answers.len());
+    is(rt, &done.cursor, &sighted(next));
+    next
 }
 
-// Wants what calls came to where none was.
-fn is_undisturbed(rt: &impl Abort, done: &Drive) -> Result<(), Fail> {
-    is(rt, &behind(rt, done, UNDISTURBED)?, &cursor((0, 1, 1)));
-    Ok(())
+// Wants that another search finds the sighting of the next call from there on.
+fn goes_on(rt: &(impl Abort + AllocGlobal), next: &str, index: &Index, shelf: &mut MemShelf) {
+    let at = sighted(next);
+    let done = must(rt, drive(rt.alloc(), &[Call::Next], index, shelf, at));
+    let _ = behind(rt, &done, next);
 }
 
 // Wants what calls came to, a reopening being refused or none.
@@ -84,103 +62,94 @@ fn came_to(
     done: &Drive,
     index: &Index,
     shelf: &mut MemShelf,
+    script: &str,
+    end: Spot,
 ) -> Result<(), Fail> {
-    if done.answers.len() < UNDISTURBED.lines().count() {
-        return is_refused(rt, done, index, shelf);
+    let count = done.answers.len();
+    if count >= script.lines().count() {
+        is(rt, &behind(rt, done, script), &cursor(end));
+        return Ok(());
     }
-    is_undisturbed(rt, done)
+    let next = stopped_at(rt, done, script);
+    if count == 1 {
+        is(rt, &shelf.handed(), &0);
+        return Err("NoMemory told at a first reopening".into());
+    }
+    goes_on(rt, next, index, shelf);
+    Err("NoMemory told at a reopening".into())
 }
 
-// Makes these calls, for which there is memory now.
-fn makes(
+// Makes these calls once memory was refused before the first. No read was made, so that one that
+// is to fail still fails.
+fn comes_again(
     rt: &(impl Abort + AllocGlobal),
     calls: &[Call],
     index: &Index,
     shelf: &mut MemShelf,
+    script: &str,
+    end: Spot,
 ) -> Result<(), Fail>
     requires { All HasBudget calls.now }
 {
-    let done = drive(rt.alloc(), calls, index, shelf, cursor(START))?;
-    came_to(rt, &done, index, shelf)
+    is(rt, &shelf.handed(), &0);
+    let done = must(rt, drive(rt.alloc(), calls, index, shelf, cursor(START)));
+    came_to(rt, &done, index, shelf, script, end)?;
+    Err("OutOfMemory before the first call".into())
 }
 
-// Makes these calls. Where memory is refused before the first, wants that no read was made, so
-// that the first one is still to fail.
+// Makes these calls.
 fn comes_to(
     rt: &(impl Abort + AllocGlobal),
     calls: &[Call],
     index: &Index,
     shelf: &mut MemShelf,
+    script: &str,
+    end: Spot,
 ) -> Result<(), Fail>
     requires { All HasBudget calls.now }
 {
-    if let Ok(done) = drive(rt.alloc(), calls, index, shelf, cursor(START)) {
-        return came_to(rt, &done, index, shelf);
+    match drive(rt.alloc(), calls, index, shelf, cursor(START)) {
+        Ok(done) => came_to(rt, &done, index, shelf, script, end),
+        Err(_) => comes_again(rt, calls, index, shelf, script, end),
     }
-    is(rt, &shelf.handed(), &0);
-    makes(rt, calls, index, shelf)?;
-    Err("OutOfMemory before the first call".into())
 }
 
-// Makes the undisturbed calls.
-fn undisturbed(
+// Makes the calls of a script.
+fn makes(
     rt: &(impl Abort + AllocGlobal),
     index: &Index,
     shelf: &mut MemShelf,
+    script: &str,
+    end: Spot,
 ) -> Result<(), Fail> {
-    let calls = calls_of(rt.alloc(), UNDISTURBED)?;
-    comes_to(rt, &calls, index, shelf)
+    let calls = calls_of(rt.alloc(), script)?;
+    comes_to(rt, &calls, index, shelf, script, end)
 }
 
-// Wants what two calls came to, of which a reopening is the first.
-fn reopened(rt: &impl Abort, done: &Drive, handed: u64) -> Result<(), Fail> {
-    if done.answers.len() < 2 {
-        let answer = done.answers.as_slice().last();
-        is(rt, &answer.copied(), &Some(Answer::NoMemory));
-        is(rt, &done.cursor, &cursor(START));
-        is(rt, &handed, &0);
-        return Err("NoMemory told at a first reopening".into());
-    }
-    let end = behind(rt, done, "reopen reopened\nnext 0:0:0\n")?;
-    is(rt, &end, &cursor((0, 0, 1)));
-    Ok(())
-}
-
-// Makes them.
-fn reopens(
-    rt: &(impl Abort + AllocGlobal),
-    index: &Index,
-    shelf: &mut MemShelf,
-) -> Result<(), Fail> {
-    let calls = [Call::Reopen, Call::Next];
-    let done = drive(rt.alloc(), &calls, index, shelf, cursor(START))?;
-    reopened(rt, &done, shelf.handed())
-}
-
-// Searches six zeros for two slices of zeros: makes the undisturbed calls, or reopens first.
+// Makes them in six zeros, for two slices of zeros.
 fn searches_zeros(
     rt: &(impl Abort + AllocGlobal),
-    shelf: &mut MemShelf,
-    reopens_first: bool,
+    failing: u64,
+    script: &str,
+    end: Spot,
 ) -> Result<(), Fail> {
+    let shelf = file_of(rt.alloc(), &[0; 6], 1, &[failing])?;
     let index = index_of(rt.alloc(), &[0; 8])?;
-    if reopens_first {
-        return reopens(rt, &index, shelf);
-    }
-    undisturbed(rt, &index, shelf)
+    let mut search = Search { index, shelf };
+    let came = makes(rt, &search.index, &mut search.shelf, script, end);
+    drop(search);
+    came
 }
 
 // The first read fails. Where memory is refused the test ends by that, once it has seen what was
 // left; `tools/checks/refused_tests.sh` refuses it.
 #[test]
 fn refused_memory_is_told_where_it_is_wanted(rt: HostRuntime) -> Result<(), Fail> {
-    let mut shelf = files_in(rt.alloc(), SIX_ZEROS, 1, &[1])?;
-    searches_zeros(&rt, &mut shelf, false)
+    searches_zeros(&rt, 1, UNDISTURBED, (0, 1, 1))
 }
 
 // Where memory is refused to a reopening before anything was read, that is told in the same way.
 #[test]
 fn refused_memory_is_told_at_a_first_reopening(rt: HostRuntime) -> Result<(), Fail> {
-    let mut shelf = files_in(rt.alloc(), SIX_ZEROS, 1, &[])?;
-    searches_zeros(&rt, &mut shelf, true)
+    searches_zeros(&rt, 0, REOPENED_FIRST, (0, 0, 1))
 }

@@ -4,7 +4,7 @@ ghost use Rattle.parshelf.specs.Memory.{shelf_state_of};
 ghost use Rattle.parfind.specs.Finders.{BelongsTo};
 
 use crate::tests::fixtures::{
-    cursor_of, field, files_in, holds, index_of, is, is_at_most, is_row, part, step_named,
+    Search, cursor_of, field, holds, is, is_at_most, is_row, must, part, search_of, step_named,
 };
 use parcursor::Cursor;
 use parfind::{Finder, Step};
@@ -12,7 +12,6 @@ use parshelf::{MemShelf, ReadFault};
 use parwindow::Index;
 use std::alloc::{AllocError, Global};
 use std::process::Abort;
-use std::test::Fail;
 
 // A walk is a text with bars between: the bytes of the file whose slices are looked for, the files
 // with commas between, where the search begins, its steps with commas between, and how many bytes
@@ -69,27 +68,28 @@ fn steps_give(
     }
 }
 
-/// Goes along a walk in files and for slices that are there already.
-pub fn walks_with(
+// Goes along a walk in files and for slices that are there already.
+fn walks_with(
     rt: &(impl Abort + AllocGlobal),
     index: &Index,
     shelf: &mut MemShelf,
     walk: &str,
-) -> Result<(), Fail> {
+) -> Result<(), AllocError> {
     let mut finder = opened(rt.alloc(), index, &*shelf, cursor_of(field(walk, 2)))?;
     steps_give(rt, &mut finder, index, shelf, field(walk, 3));
     is_at_most(rt, shelf.handed(), field(walk, 4));
     Ok(())
 }
 
-/// Goes along a walk in files that are there already.
+/// Goes along a walk in a search that is there already.
 pub fn walks_in(
     rt: &(impl Abort + AllocGlobal),
-    shelf: &mut MemShelf,
+    mut search: Search,
     walk: &str,
-) -> Result<(), Fail> {
-    let index = index_of(rt.alloc(), field(walk, 0).as_bytes())?;
-    walks_with(rt, &index, shelf, walk)
+) -> Result<(), AllocError> {
+    let walked = walks_with(rt, &search.index, &mut search.shelf, walk);
+    drop(search);
+    walked
 }
 
 /// Goes along a walk in files that are read `piece` bytes at a time, where the read of one number
@@ -99,22 +99,15 @@ pub fn walks(
     walk: &str,
     piece: usize,
     failing: u64,
-) -> Result<(), Fail> {
-    let mut shelf = files_in(rt.alloc(), field(walk, 1), piece, &[failing])?;
-    walks_in(rt, &mut shelf, walk)
+) -> Result<(), AllocError> {
+    walks_in(rt, search_of(rt, walk, piece, &[failing]), walk)
 }
 
 /// Goes along each walk of a table.
-pub fn walks_each(
-    rt: &(impl Abort + AllocGlobal),
-    table: &str,
-    piece: usize,
-    failing: u64,
-) -> Result<(), Fail> {
+pub fn walks_each(rt: &(impl Abort + AllocGlobal), table: &str, piece: usize, failing: u64) {
     for walk in table.lines() {
         if is_row(walk) {
-            walks(rt, walk, piece, failing)?;
+            must(rt, walks(rt, walk, piece, failing));
         }
     }
-    Ok(())
 }

@@ -4,15 +4,14 @@ ghost use Rattle.parfind.specs.Marks.{missing_places};
 ghost use Rattle.search_tests.specs.Worked.{two_slices, equal_slices};
 
 use crate::tests::fixtures::{
-    field, files_in, index_of, is, is_at_most, is_row, long_file, small_number_of,
+    Search, field, index_of, is, is_at_most, is_row, long_file, must, search_of, small_number_of,
 };
 use parfind::{SurveyFault, survey, survey_in};
 use parfixtures::shelf_of;
 use parshelf::{MemShelf, ReadFault};
 use parwindow::{Index, Window};
-use std::alloc::{AllocError, Global};
+use std::alloc::AllocError;
 use std::process::Abort;
-use std::test::Fail;
 
 // A row has bars between: the bytes of the file whose slices are looked for, the files with commas
 // between or `-` for none, the marks before and after the survey, a plus or a minus for each slice,
@@ -29,7 +28,10 @@ fn answer_named(file: &str) -> Result<(), SurveyFault> {
 
 // Whether a plus stands at a place.
 fn mark_at(marks: &str, place: usize) -> bool {
-    marks.as_bytes().get(place) == Some(&b'+')
+    match marks.as_bytes().get(place) {
+        Some(mark) => *mark == b'+',
+        None => false,
+    }
 }
 
 // Whether a plus stands at each of the first four places.
@@ -47,7 +49,7 @@ fn surveyed_in(
 ) -> Result<(), SurveyFault>
     requires { length found.old ≡ length index.now.slices }
 {
-    let mut window = Window::new(rt.alloc(), index.size() as usize)?;
+    let mut window = must(rt, Window::new(rt.alloc(), index.size() as usize));
     let _ = window.push(b'a');
     match survey_in(index, shelf, &mut window, found) {
         Ok(()) => Ok(()),
@@ -56,7 +58,7 @@ fn surveyed_in(
 }
 
 // Which window a survey has.
-#[derive(Clone, Copy, PartialEq)]
+#[derive(Clone, Copy)]
 enum In {
     OwnWindow,
     UsedWindow,
@@ -86,11 +88,11 @@ fn surveys(
     shelf: &mut MemShelf,
     row: &str,
     way: In,
-) -> Result<(), Fail> {
+) -> Result<(), AllocError> {
     let mut marks = marks_of(field(row, 2));
     let answer = surveyed(rt, index, shelf, &mut marks, way);
     if answer == Err(SurveyFault::Memory) {
-        return Err(AllocError.into());
+        return Err(AllocError);
     }
     is(rt, &answer, &answer_named(field(row, 4)));
     is(rt, &marks, &marks_of(field(row, 3)));
@@ -98,15 +100,16 @@ fn surveys(
     Ok(())
 }
 
-// Surveys files that are there already.
+// Surveys by a row in a search that is there already.
 fn survey_marks(
     rt: &(impl Abort + AllocGlobal),
-    shelf: &mut MemShelf,
+    mut search: Search,
     row: &str,
     way: In,
-) -> Result<(), Fail> {
-    let index = index_of(rt.alloc(), field(row, 0).as_bytes())?;
-    surveys(rt, &index, shelf, row, way)
+) -> Result<(), AllocError> {
+    let surveyed = surveys(rt, &search.index, &mut search.shelf, row, way);
+    drop(search);
+    surveyed
 }
 
 // Surveys the files of a row, which are read `piece` bytes at a time; the read of one number fails,
@@ -117,19 +120,18 @@ fn marks(
     piece: usize,
     failing: u64,
     way: In,
-) -> Result<(), Fail> {
-    let mut shelf = files_in(rt.alloc(), field(row, 1), piece, &[failing])?;
-    survey_marks(rt, &mut shelf, row, way)
+) -> Result<(), AllocError> {
+    survey_marks(rt, search_of(rt, row, piece, &[failing]), row, way)
 }
 
-// The same by each row of a table.
-fn marks_each(rt: &(impl Abort + AllocGlobal), table: &str, piece: usize) -> Result<(), Fail> {
+// Surveys by each row of a table, by pieces of one byte and of many.
+fn marks_each(rt: &(impl Abort + AllocGlobal), table: &str) {
     for row in table.lines() {
         if is_row(row) {
-            marks(rt, row, piece, 0, In::UsedWindow)?;
+            must(rt, marks(rt, row, 1, 0, In::UsedWindow));
+            must(rt, marks(rt, row, 64, 0, In::UsedWindow));
         }
     }
-    Ok(())
 }
 
 static SEEN: &str = "\
@@ -148,9 +150,8 @@ abcdefgh|,a,ab,abc|--|--||0
 ";
 
 #[test]
-fn each_slice_that_is_seen_is_marked(rt: HostRuntime) -> Result<(), Fail> {
-    marks_each(&rt, SEEN, 1)?;
-    marks_each(&rt, SEEN, 64)
+fn each_slice_that_is_seen_is_marked(rt: HostRuntime) {
+    marks_each(&rt, SEEN);
 }
 
 static EQUAL: &str = "\
@@ -161,35 +162,39 @@ static EQUAL: &str = "\
 ";
 
 #[test]
-fn equal_slices_are_marked_together(rt: HostRuntime) -> Result<(), Fail> {
-    marks_each(&rt, EQUAL, 1)?;
-    marks_each(&rt, EQUAL, 64)
+fn equal_slices_are_marked_together(rt: HostRuntime) {
+    marks_each(&rt, EQUAL);
 }
 
 #[test]
-fn nothing_is_read_where_each_slice_has_its_mark(rt: HostRuntime) -> Result<(), Fail> {
-    marks(&rt, "abcdefgh|abcdefgh|++|++||0", 64, 1, In::UsedWindow)
+fn nothing_is_read_where_each_slice_has_its_mark(rt: HostRuntime) {
+    let row = "abcdefgh|abcdefgh|++|++||0";
+    must(&rt, marks(&rt, row, 64, 1, In::UsedWindow));
 }
 
 // A file with two slices near its beginning, and much behind them; behind it another file has both
 // slices.
-fn long_shelf(alloc: Global, piece: usize) -> Result<MemShelf, Fail> {
-    let long = long_file(alloc, b"xxabcdefgh", 20_010)?;
-    shelf_of(alloc, &[&long, b"abcdefgh"], piece, &[])
+fn long_shelf(rt: &(impl Abort + AllocGlobal), piece: usize) -> MemShelf {
+    let long = long_file(rt, b"xxabcdefgh", 20_010);
+    must(rt, shelf_of(rt.alloc(), &[&long, b"abcdefgh"], piece, &[]))
 }
 
 // Surveys them.
-fn stops(rt: &(impl Abort + AllocGlobal), row: &str, piece: usize) -> Result<(), Fail> {
-    let mut shelf = long_shelf(rt.alloc(), piece)?;
-    survey_marks(rt, &mut shelf, row, In::UsedWindow)
+fn stops(rt: &(impl Abort + AllocGlobal), row: &str, piece: usize) {
+    let index = must(rt, index_of(rt.alloc(), b"abcdefgh"));
+    let shelf = long_shelf(rt, piece);
+    must(
+        rt,
+        survey_marks(rt, Search { index, shelf }, row, In::UsedWindow),
+    );
 }
 
 // At most 4,096 bytes are read behind those in front of the last slice and its own four.
 #[test]
-fn reading_stops_once_each_slice_without_a_mark_is_found(rt: HostRuntime) -> Result<(), Fail> {
-    stops(&rt, "abcdefgh||--|++||4106", 1)?;
-    stops(&rt, "abcdefgh||--|++||4106", 64)?;
-    stops(&rt, "abcdefgh||-+|++||4102", 64)
+fn reading_stops_once_each_slice_without_a_mark_is_found(rt: HostRuntime) {
+    stops(&rt, "||--|++||4106", 1);
+    stops(&rt, "||--|++||4106", 64);
+    stops(&rt, "||-+|++||4102", 64);
 }
 
 // How many bytes a read gives at most, the numbers of the first and the last read of which each
@@ -204,23 +209,31 @@ static FAILURES: [(usize, u64, u64, &str); 7] = [
     (64, 3, 3, "abcdefghijkl|abcd,XXefghijkl|---|+++|"),
 ];
 
-#[test]
-fn after_a_failed_read_the_marks_before_it_stand(rt: HostRuntime) -> Result<(), Fail> {
-    for (piece, first, last, row) in &FAILURES {
-        for failing in *first..=*last {
-            marks(&rt, row, *piece, failing, In::UsedWindow)?;
-        }
+// Surveys by a row, in each run another read failing.
+fn fails_in_turn(rt: &(impl Abort + AllocGlobal), row: &str, piece: usize, first: u64, last: u64) {
+    for failing in first..=last {
+        must(rt, marks(rt, row, piece, failing, In::UsedWindow));
     }
-    Ok(())
+}
+
+#[test]
+fn after_a_failed_read_the_marks_before_it_stand(rt: HostRuntime) {
+    for (piece, first, last, row) in &FAILURES {
+        fails_in_turn(&rt, row, *piece, *first, *last);
+    }
 }
 
 // Surveys in windows of their own: of files of which the first read fails, and of others.
 #[test]
-fn a_survey_marks_what_a_search_finds(rt: HostRuntime) -> Result<(), Fail> {
-    let failing = "abcdefghijkl|ab,XXabcdefgh|--+|--+|1";
-    marks(&rt, failing, 64, 1, In::OwnWindow)?;
-    let whole = "abcdefghijkl|XXabcd|--+|+-+|";
-    marks(&rt, whole, 64, 0, In::OwnWindow)
+fn a_survey_marks_what_a_search_finds(rt: HostRuntime) -> Result<(), AllocError> {
+    marks(
+        &rt,
+        "abcdefghijkl|ab,XXabcdefgh|--+|--+|1",
+        64,
+        1,
+        In::OwnWindow,
+    )?;
+    marks(&rt, "abcdefghijkl|XXabcd|--+|+-+|", 64, 0, In::OwnWindow)
 }
 
 // What the word counts that bounds the digests of a survey. Does nothing.

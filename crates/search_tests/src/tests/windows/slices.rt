@@ -1,9 +1,8 @@
 // Slices of one file, each of 4 bytes, and where a window stops that looks for them.
-use crate::tests::fixtures::{index_with, is};
+use crate::tests::fixtures::{index_with, is, must};
 use parfield::Hash16;
 use parwindow::{Index, Window};
 use std::process::Abort;
-use std::test::Fail;
 
 // The MD5 and the CRC-32 of `abcd`, and those of `ab` and two zeros.
 const ABCD: u128 = 0xe2fc714c4727ee9395f324cd2e7f331f;
@@ -16,21 +15,21 @@ const AB_CRC: u32 = 0xe98d_5034;
 
 // Both sums of the slices of `abcdabcdab`, as a packet has them, of those of `abcdab`, and of two
 // that are equal: `ab` with two zeros, and `ab`.
-const TEN_BYTES: [u8; 60] =
+static TEN_BYTES: [u8; 60] =
     *b"\xe2\xfc\x71\x4c\x47\x27\xee\x93\x95\xf3\x24\xcd\x2e\x7f\x33\x1f\x11\xcd\x82\xed\
       \xe2\xfc\x71\x4c\x47\x27\xee\x93\x95\xf3\x24\xcd\x2e\x7f\x33\x1f\x11\xcd\x82\xed\
       \x66\x27\x1d\x2e\x70\x37\x2c\x1b\x4d\xc5\xb4\x6e\x79\xa6\xf0\x01\x34\x50\x8d\xe9";
 
-const SIX_BYTES: [u8; 40] =
+static SIX_BYTES: [u8; 40] =
     *b"\xe2\xfc\x71\x4c\x47\x27\xee\x93\x95\xf3\x24\xcd\x2e\x7f\x33\x1f\x11\xcd\x82\xed\
       \x66\x27\x1d\x2e\x70\x37\x2c\x1b\x4d\xc5\xb4\x6e\x79\xa6\xf0\x01\x34\x50\x8d\xe9";
 
-const EQUAL_BYTES: [u8; 40] =
+static EQUAL_BYTES: [u8; 40] =
     *b"\x66\x27\x1d\x2e\x70\x37\x2c\x1b\x4d\xc5\xb4\x6e\x79\xa6\xf0\x01\x34\x50\x8d\xe9\
       \x66\x27\x1d\x2e\x70\x37\x2c\x1b\x4d\xc5\xb4\x6e\x79\xa6\xf0\x01\x34\x50\x8d\xe9";
 
 // Fewer bytes than the sums of any of these files have.
-const TOO_FEW: [u8; 16] = *b"\xe2\xfc\x71\x4c\x47\x27\xee\x93\x95\xf3\x24\xcd\x2e\x7f\x33\x1f";
+static TOO_FEW: [u8; 16] = *b"\xe2\xfc\x71\x4c\x47\x27\xee\x93\x95\xf3\x24\xcd\x2e\x7f\x33\x1f";
 
 // What an index says, the answer last.
 #[derive(Clone, Copy)]
@@ -51,51 +50,46 @@ enum Told {
     Misses(u32, &'static [bool], u64, bool),
 }
 
-// So many bytes of a slice are the file's.
-fn has_own_length(rt: &impl Abort, index: &Index, slice: u32, length: u64) {
-    assert!(rt; slice < index.slices());
-    is(rt, &index.own_length(slice), &length);
-}
-
-// A slice with this CRC-32 that fits into so many bytes has none of these marks, or each has one.
-fn misses(rt: &impl Abort, index: &Index, crc: u32, found: &[bool], left: u64, missing: bool) {
-    assert!(rt; index.slices() as usize == found.len());
-    is(rt, &index.is_missing(crc, left, found), &missing);
-}
-
 // The first slice with both sums from a number on.
 fn next_match(index: &Index, crc: u32, digest: u128, from: u32) -> Option<u32> {
     index.next_match(crc, Hash16(digest.to_be_bytes()), from)
 }
 
-// The index says this.
-fn says(rt: &impl Abort, index: &Index, row: Told) {
+// Whether the index says this.
+fn says(index: &Index, row: Told) -> bool {
     match row {
-        Told::Slices(size, slices) => is(rt, &(index.size(), index.slices()), &(size, slices)),
-        Told::OwnLength(slice, length) => has_own_length(rt, index, slice, length),
-        Told::HasCrc(crc, seen) => is(rt, &index.has_crc(crc), &seen),
-        Told::NextCrc(crc, from, found) => is(rt, &index.next_crc(crc, from), &found),
-        Told::NextMatch(crc, digest, from, found) => {
-            is(rt, &next_match(index, crc, digest, from), &found);
+        Told::Slices(size, slices) => index.size() == size && index.slices() == slices,
+        Told::OwnLength(slice, length) => {
+            slice < index.slices() && index.own_length(slice) == length
         }
-        Told::Fits(left, fits) => is(rt, &index.fits(left), &fits),
-        Told::FitsCrc(crc, left, fits) => is(rt, &index.has_fit_crc(crc, left), &fits),
-        Told::Misses(crc, found, left, missing) => misses(rt, index, crc, found, left, missing),
+        Told::HasCrc(crc, seen) => index.has_crc(crc) == seen,
+        Told::NextCrc(crc, from, found) => index.next_crc(crc, from) == found,
+        Told::NextMatch(crc, digest, from, found) => next_match(index, crc, digest, from) == found,
+        Told::Fits(left, fits) => index.fits(left) == fits,
+        Told::FitsCrc(crc, left, fits) => index.has_fit_crc(crc, left) == fits,
+        Told::Misses(crc, found, left, missing) => {
+            index.slices() as usize == found.len() && index.is_missing(crc, left, found) == missing
+        }
     }
 }
 
-// An index of the slices of a file of this length with these sums says all of this.
-fn index_says(
-    rt: &(impl Abort + AllocGlobal),
-    length: u64,
-    sums: &[u8],
-    rows: &[Told],
-) -> Result<(), Fail> {
-    let index = index_with(rt.alloc(), length, sums)?;
+// How many of these the index says up to the first that it doesn't.
+fn says_first(index: &Index, rows: &[Told]) -> usize {
+    let mut count: usize = 0;
     for row in rows {
-        says(rt, &index, *row);
+        if !says(index, *row) {
+            return count;
+        }
+        count = count.saturating_add(1);
     }
-    Ok(())
+    count
+}
+
+// An index of the slices of a file of this length with these sums says all of this.
+fn index_says(rt: &(impl Abort + AllocGlobal), length: u64, sums: &[u8], rows: &[Told]) {
+    let index = must(rt, index_with(rt.alloc(), length, sums));
+    is(rt, &says_first(&index, rows), &rows.len());
+    drop(index);
 }
 
 static TEN_SLICES: [Told; 3] = [
@@ -105,8 +99,8 @@ static TEN_SLICES: [Told; 3] = [
 ];
 
 #[test]
-fn slices_of_a_file_of_ten_bytes_are_found(rt: HostRuntime) -> Result<(), Fail> {
-    index_says(&rt, 10, &TEN_BYTES, &TEN_SLICES)
+fn slices_of_a_file_of_ten_bytes_are_found(rt: HostRuntime) {
+    index_says(&rt, 10, &TEN_BYTES, &TEN_SLICES);
 }
 
 static EQUAL_SLICES: [Told; 11] = [
@@ -124,8 +118,8 @@ static EQUAL_SLICES: [Told; 11] = [
 ];
 
 #[test]
-fn equal_slices_are_found_by_number(rt: HostRuntime) -> Result<(), Fail> {
-    index_says(&rt, 10, &TEN_BYTES, &EQUAL_SLICES)
+fn equal_slices_are_found_by_number(rt: HostRuntime) {
+    index_says(&rt, 10, &TEN_BYTES, &EQUAL_SLICES);
 }
 
 static NO_SUMS: [Told; 3] = [
@@ -135,8 +129,8 @@ static NO_SUMS: [Told; 3] = [
 ];
 
 #[test]
-fn slices_without_sums_are_not_found(rt: HostRuntime) -> Result<(), Fail> {
-    index_says(&rt, 10, &TOO_FEW, &NO_SUMS)
+fn slices_without_sums_are_not_found(rt: HostRuntime) {
+    index_says(&rt, 10, &TOO_FEW, &NO_SUMS);
 }
 
 static KNOWN_FIT: [Told; 5] = [
@@ -156,9 +150,9 @@ static UNKNOWN_FIT: [Told; 5] = [
 ];
 
 #[test]
-fn a_slice_fits_into_what_its_own_bytes_need(rt: HostRuntime) -> Result<(), Fail> {
-    index_says(&rt, 6, &SIX_BYTES, &KNOWN_FIT)?;
-    index_says(&rt, 6, &TOO_FEW, &UNKNOWN_FIT)
+fn a_slice_fits_into_what_its_own_bytes_need(rt: HostRuntime) {
+    index_says(&rt, 6, &SIX_BYTES, &KNOWN_FIT);
+    index_says(&rt, 6, &TOO_FEW, &UNKNOWN_FIT);
 }
 
 static TEN_FIT: [Told; 9] = [
@@ -183,10 +177,10 @@ static EQUAL_FIT: [Told; 4] = [
 static NO_FIT: [Told; 1] = [Told::FitsCrc(ABCD_CRC, u64::MAX, false)];
 
 #[test]
-fn a_slice_with_a_crc_fits_by_its_own_bytes(rt: HostRuntime) -> Result<(), Fail> {
-    index_says(&rt, 10, &TEN_BYTES, &TEN_FIT)?;
-    index_says(&rt, 6, &EQUAL_BYTES, &EQUAL_FIT)?;
-    index_says(&rt, 10, &TOO_FEW, &NO_FIT)
+fn a_slice_with_a_crc_fits_by_its_own_bytes(rt: HostRuntime) {
+    index_says(&rt, 10, &TEN_BYTES, &TEN_FIT);
+    index_says(&rt, 6, &EQUAL_BYTES, &EQUAL_FIT);
+    index_says(&rt, 10, &TOO_FEW, &NO_FIT);
 }
 
 static TEN_MISSING: [Told; 10] = [
@@ -211,9 +205,9 @@ static EQUAL_MISSING: [Told; 5] = [
 ];
 
 #[test]
-fn a_slice_is_missing_that_fits_and_has_no_mark(rt: HostRuntime) -> Result<(), Fail> {
-    index_says(&rt, 10, &TEN_BYTES, &TEN_MISSING)?;
-    index_says(&rt, 6, &EQUAL_BYTES, &EQUAL_MISSING)
+fn a_slice_is_missing_that_fits_and_has_no_mark(rt: HostRuntime) {
+    index_says(&rt, 10, &TEN_BYTES, &TEN_MISSING);
+    index_says(&rt, 6, &EQUAL_BYTES, &EQUAL_MISSING);
 }
 
 // Pieces, how many of their bytes are taken, and whether a slice ends there.
@@ -236,18 +230,23 @@ fn takes(rt: &impl Abort, window: &mut Window, index: &Index) {
     }
 }
 
-// A window that holds `xyab` does.
-fn a_full_window_takes(rt: &(impl Abort + AllocGlobal), index: &Index) -> Result<(), Fail> {
-    let mut window = Window::new(rt.alloc(), 4)?;
+// A window that holds `xyab`.
+fn window_of_four(rt: &(impl Abort + AllocGlobal)) -> Window {
+    let mut window = must(rt, Window::new(rt.alloc(), 4));
     for byte in b"xyab" {
         let _ = window.push(*byte);
     }
-    takes(rt, &mut window, index);
-    Ok(())
+    window
+}
+
+// It does that, for slices of six bytes.
+fn a_full_window_takes(rt: &(impl Abort + AllocGlobal)) {
+    let index = must(rt, index_with(rt.alloc(), 6, &SIX_BYTES));
+    takes(rt, &mut window_of_four(rt), &index);
+    drop(index);
 }
 
 #[test]
-fn pieces_stop_where_a_slice_ends(rt: HostRuntime) -> Result<(), Fail> {
-    let index = index_with(rt.alloc(), 6, &SIX_BYTES)?;
-    a_full_window_takes(&rt, &index)
+fn pieces_stop_where_a_slice_ends(rt: HostRuntime) {
+    a_full_window_takes(&rt);
 }
