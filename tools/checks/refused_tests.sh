@@ -17,16 +17,15 @@ while IFS='|' read -r crate mode word told; do
         echo "not run: there is no $tests, which the gate leaves"
     fi
 done << 'END'
-parts_tests|none
-parts_tests|one|names_are_shown
-parts_tests|one|::shelves::
-parts_tests|one|::cursors::
 packets_tests|none
 packets_tests|one|no_packet
 packets_tests|one|packet_inside
 packets_tests|one|many_bytes
 packets_tests|one|bodies_up_to
 runs_tests|none
+runs_tests|one|names_are_shown
+runs_tests|one|::shelves::
+runs_tests|one|::cursors::
 search_tests|one||OutOfMemory before the first call,NoMemory told at a reopening,NoMemory told at a first reopening
 search_tests|later|equal_slices
 END

@@ -5,6 +5,7 @@ mod ending;
 mod finding;
 mod large;
 mod listing;
+mod parts;
 mod reads;
 mod verifying;
 mod whole_rows;

@@ -1,4 +1,5 @@
-use super::{is, is_in, must};
+use super::is;
+use crate::runs::{is_same, must};
 use md5::{Digest, Md5};
 use parfield::{
     Counts, Hash16, HeaderFault, Kind, Packet, Sequence, Tally, Text, Transcript, header,
@@ -194,7 +195,7 @@ static HASHES: [(&[u8], Option<Hash16>); 7] = [
 #[test]
 fn hashes_are_read_from_digits_of_either_case(rt: HostRuntime) {
     for (text, hash) in &HASHES {
-        is_in(&rt, text, &Hash16::read(text), hash);
+        is_same(&rt, text, &Hash16::read(text), hash);
     }
 }
 

@@ -1,4 +1,5 @@
-use super::{is, is_in};
+use super::is;
+use crate::runs::is_same;
 use parcursor::{Cursor, CursorFault, read_cursor, split_cursor};
 use parfield::Hash16;
 use std::process::Abort;
@@ -76,8 +77,8 @@ static TEXTS: [&[u8]; 17] = [
 
 // Wants that no cursor can be read from a text.
 fn is_refused(rt: &impl Abort, text: &[u8]) {
-    is_in(rt, &text, &split_cursor(text), &None);
-    is_in(
+    is_same(rt, &text, &split_cursor(text), &None);
+    is_same(
         rt,
         &text,
         &read_cursor(text, ZEROS),
