@@ -65,15 +65,20 @@ fn bodies_longer_than_a_piece_are_hashed_whole(rt: HostRuntime) {
 }
 
 // Forty packets, of which each is the body of the one before it.
-#[test]
-fn packets_within_packets_are_found(rt: HostRuntime) {
+// Forty packets are found, of which each is the body of the one before it.
+fn forty_are_found(rt: &(impl Abort + AllocGlobal)) {
     let mut bytes = Vec::new(rt.alloc());
     let mut wanted = Vec::new(rt.alloc());
     for level in 0..40 {
-        bytes = packet(&rt, CREATOR_TYPE, &bytes);
-        must(&rt, wanted.push((Kind::Creator, level * 64)));
+        bytes = packet(rt, CREATOR_TYPE, &bytes);
+        must(rt, wanted.push((Kind::Creator, level * 64)));
     }
-    found_at(&rt, &bytes, &wanted);
+    found_at(rt, &bytes, &wanted);
+}
+
+#[test]
+fn packets_within_packets_are_found(rt: HostRuntime) {
+    forty_are_found(&rt);
 }
 
 // A packet whose body is the header of another, which has its own body behind it.
@@ -84,7 +89,7 @@ fn overlapping(rt: &(impl Abort + AllocGlobal)) -> Vec<u8> {
     bytes
 }
 
-// Those, and two packets that nothing overlaps.
+// The two packets, and two more that nothing overlaps.
 static OVERLAPPING: [(Kind, usize); 4] = [
     (Kind::Creator, 0),
     (Kind::Creator, 64),
@@ -92,13 +97,18 @@ static OVERLAPPING: [(Kind, usize); 4] = [
     (Kind::Creator, 200),
 ];
 
+// The two are found, and then all four.
+fn all_are_found(rt: &(impl Abort + AllocGlobal)) {
+    let mut bytes = overlapping(rt);
+    found_at(rt, &bytes, &OVERLAPPING[..2]);
+    put(rt, &mut bytes, [0; 16], UNKNOWN, b"abc!");
+    put(rt, &mut bytes, [0; 16], CREATOR_TYPE, b"efgh");
+    found_at(rt, &bytes, &OVERLAPPING);
+}
+
 #[test]
 fn overlapping_packets_are_found(rt: HostRuntime) {
-    let mut bytes = overlapping(&rt);
-    found_at(&rt, &bytes, &OVERLAPPING[..2]);
-    put(&rt, &mut bytes, [0; 16], UNKNOWN, b"abc!");
-    put(&rt, &mut bytes, [0; 16], CREATOR_TYPE, b"efgh");
-    found_at(&rt, &bytes, &OVERLAPPING);
+    all_are_found(&rt);
 }
 
 // A Creator packet whose length is no multiple of four,
