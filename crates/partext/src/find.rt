@@ -1,7 +1,8 @@
-ghost use Rattle.std.specs.Prelude.{◌≡◌, ◌≢◌, IsTrue, false, IfErr, Some};
+ghost use Rattle.std.specs.Prelude.{◌≡◌, ◌≢◌, IsTrue, false, IfErr, List, Ok, Some};
 ghost use Rattle.parset.specs.RecoverySet.{set_of};
 ghost use Rattle.partext.specs.Outcomes.{is_packet_read, written, follows_text, Answers, KeepsText, EndsScanned, EndsSink};
 ghost use Rattle.partext.specs.Report.{report_with_set, find_report, start_in};
+ghost use Rattle.parsalvage.specs.declared.kept.Kept.{Kept};
 ghost use Rattle.parplan.specs.declared.command.Command.TheVariants as command;
 
 use crate::faults::RunFault;
@@ -46,11 +47,40 @@ pub fn write_find<Q: Shelf, W: Sink>(
     ensures sink { EndsSink result (W.state out.old) (W.state out.new) }
 {
     let set = asked_set(alloc, plan, kept)?;
-    let Some(at) = start(&set, cursor) else {
+    find_in(alloc, plan, limit, cursor, &set, scanned, out)
+}
+
+// Writes where slices of a set are seen, from the cursor on.
+fn find_in<Q: Shelf, W: Sink>(
+    alloc: Global,
+    plan: &Plan,
+    limit: Option<u64>,
+    cursor: Option<(Hash16, Cursor)>,
+    set: &RecoverySet,
+    scanned: &mut Q,
+    out: &mut W,
+) -> Result<Status, RunFault>
+    requires { limit ≢ Some 0 }
+
+    ensures text { IsTrue (Q.state scanned.old).is_steady
+        → Answers (find_report plan.now limit cursor (Q.state scanned.old).files set.now) result
+        (W.state out.old) (W.state out.new) }
+    ensures lines { (packets : List Kept) → set_of packets plan.now.set ≡ Ok set.now
+        → IsTrue (Q.state scanned.old).is_steady
+        → IfErr result (λ fault. KeepsText (command.Find limit cursor) plan.now packets
+        (Q.state scanned.old).files fault (W.state out.old) (W.state out.new)) }
+    ensures no_packet { IfErr result (λ fault. is_packet_read fault ≡ false) }
+    ensures silent { IfErr result (λ fault. follows_text (command.Find limit cursor)
+        (written (W.state out.old) (W.state out.new)) fault ≡ false
+        → W.state out.new ≡ W.state out.old) }
+    ensures scanned { EndsScanned result (Q.state scanned.old) (Q.state scanned.new) }
+    ensures sink { EndsSink result (W.state out.old) (W.state out.new) }
+{
+    let Some(at) = start(set, cursor) else {
         return Err(RunFault::OtherSet);
     };
     let files = plan.scanned.as_slice();
-    search(alloc, files, &set, at, limit, scanned, out)?;
+    search(alloc, files, set, at, limit, scanned, out)?;
     Ok(Status::Listed)
 }
 
