@@ -15,7 +15,7 @@ run() {
     flock "$logs" cat "$logs/$1"
 }
 export -f run
-printf '%s\n' hostile refused limits refused_sets refused_tests address_space disturbed names completions \
+printf '%s\n' refused limits refused_sets refused_tests hostile address_space disturbed names completions \
     costs readings ends examples manual files verdicts hand_proofs installed \
     | xargs -P "${RT_JOBS:-$(nproc)}" -I{} bash -c 'run {}' \
     || echo "FAILED: not every check was run" | tee "$logs/xargs"
