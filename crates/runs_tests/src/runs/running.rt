@@ -5,6 +5,7 @@ use crate::runs::archives::packet_file;
 use crate::runs::checks::must;
 use crate::runs::rows::{Row, words_of};
 use parfield::Text;
+use parfixtures::shelf_of;
 use parreport::{MemSink, Plan, RunFault, Status, ending, reads_scanned, run, run_end};
 use parshelf::{MemShelf, Shelf};
 use parwords::plan;
@@ -64,32 +65,11 @@ fn bytes_of<'t>(rt: &impl Abort, word: &'t str, packet: bool) -> &'t [u8] {
     }
 }
 
-/// Puts a file of these bytes behind others.
-pub fn put_file(rt: &(impl Abort + AllocGlobal), files: &mut Vec<Vec<u8>>, bytes: &[u8]) {
-    let file = must(rt, Vec::from_slice(rt.alloc(), bytes));
-    must(rt, files.push(file));
-}
-
-/// At most nine files in memory that are read `piece` bytes at a time, and at least one; the read of
-/// this number fails.
-pub fn shelf_of(
-    rt: &(impl Abort + AllocGlobal),
-    files: Vec<Vec<u8>>,
-    piece: usize,
-    failing: u64,
-) -> MemShelf {
-    if files.len() > 9 {
-        rt.panic("more than nine files");
-    }
-    let failing = must(rt, Vec::from_slice(rt.alloc(), &[failing]));
-    MemShelf::new(files, piece.max(1), failing)
-}
-
 // The files that words stand for.
-fn files_of(rt: &(impl Abort + AllocGlobal), words: &str, packet: bool) -> Vec<Vec<u8>> {
+fn files_of<'t>(rt: &(impl Abort + AllocGlobal), words: &'t str, packet: bool) -> Vec<&'t [u8]> {
     let mut files = Vec::new(rt.alloc());
     for word in words.split_whitespace() {
-        put_file(rt, &mut files, bytes_of(rt, word, packet));
+        must(rt, files.push(bytes_of(rt, word, packet)));
     }
     files
 }
@@ -97,13 +77,15 @@ fn files_of(rt: &(impl Abort + AllocGlobal), words: &str, packet: bool) -> Vec<V
 // The packet files of a row in memory.
 fn packets_in(rt: &(impl Abort + AllocGlobal), row: &Row<'_>, reads: Reads) -> MemShelf {
     let files = files_of(rt, row.packets, true);
-    shelf_of(rt, files, reads.piece, reads.failing_packet)
+    let failing = [reads.failing_packet];
+    must(rt, shelf_of(rt.alloc(), &files, reads.piece, &failing))
 }
 
 /// The scanned files of a row in memory.
 pub fn scanned_in(rt: &(impl Abort + AllocGlobal), row: &Row<'_>, reads: Reads) -> MemShelf {
     let files = files_of(rt, row.scanned, false);
-    shelf_of(rt, files, reads.piece, reads.failing_scanned)
+    let failing = [reads.failing_scanned];
+    must(rt, shelf_of(rt.alloc(), &files, reads.piece, &failing))
 }
 
 // The plan of words, which are one.

@@ -1,13 +1,14 @@
 use crate::runs::{
-    READS, ROOMY, Row, cut, has_ended, is_same, must, number, packet_file, parted, put_file, ran,
-    replaced, rows_of, scanned_in, shelf_of,
+    READS, ROOMY, Row, cut, has_ended, is_same, must, number, packet_file, parted, ran, replaced,
+    rows_of, scanned_in,
 };
+use parfixtures::shelf_of;
 use std::process::Abort;
 
 // Runs a row over packet files that hold these bytes and are read by so many; wants the end that it
 // has.
-fn ends_over(rt: &(impl Abort + AllocGlobal), row: &Row<'_>, files: Vec<Vec<u8>>, piece: usize) {
-    let mut packets = shelf_of(rt, files, piece, 0);
+fn ends_over(rt: &(impl Abort + AllocGlobal), row: &Row<'_>, files: &[&[u8]], piece: usize) {
+    let mut packets = must(rt, shelf_of(rt.alloc(), files, piece, &[]));
     let mut scanned = scanned_in(rt, row, READS);
     let ran = ran(rt, row.words, &mut packets, &mut scanned, ROOMY);
     has_ended(rt, &ran, row);
@@ -70,14 +71,6 @@ fn large_text(rt: &(impl Abort + AllocGlobal), aside: &str) -> String {
     replaced(rt, text.as_str(), "REASON", aside)
 }
 
-// Two packet files: the set of g.bin, and this one.
-fn with_set(rt: &(impl Abort + AllocGlobal), large: &[u8]) -> Vec<Vec<u8>> {
-    let mut files = Vec::new(rt.alloc());
-    put_file(rt, &mut files, packet_file(rt, "g"));
-    put_file(rt, &mut files, large);
-    files
-}
-
 // Wants that a line of the table is right. A base, which `set` does not ask for, names the packet.
 fn is_right(rt: &(impl Abort + AllocGlobal), line: &str) {
     let (packet, aside) = cut(rt, line, " = ");
@@ -93,8 +86,8 @@ fn is_right(rt: &(impl Abort + AllocGlobal), line: &str) {
         status: 0,
         beside: "",
     };
-    let files = with_set(rt, &large_packet(rt, front, behind));
-    ends_over(rt, &row, files, 65_536);
+    let large = large_packet(rt, front, behind);
+    ends_over(rt, &row, &[packet_file(rt, "g"), &large], 65_536);
 }
 
 #[test]
@@ -132,24 +125,22 @@ result possible
 = 1
 ";
 
-// One packet file: these bytes, so many times, and those of a packet file behind them.
+// These bytes, so many times, and those of a packet file behind them.
 fn behind_many(
     rt: &(impl Abort + AllocGlobal),
     before: &[u8],
     times: usize,
     last: &str,
-) -> Vec<Vec<u8>> {
+) -> Vec<u8> {
     let mut all = must(rt, before.repeat(rt.alloc(), times));
     must(rt, all.extend_from_slice(packet_file(rt, last)));
-    let mut files = Vec::new(rt.alloc());
-    must(rt, files.push(all));
-    files
+    all
 }
 
 // Wants that a row of this table is right.
 fn is_right_behind(rt: &(impl Abort + AllocGlobal), row: &Row<'_>) {
-    let files = behind_many(rt, packet_file(rt, "creator_of_g"), 1001, "g");
-    ends_over(rt, row, files, 65_536);
+    let many = behind_many(rt, packet_file(rt, "creator_of_g"), 1001, "g");
+    ends_over(rt, row, &[&many], 65_536);
 }
 
 #[test]
@@ -180,8 +171,8 @@ fn is_right_so_far(rt: &(impl Abort + AllocGlobal), row: &Row<'_>) {
     let (times, piece) = parted(beside);
     let before = [number(rt, byte)];
     let last = row.packets.trim();
-    let files = behind_many(rt, &before, number(rt, times), last);
-    ends_over(rt, row, files, number(rt, piece));
+    let far = behind_many(rt, &before, number(rt, times), last);
+    ends_over(rt, row, &[&far], number(rt, piece));
 }
 
 #[test]

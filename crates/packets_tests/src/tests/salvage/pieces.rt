@@ -64,7 +64,6 @@ fn bodies_longer_than_a_piece_are_hashed_whole(rt: HostRuntime) {
     found_around(&rt, UNKNOWN, Kind::Other(UNKNOWN));
 }
 
-// Forty packets, of which each is the body of the one before it.
 // Forty packets are found, of which each is the body of the one before it.
 fn forty_are_found(rt: &(impl Abort + AllocGlobal)) {
     let mut bytes = Vec::new(rt.alloc());

@@ -2,6 +2,7 @@ use super::is;
 use crate::runs::is_same;
 use parcursor::{Cursor, CursorFault, read_cursor, split_cursor};
 use parfield::Hash16;
+use parfixtures::cursor;
 use std::process::Abort;
 use std::test::Fail;
 
@@ -20,21 +21,13 @@ fn is_written(rt: &(impl Abort + AllocGlobal), cursor: Cursor, wanted: &[u8]) ->
 
 #[test]
 fn a_cursor_is_written(rt: HostRuntime) -> Result<(), Fail> {
-    let cursor = Cursor {
-        file: 0,
-        offset: 2,
-        slice: 1,
-    };
+    let cursor = cursor((0, 2, 1));
     is_written(&rt, cursor, b"617cdc72ba53d94fe713fea2ae18f776:0:2:1")
 }
 
 #[test]
 fn the_greatest_cursor_has_75_bytes(rt: HostRuntime) -> Result<(), Fail> {
-    let greatest = Cursor {
-        file: 4_294_967_295,
-        offset: 18_446_744_073_709_551_615,
-        slice: 4_294_967_295,
-    };
+    let greatest = cursor((4_294_967_295, 18_446_744_073_709_551_615, 4_294_967_295));
     let text = b"617cdc72ba53d94fe713fea2ae18f776:4294967295:18446744073709551615:4294967295";
     is(&rt, &text.len(), &75);
     is(&rt, &split_cursor(text), &Some((SET, greatest)));
@@ -44,11 +37,7 @@ fn the_greatest_cursor_has_75_bytes(rt: HostRuntime) -> Result<(), Fail> {
 #[test]
 fn a_cursor_is_read_for_its_set(rt: HostRuntime) {
     let text = b"00000000000000000000000000000000:0:1:1";
-    let cursor = Cursor {
-        file: 0,
-        offset: 1,
-        slice: 1,
-    };
+    let cursor = cursor((0, 1, 1));
     is(&rt, &split_cursor(text), &Some((ZEROS, cursor)));
     is(&rt, &read_cursor(text, ZEROS), &Ok(cursor));
     is(&rt, &read_cursor(text, SET), &Err(CursorFault::OtherSet));
