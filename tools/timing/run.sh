@@ -13,7 +13,7 @@ cp "$here/main.rt.txt" "$room/src/main.rt"
 cd "$room"
 
 words=(--extern "std=$kit/rlibs/std.rlib" -L "dependency=$kit/rlibs" --extern "md5=$kit/rlibs/md5.rlib")
-for crate in parfield parcursor parsink parshelf parsalvage parbody parset; do
+for crate in parcount parfield parcursor parsink parshelf parsalvage parbody parset; do
     words+=(-L "dependency=$crates/$crate/out/rlib")
 done
 for crate in parfixtures parwindow; do

@@ -2,7 +2,7 @@
 use Rattle.std.proofs.Common.{◌≡◌, ℕ, ◌+◌, ◌<◌, List, [], ◌∷◌, ◌++◌, length, map, sum, refl, sym, ap, ◌∙◌, subst, arith, IsTrue, Option, Some, None, Result, Ok, Err}
 use Rattle.std.proofs.lemmas.Grind.{common_steps}
 use Rattle.std.proofs.lemmas.List.Sums.{sum_by-cons}
-use Rattle.parfield.specs.Added.{length-added_at, sum-added_at}
+use Rattle.parcount.specs.Added.{length-added_at, sum-added_at}
 use Rattle.parshelf.specs.Shelf.{ShelfState, failure_count}
 use Rattle.parshelf.specs.Reads.{ReadsOnly, FailsOnce}
 use Rattle.parshelf.specs.declared.reading.ReadFault.{ReadFault}

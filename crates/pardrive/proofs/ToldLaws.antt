@@ -1,7 +1,7 @@
 -- What one more answer tells of a shelf.
 use Rattle.std.proofs.Common.{◌≡◌, ℕ, ◌+◌, List, [], ◌∷◌, ◌++◌, map, sum, refl, ap, ◌∙◌, arith, Result, Ok, Err, OnOk, IfErr}
 use Rattle.std.proofs.lemmas.List.Sums.{sum_by-cons}
-use Rattle.parfield.specs.Added.{sum-added_at}
+use Rattle.parcount.specs.Added.{sum-added_at}
 use Rattle.parshelf.specs.Shelf.{ShelfState, IsShelf, failure_count, early_end_count}
 use Rattle.parshelf.specs.Reads.{ReadsOnly, FaultsIn, FailsOnce, EndsOnce}
 use Rattle.parshelf.specs.declared.reading.ReadFault.{ReadFault}

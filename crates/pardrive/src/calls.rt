@@ -1,5 +1,6 @@
+use parcount::Tally;
 use parcursor::Cursor;
-use parfield::{Sequence, Tally};
+use parfield::Sequence;
 use parfind::Step;
 use parshelf::ReadFault;
 

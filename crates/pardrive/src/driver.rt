@@ -8,8 +8,9 @@ ghost use Rattle.pardrive.specs.Told.{TellsOf};
 ghost use Rattle.pardrive.specs.declared.calls.Call.TheVariants.{Reopen};
 
 use crate::calls::{Answer, Call, Drive};
+use parcount::Tally;
 use parcursor::Cursor;
-use parfield::{Sequence, Tally};
+use parfield::Sequence;
 use parfind::Finder;
 use parshelf::Shelf;
 use parwindow::Index;

@@ -1,4 +1,3 @@
 pub mod ByteLaws
-mod GhostSteps
 pub mod OrderLaws
 pub mod ShownLaws

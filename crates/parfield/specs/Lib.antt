@@ -1,4 +1,3 @@
-pub mod Added
 pub mod Bytes
 pub mod Chain
 pub mod Hash16

@@ -1,7 +1,6 @@
 //! Fields of PAR2 files: hashes, packet headers, one packet in bytes, names as they are shown.
 #![tactic(auto)]
 
-mod counts;
 mod fields;
 mod hash16;
 mod hex_byte;
@@ -10,11 +9,8 @@ mod laws;
 mod packet;
 mod sequence;
 mod shown;
-mod tally;
 mod text;
-mod transcript;
 
-pub use crate::counts::Counts;
 pub use crate::fields::{Header, HeaderFault, Packet};
 pub use crate::hash16::Hash16;
 pub use crate::kind::Kind;
@@ -22,6 +18,4 @@ pub use crate::laws::ids_follow_numbers;
 pub use crate::packet::{header, packet_at};
 pub use crate::sequence::Sequence;
 pub use crate::shown::{Shown, show_name};
-pub use crate::tally::Tally;
 pub use crate::text::Text;
-pub use crate::transcript::Transcript;

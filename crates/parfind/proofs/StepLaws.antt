@@ -4,7 +4,7 @@ use Rattle.std.specs.List.{All, Contains}
 use Rattle.std.specs.Option.{option_eq}
 use Rattle.std.proofs.lemmas.Bool.{eqb-true}
 use Rattle.std.proofs.lemmas.List.Elements.{All-contains}
-use Rattle.parfield.specs.Added.{added_at}
+use Rattle.parcount.specs.Added.{added_at}
 use Rattle.parshelf.specs.Shelf.{ShelfState, IsShelf}
 use Rattle.parshelf.specs.Reads.{ReadsOnly, FaultsIn}
 use Rattle.parshelf.specs.declared.reading.ReadFault.{ReadFault}

@@ -12,8 +12,8 @@ ghost use Rattle.parfind.specs.Steps.{StepGives, scan_of};
 ghost use Rattle.parfind.specs.Visits.{StepSees, step_of, count_of};
 
 use crate::places::{next_place, rest_of};
+use parcount::Tally;
 use parcursor::{Cursor, Sighting};
-use parfield::Tally;
 use parshelf::{ReadFault, Shelf};
 use partrack::Track;
 use parwindow::{Index, Window};

@@ -1,7 +1,7 @@
 ghost use Rattle.std.specs.Prelude.{◌≡◌, ◌+◌, ◌<◌, ◌≤◌, ◌↔◌, min, length, take, IfOk, OnErr, IsErr, false, vec_len};
 
 use crate::sink::{Failed, Sink};
-use parfield::Tally;
+use parcount::Tally;
 use std::alloc::{AllocError, Global};
 
 /// A sink in memory, with room for so many bytes.

@@ -1,7 +1,7 @@
 ghost use Rattle.std.specs.Prelude.{◌≡◌, ℕ, ◌<◌, ◌≤◌, length, take, IfOk, OnErr};
 
 use crate::sink::{Failed, Sink};
-use parfield::{Tally, Transcript};
+use parcount::{Tally, Transcript};
 use std::io::Write;
 
 /// A sink over a writer: a `put` is one `write`, and an error is `Failed`.

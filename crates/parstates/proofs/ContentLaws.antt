@@ -1,7 +1,7 @@
 -- How much is handed over while those files are read whole, one after another, that are asked for.
 use Rattle.std.proofs.Common.{◌≡◌, ◌≢◌, ◌<◌, ◌≤◌, ◌+◌, ℕ, List, true, cond, length, slice_index, ap, arith, ◌∙◌, inl, inr}
 use Rattle.std.proofs.lemmas.Bool.{cases_lt}
-use Rattle.parfield.specs.Added.{added_at, slice_index-added_at_same, slice_index-added_at_other}
+use Rattle.parcount.specs.Added.{added_at, slice_index-added_at_same, slice_index-added_at_other}
 use Rattle.parset.specs.declared.recovery_set.SetFile.{SetFile}
 use Rattle.parshelf.specs.Shelf.{ShelfState, IsShelf}
 use Rattle.parshelf.specs.Reads.{FaultsWithin, ReadsOnly}

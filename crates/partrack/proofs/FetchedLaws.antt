@@ -2,7 +2,7 @@
 use Rattle.std.proofs.Common.{◌≡◌, ℕ, ◌+◌, ◌<◌, ◌≤◌, true, false, List, length, min, nat_lt, nat_eq, refl, arith, slice_index, inl, inr}
 use Rattle.std.proofs.lemmas.Bool.{cases_lt, cases_eq, lt-ltb, le-ltb, eq-eqb, ne_eqb}
 use Rattle.std.proofs.lemmas.List.{get_or_past}
-use Rattle.parfield.specs.Added.{added_at, length-added_at, slice_index-added_at_same, slice_index-added_at_other}
+use Rattle.parcount.specs.Added.{added_at, length-added_at, slice_index-added_at_same, slice_index-added_at_other}
 use Rattle.partrack.specs.Fetched.{Place, upto, HandsUpTo}
 
 added_at-most : (xs : List ℕ) (place n : ℕ) → slice_index (added_at xs place n) place ≤ slice_index xs place + n

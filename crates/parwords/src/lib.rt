@@ -8,5 +8,7 @@ mod matches;
 mod options;
 mod words;
 
-pub use crate::words::{plan, words_behind};
-pub use parplan::{Command, Plan, PlanFault, Scanned, reads_scanned, scanned_paths};
+pub use crate::words::plan;
+pub use parplan::{
+    Command, Plan, PlanFault, Scanned, may_be_given, reads_scanned, scanned_paths, words_behind,
+};

@@ -1,4 +1,4 @@
-ghost use Rattle.std.specs.Prelude.{◌≡◌, ◌≢◌, ◌≤◌, ◌<◌, drop, map, length, string_bytes, IfOk, IfErr, Ok, Err};
+ghost use Rattle.std.specs.Prelude.{◌≡◌, ◌≢◌, ◌≤◌, ◌<◌, map, length, string_bytes, IfOk, IfErr, Ok, Err};
 ghost use Rattle.clap.specs.Words.{found_of, rows_of};
 ghost use Rattle.parplan.specs.Commands.{HasLimit};
 ghost use Rattle.parwords.specs.Plans.{plan_of, plan_in, verb_of, verb_in, files_of, AnswersPlan, TellsTaken};
@@ -8,18 +8,8 @@ use crate::grammar::Verb;
 use crate::matches::{matches_for, values_of};
 use crate::options::{base_given, command_given, set_given};
 use clap::ArgMatches;
-use parplan::{Plan, PlanFault};
+use parplan::{Plan, PlanFault, may_be_given};
 use std::alloc::Global;
-
-/// The words behind the program's name, which is the first of its arguments.
-pub fn words_behind(args: &[String]) -> &[String]
-    ensures { result.now ≡ drop 1 args.now }
-{
-    match args {
-        [_program, words @ ..] => words,
-        [] => args,
-    }
-}
 
 /// The plan of the words behind the program's name.
 pub fn plan(alloc: Global, words: &[String]) -> Result<Plan, PlanFault>
@@ -88,9 +78,6 @@ fn verb_named(word: &str) -> Result<Verb, PlanFault>
     }
 }
 
-// How many files there may be.
-const MOST_FILES: usize = 65_535;
-
 // FILES, of which there are not too many.
 fn files_given<'m, 'a>(matches: &'m ArgMatches<'a>) -> Result<&'m [&'a str], PlanFault>
     ensures files { IfOk result (λ files. files_of (rows_of (found_of matches.now))
@@ -100,7 +87,7 @@ fn files_given<'m, 'a>(matches: &'m ArgMatches<'a>) -> Result<&'m [&'a str], Pla
 {
     match values_of(matches, "files") {
         None => Err(PlanFault::NoPacketFile),
-        Some(files) if files.len() > MOST_FILES => Err(PlanFault::Value),
-        Some(files) => Ok(files),
+        Some(files) if may_be_given(files.len()) => Ok(files),
+        Some(_) => Err(PlanFault::Value),
     }
 }
