@@ -11,7 +11,7 @@ use crate::bytes::MAGIC;
 use crate::files::SalvageFault;
 use crate::noting::{Found, note_at};
 use crate::piece::Piece;
-use memchr::memmem::Finder;
+use memchr::memmem;
 use parshelf::{Shelf, fill};
 use std::alloc::Global;
 
@@ -51,9 +51,8 @@ fn search_piece<H: Shelf>(
         (piece.now.base + (length piece.now.bytes.now - 7)))
         (packets_of (file_of (H.state shelf.old) file) ≢ [])) }
 {
-    let finder = Finder::new(&MAGIC);
     // Two occurrences of the magic never overlap.
-    for place in finder.find_iter(piece.bytes) {
+    for place in memmem::find_iter(piece.bytes, &MAGIC) {
         note_at(shelf, file, piece, piece.base + place as u64, buffer, found)?;
     }
     Ok(())

@@ -10,7 +10,7 @@ use Rattle.parsalvage.proofs.searching.search_piece.Goals as goal
 pub loop-place-init : goal.loop-place-init
 loop-place-init g c =
     let is : c.into_iter-place-iterator.result ≡ matches c.args.piece.now.bytes.now magic_bytes 0
-    = rw (c.into_iter-place-iterator.ensures.into_iter_gives, c.find_iter-place-items.ensures.value, c.new-finder.ensures) refl in
+    = rw (c.into_iter-place-iterator.ensures.into_iter_gives, c.find_iter-place-items.ensures.value) refl in
     rw is (SearchedTo-start _ _ _ _ _ _ c.requires.lies c.requires.found)
 
 pub overflow_add-piece : goal.overflow_add-piece
