@@ -11,10 +11,15 @@ The gate: every proof from nothing, every wrong body and test, and checks of the
 It takes half an hour on four processors, and up to an hour where they are shared. The log is $log.
 END
 
+# The checks; their lines wait in a file of their own.
+check() {
+    GATE=1 tools/checks.sh < /dev/null > out/checks.log
+}
+
 # Passes the lines of rt ci on, and runs the checks, whose lines come behind. They begin once the
 # program and the tests are proved and the last crate's wrong bodies have begun, which leave
 # processors waiting, or where that was not seen, at the end.
-beside_checks() {
+with_checks() {
     local line begin=(crates/*_tests crates/*/must-fail)
     local left=$((1 + ${#begin[@]}))
     while IFS= read -r line; do
@@ -23,13 +28,13 @@ beside_checks() {
             'rt: parv proved' | rt:*_tests:' its tests are proved' | rt:*': trying its must-fail '*)
                 left=$((left - 1))
                 if [ $left -eq 0 ]; then
-                    GATE=1 tools/checks.sh < /dev/null > out/checks.log &
+                    check &
                 fi
                 ;;
         esac
     done
     if [ $left -gt 0 ]; then
-        GATE=1 tools/checks.sh < /dev/null > out/checks.log &
+        check &
     fi
     wait $!
     local checked=$?
@@ -39,7 +44,7 @@ beside_checks() {
 
 # A program of an earlier run would be taken for the one that was proved now.
 rm -f crates/parv/out/parv crates/*/out/*_tests
-rt ci | tee -a "$log" | beside_checks
+rt ci | tee -a "$log" | with_checks
 ended=("${PIPESTATUS[@]}")
 
 counted=$(grep -E '^[0-9]+ passed, [0-9]+ failed$' "$log" | tail -n 1)
