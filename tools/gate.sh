@@ -42,6 +42,11 @@ with_checks() {
     return $checked
 }
 
+# One job each, on all processors: rt ci gives a proof that begins alone several, which cost more
+# together. It then asks no more whether memory lasts, so that is asked here (3 GB each).
+[ "$(awk '/^MemAvailable:/ { print int($2 / 3000000) }' /proc/meminfo)" -lt "$(nproc)" ] \
+    || export RT_JOBS="${RT_JOBS:-$(nproc)}"
+
 # A program of an earlier run would be taken for the one that was proved now.
 rm -f crates/parv/out/parv crates/*/out/*_tests
 rt ci | tee -a "$log" | with_checks
