@@ -1,4 +1,4 @@
-ghost use Rattle.std.specs.Prelude.{◌≡◌, ◌&&◌, ◌||◌, length, map, position, IfOk, OnOk};
+ghost use Rattle.std.specs.Prelude.{◌≡◌, ◌&&◌, ◌||◌, length, map, drop, position, IfOk, OnOk};
 ghost use Rattle.std.specs.BTreeSet.{contains};
 ghost use Rattle.std.specs.List.{list_any, zip};
 ghost use Rattle.std.specs.Str.{bytes_eq};
@@ -67,25 +67,29 @@ pub fn states(
 fn state_among(files: &[Scanned], contents: &[Option<LengthAndMd5>], file: &SetFile) -> State
     ensures { result ≡ state_by files.now contents.now file.now }
 {
-    if is_complete(files, contents, file) {
-        return State::Complete;
-    }
     match first_with_content(contents, file) {
-        Some(index) => State::Renamed(index),
+        Some(first) if is_complete(files, contents, first, file) => State::Complete,
+        Some(first) => State::Renamed(first),
         None if is_named(files, file) => State::Damaged,
         None => State::Missing,
     }
 }
 
-// Whether a scanned file has the name and the content.
-fn is_complete(files: &[Scanned], contents: &[Option<LengthAndMd5>], file: &SetFile) -> bool
+// Whether a scanned file, from the one of this number on, has the name and the content.
+fn is_complete(
+    files: &[Scanned],
+    contents: &[Option<LengthAndMd5>],
+    first: usize,
+    file: &SetFile,
+) -> bool
     ensures { result ≡ list_any
         (λ pair. shows_content_of file.now pair.1 && is_name_of file.now pair.0.name)
-        (zip files.now contents.now) }
+        (drop first (zip files.now contents.now)) }
 {
     files
         .iter()
         .zip(contents)
+        .skip(first)
         .any(|(scanned, content)| has_both(scanned, content, file))
 }
 

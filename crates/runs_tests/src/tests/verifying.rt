@@ -37,6 +37,13 @@ need 0 have 0
 result possible
 = 1
 
+$ verify v.par2 h.bin g.bin | g | abcdefgh abcdefgh
+set 617cdc72ba53d94fe713fea2ae18f776 size 4 slices 2
+complete g.bin
+need 0 have 0
+result complete
+= 0
+
 $ verify v.par2 b.bin | a_without_sums | abcdef
 set 2b5d19a47ee4561a2c85b51d7f6d65c4 size 4 slices 2
 renamed a.bin from b.bin
@@ -141,5 +148,5 @@ result complete
 
 #[test]
 fn verify_tells_what_of_a_set_is_there(rt: HostRuntime) {
-    all_end_so(&rt, VERDICTS, 23);
+    all_end_so(&rt, VERDICTS, 24);
 }
