@@ -1,14 +1,16 @@
 /* Preloaded into parv, to measure with more files than the system lets a process hold open: of a file whose
-   name doesn't end in .par2 only the name is kept, and it is opened anew for each read.
+   name doesn't end in .par2 only the name is kept. It is opened anew for each read and asked by its name for
+   its kind and length, and that time and the names' memory are in what is measured.
 
-       gcc -shared -fPIC -O2 -o many_open.so tools/many_open.c
-       LD_PRELOAD=./many_open.so parv verify big.vol000.par2 * */
+       gcc -shared -fPIC -O2 -o /tmp/many_open.so tools/many_open.c
+       LD_PRELOAD=/tmp/many_open.so parv verify FILES */
 #define _GNU_SOURCE
 #include <errno.h>
 #include <fcntl.h>
 #include <stdarg.h>
 #include <stdlib.h>
 #include <string.h>
+#include <strings.h>
 #include <sys/stat.h>
 #include <sys/syscall.h>
 #include <unistd.h>
@@ -20,23 +22,25 @@ static int count;
 static int is_packet_file(const char *name)
 {
     size_t length = strlen(name);
-    return length > 5 && strcmp(name + length - 5, ".par2") == 0;
+    return length >= 5 && strcasecmp(name + length - 5, ".par2") == 0;
 }
 
 int open(const char *name, int flags, ...)
 {
     va_list rest;
     va_start(rest, flags);
-    int file = syscall(SYS_openat, AT_FDCWD, name, flags, va_arg(rest, int));
+    int mode = flags & O_CREAT ? va_arg(rest, int) : 0;
     va_end(rest);
-    if (file < 0 || is_packet_file(name))
+    int file = syscall(SYS_openat, AT_FDCWD, name, flags, mode);
+    if (file < 0 || (flags & O_ACCMODE) != O_RDONLY || is_packet_file(name))
         return file;
     syscall(SYS_close, file);
-    if (count == MOST || !(names[count] = strdup(name))) {
+    if (count == MOST) {
         errno = EMFILE;
         return -1;
     }
-    return FIRST + count++;
+    names[count] = strdup(name);
+    return names[count] ? FIRST + count++ : -1;
 }
 
 int close(int file)

@@ -18,7 +18,7 @@ use Rattle.parwindow.specs.Index.{slice_set_of}
 use Rattle.parfind.specs.Sightings.{Scan}
 use Rattle.parfind.specs.Steps.{scan_of}
 use Rattle.parfind.specs.Surveys.{is_sighted}
-use Rattle.parstates.specs.States.{named_files, length_and_md5, asked_of, has_content_of, shows_content_of, is_content_of, is_name_of, state_by, state_of}
+use Rattle.parstates.specs.States.{named_files, length_and_md5, asked_of, has_content_of, shows_content_of, shows_both, is_content_of, is_name_of, state_by, state_of}
 use Rattle.parstates.specs.Findings.{is_in_whole_file, findings_of}
 use Rattle.parplan.specs.declared.command.Scanned.{Scanned}
 use Rattle.parstates.specs.declared.contents.LengthAndMd5.{LengthAndMd5}
@@ -50,10 +50,6 @@ map-name (file ∷ files) (content ∷ contents) e = ap (λ xs. file.name ∷ xs
 -- what is asked of bytes shows the file's content exactly where they have it
 abbrev Shows : List SetFile → SetFile → Type 0
 Shows own file = (bytes : List ℕ) → shows_content_of file (asked_of own bytes) ≡ has_content_of file (length_and_md5 bytes)
-
--- a scanned file has the content and the name, by what was asked of it
-abbrev shows_both : SetFile → Scanned × Option LengthAndMd5 → Bool
-shows_both file pair = shows_content_of file pair.1 && is_name_of file pair.0.name
 
 complete_same : (own : List SetFile) (file : SetFile) (files : List Scanned) (contents : List (List ℕ)) → Shows own file
     → list_any (shows_both file) (zip files (map (asked_of own) contents))
@@ -98,7 +94,7 @@ state_by-state_of own files contents e file shows =
     let first = position_same own file files contents shows e in
     let named = named_same file files contents e in cc
 
--- none has both before the first that has the content
+-- whether one has both shows from the first on that has the content, since none before it has
 none_before : (file : SetFile) (files : List Scanned) (asked : List (Option LengthAndMd5))
     → list_any (shows_both file) (zip files asked)
     ≡ list_any (shows_both file) (drop (prefix_len (λ c. not (shows_content_of file c)) asked) (zip files asked))
@@ -115,24 +111,27 @@ none_before file (one ∷ files) (content ∷ asked) =
           ∙ (ap (list_any (shows_both file)) (sym (drop-append-add ((one, content) ∷ []) rest n)) ∙ ap from (sym hides)))
     ]
 
-place_of : (n len at : ℕ) → cond (nat_lt n len) (Some n) None ≡ Some at → n ≡ at
-place_of n len at h = grind (arith, nat_tests)
+some_position : (n len at : ℕ) → cond (nat_lt n len) (Some n) None ≡ Some at → n ≡ at
+some_position n len at h = grind (arith, nat_tests)
 
-no_place : (n len : ℕ) → cond (nat_lt n len) (Some n) None ≡ None → len ≤ n
-no_place n len h = grind (arith, nat_tests)
+no_position : (n len : ℕ) → cond (nat_lt n len) (Some n) None ≡ None → len ≤ n
+no_position n len h = grind (arith, nat_tests)
 
+-- the same, where that first one is known
 pub both_from : (file : SetFile) (files : List Scanned) (asked : List (Option LengthAndMd5)) (first : ℕ) → position (shows_content_of file) asked ≡ Some first
     → list_any (shows_both file) (zip files asked) ≡ list_any (shows_both file) (drop first (zip files asked))
 both_from file files asked first at =
-    none_before file files asked ∙ ap (λ k. list_any (shows_both file) (drop k (zip files asked))) (place_of _ (length asked) first at)
+    none_before file files asked ∙ ap (λ k. list_any (shows_both file) (drop k (zip files asked))) (some_position _ (length asked) first at)
 
+-- where none has the content, none has both
 pub none_both : (file : SetFile) (files : List Scanned) (asked : List (Option LengthAndMd5)) → position (shows_content_of file) asked ≡ None
     → list_any (shows_both file) (zip files asked) ≡ false
 none_both file files asked none =
     let n = prefix_len (λ c. not (shows_content_of file c)) asked in
-    let all = no_place n (length asked) none in let zipped = length-zip files asked in
+    let all = no_position n (length asked) none in let zipped = length-zip files asked in
     none_before file files asked ∙ ap (list_any (shows_both file)) (drop_all n (zip files asked) (omega arith))
 
+-- maps by functions that agree are the same
 pub map-same : {A B : Type 0} (f g : A → B) → ((x : A) → f x ≡ g x) → (xs : List A) → map f xs ≡ map g xs
 map-same f g same [] = refl
 map-same f g same (x ∷ xs) = ap (λ y. y ∷ map f xs) (same x) ∙ ap (λ ys. g x ∷ ys) (map-same f g same xs)

@@ -3,7 +3,7 @@ ghost use Rattle.std.specs.BTreeSet.{contains};
 ghost use Rattle.std.specs.List.{list_any, zip};
 ghost use Rattle.std.specs.Str.{bytes_eq};
 ghost use Rattle.parfield.specs.HashOrder.{id_cmp};
-ghost use Rattle.parstates.specs.States.{shows_content_of, is_name_of, is_whole, is_complete, state_by};
+ghost use Rattle.parstates.specs.States.{shows_content_of, shows_both, is_name_of, is_whole, is_complete, state_by};
 
 use crate::contents::LengthAndMd5;
 use parfield::Hash16;
@@ -68,7 +68,7 @@ fn state_among(files: &[Scanned], contents: &[Option<LengthAndMd5>], file: &SetF
     ensures { result ≡ state_by files.now contents.now file.now }
 {
     match first_with_content(contents, file) {
-        Some(first) if is_complete(files, contents, first, file) => State::Complete,
+        Some(first) if has_both_from(files, contents, first, file) => State::Complete,
         Some(first) => State::Renamed(first),
         None if is_named(files, file) => State::Damaged,
         None => State::Missing,
@@ -76,15 +76,14 @@ fn state_among(files: &[Scanned], contents: &[Option<LengthAndMd5>], file: &SetF
 }
 
 // Whether a scanned file, from the one of this number on, has the name and the content.
-fn is_complete(
+fn has_both_from(
     files: &[Scanned],
     contents: &[Option<LengthAndMd5>],
     first: usize,
     file: &SetFile,
 ) -> bool
-    ensures { result ≡ list_any
-        (λ pair. shows_content_of file.now pair.1 && is_name_of file.now pair.0.name)
-        (drop first (zip files.now contents.now)) }
+    ensures { result
+        ≡ list_any (shows_both file.now) (drop first (zip files.now contents.now)) }
 {
     files
         .iter()
@@ -111,8 +110,7 @@ fn is_named(files: &[Scanned], file: &SetFile) -> bool
 
 // Whether a scanned file has the content and the name of a file of the set.
 fn has_both(scanned: &Scanned, content: &Option<LengthAndMd5>, file: &SetFile) -> bool
-    ensures { result
-        ≡ (shows_content_of file.now content.now && is_name_of file.now scanned.now.name) }
+    ensures { result ≡ shows_both file.now (scanned.now, content.now) }
 {
     has_content(content, file) && has_name(scanned, file)
 }
