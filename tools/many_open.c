@@ -1,6 +1,7 @@
 /* Preloaded into parv, to measure with more files than the system lets a process hold open: of a file whose
-   name doesn't end in .par2 only the name is kept. It is opened anew for each read and asked by its name for
-   its kind and length, and that time and the names' memory are in what is measured.
+   name doesn't end in .par2, in letters of either case, only the name is kept. It is opened anew for each
+   read and asked by its name for its kind and length, and that time and the names' memory are in what is
+   measured.
 
        gcc -shared -fPIC -O2 -o /tmp/many_open.so tools/many_open.c
        LD_PRELOAD=/tmp/many_open.so parv verify FILES */

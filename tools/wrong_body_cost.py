@@ -3,12 +3,13 @@
 
 usage: wrong_body_cost.py CRATE [WORD]
 
-It begins with what `rt check` in the crate's folder kept, as the gate begins with the crate's own proof,
-and checks a copy of the crate with each wrong body whose name has WORD, as many at once as there are
-processors. Seconds are of a processor, and of the clock for the stages: `front-end` reads the crate and
-its libraries, `session` proves what was turned and all that calls it, and `offers` does that once more where
-a goal that stays open has no answer in proofs/. Its copies stand in the crate's out/ while it runs. It is no
-test: a text that can't be read isn't told from a wrong body that is refused, as `rt must-fail` does.
+It begins with what `rt check` in the crate's folder kept, as the gate begins with a proof of the crate
+(but where a crate has one alone, which costs a whole proof there), and checks a copy of the crate with
+each wrong body whose name has WORD, as many at once as there are processors. Seconds are of a processor,
+and of the clock for the stages: `front-end` reads the crate and its libraries, `session` proves what was
+turned and all that calls it, and `offers` does that once more where a goal that stays open has no answer
+in proofs/. Its copies stand in the crate's out/ while it runs. It is no test: a text that can't be read
+isn't told from a wrong body that is refused, as `rt must-fail` does.
 """
 
 import os
