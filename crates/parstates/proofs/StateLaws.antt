@@ -57,8 +57,7 @@ complete_same : (own : List SetFile) (file : SetFile) (files : List Scanned) (co
 complete_same own file [] contents shows = refl
 complete_same own file (one ∷ files) [] shows = refl
 complete_same own file (one ∷ files) (content ∷ contents) shows =
-    ap (λ b. (b && is_name_of file one.name) || list_any (shows_both file)
-    (zip files (map (asked_of own) contents))) (shows content)
+    ap (λ b. (b && is_name_of file one.name) || list_any (shows_both file) (zip files (map (asked_of own) contents))) (shows content)
     ∙ ap (λ b. (has_content_of file (length_and_md5 content) && is_name_of file one.name) || b) (complete_same own file files contents shows)
 
 named_same : (file : SetFile) (files : List Scanned) (contents : List (List ℕ)) → length contents ≡ length files
@@ -94,6 +93,12 @@ state_by-state_of own files contents e file shows =
     let first = position_same own file files contents shows e in
     let named = named_same file files contents e in cc
 
+some_position : (n len at : ℕ) → cond (nat_lt n len) (Some n) None ≡ Some at → n ≡ at
+some_position n len at h = grind (arith, nat_tests)
+
+no_position : (n len : ℕ) → cond (nat_lt n len) (Some n) None ≡ None → len ≤ n
+no_position n len h = grind (arith, nat_tests)
+
 -- whether one has both shows from the first on that has the content, since none before it has
 none_before : (file : SetFile) (files : List Scanned) (asked : List (Option LengthAndMd5))
     → list_any (shows_both file) (zip files asked)
@@ -111,13 +116,7 @@ none_before file (one ∷ files) (content ∷ asked) =
           ∙ (ap (list_any (shows_both file)) (sym (drop-append-add ((one, content) ∷ []) rest n)) ∙ ap from (sym hides)))
     ]
 
-some_position : (n len at : ℕ) → cond (nat_lt n len) (Some n) None ≡ Some at → n ≡ at
-some_position n len at h = grind (arith, nat_tests)
-
-no_position : (n len : ℕ) → cond (nat_lt n len) (Some n) None ≡ None → len ≤ n
-no_position n len h = grind (arith, nat_tests)
-
--- the same, where that first one is known
+-- the same, where the number of that first one is known
 pub both_from : (file : SetFile) (files : List Scanned) (asked : List (Option LengthAndMd5)) (first : ℕ) → position (shows_content_of file) asked ≡ Some first
     → list_any (shows_both file) (zip files asked) ≡ list_any (shows_both file) (drop first (zip files asked))
 both_from file files asked first at =

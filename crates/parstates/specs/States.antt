@@ -62,11 +62,11 @@ state_of scanned file =
     else state_else (position (is_content_of file) scanned)
     (list_any (λ one. is_name_of file one.name) scanned)
 
--- a scanned file has the content and the name, by what was asked of it
+-- a scanned file has the content and the name of a file of the set, by what was asked of it
 abbrev pub shows_both : SetFile → Scanned × Option LengthAndMd5 → Bool
 shows_both file pair = shows_content_of file pair.1 && is_name_of file pair.0.name
 
--- the same state, by what was asked of the scanned files
+-- the state of `state_of`, by what was asked of the scanned files
 abbrev pub state_by : List Scanned → List (Option LengthAndMd5) → SetFile → State
 state_by files asked file =
     if list_any (shows_both file) (zip files asked) then Complete
