@@ -1,3 +1,4 @@
+mod GhostSteps
 pub mod ByteLaws
 pub mod OrderLaws
 pub mod ShownLaws

@@ -1,3 +1,4 @@
+pub mod Added
 pub mod Bytes
 pub mod Chain
 pub mod Hash16

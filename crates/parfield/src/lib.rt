@@ -1,6 +1,8 @@
-//! Fields of PAR2 files: hashes, packet headers, one packet in bytes, names as they are shown.
+//! Fields of PAR2 files: hashes, packet headers, one packet in bytes, names as they are shown; and
+//! counts that only contracts see.
 #![tactic(auto)]
 
+mod counts;
 mod fields;
 mod hash16;
 mod hex_byte;
@@ -11,6 +13,7 @@ mod sequence;
 mod shown;
 mod text;
 
+pub use crate::counts::{Counts, Tally, Transcript};
 pub use crate::fields::{Header, HeaderFault, Packet};
 pub use crate::hash16::Hash16;
 pub use crate::kind::Kind;

@@ -1,14 +1,14 @@
 -- How a search comes nearer to its end on any shelf.
 use Rattle.std.proofs.Common.{◌≡◌, ℕ, ◌+◌, ◌<◌, ◌≤◌, List, [], ◌∷◌, length, ap, arith, length-append}
 use Rattle.parwindow.specs.Index.{SliceSet}
-use Rattle.parcursor.specs.declared.cursor.Cursor.{Cursor}
-use Rattle.parcursor.specs.declared.sighting.Sighting.{Sighting}
-use Rattle.parcursor.specs.Order.{is_before, is_from, cursor_of, cursor_after}
+use Rattle.parfind.specs.declared.cursors.cursor.Cursor.{Cursor}
+use Rattle.parfind.specs.declared.cursors.sighting.Sighting.{Sighting}
+use Rattle.parfind.specs.Order.{is_before, is_from, cursor_of, cursor_after}
 use Rattle.parfind.specs.Places.{cursor_at, cursor_past, start_of, places_of, place_at}
 use Rattle.parfind.specs.Sightings.{triples_of}
 use Rattle.parfind.specs.Moves.{steps_left}
 use Rattle.parfind.specs.Looking.{IsNextPlace}
-use Rattle.parcursor.proofs.OrderLaws.{Before, From, is_before-true, is_from-true, From-by_test, From-trans, From-before, Before-after}
+use Rattle.parfind.proofs.OrderLaws.{Before, From, is_before-true, is_from-true, From-by_test, From-trans, From-before, Before-after}
 use Rattle.parfind.proofs.ListLaws.{Has, Has-filter}
 use Rattle.parfind.proofs.RisingLaws.{Rises, part_from, part_between, between_and_from}
 use Rattle.parfind.proofs.SightingLaws.{Rises-places_of, Rises-triples_of}

@@ -2,17 +2,17 @@
 use Rattle.std.proofs.Common.{◌≡◌, ℕ, ◌+◌, ◌<◌, ◌≤◌, length, slice_index, refl, sym, ap, ◌∙◌, subst, arith, IsTrue, Result, Ok, Err, OnOk, IfErr}
 use Rattle.parshelf.specs.Shelf.{ShelfState, IsShelf}
 use Rattle.parshelf.specs.Reads.{ReadsOnly, FaultsIn}
-use Rattle.parshelf.specs.declared.reading.ReadFault.{ReadFault}
-use Rattle.parshelf.specs.declared.reading.ReadFault.TheVariants.{Failed, Ended}
+use Rattle.parshelf.specs.declared.shelves.reading.ReadFault.{ReadFault}
+use Rattle.parshelf.specs.declared.shelves.reading.ReadFault.TheVariants.{Failed, Ended}
 use Rattle.parwindow.specs.Crc32.{crc_of}
 use Rattle.parwindow.specs.Index.{SliceSet}
 use Rattle.parwindow.specs.Missing.{has_fit_crc_in}
-use Rattle.partrack.specs.declared.track.Track.{Track}
-use Rattle.partrack.specs.Fetched.{ReadsUpTo, Place}
-use Rattle.partrack.specs.Tracks.{IsTied, Looks, Remembers, SameTrack, remembered, fetched_of}
+use Rattle.parfind.specs.declared.tracks.track.Track.{Track}
+use Rattle.parfind.specs.Fetched.{ReadsUpTo, Place}
+use Rattle.parfind.specs.Tracks.{IsTied, Looks, Remembers, SameTrack, remembered, fetched_of}
 use Rattle.parfind.proofs.SeenLaws.{fit_crc_has}
 use Rattle.parwindow.specs.Window.{WindowState}
-use Rattle.parcursor.specs.declared.cursor.Cursor.{Cursor}
+use Rattle.parfind.specs.declared.cursors.cursor.Cursor.{Cursor}
 use Rattle.parfind.specs.Finders.{FinderState, BelongsTo, search_of, StandsAt, hashed_of}
 use Rattle.parfind.specs.Marks.{marked_between, marks}
 use Rattle.parfind.specs.Reach.{CallReads, IsNear}
@@ -21,7 +21,7 @@ use Rattle.parfind.specs.Sightings.{Scan}
 use Rattle.parfind.specs.Steps.{scan_of, lengths_of}
 use Rattle.parfind.proofs.LookLaws.{window_there}
 use Rattle.parfind.proofs.MarkLaws.{From-further, counted_look, marked_rises, remembered-most}
-use Rattle.parcursor.proofs.OrderLaws.{From, From-by_test, From-trans, is_from-true}
+use Rattle.parfind.proofs.OrderLaws.{From, From-by_test, From-trans, is_from-true}
 use Rattle.parfind.proofs.VisitLaws.{same_lengths}
 
 -- a finder whose window and track are others, at another cursor

@@ -4,15 +4,15 @@ use Rattle.std.proofs.lemmas.Bool.{cases_eq}
 use Rattle.parshelf.specs.Shelf.{ShelfState, IsShelf, file_of}
 use Rattle.parwindow.specs.Index.{SliceSet}
 use Rattle.parwindow.specs.Window.{WindowState}
-use Rattle.parcursor.specs.declared.cursor.Cursor.{Cursor}
-use Rattle.partrack.specs.declared.track.Track.{Track}
-use Rattle.partrack.specs.Fetched.{Place, HandsUpTo, ReadsUpTo}
-use Rattle.partrack.specs.Tracks.{IsTied, IsUnread, fetched_of}
-use Rattle.partrack.proofs.FetchedLaws.{hands_none, hands_enter}
-use Rattle.partrack.proofs.TrackLaws.{no_bytes}
+use Rattle.parfind.specs.declared.cursors.cursor.Cursor.{Cursor}
+use Rattle.parfind.specs.declared.tracks.track.Track.{Track}
+use Rattle.parfind.specs.Fetched.{Place, HandsUpTo, ReadsUpTo}
+use Rattle.parfind.specs.Tracks.{IsTied, IsUnread, fetched_of}
+use Rattle.parfind.proofs.FetchedLaws.{hands_none, hands_enter}
+use Rattle.parfind.proofs.TrackLaws.{no_bytes}
 use Rattle.parfind.specs.Finders.{FinderState, BelongsTo, StandsAt, hashed_of}
 use Rattle.parfind.specs.Looking.{HasFit, IsNextPlace}
-use Rattle.parcursor.proofs.OrderLaws.{From, From-by_test, From-refl, is_from-true}
+use Rattle.parfind.proofs.OrderLaws.{From, From-by_test, From-refl, is_from-true}
 
 -- a window without bytes goes along any file
 pub unread_follows : (s : ShelfState) (v w : WindowState) (file offset : ℕ) (t : Track) → offset < 2 ^ 63 → v.capacity ≤ 268435456

@@ -9,16 +9,16 @@ use Rattle.parshelf.proofs.ShelfLaws.{length-file_of}
 use Rattle.parfield.specs.declared.hash16.Hash16.{Hash16}
 use Rattle.parwindow.specs.Index.{SliceSet, sums_of, has_sums, has_fit_of, has_fit_in}
 use Rattle.parwindow.specs.Window.{window_at}
-use Rattle.parcursor.specs.declared.cursor.Cursor.{Cursor}
-use Rattle.partrack.proofs.FittingLaws.{passing, passing_has}
-use Rattle.parfind.specs.declared.finder.Step.TheVariants.{Spent}
-use Rattle.parcursor.specs.Order.{cursor_of}
+use Rattle.parfind.specs.declared.cursors.cursor.Cursor.{Cursor}
+use Rattle.parfind.proofs.FittingLaws.{passing, passing_has}
+use Rattle.parfind.specs.declared.searches.finder.Step.TheVariants.{Spent}
+use Rattle.parfind.specs.Order.{cursor_of}
 use Rattle.parfind.specs.Sightings.{Scan, content_of, is_seen, is_seen_in, sightings_of, sightings_between}
 use Rattle.parfind.specs.Looking.{HasFit, IsNextPlace, rest_of}
 use Rattle.parfind.specs.Moves.{PassesAll, steps_left}
 use Rattle.parfind.specs.Finders.{FinderState, BelongsTo}
 use Rattle.parfind.specs.Steps.{scan_of}
-use Rattle.parcursor.proofs.OrderLaws.{From, From-by_test}
+use Rattle.parfind.proofs.OrderLaws.{From, From-by_test}
 use Rattle.parfind.proofs.RisingLaws.{none_between}
 use Rattle.parfind.proofs.PlaceLaws.{sighting_seen}
 use Rattle.parfind.proofs.PassLaws.{cursor_on, From-on, passes_some, then_look_moves, then_look_sees}

@@ -3,17 +3,17 @@ use Rattle.std.proofs.Common.{◌≡◌, ℕ, ◌<◌, true, false, List, [], �
 use Rattle.std.specs.List.{Contains}
 use Rattle.std.proofs.lemmas.Bool.{false_from_ne_true}
 use Rattle.std.proofs.lemmas.List.Elements.{All-contains}
-use Rattle.parshelf.specs.declared.reading.ReadFault.TheVariants.{Failed, Ended}
-use Rattle.parcursor.specs.declared.cursor.Cursor.{Cursor}
-use Rattle.parcursor.specs.declared.sighting.Sighting.{Sighting}
-use Rattle.partrack.specs.Fetched.{Place}
-use Rattle.parfind.specs.declared.finder.Step.TheVariants.{Hit, Spent, Done}
-use Rattle.parcursor.specs.Order.{is_before, is_from, cursor_of}
+use Rattle.parshelf.specs.declared.shelves.reading.ReadFault.TheVariants.{Failed, Ended}
+use Rattle.parfind.specs.declared.cursors.cursor.Cursor.{Cursor}
+use Rattle.parfind.specs.declared.cursors.sighting.Sighting.{Sighting}
+use Rattle.parfind.specs.Fetched.{Place}
+use Rattle.parfind.specs.declared.searches.finder.Step.TheVariants.{Hit, Spent, Done}
+use Rattle.parfind.specs.Order.{is_before, is_from, cursor_of}
 use Rattle.parfind.specs.Places.{cursor_at, cursor_past, place_of, start_of, places_of, places_ahead, places_between}
 use Rattle.parfind.specs.Sightings.{Scan, sightings_of, sightings_from, sightings_between}
 use Rattle.parfind.specs.Moves.{end_of, PassesAll}
 use Rattle.parfind.specs.Steps.{scan_of, lengths_of, HitsNext, SpendsAll, IsDone, StepHandsOut}
-use Rattle.parcursor.proofs.OrderLaws.{Before, From, Before-by_test, is_before-true, is_before-false, From-by_test, is_from-true, From-trans, From-before, Before-after}
+use Rattle.parfind.proofs.OrderLaws.{Before, From, Before-by_test, is_before-true, is_before-false, From-by_test, is_from-true, From-trans, From-before, Before-after}
 use Rattle.parfind.proofs.ListLaws.{Each, Each-weaker, Each-from_has, Each-passes, Has, Has-filter, Has-passed, Contains-from, filter_none}
 use Rattle.parfind.proofs.MoveLaws.{From-greater, counted_of, passes_front, passes_onward}
 use Rattle.parfind.proofs.PlaceLaws.{sighting_at_place, Has-places_of}

@@ -1,3 +1,14 @@
+pub mod FetchedLaws
+pub mod FittingLaws
+pub mod TrackLaws
+pub mod SlideLaws
+pub mod RunLaws
+pub mod ToldLaws
+pub mod DriveLaws
+pub mod OrderLaws
+pub mod NumberLaws
+pub mod IdLaws
+pub mod CursorTextLaws
 pub mod ListLaws
 pub mod RisingLaws
 pub mod SightingLaws

@@ -6,9 +6,9 @@ use Rattle.parshelf.proofs.ShelfLaws.{length-file_of}
 use Rattle.parwindow.specs.Index.{SliceSet, slice_passes, sums_of}
 use Rattle.parwindow.specs.Least.{IsLeastFrom}
 use Rattle.parwindow.specs.Window.{window_at}
-use Rattle.partrack.specs.Fitting.{is_fit}
-use Rattle.partrack.specs.Tracks.{HasNoCrc}
-use Rattle.partrack.proofs.TrackLaws.{whole_window}
+use Rattle.parfind.specs.Fitting.{is_fit}
+use Rattle.parfind.specs.Tracks.{HasNoCrc}
+use Rattle.parfind.proofs.TrackLaws.{whole_window}
 use Rattle.parfind.specs.Finders.{FinderState, BelongsTo, StandsAt}
 use Rattle.parfind.specs.Moves.{IsWithin}
 use Rattle.parfind.specs.Sightings.{is_seen_in}

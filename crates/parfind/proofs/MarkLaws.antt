@@ -2,19 +2,19 @@
 use Rattle.std.proofs.Common.{◌≡◌, ℕ, ◌+◌, ◌<◌, ◌≤◌, Bool, true, false, cond, List, [], ◌∷◌, ◌++◌, filter, length, refl, sym, ap, ◌∙◌, subst, arith, slice_index, Option, None, Some, inl, inr, length-append}
 use Rattle.std.proofs.lemmas.Bool.{cases_eq, cases_Bool}
 use Rattle.parfield.specs.declared.hash16.Hash16.{Hash16}
-use Rattle.partrack.specs.declared.track.Track.{Track}
-use Rattle.partrack.specs.Tracks.{remembered}
-use Rattle.partrack.specs.Fetched.{Place}
+use Rattle.parfind.specs.declared.tracks.track.Track.{Track}
+use Rattle.parfind.specs.Tracks.{remembered}
+use Rattle.parfind.specs.Fetched.{Place}
 use Rattle.parfind.specs.Finders.{hashed_of}
 use Rattle.std.proofs.lemmas.List.Elements.{filter-append}
-use Rattle.parcursor.specs.declared.cursor.Cursor.{Cursor}
+use Rattle.parfind.specs.declared.cursors.cursor.Cursor.{Cursor}
 use Rattle.parfind.specs.Looking.{IsAtPlace}
 use Rattle.parfind.specs.Marks.{is_marked, marked_between}
-use Rattle.parcursor.specs.Order.{is_before, is_from}
+use Rattle.parfind.specs.Order.{is_before, is_from}
 use Rattle.parfind.specs.Places.{cursor_at, cursor_past, place_at, start_of, places_of, places_ahead, places_between}
 use Rattle.parfind.specs.Sightings.{Scan}
 use Rattle.parfind.specs.Steps.{lengths_of}
-use Rattle.parcursor.proofs.OrderLaws.{From}
+use Rattle.parfind.proofs.OrderLaws.{From}
 use Rattle.parfind.proofs.MoveLaws.{places_then_between}
 use Rattle.parfind.proofs.PlaceLaws.{only_here, From-past}
 

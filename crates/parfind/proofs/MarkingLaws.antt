@@ -3,8 +3,8 @@ use Rattle.std.proofs.Common.{◌≡◌, ℕ, ◌+◌, ◌<◌, ◌≤◌, Bool,
 use Rattle.std.specs.List.{list_any, range_with_len}
 use Rattle.std.proofs.lemmas.Bool.{cases_Bool, cases_eq, cases_lt, eq-eqb, ne_eqb, or_cases, or_left, or_right, lt-ltb, le-ltb, false_from_ne_true, and_parts, and_from, not-true, not_from_false}
 use Rattle.std.proofs.Math.Bool.{or-false, or_assoc}
-use Rattle.partrack.specs.Fitting.{is_fit}
-use Rattle.partrack.proofs.FittingLaws.{fit_passes}
+use Rattle.parfind.specs.Fitting.{is_fit}
+use Rattle.parfind.proofs.FittingLaws.{fit_passes}
 use Rattle.parfind.proofs.ListLaws.{Has, Has-range}
 use Rattle.parfind.proofs.SeenLaws.{passes_there, fits_on}
 use Rattle.parwindow.specs.Index.{SliceSet, slice_passes}

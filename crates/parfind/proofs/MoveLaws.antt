@@ -7,16 +7,16 @@ use Rattle.std.proofs.lemmas.Bool.{cases_Bool, cases_lt}
 use Rattle.std.proofs.lemmas.Option.{slice_get_within}
 use Rattle.std.proofs.lemmas.List.{get_or_past, length-take-le, take-append-drop, take-take}
 use Rattle.std.proofs.lemmas.List.Elements.{Contains-append_left, Contains-append_right}
-use Rattle.parshelf.specs.declared.reading.ReadFault.{ReadFault}
-use Rattle.parcursor.specs.declared.cursor.Cursor.{Cursor}
-use Rattle.parcursor.specs.declared.sighting.Sighting.{Sighting}
-use Rattle.partrack.specs.Fetched.{Place}
-use Rattle.parfind.specs.declared.finder.Step.{Step}
-use Rattle.parfind.specs.declared.finder.Step.TheVariants.{Hit, Spent, Done}
-use Rattle.parcursor.specs.Order.{is_before, is_from, cursor_of, cursor_after}
+use Rattle.parshelf.specs.declared.shelves.reading.ReadFault.{ReadFault}
+use Rattle.parfind.specs.declared.cursors.cursor.Cursor.{Cursor}
+use Rattle.parfind.specs.declared.cursors.sighting.Sighting.{Sighting}
+use Rattle.parfind.specs.Fetched.{Place}
+use Rattle.parfind.specs.declared.searches.finder.Step.{Step}
+use Rattle.parfind.specs.declared.searches.finder.Step.TheVariants.{Hit, Spent, Done}
+use Rattle.parfind.specs.Order.{is_before, is_from, cursor_of, cursor_after}
 use Rattle.parfind.specs.Places.{cursor_at, cursor_past, place_of, start_of, places_of, places_ahead, places_between}
 use Rattle.parfind.specs.Moves.{covered, IsWithin, IsBelow, end_of, greater_of, HitsWithin, PassesAll, ComesToEnd, StaysWithin, StepMoves}
-use Rattle.parcursor.proofs.OrderLaws.{From, Before-by_test, From-by_test, is_before-true, is_before-false, is_from-true, From-refl, From-trans, From-before, Before-after}
+use Rattle.parfind.proofs.OrderLaws.{From, Before-by_test, From-by_test, is_before-true, is_before-false, is_from-true, From-refl, From-trans, From-before, Before-after}
 use Rattle.parfind.proofs.ListLaws.{Each-from_has, Each-filter, Each-slice_get, Each-passes}
 use Rattle.parfind.proofs.RisingLaws.{Rises-part_from, between_and_from, between_and_between, none_between, before_nth}
 use Rattle.parfind.proofs.SightingLaws.{Rises-places_of}

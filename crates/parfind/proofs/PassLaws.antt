@@ -3,21 +3,21 @@ use Rattle.std.proofs.Common.{◌≡◌, ℕ, zero, suc, ◌+◌, ◌-◌, ◌<�
 use Rattle.std.proofs.lemmas.Bool.{cases_eq, cases_lt}
 use Rattle.parshelf.specs.Shelf.{ShelfState, IsShelf, file_of}
 use Rattle.parshelf.specs.Reads.{ReadsOnly, FaultsIn}
-use Rattle.parshelf.specs.declared.reading.ReadFault.{ReadFault}
+use Rattle.parshelf.specs.declared.shelves.reading.ReadFault.{ReadFault}
 use Rattle.parwindow.specs.Index.{SliceSet}
 use Rattle.parwindow.specs.Least.{IsLeastFrom}
-use Rattle.parcursor.specs.declared.cursor.Cursor.{Cursor}
-use Rattle.partrack.specs.Tracks.{HasNoCrc}
-use Rattle.parfind.specs.declared.finder.Step.{Step}
-use Rattle.parfind.specs.declared.finder.Step.TheVariants.{Hit, Spent, Done}
-use Rattle.parcursor.specs.Order.{cursor_of}
+use Rattle.parfind.specs.declared.cursors.cursor.Cursor.{Cursor}
+use Rattle.parfind.specs.Tracks.{HasNoCrc}
+use Rattle.parfind.specs.declared.searches.finder.Step.{Step}
+use Rattle.parfind.specs.declared.searches.finder.Step.TheVariants.{Hit, Spent, Done}
+use Rattle.parfind.specs.Order.{cursor_of}
 use Rattle.parfind.specs.Places.{cursor_past, place_at}
 use Rattle.parfind.specs.Sightings.{Scan, content_of, is_seen_in, sightings_of, sightings_between}
 use Rattle.parfind.specs.Moves.{PassesAll, StepMoves, Advances}
 use Rattle.parfind.specs.Steps.{scan_of}
 use Rattle.parfind.specs.Looking.{IsAtPlace, IsNextPlace}
 use Rattle.parfind.specs.Visits.{StepSees, step_of, count_of}
-use Rattle.parcursor.proofs.OrderLaws.{From, is_from-true, From-by_test, From-refl}
+use Rattle.parfind.proofs.OrderLaws.{From, is_from-true, From-by_test, From-refl}
 use Rattle.parfind.proofs.RisingLaws.{between_and_between, none_between}
 use Rattle.parfind.proofs.SightingLaws.{Rises-sightings_of}
 use Rattle.parfind.proofs.SeenLaws.{seen_has_crc}

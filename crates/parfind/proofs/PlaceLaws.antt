@@ -5,15 +5,15 @@ use Rattle.std.proofs.lemmas.Bool.{cases_eq}
 use Rattle.std.proofs.lemmas.List.{length-map}
 use Rattle.std.proofs.Math.ListN.{get_or-map}
 use Rattle.parwindow.specs.Index.{SliceSet}
-use Rattle.parcursor.specs.declared.cursor.Cursor.{Cursor}
-use Rattle.parcursor.specs.declared.sighting.Sighting.{Sighting}
-use Rattle.parcursor.specs.Order.{is_from, cursor_of}
-use Rattle.partrack.specs.Fetched.{Place}
+use Rattle.parfind.specs.declared.cursors.cursor.Cursor.{Cursor}
+use Rattle.parfind.specs.declared.cursors.sighting.Sighting.{Sighting}
+use Rattle.parfind.specs.Order.{is_from, cursor_of}
+use Rattle.parfind.specs.Fetched.{Place}
 use Rattle.parfind.specs.Places.{place_at, cursor_at, cursor_past, place_of, start_of, places_in, places_of, places_ahead, places_between}
 use Rattle.parfind.specs.Sightings.{Scan, content_of, is_sighting, triples_at, triples_of, sightings_of}
 use Rattle.parfind.specs.Steps.{lengths_of}
 use Rattle.parfind.specs.Looking.{IsAtPlace, IsNextPlace}
-use Rattle.parcursor.proofs.OrderLaws.{Before, From, is_from-true, From-by_test, From-refl}
+use Rattle.parfind.proofs.OrderLaws.{Before, From, is_from-true, From-by_test, From-refl}
 use Rattle.parfind.proofs.ListLaws.{Each, Each-any, Each-has, Each-passes, Each-range, Each-map, Each-flat_map, Has, Has-map, Has-flat_map, Has-range, Has-filter}
 use Rattle.parfind.proofs.RisingLaws.{part_between, between_and_from, none_between, only_between}
 use Rattle.parfind.proofs.SightingLaws.{Rises-places_of}

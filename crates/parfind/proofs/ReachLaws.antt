@@ -1,8 +1,8 @@
 -- What was handed over of the files, by all calls since an opening.
 use Rattle.std.proofs.Common.{◌≡◌, ℕ, ◌+◌, ◌-◌, ◌<◌, ◌≤◌, ◌⊎◌, true, false, List, [], ◌∷◌, nat_lt, nat_eq, sym, subst, arith, slice_index, inl, inr}
 use Rattle.std.proofs.lemmas.Bool.{cases_lt, cases_eq, lt-ltb, le-ltb, eq-eqb, ne_eqb}
-use Rattle.partrack.specs.Fetched.{Place, HandsUpTo, ReadsUpTo}
-use Rattle.partrack.proofs.FetchedLaws.{upto-before, upto-here, upto-behind, upto-most, hands_none, hands_more}
+use Rattle.parfind.specs.Fetched.{Place, HandsUpTo, ReadsUpTo}
+use Rattle.parfind.proofs.FetchedLaws.{upto-before, upto-here, upto-behind, upto-most, hands_none, hands_more}
 use Rattle.parfind.specs.Places.{place_at}
 use Rattle.parfind.specs.Reach.{IsNear, SearchState, CallsRead, entry_of, room_of, ReachAddsUp}
 

@@ -2,9 +2,9 @@
 use Rattle.std.proofs.Common.{◌≡◌, ℕ, zero, suc, true, false, Some, slice_get, take, List, [], ◌∷◌, ◌++◌, filter, refl, sym, ap, subst, ◌∙◌, inl, inr}
 use Rattle.std.proofs.lemmas.Bool.{cases_Bool, not_from_false}
 use Rattle.std.proofs.lemmas.List.Elements.{filter-append}
-use Rattle.parcursor.specs.declared.cursor.Cursor.{Cursor}
-use Rattle.parcursor.specs.Order.{is_before, is_from}
-use Rattle.parcursor.proofs.OrderLaws.{Before, From, Before-by_test, From-by_not_before, From-by_test, is_before-true, is_before-false, is_from-true, is_from-false, From-trans, Before-From, From-before}
+use Rattle.parfind.specs.declared.cursors.cursor.Cursor.{Cursor}
+use Rattle.parfind.specs.Order.{is_before, is_from}
+use Rattle.parfind.proofs.OrderLaws.{Before, From, Before-by_test, From-by_not_before, From-by_test, is_before-true, is_before-false, is_from-true, is_from-false, From-trans, Before-From, From-before}
 use Rattle.parfind.proofs.ListLaws.{Each, Each-weaker, Each-has, Each-filter, Each-slice_get, Has, Pairs, Pairs-filter, filter_all, filter_none, filter_weaker, filter_stronger}
 
 module _ {A : Type 0} (key : A → Cursor) where

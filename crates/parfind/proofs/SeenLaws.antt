@@ -12,8 +12,8 @@ use Rattle.parwindow.specs.Index.{SliceSet, slice_passes, sums_of, has_crc_of, h
 use Rattle.parwindow.specs.Missing.{has_fit_crc_of, has_fit_crc_in}
 use Rattle.parwindow.proofs.MissingLaws.{no_fit}
 use Rattle.parwindow.specs.Least.{IsLeastFrom}
-use Rattle.partrack.specs.Fitting.{is_fit}
-use Rattle.partrack.proofs.FittingLaws.{passing, passing_has, has_both}
+use Rattle.parfind.specs.Fitting.{is_fit}
+use Rattle.parfind.proofs.FittingLaws.{passing, passing_has, has_both}
 use Rattle.parfind.specs.Sightings.{is_seen, is_seen_in}
 
 -- a slice that passes a test is there

@@ -1,15 +1,15 @@
 -- Which slices have a sighting before a cursor.
 use Rattle.std.proofs.Common.{◌≡◌, ℕ, ◌+◌, ◌<◌, ◌≤◌, Bool, true, false, ◌||◌, ◌&&◌, ◌==◌, List, [], length, refl, sym, ◌∙◌, subst, arith, inl, inr}
 use Rattle.std.proofs.lemmas.Bool.{cases_Bool, cases_lt, eq-eqb, eqb-true, or_cases, or_parts, or_left, or_right, and_parts, and_from}
-use Rattle.parcursor.specs.declared.cursor.Cursor.{Cursor}
-use Rattle.parcursor.specs.declared.sighting.Sighting.{Sighting}
-use Rattle.parcursor.specs.Order.{is_before, cursor_of, origin}
-use Rattle.partrack.specs.Fetched.{Place}
+use Rattle.parfind.specs.declared.cursors.cursor.Cursor.{Cursor}
+use Rattle.parfind.specs.declared.cursors.sighting.Sighting.{Sighting}
+use Rattle.parfind.specs.Order.{is_before, cursor_of, origin}
+use Rattle.parfind.specs.Fetched.{Place}
 use Rattle.parfind.specs.Places.{cursor_past, place_at}
 use Rattle.parfind.specs.Sightings.{Scan, content_of, is_seen_in, sightings_of, sightings_between}
 use Rattle.parfind.specs.Steps.{lengths_of}
 use Rattle.parfind.specs.Surveys.{is_sighted, is_sighted_before, mark_of, AllSightedBy}
-use Rattle.parcursor.proofs.OrderLaws.{Before, From, Before-by_test, From-by_not_before, is_before-true, is_from-true, Before-From, not_both}
+use Rattle.parfind.proofs.OrderLaws.{Before, From, Before-by_test, From-by_not_before, is_before-true, is_from-true, Before-From, not_both}
 use Rattle.parfind.proofs.ListLaws.{Has, Has-filter}
 use Rattle.parfind.proofs.MarkingLaws.{same_truth, any_has, has_any}
 use Rattle.parfind.proofs.MoveLaws.{counted_of}

@@ -2,12 +2,12 @@
 use Rattle.std.proofs.Common.{◌≡◌, ℕ, ◌<◌, true, List, ◌∷◌, map, length, subst, arith, slice_index, IsTrue}
 use Rattle.std.specs.List.{range_with_len}
 use Rattle.parwindow.specs.Index.{SliceSet}
-use Rattle.parcursor.specs.declared.sighting.Sighting.{Sighting}
-use Rattle.parcursor.specs.Order.{is_before, is_from, origin, cursor_of, cursor_after}
-use Rattle.partrack.specs.Fetched.{Place}
+use Rattle.parfind.specs.declared.cursors.sighting.Sighting.{Sighting}
+use Rattle.parfind.specs.Order.{is_before, is_from, origin, cursor_of, cursor_after}
+use Rattle.parfind.specs.Fetched.{Place}
 use Rattle.parfind.specs.Places.{cursor_at, places_in, places_of}
 use Rattle.parfind.specs.Sightings.{Scan, is_sighting, triples_at, triples_of, sightings_of, SightingsRise, AllFromOrigin, RestFollows, BetweenJoins}
-use Rattle.parcursor.proofs.OrderLaws.{Before, is_before-true, is_from-true, From-by_test, From-trans, From-before, From-after, Before-after}
+use Rattle.parfind.proofs.OrderLaws.{Before, is_before-true, is_from-true, From-by_test, From-trans, From-before, From-after, Before-after}
 use Rattle.parfind.proofs.ListLaws.{Each, Each-any, Each-passes, Each-map, Pairs, Pairs-weaker, Pairs-filter, Pairs-map, Pairs-flat_map, Pairs-range, AllPairs-from, filter_all}
 use Rattle.parfind.proofs.RisingLaws.{Rises, between_and_between, from_head}
 

@@ -6,15 +6,15 @@ use Rattle.std.proofs.Math.Bool.{or-false, or_assoc}
 use Rattle.parshelf.specs.Shelf.{ShelfState, IsShelf, file_of}
 use Rattle.parwindow.specs.Index.{SliceSet, has_fit_in}
 use Rattle.parwindow.specs.Window.{WindowState}
-use Rattle.parcursor.specs.declared.cursor.Cursor.{Cursor}
-use Rattle.partrack.specs.declared.track.Track.{Track}
-use Rattle.partrack.specs.Fetched.{Place, upto, HandsUpTo}
-use Rattle.partrack.specs.Tracks.{IsTied, IsUnread, fetched_of}
-use Rattle.partrack.proofs.FetchedLaws.{upto-before, upto-here, upto-behind, upto-most, upto-rises, hands_none, hands_more}
+use Rattle.parfind.specs.declared.cursors.cursor.Cursor.{Cursor}
+use Rattle.parfind.specs.declared.tracks.track.Track.{Track}
+use Rattle.parfind.specs.Fetched.{Place, upto, HandsUpTo}
+use Rattle.parfind.specs.Tracks.{IsTied, IsUnread, fetched_of}
+use Rattle.parfind.proofs.FetchedLaws.{upto-before, upto-here, upto-behind, upto-most, upto-rises, hands_none, hands_more}
 use Rattle.parfind.specs.Looking.{IsAtPlace}
 use Rattle.parfind.specs.Marking.{MarksMore, TakesDigest}
 use Rattle.parfind.specs.Marks.{is_missing_at, missing_places}
-use Rattle.parcursor.specs.Order.{origin}
+use Rattle.parfind.specs.Order.{origin}
 use Rattle.parfind.specs.Places.{cursor_at, cursor_past, place_at}
 use Rattle.parfind.specs.Reach.{IsNear}
 use Rattle.parfind.specs.Sightings.{Scan, is_seen_in, sightings_between}
@@ -24,7 +24,7 @@ use Rattle.parfind.specs.Surveys.{is_sighted, is_sighted_before, mark_of, IsAllM
 use Rattle.parfind.specs.Surveying.{SurveyState, Surveyed, cursor_to, missing_to}
 use Rattle.parfind.proofs.FitLaws.{fits_more}
 use Rattle.parfind.proofs.MarkLaws.{counted_rises, counted_more, counted_most}
-use Rattle.parcursor.proofs.OrderLaws.{From}
+use Rattle.parfind.proofs.OrderLaws.{From}
 use Rattle.parfind.proofs.PlaceLaws.{From-past}
 use Rattle.parfind.proofs.SightedLaws.{none_more, here_more, none_first, before_sighted, all_before, still_missing}
 use Rattle.parfind.proofs.VisitLaws.{same_lengths}

@@ -9,22 +9,22 @@ use Rattle.parwindow.specs.Crc32.{crc_of}
 use Rattle.parwindow.specs.Index.{SliceSet, slice_passes, sums_of, has_fit_in}
 use Rattle.parwindow.specs.Missing.{is_missing_in}
 use Rattle.parwindow.specs.Window.{WindowState, window_at}
-use Rattle.parcursor.specs.declared.cursor.Cursor.{Cursor}
-use Rattle.partrack.specs.declared.track.Track.{Track}
-use Rattle.partrack.specs.Fitting.{is_fit}
-use Rattle.partrack.specs.Fetched.{ReadsUpTo}
-use Rattle.partrack.specs.Tracks.{IsTied, SameTrack, IsUnread, HasNoCrc, fetched_of}
-use Rattle.partrack.proofs.FetchedLaws.{hands_enter}
-use Rattle.partrack.proofs.TrackLaws.{whole_window}
+use Rattle.parfind.specs.declared.cursors.cursor.Cursor.{Cursor}
+use Rattle.parfind.specs.declared.tracks.track.Track.{Track}
+use Rattle.parfind.specs.Fitting.{is_fit}
+use Rattle.parfind.specs.Fetched.{ReadsUpTo}
+use Rattle.parfind.specs.Tracks.{IsTied, SameTrack, IsUnread, HasNoCrc, fetched_of}
+use Rattle.parfind.proofs.FetchedLaws.{hands_enter}
+use Rattle.parfind.proofs.TrackLaws.{whole_window}
 use Rattle.parfind.specs.Marking.{MarksMore, TakesDigest}
-use Rattle.parcursor.specs.Order.{cursor_of}
+use Rattle.parfind.specs.Order.{cursor_of}
 use Rattle.parfind.specs.Sightings.{is_seen_in, sightings_of, sightings_between}
 use Rattle.parfind.specs.Steps.{scan_of}
 use Rattle.parfind.specs.Surveying.{SurveyState, Surveyed, cursor_to}
 use Rattle.parfind.specs.Surveys.{mark_of}
 use Rattle.parfind.proofs.FitLaws.{fits_more, seen_fits}
 use Rattle.parfind.proofs.MarkingLaws.{missing_was}
-use Rattle.parcursor.proofs.OrderLaws.{From-refl}
+use Rattle.parfind.proofs.OrderLaws.{From-refl}
 use Rattle.parfind.proofs.PassLaws.{cursor_on, on_unseen, From-on}
 use Rattle.parfind.proofs.PlaceLaws.{sighting_seen}
 use Rattle.parfind.proofs.RisingLaws.{none_between}

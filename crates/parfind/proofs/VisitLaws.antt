@@ -3,16 +3,16 @@ use Rattle.std.proofs.Common.{◌≤◌, refl, arith, false, ◌≡◌, ℕ, Lis
 use Rattle.parshelf.specs.Shelf.{ShelfState, IsShelf, file_of}
 use Rattle.parwindow.specs.Index.{SliceSet}
 use Rattle.parwindow.specs.Least.{IsLeastFrom}
-use Rattle.parcursor.specs.declared.cursor.Cursor.{Cursor}
-use Rattle.parcursor.specs.declared.sighting.Sighting.{Sighting}
-use Rattle.parcursor.specs.Order.{is_from, cursor_of, cursor_after}
+use Rattle.parfind.specs.declared.cursors.cursor.Cursor.{Cursor}
+use Rattle.parfind.specs.declared.cursors.sighting.Sighting.{Sighting}
+use Rattle.parfind.specs.Order.{is_from, cursor_of, cursor_after}
 use Rattle.parfind.specs.Places.{cursor_at, cursor_past, start_of, places_of, places_ahead, place_at}
 use Rattle.parfind.specs.Moves.{end_of, greater_of, HitsWithin, PassesAll, ComesToEnd, StaysWithin}
 use Rattle.parfind.specs.Sightings.{is_seen_in, sightings_from, sightings_between}
 use Rattle.parfind.specs.Steps.{scan_of, lengths_of}
 use Rattle.parfind.specs.Looking.{IsNextPlace, NoPlaceFrom}
 use Rattle.std.proofs.lemmas.Bool.{false_from_ne_true}
-use Rattle.parcursor.proofs.OrderLaws.{From, From-by_test, is_from-true, From-trans}
+use Rattle.parfind.proofs.OrderLaws.{From, From-by_test, is_from-true, From-trans}
 use Rattle.parfind.proofs.ListLaws.{Each-from_has, filter_none}
 use Rattle.parfind.proofs.PlaceLaws.{place_at_place, ahead_of_start, next_over, next_ahead}
 use Rattle.parfind.proofs.WalkLaws.{next_unseen, end_unseen, past_unseen, hit_seen}

@@ -2,19 +2,19 @@
 use Rattle.std.proofs.Common.{◌≡◌, ℕ, ◌<◌, true, false, List, [], ◌∷◌, length, refl, sym, ◌∙◌, arith, Some, None, Result, Ok, Err, inl, inr}
 use Rattle.std.proofs.lemmas.Bool.{cases_eq, cases_lt, false_from_ne_true}
 use Rattle.std.proofs.lemmas.List.{length-map}
-use Rattle.parshelf.specs.declared.reading.ReadFault.{ReadFault}
+use Rattle.parshelf.specs.declared.shelves.reading.ReadFault.{ReadFault}
 use Rattle.parwindow.specs.Least.{IsLeastFrom}
-use Rattle.parcursor.specs.declared.cursor.Cursor.{Cursor}
-use Rattle.parcursor.specs.declared.sighting.Sighting.{Sighting}
-use Rattle.parfind.specs.declared.finder.Step.{Step}
-use Rattle.parfind.specs.declared.finder.Step.TheVariants.{Hit, Spent, Done}
-use Rattle.parcursor.specs.Order.{is_from, cursor_of, cursor_after}
+use Rattle.parfind.specs.declared.cursors.cursor.Cursor.{Cursor}
+use Rattle.parfind.specs.declared.cursors.sighting.Sighting.{Sighting}
+use Rattle.parfind.specs.declared.searches.finder.Step.{Step}
+use Rattle.parfind.specs.declared.searches.finder.Step.TheVariants.{Hit, Spent, Done}
+use Rattle.parfind.specs.Order.{is_from, cursor_of, cursor_after}
 use Rattle.parfind.specs.Places.{cursor_past, place_at}
 use Rattle.parfind.specs.Sightings.{Scan, content_of, is_seen_in, is_sighting, sightings_of, sightings_from, sightings_between}
 use Rattle.parfind.specs.Steps.{lengths_of}
 use Rattle.parfind.specs.Looking.{IsNextPlace, NoPlaceFrom}
 use Rattle.parfind.specs.Visits.{StepSees}
-use Rattle.parcursor.proofs.OrderLaws.{From, From-by_test, is_from-true, From-refl, From-before, From-after, Before-after}
+use Rattle.parfind.proofs.OrderLaws.{From, From-by_test, is_from-true, From-refl, From-before, From-after, Before-after}
 use Rattle.parfind.proofs.ListLaws.{Each-from_has, filter_none}
 use Rattle.parfind.proofs.RisingLaws.{part_between, between_and_from, between_and_between, none_between, only_between}
 use Rattle.parfind.proofs.SightingLaws.{Rises-sightings_of}

@@ -3,13 +3,13 @@ use Rattle.std.specs.Prelude.{◌≡◌, ◌≤◌, ◌+◌, ℕ, IsTrue}
 use Rattle.parshelf.specs.Shelf.{ShelfState}
 use Rattle.parwindow.specs.Index.{SliceSet}
 use Rattle.parwindow.specs.Window.{WindowState}
-use Rattle.parcursor.specs.declared.cursor.Cursor.{Cursor}
-use Rattle.partrack.specs.declared.track.Track.{Track}
-use Rattle.partrack.specs.Fetched.{Place}
-use Rattle.partrack.specs.Tracks.{IsTied, fetched_of, remembered}
+use Rattle.parfind.specs.declared.cursors.cursor.Cursor.{Cursor}
+use Rattle.parfind.specs.declared.tracks.track.Track.{Track}
+use Rattle.parfind.specs.Fetched.{Place}
+use Rattle.parfind.specs.Tracks.{IsTied, fetched_of, remembered}
 use Rattle.parfind.specs.Looking.{HasFit}
 use Rattle.parfind.specs.Marks.{marked_between}
-use Rattle.parcursor.specs.Order.{is_from}
+use Rattle.parfind.specs.Order.{is_from}
 use Rattle.parfind.specs.Places.{start_of}
 use Rattle.parfind.specs.Reach.{SearchState}
 use Rattle.parfind.specs.Steps.{scan_of}

@@ -2,7 +2,7 @@
 use Rattle.std.specs.Prelude.{◌≡◌, ◌+◌, ◌≤◌, ℕ, false, slice_index}
 use Rattle.parshelf.specs.Shelf.{ShelfState}
 use Rattle.parwindow.specs.Index.{SliceSet, has_fit_in}
-use Rattle.partrack.specs.Fetched.{Place, upto}
+use Rattle.parfind.specs.Fetched.{Place, upto}
 
 -- of each file at most its length
 abbrev pub HandsEachOnce : ShelfState → ShelfState → Type 0

@@ -1,3 +1,10 @@
+pub mod Fetched
+pub mod Fitting
+pub mod Tracks
+pub mod Runs
+pub mod Told
+pub mod CursorText
+pub mod Order
 pub mod Places
 pub mod Sightings
 pub mod Moves
@@ -13,8 +20,7 @@ pub mod Marking
 pub mod Surveying
 pub use Rattle.parshelf.specs.Reads
 pub use Rattle.parshelf.specs.Shelf
-pub use Rattle.partrack.specs.Fetched
-pub use Rattle.partrack.specs.Tracks
+pub use Rattle.parwindow.specs.Crc32
 pub use Rattle.parwindow.specs.Index
 pub use Rattle.parwindow.specs.Least
 pub use Rattle.parwindow.specs.Missing

@@ -1,8 +1,8 @@
 -- The place that a search comes to next, and whether a slice has room there.
 use Rattle.std.specs.Prelude.{ℕ, ◌-◌, ◌<◌, List, length, slice_index, IsTrue}
 use Rattle.parwindow.specs.Index.{SliceSet, has_fit_in}
-use Rattle.parcursor.specs.declared.cursor.Cursor.{Cursor}
-use Rattle.parcursor.specs.Order.{is_from}
+use Rattle.parfind.specs.declared.cursors.cursor.Cursor.{Cursor}
+use Rattle.parfind.specs.Order.{is_from}
 
 -- the cursor stands at a place
 abbrev pub IsAtPlace : List ℕ → Cursor → Type 0

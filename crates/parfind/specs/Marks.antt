@@ -4,8 +4,8 @@ use Rattle.parwindow.specs.Crc32.{crc_of}
 use Rattle.parwindow.specs.Index.{has_crc_in}
 use Rattle.parwindow.specs.Missing.{is_missing_in}
 use Rattle.parwindow.specs.Window.{window_at}
-use Rattle.parcursor.specs.declared.cursor.Cursor.{Cursor}
-use Rattle.partrack.specs.Fetched.{Place}
+use Rattle.parfind.specs.declared.cursors.cursor.Cursor.{Cursor}
+use Rattle.parfind.specs.Fetched.{Place}
 use Rattle.parfind.specs.Places.{cursor_past, place_at, places_of, places_between}
 use Rattle.parfind.specs.Sightings.{Scan, content_of}
 

@@ -1,13 +1,13 @@
 -- Where a step of a search goes over any shelf, by the lengths of the scanned files alone.
 use Rattle.std.specs.Prelude.{◌≡◌, ℕ, ◌+◌, ◌-◌, ◌<◌, ◌≤◌, List, length, take, filter, Contains, IsTrue, Option, None, Some, Result, Ok, Err, slice_get, if◌then◌else◌}
-use Rattle.parshelf.specs.declared.reading.ReadFault.{ReadFault}
+use Rattle.parshelf.specs.declared.shelves.reading.ReadFault.{ReadFault}
 use Rattle.parwindow.specs.Index.{SliceSet}
-use Rattle.parcursor.specs.declared.cursor.Cursor.{Cursor}
-use Rattle.parcursor.specs.declared.sighting.Sighting.{Sighting}
-use Rattle.partrack.specs.Fetched.{Place}
-use Rattle.parfind.specs.declared.finder.Step.{Step}
-use Rattle.parfind.specs.declared.finder.Step.TheVariants.{Hit, Spent, Done}
-use Rattle.parcursor.specs.Order.{is_before, is_from, cursor_of, cursor_after}
+use Rattle.parfind.specs.declared.cursors.cursor.Cursor.{Cursor}
+use Rattle.parfind.specs.declared.cursors.sighting.Sighting.{Sighting}
+use Rattle.parfind.specs.Fetched.{Place}
+use Rattle.parfind.specs.declared.searches.finder.Step.{Step}
+use Rattle.parfind.specs.declared.searches.finder.Step.TheVariants.{Hit, Spent, Done}
+use Rattle.parfind.specs.Order.{is_before, is_from, cursor_of, cursor_after}
 use Rattle.parfind.specs.Places.{cursor_past, place_of, places_ahead, places_between}
 use Rattle.parfind.specs.Sightings.{triples_of}
 

@@ -1,10 +1,10 @@
 -- The places at which slices are looked for: each offset of each file.
 use Rattle.std.specs.Prelude.{ℕ, ◌+◌, List, length, map, slice_index, filter}
 use Rattle.std.specs.List.{flat_map, range_with_len}
-use Rattle.parcursor.specs.declared.cursor.Cursor.{Cursor}
-use Rattle.parcursor.specs.declared.sighting.Sighting.{Sighting}
-use Rattle.parcursor.specs.Order.{is_before, is_from}
-use Rattle.partrack.specs.Fetched.{Place}
+use Rattle.parfind.specs.declared.cursors.cursor.Cursor.{Cursor}
+use Rattle.parfind.specs.declared.cursors.sighting.Sighting.{Sighting}
+use Rattle.parfind.specs.Order.{is_before, is_from}
+use Rattle.parfind.specs.Fetched.{Place}
 
 -- the cursor at a place, before all slices
 abbrev pub cursor_at : Place → Cursor

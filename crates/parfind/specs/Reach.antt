@@ -1,8 +1,8 @@
 -- What each call of a search is handed of the files, and what all of them were since its opening.
 use Rattle.std.specs.Prelude.{◌≡◌, ℕ, ◌+◌, ◌-◌, ◌<◌, ◌≤◌, ◌==◌, nat_lt, List, [], ◌∷◌, slice_index, if◌then◌else◌}
 use Rattle.parshelf.specs.Shelf.{ShelfState}
-use Rattle.parcursor.specs.declared.cursor.Cursor.{Cursor}
-use Rattle.partrack.specs.Fetched.{Place, ReadsUpTo}
+use Rattle.parfind.specs.declared.cursors.cursor.Cursor.{Cursor}
+use Rattle.parfind.specs.Fetched.{Place, ReadsUpTo}
 use Rattle.parfind.specs.Places.{place_at}
 
 -- no file after the cursor's was read, and the cursor's at most a window and 4,096 bytes further

@@ -4,10 +4,10 @@ use Rattle.std.specs.List.{flat_map, range_with_len}
 use Rattle.parset.specs.declared.recovery_set.SetSlice.{SetSlice}
 use Rattle.parwindow.specs.Index.{SliceSet, slice_passes, has_sums, sums_of}
 use Rattle.parwindow.specs.Window.{window_at}
-use Rattle.parcursor.specs.declared.cursor.Cursor.{Cursor}
-use Rattle.parcursor.specs.declared.sighting.Sighting.{Sighting}
-use Rattle.parcursor.specs.Order.{is_before, is_from, origin, cursor_of, cursor_after}
-use Rattle.partrack.specs.Fetched.{Place}
+use Rattle.parfind.specs.declared.cursors.cursor.Cursor.{Cursor}
+use Rattle.parfind.specs.declared.cursors.sighting.Sighting.{Sighting}
+use Rattle.parfind.specs.Order.{is_before, is_from, origin, cursor_of, cursor_after}
+use Rattle.parfind.specs.Fetched.{Place}
 use Rattle.parfind.specs.Places.{places_of}
 
 -- the slices that are looked for, and the contents of the files that are scanned for them

@@ -2,15 +2,15 @@
 use Rattle.std.specs.Prelude.{◌≡◌, ℕ, ◌-◌, ◌<◌, List, [], ◌∷◌, length, map, take, All, Contains, IsTrue, Option, None, Some, Result, Ok, Err, slice_get}
 use Rattle.parshelf.specs.Shelf.{ShelfState}
 use Rattle.parshelf.specs.Reads.{ReadsOnly, FaultsIn}
-use Rattle.parshelf.specs.declared.reading.ReadFault.{ReadFault}
-use Rattle.parshelf.specs.declared.reading.ReadFault.TheVariants.{Failed, Ended}
+use Rattle.parshelf.specs.declared.shelves.reading.ReadFault.{ReadFault}
+use Rattle.parshelf.specs.declared.shelves.reading.ReadFault.TheVariants.{Failed, Ended}
 use Rattle.parwindow.specs.Index.{SliceSet}
-use Rattle.parcursor.specs.declared.cursor.Cursor.{Cursor}
-use Rattle.parcursor.specs.declared.sighting.Sighting.{Sighting}
-use Rattle.partrack.specs.Fetched.{Place}
-use Rattle.parfind.specs.declared.finder.Step.{Step}
-use Rattle.parfind.specs.declared.finder.Step.TheVariants.{Hit, Spent, Done}
-use Rattle.parcursor.specs.Order.{is_from, cursor_after}
+use Rattle.parfind.specs.declared.cursors.cursor.Cursor.{Cursor}
+use Rattle.parfind.specs.declared.cursors.sighting.Sighting.{Sighting}
+use Rattle.parfind.specs.Fetched.{Place}
+use Rattle.parfind.specs.declared.searches.finder.Step.{Step}
+use Rattle.parfind.specs.declared.searches.finder.Step.TheVariants.{Hit, Spent, Done}
+use Rattle.parfind.specs.Order.{is_from, cursor_after}
 use Rattle.parfind.specs.Places.{cursor_past, place_of, places_ahead, places_between}
 use Rattle.parfind.specs.Sightings.{Scan, sightings_from, sightings_between}
 use Rattle.parfind.specs.Moves.{covered, IsWithin, IsBelow, end_of, greater_of}

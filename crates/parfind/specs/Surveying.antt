@@ -1,16 +1,16 @@
 -- A survey on its way: what it has marked, read and hashed once it is at a cursor.
 use Rattle.std.specs.Prelude.{◌≡◌, ℕ, ◌+◌, ◌≤◌, ◌||◌, ◌⊎◌, Bool, true, List, length, map, filter, IsTrue, Result, OnOk}
 use Rattle.parshelf.specs.Shelf.{ShelfState}
-use Rattle.parshelf.specs.declared.reading.ReadFault.{ReadFault}
+use Rattle.parshelf.specs.declared.shelves.reading.ReadFault.{ReadFault}
 use Rattle.parwindow.specs.Index.{SliceSet}
 use Rattle.parwindow.specs.Window.{WindowState}
-use Rattle.parcursor.specs.declared.cursor.Cursor.{Cursor}
-use Rattle.partrack.specs.declared.track.Track.{Track}
-use Rattle.partrack.specs.Fetched.{Place, ReadsUpTo}
-use Rattle.partrack.specs.Tracks.{fetched_of}
+use Rattle.parfind.specs.declared.cursors.cursor.Cursor.{Cursor}
+use Rattle.parfind.specs.declared.tracks.track.Track.{Track}
+use Rattle.parfind.specs.Fetched.{Place, ReadsUpTo}
+use Rattle.parfind.specs.Tracks.{fetched_of}
 use Rattle.parfind.specs.Handed.{SkipsUnfit}
 use Rattle.parfind.specs.Marks.{is_missing_at}
-use Rattle.parcursor.specs.Order.{origin}
+use Rattle.parfind.specs.Order.{origin}
 use Rattle.parfind.specs.Places.{cursor_at, places_between}
 use Rattle.parfind.specs.Reach.{IsNear}
 use Rattle.parfind.specs.Sightings.{Scan}

@@ -4,11 +4,11 @@ use Rattle.std.specs.List.{list_any}
 use Rattle.parshelf.specs.Shelf.{ShelfState}
 use Rattle.parshelf.specs.Reads.{FaultsIn}
 use Rattle.parwindow.specs.Index.{SliceSet}
-use Rattle.parcursor.specs.declared.cursor.Cursor.{Cursor}
-use Rattle.partrack.specs.Fetched.{Place}
-use Rattle.parfind.specs.declared.scanning.SurveyFault.{SurveyFault}
-use Rattle.parfind.specs.declared.scanning.SurveyFault.TheVariants.{Read, Memory}
-use Rattle.parcursor.specs.Order.{is_before, cursor_of}
+use Rattle.parfind.specs.declared.cursors.cursor.Cursor.{Cursor}
+use Rattle.parfind.specs.Fetched.{Place}
+use Rattle.parfind.specs.declared.surveys.surveying.SurveyFault.{SurveyFault}
+use Rattle.parfind.specs.declared.surveys.surveying.SurveyFault.TheVariants.{Read, Memory}
+use Rattle.parfind.specs.Order.{is_before, cursor_of}
 use Rattle.parfind.specs.Places.{cursor_at, cursor_past}
 use Rattle.parfind.specs.Handed.{HandsAround}
 use Rattle.parfind.specs.Sightings.{Scan, sightings_of}

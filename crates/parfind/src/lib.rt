@@ -1,21 +1,24 @@
-//! The search for a set's slices at every place of the scanned files. Cursors are passed on.
+//! The search for a set's slices at every place of the scanned files.
 //!
-//! From below: `places` names the place that comes next, and `marking` marks the slices that a survey
-//! sees at one. `finder` is the search, call by call, and `scanning` the survey of all files; both go
-//! by a track of `partrack`. `laws` adds up what the calls of a search promise.
+//! From below: `cursors` says where a search stands and what it sees, and has the texts of cursors;
+//! `tracks` brings a window along a file. `searches` hands out sighting after sighting from a cursor
+//! on, and `surveys` marks the slices that have one; both go by a track. `drives` makes a list of
+//! calls of a search.
 //!
 //! A search may be given up and opened again at its cursor, and then reads its window anew. A survey
 //! begins at the first file, and ends once each slice has its mark. Once it has its window, neither
 //! takes memory, nor is either handed more bytes of a file than the file has.
 #![tactic(auto)]
 
-mod finder;
-mod laws;
-mod marking;
-mod places;
-mod scanning;
+mod cursors;
+mod drives;
+mod searches;
+mod surveys;
+mod tracks;
 
-pub use crate::finder::{Finder, Step};
-pub use crate::laws::{reach_law, sighting_laws, step_law};
-pub use crate::scanning::{SurveyFault, survey, survey_in};
-pub use parcursor::{Cursor, CursorFault, Sighting, read_cursor, split_cursor};
+pub use crate::cursors::{
+    Cursor, CursorFault, Sighting, cursor_order_law, cursor_text_law, read_cursor, split_cursor,
+};
+pub use crate::drives::{Answer, Call, Drive, calls_law, drive};
+pub use crate::searches::{Finder, Step, reach_law, sighting_laws, step_law};
+pub use crate::surveys::{SurveyFault, survey, survey_in};

@@ -1,5 +1,5 @@
 // Places in files.
-use parcursor::{Cursor, Sighting};
+use parfind::{Cursor, Sighting};
 
 /// A file, an offset in it and a slice: those of a cursor or of a sighting.
 pub type Spot = (u32, u64, u32);

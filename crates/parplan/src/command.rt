@@ -2,8 +2,8 @@ ghost use Rattle.std.specs.Prelude.{◌≡◌};
 ghost use Rattle.parplan.specs.Commands.{reads_scanned};
 ghost use Rattle.parplan.specs.declared.command.PlanFault.TheVariants.{Memory};
 
-use parcursor::Cursor;
 use parfield::{Hash16, Sequence, Text};
+use parfind::Cursor;
 use std::alloc::AllocError;
 use thiserror::Error;
 

@@ -1,1 +1,9 @@
+pub mod FindLaws
+pub mod ListingLaws
+pub mod RunLaws
+pub mod ContentLaws
+pub mod CountLaws
+pub mod LengthLaws
+pub mod StateLaws
+pub mod SumLaws
 pub mod SalvageLaws

@@ -2,17 +2,17 @@
 use Rattle.std.specs.Prelude.{ℕ, ◌++◌, List, [], map, Option, Some, None, Result, Ok, Err, true, false, slice_get, codes}
 use Rattle.parfield.specs.Hex.{encode_lower}
 use Rattle.parfield.specs.Shown.{shown}
-use Rattle.parshelf.specs.declared.disk.OpenFault.{OpenFault}
-use Rattle.parshelf.specs.declared.disk.OpenFault.TheVariants.{CannotOpen, Memory}
+use Rattle.parshelf.specs.declared.shelves.disk.OpenFault.{OpenFault}
+use Rattle.parshelf.specs.declared.shelves.disk.OpenFault.TheVariants.{CannotOpen, Memory}
 use Rattle.parplan.specs.Commands.{scanned_paths_of}
 use Rattle.parplan.specs.declared.command.Plan.{Plan}
 use Rattle.parplan.specs.declared.command.PlanFault.TheVariants as plan_fault
-use Rattle.partext.specs.declared.faults.RunFault.{RunFault}
-use Rattle.partext.specs.declared.faults.RunFault.TheVariants as run
-use Rattle.partext.specs.declared.status.Status.{Status}
-use Rattle.partext.specs.declared.status.Status.TheVariants as status
-use Rattle.partext.specs.declared.faults.Cause.{Cause}
-use Rattle.partext.specs.declared.faults.Cause.TheVariants as cause
+use Rattle.parreport.specs.declared.text.faults.RunFault.{RunFault}
+use Rattle.parreport.specs.declared.text.faults.RunFault.TheVariants as run
+use Rattle.parreport.specs.declared.text.status.Status.{Status}
+use Rattle.parreport.specs.declared.text.status.Status.TheVariants as status
+use Rattle.parreport.specs.declared.text.faults.Cause.{Cause}
+use Rattle.parreport.specs.declared.text.faults.Cause.TheVariants as cause
 use Rattle.parreport.specs.declared.ends.End.{End}
 use Rattle.parreport.specs.declared.ends.End.TheVariants as end
 

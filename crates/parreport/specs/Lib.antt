@@ -1,3 +1,16 @@
+pub mod Faults
+pub mod FindText
+pub mod Lines
+pub mod Listing
+pub mod Outcomes
+pub mod PacketsText
+pub mod Report
+pub mod SetText
+pub mod VerifyText
+pub mod Contents
+pub mod Files
+pub mod Findings
+pub mod States
 pub mod Ends
 pub mod OpenedFiles
 pub mod Unchanged

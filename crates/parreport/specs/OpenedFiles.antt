@@ -5,12 +5,12 @@ use Rattle.parshelf.specs.Shelf.{ShelfState}
 use Rattle.parplan.specs.Commands.{reads_scanned}
 use Rattle.parreport.specs.Unchanged.{AreSteadyFor}
 use Rattle.parreport.specs.Ends.{run_end_of, exit_status_of, message_of, error_line_of}
-use Rattle.partext.specs.Outcomes.{Answers, KeepsText, EndsPackets, EndsScanned, EndsSink, written, follows_text}
-use Rattle.partext.specs.Report.{report_of}
+use Rattle.parreport.specs.Outcomes.{Answers, KeepsText, EndsPackets, EndsScanned, EndsSink, written, follows_text}
+use Rattle.parreport.specs.Report.{report_of}
 use Rattle.parshelf.specs.SinkState.{SinkState}
 use Rattle.parreport.specs.declared.ends.End.{End}
-use Rattle.partext.specs.declared.status.Status.{Status}
-use Rattle.partext.specs.declared.faults.RunFault.{RunFault}
+use Rattle.parreport.specs.declared.text.status.Status.{Status}
+use Rattle.parreport.specs.declared.text.faults.RunFault.{RunFault}
 use Rattle.parplan.specs.declared.command.Plan.{Plan}
 
 -- the exit status and the line on standard error are those of this end, about this argument

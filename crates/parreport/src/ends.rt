@@ -2,10 +2,10 @@ ghost use Rattle.std.specs.Prelude.{◌≡◌, option_map, slice_get};
 ghost use Rattle.parreport.specs.Ends.{argument_in, run_end_of, open_end_of};
 ghost use Rattle.parplan.specs.Commands.{scanned_paths_of};
 
+use crate::text::{RunFault, Status};
 use parfield::Text;
 use parplan::{Plan, PlanFault, reads_scanned};
 use parshelf::OpenFault;
-use partext::{RunFault, Status};
 
 /// How the program ends.
 #[derive(Clone, Copy, Debug, PartialEq, Eq)]

@@ -1,4 +1,10 @@
-//! The report that a plan asks for, and how a run ends. Plans, sinks and faults are passed on.
+//! The report that a plan asks for, and how a run ends. Plans, sinks and their failures are passed on,
+//! so that a caller finds all of a run here.
+//!
+//! From below: `states` says what the scanned files show of a set, `text` writes what each command
+//! tells, `report` is the run of a plan over its files. `ends` has how a run ends, `messages` the exit
+//! status and the line of each end, and `opened_files` what the program does once it tried to open the
+//! files.
 #![tactic(auto)]
 
 mod ends;
@@ -6,11 +12,13 @@ mod messages;
 mod opened_files;
 mod report;
 mod salvage;
+mod states;
+mod text;
 
 pub use crate::ends::{End, argument_of, packets_end, run_end, scanned_end};
 pub use crate::messages::ending;
 pub use crate::opened_files::run_opened;
 pub use crate::report::run;
-pub use parplan::{Command, Plan, PlanFault, Scanned, reads_scanned, scanned_paths};
-pub use parshelf::{MemSink, Sink, WriteSink};
-pub use partext::{Cause, RunFault, Status};
+pub use crate::text::{Cause, RunFault, Status};
+pub use parplan::{Command, Plan, PlanFault, Scanned, plan, reads_scanned, scanned_paths};
+pub use parshelf::{Failed, MemSink, Sink, WriteSink};

@@ -3,9 +3,9 @@ ghost use Rattle.parfield.specs.Shown.{shown};
 ghost use Rattle.parreport.specs.Ends.{exit_status_of, message_of, error_line_of, cause_text};
 
 use crate::ends::End;
+use crate::text::{Cause, RunFault, Status};
 use parfield::Shown;
 use parplan::PlanFault;
-use partext::{Cause, RunFault, Status};
 use std::alloc::{AllocError, Global};
 
 /// The exit status, and the line for standard error, which is empty where nothing went wrong.

@@ -2,14 +2,16 @@ ghost use Rattle.std.specs.Prelude.{◌≡◌, length, IsTrue, false, IfErr};
 ghost use Rattle.parsalvage.specs.Kept.{kept_in_files};
 ghost use Rattle.parplan.specs.Commands.{reads_scanned, HasLimit};
 ghost use Rattle.parreport.specs.Unchanged.{IsSteadyFor, AreSteadyFor};
-ghost use Rattle.partext.specs.Outcomes.{is_packet_read, written, follows_text, Answers, KeepsText, EndsPackets, EndsScanned, EndsSink};
-ghost use Rattle.partext.specs.Report.{report_of, report_by};
+ghost use Rattle.parreport.specs.Outcomes.{is_packet_read, written, follows_text, Answers, KeepsText, EndsPackets, EndsScanned, EndsSink};
+ghost use Rattle.parreport.specs.Report.{report_of, report_by};
 
 use crate::salvage::salvage_files;
+use crate::text::{
+    RunFault, Status, packet_fault, write_find, write_packets, write_set, write_verify,
+};
 use parplan::{Command, Plan};
 use parsalvage::Kept;
 use parshelf::{Shelf, Sink};
-use partext::{RunFault, Status, packet_fault, write_find, write_packets, write_set, write_verify};
 use std::alloc::Global;
 
 /// Writes what the plan asks for of its packet files and its scanned files. On a fault a beginning

@@ -1,11 +1,11 @@
 ghost use Rattle.std.specs.Prelude.{◌≡◌, IsTrue, IfOk, OnOk, IfErr};
 ghost use Rattle.parsalvage.specs.Kept.{kept_in_files};
 ghost use Rattle.parshelf.specs.Reads.{ReadsOnly};
-ghost use Rattle.parstates.specs.Files.{FilesLeave};
+ghost use Rattle.parreport.specs.Files.{FilesLeave};
 
+use crate::states::FilesFault;
 use parsalvage::{Kept, SalvageFault, salvage_file};
 use parshelf::Shelf;
-use parstates::FilesFault;
 use std::alloc::Global;
 
 /// The packets of all files, by file and offset.

@@ -9,7 +9,7 @@ use Rattle.parfield.specs.Packet.{has_header, header_of, length_field, begins_pa
 use Rattle.parfield.specs.declared.fields.Header.{Header}
 use Rattle.parshelf.specs.Shelf.{ShelfState, file_of, bytes_at}
 use Rattle.parshelf.specs.Reads.{FaultsWithin}
-use Rattle.parshelf.specs.declared.reading.ReadFault.{ReadFault}
+use Rattle.parshelf.specs.declared.shelves.reading.ReadFault.{ReadFault}
 use Rattle.parsalvage.specs.MagicPlaces.{begins_framed, framed_size}
 use Rattle.parsalvage.specs.Hands.{Hands, FaultsAfter}
 use Rattle.parsalvage.proofs.FrontLaws.{packet_hashed}

@@ -6,7 +6,7 @@ use Rattle.std.proofs.lemmas.List.Edits.{take-paste}
 use Rattle.std.proofs.lemmas.List.Elements.{All-nil}
 use Rattle.parshelf.specs.Shelf.{ShelfState, handed_over, file_of, bytes_at}
 use Rattle.parshelf.specs.Reads.{FaultsWithin}
-use Rattle.parshelf.specs.declared.reading.ReadFault.{ReadFault}
+use Rattle.parshelf.specs.declared.shelves.reading.ReadFault.{ReadFault}
 use Rattle.parshelf.proofs.PieceLaws.{read_more}
 use Rattle.parsalvage.specs.declared.files.SalvageFault.{SalvageFault}
 use Rattle.parsalvage.specs.declared.noting.Found.{Found}

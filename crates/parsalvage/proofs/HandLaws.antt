@@ -2,8 +2,8 @@
 use Rattle.std.proofs.Common.{◌≡◌, ◌≤◌, ◌+◌, ◌∙◌, ℕ, ap, refl, sym, arith, IsTrue}
 use Rattle.parshelf.specs.Shelf.{ShelfState, handed_over, failed_in, ended_in, file_of}
 use Rattle.parshelf.specs.Reads.{FaultsWithin}
-use Rattle.parshelf.specs.declared.reading.ReadFault.{ReadFault}
-use Rattle.parshelf.specs.declared.reading.ReadFault.TheVariants.{Failed, Ended}
+use Rattle.parshelf.specs.declared.shelves.reading.ReadFault.{ReadFault}
+use Rattle.parshelf.specs.declared.shelves.reading.ReadFault.TheVariants.{Failed, Ended}
 use Rattle.parshelf.proofs.ShelfLaws.{handed_over-zero, handed_over_more, steady-handed_over}
 use Rattle.parsalvage.specs.declared.files.SalvageFault.{SalvageFault}
 use Rattle.parsalvage.specs.declared.files.SalvageFault.TheVariants.{Read, Memory}

@@ -1,8 +1,8 @@
 -- How much of a file calls are handed, bounded where the shelf is steady.
 use Rattle.std.specs.Prelude.{◌≡◌, ◌≤◌, ℕ, IsTrue}
 use Rattle.parshelf.specs.Shelf.{ShelfState, handed_over, failed_in, ended_in}
-use Rattle.parshelf.specs.declared.reading.ReadFault.{ReadFault}
-use Rattle.parshelf.specs.declared.reading.ReadFault.TheVariants.{Failed, Ended}
+use Rattle.parshelf.specs.declared.shelves.reading.ReadFault.{ReadFault}
+use Rattle.parshelf.specs.declared.shelves.reading.ReadFault.TheVariants.{Failed, Ended}
 use Rattle.parsalvage.specs.declared.files.SalvageFault.{SalvageFault}
 use Rattle.parsalvage.specs.declared.files.SalvageFault.TheVariants.{Read, Memory}
 

@@ -9,7 +9,7 @@ use Rattle.std.specs.Str.{bytes_eq}
 use Rattle.parfield.specs.HashOrder.{id_cmp, bytes_eq-reversed}
 use Rattle.parfield.specs.declared.hash16.Hash16.{Hash16}
 use Rattle.parset.specs.Choosing.{first_found, only_if}
-use Rattle.parbody.specs.declared.checksums.Ifsc.{Ifsc}
+use Rattle.parset.specs.declared.bodies.checksums.Ifsc.{Ifsc}
 use Rattle.parset.proofs.IdLaws.{same_id}
 
 -- ---- one element of a list of references

@@ -7,13 +7,13 @@ use Rattle.parfield.specs.declared.kind.Kind.TheVariants as kind
 use Rattle.parsalvage.specs.declared.kept.Kept.{Kept}
 use Rattle.parsalvage.specs.declared.kept.KeptBody.{KeptBody}
 use Rattle.parsalvage.specs.declared.kept.KeptBody.TheVariants.{Whole, Front}
-use Rattle.parbody.specs.Bodies.{creator_text_of, without_end_zeros}
+use Rattle.parset.specs.Bodies.{creator_text_of, without_end_zeros}
 use Rattle.parset.specs.Choosing.{creator_in, first_creator_of, only_if}
 use Rattle.parset.specs.PacketFields.{creator_text_in, usable}
-use Rattle.parbody.specs.Reasons.{creator_reason, first_reason, is_over_limit}
+use Rattle.parset.specs.Reasons.{creator_reason, first_reason, is_over_limit}
 use Rattle.parset.specs.SetLimits.{HasTextLimits}
-use Rattle.parbody.specs.declared.aside.Aside.{Aside}
-use Rattle.parbody.specs.declared.aside.Aside.TheVariants.{OverLimit}
+use Rattle.parset.specs.declared.bodies.aside.Aside.{Aside}
+use Rattle.parset.specs.declared.bodies.aside.Aside.TheVariants.{OverLimit}
 use Rattle.parset.proofs.LimitLaws.{passed_is}
 use Rattle.parset.proofs.MainLaws.{first_is, line_of}
 

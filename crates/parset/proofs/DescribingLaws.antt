@@ -11,13 +11,13 @@ use Rattle.std.proofs.lemmas.List.{append-nil, drop_more, drop_all}
 use Rattle.parfield.specs.declared.hash16.Hash16.{Hash16}
 use Rattle.parsalvage.specs.declared.kept.Kept.{Kept}
 use Rattle.std.specs.Prelude.{option_map}
-use Rattle.parbody.specs.BodyAnswers.{answer_of}
+use Rattle.parset.specs.BodyAnswers.{answer_of}
 use Rattle.parset.specs.Choosing.{file_description_of, first_found, only_if}
 use Rattle.parset.specs.PacketFields.{description_in}
 use Rattle.parset.specs.RecoverySet.{descriptions_of, names_checked, needed, slices_checked}
 use Rattle.parset.specs.SharedNames.{repeated_name}
 use Rattle.parset.specs.Slices.{slice_total}
-use Rattle.parbody.specs.declared.description.Desc.{Desc}
+use Rattle.parset.specs.declared.bodies.description.Desc.{Desc}
 use Rattle.parset.specs.declared.recovery_set.SetFault.{SetFault}
 use Rattle.parset.specs.declared.recovery_set.SetFault.TheVariants.{NameTwice, NoDesc, TooManySlices}
 

@@ -12,11 +12,11 @@ use Rattle.parfield.specs.declared.kind.Kind.TheVariants as kind
 use Rattle.parsalvage.specs.declared.kept.Kept.{Kept}
 use Rattle.parsalvage.specs.declared.kept.KeptBody.{KeptBody}
 use Rattle.parsalvage.specs.Kept.{held_front_of, held_length_of}
-use Rattle.parbody.specs.Bodies.{exponent_of}
+use Rattle.parset.specs.Bodies.{exponent_of}
 use Rattle.parset.specs.Choosing.{all_exponents, has_exponent, only_if}
 use Rattle.parset.specs.PacketFields.{exponent_in, usable}
-use Rattle.parbody.specs.Reasons.{first_reason, slice_reason}
-use Rattle.parbody.specs.declared.aside.Aside.TheVariants.{OverLimit, WrongLength}
+use Rattle.parset.specs.Reasons.{first_reason, slice_reason}
+use Rattle.parset.specs.declared.bodies.aside.Aside.TheVariants.{OverLimit, WrongLength}
 use Rattle.parset.proofs.ChoosingLaws.{map_take_at}
 
 -- ---- an exponent is below the limit

@@ -1,3 +1,4 @@
+pub mod RepeatLaws
 pub mod ChainLaws
 pub mod ChoosingLaws
 pub mod CreatorLaws

@@ -11,16 +11,16 @@ use Rattle.parfield.specs.declared.kind.Kind.TheVariants as kind
 use Rattle.parsalvage.specs.declared.kept.Kept.{Kept}
 use Rattle.parsalvage.specs.declared.kept.KeptBody.{KeptBody}
 use Rattle.parsalvage.specs.declared.kept.KeptBody.TheVariants.{Whole, Front}
-use Rattle.parbody.specs.Bodies.{description_of, file_length_field, name_of}
+use Rattle.parset.specs.Bodies.{description_of, file_length_field, name_of}
 use Rattle.parset.specs.Choosing.{file_description_of, only_if}
 use Rattle.parset.specs.PacketFields.{description_in, usable}
-use Rattle.parbody.specs.Reasons.{description_reason, is_over_limit, is_wrong_name}
+use Rattle.parset.specs.Reasons.{description_reason, is_over_limit, is_wrong_name}
 use Rattle.parset.specs.SetLimits.{HasFileLimits}
 use Rattle.parset.specs.Slices.{file_views, set_file_of}
-use Rattle.parbody.specs.declared.aside.Aside.{Aside}
-use Rattle.parbody.specs.declared.aside.Aside.TheVariants.{Name, OverLimit, WrongLength}
-use Rattle.parbody.specs.declared.checksums.Ifsc.{Ifsc}
-use Rattle.parbody.specs.declared.description.Desc.{Desc}
+use Rattle.parset.specs.declared.bodies.aside.Aside.{Aside}
+use Rattle.parset.specs.declared.bodies.aside.Aside.TheVariants.{Name, OverLimit, WrongLength}
+use Rattle.parset.specs.declared.bodies.checksums.Ifsc.{Ifsc}
+use Rattle.parset.specs.declared.bodies.description.Desc.{Desc}
 use Rattle.parset.specs.declared.recovery_set.SetFile.{SetFile}
 use Rattle.parset.proofs.FileLaws.{viewed}
 use Rattle.parset.proofs.MainLaws.{first_is, third_and_fourth}

@@ -9,16 +9,16 @@ use Rattle.parfield.specs.declared.kind.Kind.TheVariants as kind
 use Rattle.parsalvage.specs.declared.kept.Kept.{Kept}
 use Rattle.parsalvage.specs.declared.kept.KeptBody.{KeptBody}
 use Rattle.parsalvage.specs.declared.kept.KeptBody.TheVariants.{Whole, Front}
-use Rattle.parbody.specs.Bodies.{file_count_field, file_ids_of, main_of, slice_size_field}
+use Rattle.parset.specs.Bodies.{file_count_field, file_ids_of, main_of, slice_size_field}
 use Rattle.parsalvage.specs.Kept.{is_chosen}
 use Rattle.parset.specs.Choosing.{chosen_main_in, first_main_of}
 use Rattle.parset.specs.PacketFields.{main_in, usable}
-use Rattle.parbody.specs.Reasons.{first_reason, has_repeat, has_wrong_main_length, has_wrong_size, is_large_main, is_over_limit, main_reason}
+use Rattle.parset.specs.Reasons.{first_reason, has_repeat, has_wrong_main_length, has_wrong_size, is_large_main, is_over_limit, main_reason}
 use Rattle.parfield.specs.Md5.{md5}
-use Rattle.parbody.specs.declared.aside.Aside.TheVariants.{IdTwice, OverLimit, SetId, SliceSize, WrongLength}
+use Rattle.parset.specs.declared.bodies.aside.Aside.TheVariants.{IdTwice, OverLimit, SetId, SliceSize, WrongLength}
 use Rattle.parset.specs.SetLimits.{IsWithinLimits}
-use Rattle.parbody.specs.declared.aside.Aside.{Aside}
-use Rattle.parbody.specs.declared.main_packet.Main.{Main}
+use Rattle.parset.specs.declared.bodies.aside.Aside.{Aside}
+use Rattle.parset.specs.declared.bodies.main_packet.Main.{Main}
 use Rattle.parset.proofs.RisingLaws.{front_has_no_repeat}
 
 -- no line applies where there is no reason

@@ -11,11 +11,11 @@ use Rattle.parset.specs.SharedNames.{has_name, repeated_name}
 use Rattle.parset.specs.RecoverySet.{names_checked, slices_checked}
 use Rattle.parset.specs.Slices.{file_views, set_file_of}
 use Rattle.std.specs.Prelude.{option_map}
-use Rattle.parbody.specs.BodyAnswers.{answer_of}
+use Rattle.parset.specs.BodyAnswers.{answer_of}
 use Rattle.parset.specs.declared.recovery_set.SetFault.TheVariants.{NameTwice}
 use Rattle.parset.proofs.SharedNameLaws.{repeated_from, repeated_name-from}
-use Rattle.parbody.specs.declared.checksums.Ifsc.{Ifsc}
-use Rattle.parbody.specs.declared.description.Desc.{Desc}
+use Rattle.parset.specs.declared.bodies.checksums.Ifsc.{Ifsc}
+use Rattle.parset.specs.declared.bodies.description.Desc.{Desc}
 use Rattle.parset.proofs.DescribingLaws.{slices_checked_same, names_checked_same}
 
 -- the names of files, in order

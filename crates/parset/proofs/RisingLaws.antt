@@ -10,11 +10,11 @@ use Rattle.std.proofs.lemmas.List.Elements.{recursion_from_All}
 use Rattle.std.proofs.lemmas.Map.Keys.{IsDistinct-IsPermutation}
 use Rattle.parfield.specs.HashOrder.{id_cmp, bytes_eq-reversed}
 use Rattle.parfield.specs.declared.hash16.Hash16.{Hash16}
-use Rattle.parbody.specs.Reasons.{has_repeat}
+use Rattle.parset.specs.Reasons.{has_repeat}
 use Rattle.parset.specs.RecoverySet.{ids_in_order}
 use Rattle.parset.specs.Slices.{file_views, set_file_of}
-use Rattle.parbody.specs.declared.checksums.Ifsc.{Ifsc}
-use Rattle.parbody.specs.declared.description.Desc.{Desc}
+use Rattle.parset.specs.declared.bodies.checksums.Ifsc.{Ifsc}
+use Rattle.parset.specs.declared.bodies.description.Desc.{Desc}
 use Rattle.parset.proofs.IdLaws.{InOrder, IsAtMost, order_moves, ordered}
 
 -- ---- the first IDs of IDs without a repeat

@@ -10,11 +10,11 @@ use Rattle.parsalvage.specs.declared.kept.Kept.{Kept}
 use Rattle.parset.specs.Choosing.{file_description_of, first_main_of, set_packets_of}
 use Rattle.parset.specs.RecoverySet.{AnswersSet, SetView, descriptions_of, ids_in_order, names_checked, needed, set_by, set_of, set_over, slices_checked}
 use Rattle.parset.specs.Slices.{with_sums}
-use Rattle.parbody.specs.declared.description.Desc.{Desc}
-use Rattle.parbody.specs.declared.main_packet.Main.{Main}
+use Rattle.parset.specs.declared.bodies.description.Desc.{Desc}
+use Rattle.parset.specs.declared.bodies.main_packet.Main.{Main}
 use Rattle.parset.specs.declared.recovery_set.SetFault.{SetFault}
 use Rattle.parset.specs.declared.recovery_set.SetFault.TheVariants.{NoMain}
-use Rattle.parbody.specs.Reasons.{has_repeat}
+use Rattle.parset.specs.Reasons.{has_repeat}
 use Rattle.parset.proofs.IdLaws.{length-ids_in_order}
 use Rattle.parset.proofs.RisingLaws.{rising_ids}
 use Rattle.parset.proofs.ChainLaws.{answer_goes_on, fault_returned}

@@ -11,7 +11,7 @@ use Rattle.std.specs.Ordering.{is_eq}
 use Rattle.std.specs.Str.{bytes_eq}
 use Rattle.parset.specs.Choosing.{first_found, only_if}
 use Rattle.parset.specs.SharedNames.{has_name, repeated_at, repeated_name}
-use Rattle.parbody.specs.declared.description.Desc.{Desc}
+use Rattle.parset.specs.declared.bodies.description.Desc.{Desc}
 
 -- the first file whose name one of the files before has, those before being given too
 abbrev pub repeated_from : List Desc → List Desc → Option Desc

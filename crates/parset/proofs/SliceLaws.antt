@@ -13,8 +13,8 @@ use Rattle.parfield.specs.declared.hash16.Hash16.{Hash16}
 use Rattle.parsalvage.specs.declared.kept.Kept.{Kept}
 use Rattle.parset.specs.Choosing.{exponent_count_of, has_exponent, all_exponents}
 use Rattle.parset.specs.Slices.{AreNumbered, FileView, file_views, numbers_of_file, set_file_of, slice_count, slice_of, slice_total, slices_of_file}
-use Rattle.parbody.specs.declared.checksums.Ifsc.{Ifsc}
-use Rattle.parbody.specs.declared.description.Desc.{Desc}
+use Rattle.parset.specs.declared.bodies.checksums.Ifsc.{Ifsc}
+use Rattle.parset.specs.declared.bodies.description.Desc.{Desc}
 use Rattle.parset.specs.declared.recovery_set.SetFile.{SetFile}
 use Rattle.parset.specs.declared.recovery_set.SetSlice.{SetSlice}
 use Rattle.parset.proofs.FileLaws.{viewed}

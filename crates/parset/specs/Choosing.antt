@@ -9,9 +9,9 @@ use Rattle.parsalvage.specs.Kept.{is_chosen}
 use Rattle.parsalvage.specs.declared.kept.Kept.{Kept}
 use Rattle.parset.specs.PacketFields.{main_in, description_in, checksums_in, exponent_in}
 use Rattle.parset.specs.PacketFields.{creator_text_in, reason_in}
-use Rattle.parbody.specs.declared.checksums.Ifsc.{Ifsc}
-use Rattle.parbody.specs.declared.description.Desc.{Desc}
-use Rattle.parbody.specs.declared.main_packet.Main.{Main}
+use Rattle.parset.specs.declared.bodies.checksums.Ifsc.{Ifsc}
+use Rattle.parset.specs.declared.bodies.description.Desc.{Desc}
+use Rattle.parset.specs.declared.bodies.main_packet.Main.{Main}
 use Rattle.parset.specs.declared.recovery_set.SetAside.{SetAside}
 
 -- the first thing that is found

@@ -1,12 +1,12 @@
+pub mod Bodies
+pub mod BodyAnswers
+pub mod Reasons
 pub mod Choosing
 pub mod PacketFields
 pub mod RecoverySet
 pub mod SetLimits
 pub mod SharedNames
 pub mod Slices
-pub use Rattle.parbody.specs.Bodies
-pub use Rattle.parbody.specs.BodyAnswers
-pub use Rattle.parbody.specs.Reasons
 pub use Rattle.parfield.specs.Bytes
 pub use Rattle.parfield.specs.HashOrder
 pub use Rattle.parfield.specs.Md5

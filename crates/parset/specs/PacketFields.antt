@@ -6,14 +6,14 @@ use Rattle.parfield.specs.declared.kind.Kind.TheVariants as kind
 use Rattle.parsalvage.specs.Kept.{held_front_of, held_length_of}
 use Rattle.parsalvage.specs.declared.kept.KeptBody.{KeptBody}
 use Rattle.parsalvage.specs.declared.kept.KeptBody.TheVariants.{Whole, Front}
-use Rattle.parbody.specs.Bodies.{main_of, description_of, checksums_of, exponent_of, creator_text_of}
-use Rattle.parbody.specs.Reasons.{main_reason, description_reason, checksums_reason, slice_reason}
-use Rattle.parbody.specs.Reasons.{creator_reason}
-use Rattle.parbody.specs.declared.aside.Aside.{Aside}
-use Rattle.parbody.specs.declared.aside.Aside.TheVariants.{OverLimit}
-use Rattle.parbody.specs.declared.checksums.Ifsc.{Ifsc}
-use Rattle.parbody.specs.declared.description.Desc.{Desc}
-use Rattle.parbody.specs.declared.main_packet.Main.{Main}
+use Rattle.parset.specs.Bodies.{main_of, description_of, checksums_of, exponent_of, creator_text_of}
+use Rattle.parset.specs.Reasons.{main_reason, description_reason, checksums_reason, slice_reason}
+use Rattle.parset.specs.Reasons.{creator_reason}
+use Rattle.parset.specs.declared.bodies.aside.Aside.{Aside}
+use Rattle.parset.specs.declared.bodies.aside.Aside.TheVariants.{OverLimit}
+use Rattle.parset.specs.declared.bodies.checksums.Ifsc.{Ifsc}
+use Rattle.parset.specs.declared.bodies.description.Desc.{Desc}
+use Rattle.parset.specs.declared.bodies.main_packet.Main.{Main}
 
 -- the fields, where there is no reason against them
 abbrev pub usable : {T : Type 0} → Option Aside → T → Option T

@@ -10,11 +10,11 @@ use Rattle.parfield.specs.declared.hash16.Hash16.{Hash16}
 use Rattle.parsalvage.specs.declared.kept.Kept.{Kept}
 use Rattle.parset.specs.Choosing.{set_packets_of, first_main_of, file_description_of}
 use Rattle.parset.specs.Choosing.{exponent_count_of, first_creator_of, asides_of}
-use Rattle.parbody.specs.BodyAnswers.{answer_of}
+use Rattle.parset.specs.BodyAnswers.{answer_of}
 use Rattle.parset.specs.SharedNames.{repeated_name}
 use Rattle.parset.specs.Slices.{slice_total, FileView, with_sums, set_file_of, slices_of_file}
-use Rattle.parbody.specs.declared.description.Desc.{Desc}
-use Rattle.parbody.specs.declared.main_packet.Main.{Main}
+use Rattle.parset.specs.declared.bodies.description.Desc.{Desc}
+use Rattle.parset.specs.declared.bodies.main_packet.Main.{Main}
 use Rattle.parset.specs.declared.recovery_set.SetAside.{SetAside}
 use Rattle.parset.specs.declared.recovery_set.SetFault.{SetFault}
 use Rattle.parset.specs.declared.recovery_set.SetFault.TheVariants.{NoMain, NoDesc, NameTwice}

@@ -1,8 +1,8 @@
 -- The limits that the parts of a recovery set keep.
 use Rattle.std.specs.Prelude.{ℕ, List, length, ◌≡◌, ◌<◌, ◌≤◌, ◌+◌, ◌%◌, ◌^◌, false}
 use Rattle.std.specs.List.{All}
-use Rattle.parbody.specs.Reasons.{has_repeat}
-use Rattle.parbody.specs.declared.main_packet.Main.{Main}
+use Rattle.parset.specs.Reasons.{has_repeat}
+use Rattle.parset.specs.declared.bodies.main_packet.Main.{Main}
 
 -- the slice size and the files of a usable Main packet are within the limits, and no file is there
 -- twice

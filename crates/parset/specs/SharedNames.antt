@@ -3,7 +3,7 @@ use Rattle.std.specs.Prelude.{ℕ, Bool, List, length, take, slice_get, Option}
 use Rattle.std.specs.List.{list_any, range_with_len}
 use Rattle.std.specs.Str.{bytes_eq}
 use Rattle.parset.specs.Choosing.{first_found, only_if}
-use Rattle.parbody.specs.declared.description.Desc.{Desc}
+use Rattle.parset.specs.declared.bodies.description.Desc.{Desc}
 
 -- a file has this name
 abbrev pub has_name : List ℕ → Desc → Bool

@@ -9,8 +9,8 @@ use Rattle.parfield.specs.HashOrder.{id_cmp}
 use Rattle.parfield.specs.declared.hash16.Hash16.{Hash16}
 use Rattle.parsalvage.specs.declared.kept.Kept.{Kept}
 use Rattle.parset.specs.Choosing.{file_sums_of}
-use Rattle.parbody.specs.declared.checksums.Ifsc.{Ifsc}
-use Rattle.parbody.specs.declared.description.Desc.{Desc}
+use Rattle.parset.specs.declared.bodies.checksums.Ifsc.{Ifsc}
+use Rattle.parset.specs.declared.bodies.description.Desc.{Desc}
 use Rattle.parset.specs.declared.recovery_set.SetFile.{SetFile}
 use Rattle.parset.specs.declared.recovery_set.SetSlice.{SetSlice}
 

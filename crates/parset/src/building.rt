@@ -8,12 +8,12 @@ ghost use Rattle.parset.specs.RecoverySet.{AnswersSet, set_by, set_of, set_over}
 ghost use Rattle.parset.specs.SetLimits.{IsWithinLimits};
 ghost use Rattle.parset.specs.Slices.{file_views, slice_total, with_sums};
 
+use crate::bodies::{Desc, Ifsc, Main};
 use crate::choosing::{asides, checksums, creator, exponent_count, first_main, set_packets};
 use crate::describing::{described, names_checked};
 use crate::in_order::in_order;
 use crate::recovery_set::{RecoverySet, SetFault};
 use crate::slicing::{set_files, set_slices, slice_counts, slices_checked};
-use parbody::{Desc, Ifsc, Main};
 use parfield::Hash16;
 use parsalvage::Kept;
 use std::alloc::{AllocError, Global};

@@ -10,11 +10,11 @@ ghost use Rattle.parset.specs.Choosing.{first_main_of, set_packets_of, file_desc
 ghost use Rattle.parset.specs.Choosing.{file_sums_of, exponent_count_of, first_creator_of};
 ghost use Rattle.parset.specs.Choosing.{asides_of};
 
+use crate::bodies::{Desc, EXPONENT_LIMIT, Ifsc, Main};
 use crate::reading::{
     read_aside, read_checksums, read_creator, read_description, read_exponent, read_main,
 };
 use crate::recovery_set::SetAside;
-use parbody::{Desc, EXPONENT_LIMIT, Ifsc, Main};
 use parfield::{Hash16, Sequence};
 use parsalvage::Kept;
 use std::alloc::{AllocError, Global};

@@ -2,9 +2,9 @@ ghost use Rattle.std.specs.Prelude.{◌≡◌, [], ◌∷◌, ◌++◌, map, IfO
 ghost use Rattle.parset.specs.RecoverySet.{AnswersSet, descriptions_of, names_checked};
 ghost use Rattle.parset.specs.SharedNames.{repeated_name};
 
+use crate::bodies::Desc;
 use crate::choosing::descriptions;
 use crate::recovery_set::SetFault;
-use parbody::Desc;
 use parfield::{Hash16, Sequence};
 use parsalvage::Kept;
 use std::alloc::{AllocError, Global};

@@ -3,14 +3,14 @@ ghost use Rattle.parfield.specs.declared.kind.Kind.TheVariants as kind;
 ghost use Rattle.parset.specs.Choosing.{aside_in, creator_in};
 ghost use Rattle.parset.specs.PacketFields.{checksums_in, creator_text_in, description_in};
 ghost use Rattle.parset.specs.PacketFields.{exponent_in, main_in, reason_in, usable};
-ghost use Rattle.parbody.specs.BodyAnswers.{AnswersBodyAfter};
-ghost use Rattle.parbody.specs.declared.aside.Aside.{Aside};
+ghost use Rattle.parset.specs.BodyAnswers.{AnswersBodyAfter};
+ghost use Rattle.parset.specs.declared.bodies.aside.Aside.{Aside};
 
-use crate::recovery_set::SetAside;
-use parbody::{
+use crate::bodies::{
     Aside, BodyFault, Desc, Ifsc, Main, checksums_reason, creator_body, creator_reason, desc_body,
     description_reason, ifsc_body, main_body, main_reason, slice_body,
 };
+use crate::recovery_set::SetAside;
 use parfield::{Hash16, Kind, Sequence};
 use parsalvage::{Kept, KeptBody};
 use std::alloc::{AllocError, Global};

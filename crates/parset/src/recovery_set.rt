@@ -6,7 +6,7 @@ ghost use Rattle.parfield.specs.HashOrder.{id_cmp};
 ghost use Rattle.parset.specs.SetLimits.{HasFileLimits, HasTextLimits};
 ghost use Rattle.parset.specs.Slices.{numbers_of_file};
 
-use parbody::Aside;
+use crate::bodies::Aside;
 use parfield::{Hash16, Sequence};
 use std::alloc::AllocError;
 use std::marker::Model;

@@ -1,13 +1,13 @@
 ghost use Rattle.std.specs.Prelude.{◌≡◌, ◌<◌, ◌≤◌, ◌++◌, map, IfOk, Option, is_some, nat_lt};
 ghost use Rattle.std.specs.Prelude.{option_map};
 ghost use Rattle.std.specs.List.{flat_map};
-ghost use Rattle.parbody.specs.declared.checksums.Ifsc.{Ifsc};
+ghost use Rattle.parset.specs.declared.bodies.checksums.Ifsc.{Ifsc};
 ghost use Rattle.parset.specs.RecoverySet.{AnswersSet, slices_checked};
 ghost use Rattle.parset.specs.Slices.{HasCounts, file_view, file_views, set_file_of, slice_count};
 ghost use Rattle.parset.specs.Slices.{slice_of, slice_total, slices_of_file};
 
+use crate::bodies::{Desc, Ifsc, SLICES_LIMIT};
 use crate::recovery_set::{SetFault, SetFile, SetSlice};
-use parbody::{Desc, Ifsc, SLICES_LIMIT};
 use parfield::{Hash16, Sequence};
 use std::alloc::{AllocError, Global};
 use std::collections::BTreeMap;

@@ -1,6 +1,6 @@
+use parplan::{plan, words_behind};
 use parreport::{End, PlanFault, WriteSink, ending, run_opened, scanned_paths};
 use parshelf::DiskShelf;
-use parwords::{plan, words_behind};
 use std::alloc::AllocError;
 use std::{env, io};
 

@@ -8,8 +8,7 @@ use crate::index::Index;
 use crate::tables::SlideTables;
 use circular_buffer::HeapCircularBuffer;
 use md5::{Digest, Md5};
-use parcount::Tally;
-use parfield::Hash16;
+use parfield::{Hash16, Tally};
 use std::alloc::{AllocError, Global};
 use std::marker::Model;
 

@@ -6,9 +6,9 @@ use crate::runs::checks::must;
 use crate::runs::rows::{Row, words_of};
 use parfield::Text;
 use parfixtures::shelf_of;
+use parplan::plan;
 use parreport::{MemSink, Plan, RunFault, Status, ending, reads_scanned, run, run_end};
 use parshelf::{MemShelf, Shelf};
-use parwords::plan;
 use std::panic::Expect;
 use std::process::Abort;
 

@@ -1,6 +1,5 @@
 use crate::runs::{is_same, is_text, must, replaced, there, words_of};
-use parplan::Plan;
-use parwords::plan;
+use parplan::{Plan, plan};
 use std::fmt::Debug;
 use std::process::Abort;
 

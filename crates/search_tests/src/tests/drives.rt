@@ -1,14 +1,13 @@
 // Drives of a search: lists of calls, and what they answer.
 ghost use Rattle.std.specs.Prelude.{All, IfOk};
-ghost use Rattle.pardrive.specs.Runs.{HasBudget};
+ghost use Rattle.parfind.specs.Runs.{HasBudget};
 
 mod disk;
 mod model;
 mod refused;
 
 use crate::tests::fixtures::{cursor_of, field, is, must, number_of, part, search_of, step_named};
-use parcursor::Cursor;
-use pardrive::{Answer, Call, Drive, drive};
+use parfind::{Answer, Call, Cursor, Drive, drive};
 use parshelf::{ReadFault, Shelf};
 use parwindow::Index;
 use std::alloc::{AllocError, Global};

@@ -2,8 +2,7 @@
 // in memory, and how values are compared.
 ghost use Rattle.std.specs.Prelude.{◌≡◌, Ok};
 
-use parcursor::Cursor;
-use parfind::Step;
+use parfind::{Cursor, Step};
 use parfixtures::{Spot, cursor, set_of, set_with, shelf_of, sighting};
 use parset::{RecoverySet, SetFault};
 use parshelf::{MemShelf, ReadFault};

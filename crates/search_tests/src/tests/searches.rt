@@ -1,7 +1,7 @@
 ghost use Rattle.std.specs.Prelude.{◌≡◌, ◌∷◌, []};
 ghost use Rattle.parfind.specs.Marks.{marks};
 ghost use Rattle.parfind.specs.Moves.{end_of};
-ghost use Rattle.parcursor.specs.Order.{origin};
+ghost use Rattle.parfind.specs.Order.{origin};
 ghost use Rattle.search_tests.specs.Worked.{two_slices, equal_slices};
 
 mod finding;

@@ -7,7 +7,7 @@ use Rattle.parfield.specs.HashOrder.{id_cmp}
 use Rattle.parsalvage.specs.declared.kept.Kept.{Kept}
 use Rattle.parset.specs.Choosing.{only_if}
 use Rattle.parset.specs.PacketFields.{checksums_in}
-use Rattle.parbody.specs.declared.checksums.Ifsc.{Ifsc}
+use Rattle.parset.specs.declared.bodies.checksums.Ifsc.{Ifsc}
 use Rattle.parset.proofs.ChoosingLaws.{counted, first_found_more, first_found_same}
 use Rattle.parset.proofs.choosing.checksums.Goals as goal
 use Rattle.parset.proofs.choosing.checksums.Goals.{in-Some+then-is_counted+in_ok-put_first, in-Some+else-is_counted, in_default}

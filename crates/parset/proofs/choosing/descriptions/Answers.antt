@@ -7,7 +7,7 @@ use Rattle.parfield.specs.HashOrder.{id_cmp}
 use Rattle.parsalvage.specs.declared.kept.Kept.{Kept}
 use Rattle.parset.specs.Choosing.{only_if}
 use Rattle.parset.specs.PacketFields.{description_in}
-use Rattle.parbody.specs.declared.description.Desc.{Desc}
+use Rattle.parset.specs.declared.bodies.description.Desc.{Desc}
 use Rattle.parset.proofs.ChoosingLaws.{first_found_more, first_found_same}
 use Rattle.parset.proofs.choosing.descriptions.Goals as goal
 use Rattle.parset.proofs.choosing.descriptions.Goals.{in-Some+in_ok-put_first, in_default}

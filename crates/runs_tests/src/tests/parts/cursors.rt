@@ -1,7 +1,7 @@
 use super::is;
 use crate::runs::is_same;
-use parcursor::{Cursor, CursorFault, read_cursor, split_cursor};
 use parfield::Hash16;
+use parfind::{Cursor, CursorFault, read_cursor, split_cursor};
 use parfixtures::cursor;
 use std::process::Abort;
 use std::test::Fail;

@@ -1,10 +1,9 @@
 use super::is;
 use crate::runs::{is_same, must};
 use md5::{Digest, Md5};
-use parcount::{Counts, Tally, Transcript};
 use parfield::{
-    Hash16, HeaderFault, Kind, Packet, Sequence, Text, header, ids_follow_numbers, packet_at,
-    show_name,
+    Counts, Hash16, HeaderFault, Kind, Packet, Sequence, Tally, Text, Transcript, header,
+    ids_follow_numbers, packet_at, show_name,
 };
 use std::cmp::Ordering;
 use std::process::Abort;

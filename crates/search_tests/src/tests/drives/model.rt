@@ -1,12 +1,10 @@
 // Drives by chance, and what comparing each slice at each offset gives.
 ghost use Rattle.std.specs.Prelude.{All, IfOk};
-ghost use Rattle.pardrive.specs.Runs.{HasBudget};
+ghost use Rattle.parfind.specs.Runs.{HasBudget};
 
 use crate::tests::drives::FAILED;
 use crate::tests::fixtures::{holds, index_of, is, must};
-use parcursor::Cursor;
-use pardrive::{Answer, Call, Drive, drive};
-use parfind::Step;
+use parfind::{Answer, Call, Cursor, Drive, Step, drive};
 use parfixtures::{cursor, shelf_of, sighting};
 use parshelf::MemShelf;
 use std::alloc::{AllocError, Global};

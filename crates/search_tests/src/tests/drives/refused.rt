@@ -1,11 +1,10 @@
 // Memory that is refused to a drive, and how it is told.
 ghost use Rattle.std.specs.Prelude.{All};
-ghost use Rattle.pardrive.specs.Runs.{HasBudget};
+ghost use Rattle.parfind.specs.Runs.{HasBudget};
 
 use crate::tests::drives::{are_told, behind, call_on, calls_of};
 use crate::tests::fixtures::{Search, cursor_of, index_of, is, must, part};
-use parcursor::Cursor;
-use pardrive::{Answer, Call, Drive, drive};
+use parfind::{Answer, Call, Cursor, Drive, drive};
 use parfixtures::{START, Spot, cursor, file_of};
 use parshelf::MemShelf;
 use parwindow::Index;

@@ -6,8 +6,7 @@ ghost use Rattle.parfind.specs.Finders.{BelongsTo};
 use crate::tests::fixtures::{
     Search, cursor_of, field, holds, is, is_at_most, is_row, must, part, search_of, step_named,
 };
-use parcursor::Cursor;
-use parfind::{Finder, Step};
+use parfind::{Cursor, Finder, Step};
 use parshelf::{MemShelf, ReadFault};
 use parwindow::Index;
 use std::alloc::{AllocError, Global};

@@ -1,5 +1,5 @@
 use Rattle.std.proofs.Common.{All}
-use Rattle.pardrive.specs.Runs.{HasBudget}
+use Rattle.parfind.specs.Runs.{HasBudget}
 use Rattle.search_tests.proofs.tests.drives.model.some_calls.Given as goal
 
 -- each budget so far is above 0

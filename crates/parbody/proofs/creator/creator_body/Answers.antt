@@ -1,7 +1,0 @@
-use Rattle.std.proofs.Common.{rules}
-use Rattle.parbody.specs.Bodies.{creator_text_of}
-use Rattle.parbody.proofs.creator.creator_body.Goals as goal
-
-pub returns : goal.returns
-unfolding creator_text_of
-returns c = search rules steps 1000000

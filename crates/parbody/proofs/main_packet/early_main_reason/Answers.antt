@@ -1,8 +1,0 @@
-use Rattle.std.proofs.Common.{arith}
-use Rattle.std.proofs.lemmas.Grind.{common_steps}
-use Rattle.parbody.specs.Reasons.{early_main_reason}
-use Rattle.parbody.proofs.main_packet.early_main_reason.Goals as goal
-
-pub returns-then-is_large_main-clause-reason : goal.returns-then-is_large_main-clause-reason
-unfolding early_main_reason
-returns-then-is_large_main-clause-reason c = grind (arith, common_steps)

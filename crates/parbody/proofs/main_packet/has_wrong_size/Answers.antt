@@ -1,6 +1,0 @@
-use Rattle.std.proofs.Common.{arith}
-use Rattle.std.proofs.lemmas.Grind.{common_steps}
-use Rattle.parbody.proofs.main_packet.has_wrong_size.Goals as goal
-
-pub returns-else-size-eq0 : goal.returns-else-size-eq0
-returns-else-size-eq0 c = grind (arith, common_steps)

@@ -1,4 +1,0 @@
-pub mod OrderLaws
-pub mod NumberLaws
-pub mod IdLaws
-pub mod CursorTextLaws

@@ -1,5 +1,0 @@
-use Rattle.parcursor.proofs.CursorTextLaws.{has_one_pair, reads_its_text}
-use Rattle.parcursor.proofs.laws.cursor_text_law.Goals as goal
-
-pub returns : goal.returns
-returns c = record { read = reads_its_text; one = has_one_pair }

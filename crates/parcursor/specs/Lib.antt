@@ -1,2 +1,0 @@
-pub mod CursorText
-pub mod Order

@@ -1,3 +1,0 @@
-pub mod RunLaws
-pub mod ToldLaws
-pub mod DriveLaws

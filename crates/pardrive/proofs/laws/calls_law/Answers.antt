@@ -1,5 +1,0 @@
-use Rattle.pardrive.proofs.RunLaws.{calls_hand_out, calls_tell_failures}
-use Rattle.pardrive.proofs.laws.calls_law.Goals as goal
-
-pub returns : goal.returns
-returns c = record { hits = calls_hand_out; failures = calls_tell_failures }

@@ -1,8 +1,0 @@
-ghost use Rattle.pardrive.specs.Runs.{CallsHandOut, CallsTellFailures};
-
-/// The laws of calls: they hand out exactly the sightings that they pass, and tell of each read
-/// that failed. Does nothing.
-pub fn calls_law()
-    ensures hits { CallsHandOut }
-    ensures failures { CallsTellFailures }
-{}

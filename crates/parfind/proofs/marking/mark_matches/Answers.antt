@@ -1,5 +1,0 @@
-use Rattle.std.proofs.Common.{rules}
-use Rattle.parfind.proofs.marking.mark_matches.Goals as goal
-
-pub loop-slice-preserved : goal.loop-slice-preserved
-loop-slice-preserved c = search rules steps 3000000

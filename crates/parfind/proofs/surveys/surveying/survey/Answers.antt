@@ -1,0 +1,96 @@
+use Rattle.std.proofs.lemmas.Grind.{common_steps}
+use Rattle.std.proofs.Common.{rules, arith}
+use Rattle.parfind.proofs.surveys.surveying.survey.Goals as goal
+
+pub returns-clause-fault : goal.returns-clause-fault
+returns-clause-fault g c = search rules steps 300000
+
+pub returns-in_err-window-clause-found : goal.returns-in_err-window-clause-found
+returns-in_err-window-clause-found g c = grind (arith, common_steps) steps 100000
+
+pub returns-in_err-window-clause-no_other : goal.returns-in_err-window-clause-no_other
+returns-in_err-window-clause-no_other g c = grind (arith, common_steps) steps 100000
+
+pub returns-in_err-window-clause-stops : goal.returns-in_err-window-clause-stops
+returns-in_err-window-clause-stops g c = grind (arith, common_steps) steps 100000
+
+pub returns-in_err-window-clause-kept : goal.returns-in_err-window-clause-kept
+returns-in_err-window-clause-kept g c = grind (arith, common_steps) steps 100000
+
+pub returns-in_err-window-clause-ok : goal.returns-in_err-window-clause-ok
+returns-in_err-window-clause-ok g c = grind (arith, common_steps) steps 100000
+
+pub returns-in_err-window-clause-fault : goal.returns-in_err-window-clause-fault
+returns-in_err-window-clause-fault g c = grind (arith, common_steps) steps 100000
+
+pub returns-in_err-window-clause-handed : goal.returns-in_err-window-clause-handed
+returns-in_err-window-clause-handed g c = grind (arith, common_steps) steps 100000
+
+pub returns-in_err-window-clause-unfit : goal.returns-in_err-window-clause-unfit
+returns-in_err-window-clause-unfit g c = grind (arith, common_steps) steps 100000
+
+pub returns-in_err-window-clause-none : goal.returns-in_err-window-clause-none
+returns-in_err-window-clause-none g c = grind (arith, common_steps) steps 100000
+
+pub returns-in-Ok-clause-found : goal.returns-in-Ok-clause-found
+returns-in-Ok-clause-found g c = grind (arith, common_steps)
+
+pub returns-in-Ok-clause-no_other : goal.returns-in-Ok-clause-no_other
+returns-in-Ok-clause-no_other g c = grind (arith, common_steps) steps 100000
+
+pub returns-in-Ok-clause-stops : goal.returns-in-Ok-clause-stops
+returns-in-Ok-clause-stops g c = grind (arith, common_steps) steps 100000
+
+pub returns-in-Ok-clause-kept : goal.returns-in-Ok-clause-kept
+returns-in-Ok-clause-kept g c = grind (arith, common_steps) steps 100000
+
+pub returns-in-Ok-clause-ok : goal.returns-in-Ok-clause-ok
+returns-in-Ok-clause-ok g c = grind (arith, common_steps) steps 100000
+
+pub returns-in-Ok-clause-fault : goal.returns-in-Ok-clause-fault
+returns-in-Ok-clause-fault g c = grind (arith, common_steps) steps 100000
+
+pub returns-in-Ok-clause-handed : goal.returns-in-Ok-clause-handed
+returns-in-Ok-clause-handed g c = grind (arith, common_steps) steps 100000
+
+pub returns-in-Ok-clause-unfit : goal.returns-in-Ok-clause-unfit
+returns-in-Ok-clause-unfit g c = grind (arith, common_steps) steps 100000
+
+pub returns-in-Ok-clause-none : goal.returns-in-Ok-clause-none
+returns-in-Ok-clause-none g c = grind (arith, common_steps) steps 100000
+
+pub returns-clause-found : goal.returns-clause-found
+returns-clause-found g c = grind (arith, common_steps) steps 100000
+
+pub returns-clause-no_other : goal.returns-clause-no_other
+returns-clause-no_other g c = grind (arith, common_steps)
+
+pub returns-clause-stops : goal.returns-clause-stops
+returns-clause-stops g c = grind (arith, common_steps) steps 100000
+
+pub returns-clause-kept : goal.returns-clause-kept
+returns-clause-kept g c = grind (arith, common_steps) steps 100000
+
+pub returns-clause-ok : goal.returns-clause-ok
+returns-clause-ok g c = grind (arith, common_steps) steps 100000
+
+pub returns-clause-handed : goal.returns-clause-handed
+returns-clause-handed g c = grind (arith, common_steps) steps 100000
+
+pub returns-clause-unfit : goal.returns-clause-unfit
+returns-clause-unfit g c = grind (arith, common_steps) steps 100000
+
+pub returns-clause-none : goal.returns-clause-none
+returns-clause-none g c = grind (arith, common_steps) steps 100000
+
+pub new-requires-clause-some : goal.new-requires-clause-some
+new-requires-clause-some g c = grind (arith, common_steps) steps 100000
+
+pub new-requires-clause-within : goal.new-requires-clause-within
+new-requires-clause-within g c = grind (arith, common_steps) steps 100000
+
+pub survey_in-requires-clause-sized : goal.survey_in-requires-clause-sized
+survey_in-requires-clause-sized g c = grind (arith, common_steps) steps 100000
+
+pub survey_in-requires-clause-each : goal.survey_in-requires-clause-each
+survey_in-requires-clause-each g c = grind (arith, common_steps) steps 100000

@@ -1,0 +1,97 @@
+-- A window that goes along a file, and the bytes that were read ahead of it.
+use Rattle.std.specs.Prelude.{◌≡◌, ℕ, ◌+◌, ◌<◌, ◌≤◌, ◌^◌, Bool, List, length, take, slice_index, Option, None, Some, IfSome, IsTrue}
+use Rattle.parfield.specs.Md5.{md5}
+use Rattle.parshelf.specs.Shelf.{ShelfState, file_of}
+use Rattle.parwindow.specs.Crc32.{crc_of}
+use Rattle.parwindow.specs.Index.{SliceSet, has_crc_in}
+use Rattle.parwindow.specs.Window.{WindowState, window_at}
+use Rattle.parfield.specs.declared.hash16.Hash16.{Hash16}
+use Rattle.parfind.specs.declared.tracks.track.Track.{Track}
+use Rattle.parfind.specs.Fetched.{Place}
+
+-- these are the bytes of a file from an offset on, with zeros past its end
+pub record HasBytes (file : List ℕ) (offset : ℕ) (bytes : List ℕ) : Type 0 where
+  pub each : (i : ℕ) → i < length bytes → slice_index bytes i ≡ slice_index file (offset + i)
+
+-- the offset of the byte that the window takes next
+abbrev pub next_offset : WindowState → Track → ℕ
+next_offset w t = t.held + length w.content
+
+-- the place up to which files were read
+abbrev pub fetched_of : Track → Place
+fetched_of t = record { file = t.file; offset = t.base + t.end }
+
+-- a digest that is remembered is that of the full window
+abbrev pub Remembers : WindowState → Track → Type 0
+Remembers w t = IfSome t.digest (λ d. (length w.content ≡ w.capacity) × (d.0 ≡ md5 w.content))
+
+-- the window goes along a file of this length, and its next byte was read, or is the next to be
+-- read; on a steady shelf the bytes are the file's
+pub record Follows
+    (size : ℕ) (steady : Bool) (file : List ℕ) (w : WindowState) (t : Track) : Type 0 where
+  pub within : length w.content ≤ w.capacity
+  pub few : w.capacity ≤ 268435456
+  pub end_fits : t.end ≤ 4096
+  pub small : t.base + t.end < 2 ^ 64
+  pub behind : t.base ≤ t.held + length w.content
+  pub reached : t.held + length w.content < size → t.held + length w.content ≤ t.base + t.end
+  pub remembers : Remembers w t
+  pub content : IsTrue steady → HasBytes file t.held w.content
+  pub ahead : IsTrue steady → HasBytes file t.base (take t.end t.bytes)
+
+-- the window goes along a file of a shelf
+abbrev pub IsTied : ShelfState → WindowState → Track → Type 0
+IsTied s w t = Follows (slice_index s.lengths t.file) s.is_steady (file_of s t.file) w t
+
+-- 1 where a digest is remembered
+abbrev pub remembered : Option Hash16 → ℕ
+remembered None = 0
+remembered (Some digest) = 1
+
+-- nothing is read yet of the window of an offset
+pub record IsUnread (file offset : ℕ) (t : Track) : Type 0 where
+  pub file_is : t.file ≡ file
+  pub held_is : t.held ≡ offset
+  pub digest_is : t.digest ≡ None
+  pub base_is : t.base ≡ offset
+  pub end_is : t.end ≡ 0
+
+-- the window stands where it stood
+pub record SameTrack (a b : Track) : Type 0 where
+  pub file_is : b.file ≡ a.file
+  pub held_is : b.held ≡ a.held
+  pub digest_is : b.digest ≡ a.digest
+
+-- what was read last now begins where it ended before
+pub record IsReadOn (a b : Track) : Type 0 where
+  pub same : SameTrack a b
+  pub base_is : b.base ≡ a.base + a.end
+  pub end_fits : b.end ≤ 4096
+  pub small : b.base + b.end < 2 ^ 64
+
+-- of a file of this length whose bytes were read ahead, the piece has the bytes that the window
+-- takes next
+abbrev pub IsPieceOf : WindowState → Track → ℕ → List ℕ → Type 0
+IsPieceOf w t size piece =
+    (file : List ℕ) → length file ≡ size → HasBytes file t.base (take t.end t.bytes)
+    → HasBytes file (t.held + length w.content) piece
+
+-- the window and what was read stay, but that a digest may be taken
+pub record Looks (v : WindowState) (a : Track) (w : WindowState) (b : Track) : Type 0 where
+  pub window_is : w ≡ record v { digests = w.digests }
+  pub track_is : b ≡ record a { digest = b.digest }
+  pub counted : w.digests + remembered a.digest ≡ v.digests + remembered b.digest
+  pub kept : remembered a.digest ≤ remembered b.digest
+
+-- so many bytes on, before that, no window has the CRC-32 of a slice
+abbrev pub HasNoCrc : SliceSet → List ℕ → ℕ → ℕ → Type 0
+HasNoCrc set file offset n =
+    (k : ℕ) → 0 < k → k < n
+    → ¬ IsTrue (has_crc_in set (crc_of (window_at set.slice_size file (offset + k))))
+
+-- what a call that passes n places does: the window stands so many bytes on
+pub record Passes (size : ℕ) (a b : Track) (most n : ℕ) : Type 0 where
+  pub some : 0 < n
+  pub within : n ≤ most
+  pub inside : a.held + n ≤ size
+  pub held_is : b.held ≡ a.held + n

@@ -1,0 +1,11 @@
+//! Where a search stands, what it sees, and the text of a cursor.
+
+mod cursor;
+mod cursor_text;
+mod laws;
+mod sighting;
+
+pub use crate::cursors::cursor::Cursor;
+pub use crate::cursors::cursor_text::{CursorFault, read_cursor, split_cursor};
+pub use crate::cursors::laws::{cursor_order_law, cursor_text_law};
+pub use crate::cursors::sighting::Sighting;

@@ -1,0 +1,19 @@
+ghost use Rattle.std.specs.Prelude.{◌≡◌};
+ghost use Rattle.std.specs.Ordering.{is_lt, is_gt};
+ghost use Rattle.parfind.specs.Order.{is_before};
+ghost use Rattle.parfind.specs.CursorText.{ReadsItsText, HasOnePair};
+
+use crate::cursors::cursor::Cursor;
+
+/// The order of cursors is that of searches: by file, then by offset, then by slice. Does nothing.
+pub fn cursor_order_law()
+    ensures less { (a b : Cursor) → is_lt (⟦<Cursor as Ord>⟧.cmp a b) ≡ is_before a b }
+    ensures greater { (a b : Cursor) → is_gt (⟦<Cursor as Ord>⟧.cmp a b) ≡ is_before b a }
+{}
+
+/// The law of cursor texts: a text is read as one pair, and exactly as it was written. Does
+/// nothing.
+pub fn cursor_text_law()
+    ensures read { ReadsItsText }
+    ensures one { HasOnePair }
+{}

@@ -1,0 +1,100 @@
+ghost use Rattle.std.specs.Prelude.{◌≡◌, ◌+◌, ◌<◌, ◌≤◌, ◌++◌, ◌∷◌, [], All, Contains, IsTrue, IfOk, IfErr, vec_len, vec_capacity};
+ghost use Rattle.parfind.specs.Order.{is_from};
+ghost use Rattle.parfind.specs.Marks.{marks};
+ghost use Rattle.parfind.specs.Reach.{HandsWithin};
+ghost use Rattle.parfind.specs.Steps.{scan_of};
+ghost use Rattle.parfind.specs.Runs.{HasBudget, CallsGive, AnswersEach, search_at};
+ghost use Rattle.parfind.specs.Told.{TellsOf};
+ghost use Rattle.parfind.specs.declared.drives.calls.Call.TheVariants.{Reopen};
+
+use crate::drives::calls::{Answer, Call, Drive};
+use crate::{Cursor, Finder};
+use parfield::{Sequence, Tally};
+use parshelf::Shelf;
+use parwindow::Index;
+use std::alloc::{AllocError, Global};
+
+/// Makes the calls in order, from a cursor on. Memory for all answers and for the first finder is
+/// taken before any read; where another finder is refused, no further call is made.
+pub fn drive<H: Shelf>(
+    alloc: Global,
+    calls: &[Call],
+    index: &Index,
+    shelf: &mut H,
+    start: Cursor,
+) -> Result<Drive, AllocError>
+    requires { All HasBudget calls.now }
+
+    // The answers, the cursor and the shelf, where it is steady.
+    ensures answer { IsTrue (H.state shelf.old).is_steady → IfOk result (λ drive.
+        CallsGive index.now (H.state shelf.old) start calls.now drive.answers
+        (H.state shelf.new) drive.cursor) }
+
+    // On any shelf.
+    ensures each { IfOk result (λ drive. AnswersEach calls.now drive.answers) }
+    ensures onward { IfOk result (λ drive. IsTrue (is_from start drive.cursor)) }
+    ensures told { IfOk result (λ drive.
+        TellsOf (H.state shelf.old) (H.state shelf.new) drive.answers) }
+    ensures untouched { IfErr result (λ _. H.state shelf.new ≡ H.state shelf.old) }
+
+    // How much is read where no call reopens, on any shelf, and how many digests are taken.
+    ensures reads { ¬ Contains calls.now Reopen → IfOk result (λ drive.
+        HandsWithin index.now.slice_size
+        (search_at (H.state shelf.old) start) (search_at (H.state shelf.new) drive.cursor)) }
+    ensures digests { ¬ Contains calls.now Reopen → IsTrue (H.state shelf.old).is_steady →
+        IfOk result (λ drive. drive.digests.count
+        ≤ marks (scan_of index.now (H.state shelf.old)) start drive.cursor) }
+{
+    let mut answers = Vec::with_capacity(alloc, calls.len())?;
+    let mut finder = Finder::open(alloc, index, shelf, start)?;
+    for call in calls {
+        let answer = match *call {
+            Call::Step(budget) => Answer::Step(finder.step(index, shelf, budget)),
+            Call::Next => Answer::Step(finder.next(index, shelf)),
+            Call::Reopen => {
+                let at = finder.cursor();
+                let digests = finder.into_digests();
+                match Finder::open(alloc, index, shelf, at) {
+                    Ok(next) => {
+                        finder = next;
+                        Answer::Reopened
+                    }
+                    Err(_) => {
+                        put(&mut answers, Answer::NoMemory);
+                        return Ok(drive_of(answers, at, digests));
+                    }
+                }
+            }
+        };
+        put(&mut answers, answer);
+    }
+    let at = finder.cursor();
+    Ok(drive_of(answers, at, finder.into_digests()))
+}
+
+// Appends an answer, for which there is room.
+fn put(answers: &mut Vec<Answer>, answer: Answer)
+    requires { vec_len answers.old < vec_capacity answers.old }
+    ensures items { answers.new.items ≡ answers.old.items ++ answer ∷ [] }
+    ensures len { vec_len answers.new ≡ vec_len answers.old + 1 }
+    ensures capacity { vec_capacity answers.old ≤ vec_capacity answers.new }
+{
+    match answers.push(answer) {
+        Ok(()) => {}
+        Err(_) => unreachable!(),
+    }
+}
+
+// What calls came to that gave these answers, left the search at a cursor, and after whose last
+// opening so many digests were taken.
+fn drive_of(answers: Vec<Answer>, cursor: Cursor, digests: Tally) -> Drive
+    ensures answers { result.answers ≡ answers.items }
+    ensures cursor { result.cursor ≡ cursor }
+    ensures digests { result.digests.count ≡ digests.count }
+{
+    Drive {
+        answers: Sequence::from_vec(answers),
+        cursor,
+        digests,
+    }
+}

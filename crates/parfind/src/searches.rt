@@ -1,0 +1,9 @@
+//! The search, sighting by sighting: `places` names the place that comes next, `finder` is the search,
+//! and `laws` add up what its calls promise.
+
+mod finder;
+mod laws;
+mod places;
+
+pub use crate::searches::finder::{Finder, Step};
+pub use crate::searches::laws::{reach_law, sighting_laws, step_law};

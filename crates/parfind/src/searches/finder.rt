@@ -1,0 +1,386 @@
+ghost use Rattle.std.specs.Prelude.{◌≡◌, ◌≢◌, ◌-◌, ◌<◌, ◌≤◌, None, Some, Ok, length, option_map, IsTrue, OnOk, IfOk, IfErr};
+ghost use Rattle.parshelf.specs.Reads.{ReadsOnly, FaultsIn};
+ghost use Rattle.parfind.specs.Fetched.{ReadsUpTo};
+ghost use Rattle.parfind.specs.Finders.{BelongsTo, search_of, StandsAt};
+ghost use Rattle.parfind.specs.declared.searches.finder.Step.TheVariants.{Spent};
+ghost use Rattle.parfind.specs.Looking.{HasFit, IsAtPlace, IsNextPlace};
+ghost use Rattle.parfind.specs.Marks.{marks};
+ghost use Rattle.parfind.specs.Moves.{StepMoves, PassesAll, IsWithin, Advances, steps_left};
+ghost use Rattle.parfind.specs.Places.{place_at};
+ghost use Rattle.parfind.specs.Reach.{CallReads};
+ghost use Rattle.parfind.specs.Steps.{StepGives, scan_of};
+ghost use Rattle.parfind.specs.Visits.{StepSees, step_of, count_of};
+
+use crate::cursors::{Cursor, Sighting};
+use crate::searches::places::{next_place, rest_of};
+use crate::tracks::Track;
+use parfield::Tally;
+use parshelf::{ReadFault, Shelf};
+use parwindow::{Index, Window};
+use std::alloc::{AllocError, Global};
+use std::marker::Model;
+
+/// What a step of a search gives.
+#[derive(Clone, Copy, Debug, PartialEq, Eq)]
+pub enum Step {
+    /// The next sighting.
+    Hit(Sighting),
+    /// As many places as the step may look at were passed, with no sighting from the cursor on at
+    /// any of them.
+    Spent,
+    /// There is no further sighting.
+    Done,
+}
+
+/// A search that stands at a cursor, in one pass over each file.
+#[derive(Drop)]
+pub struct Finder {
+    opening: Cursor,
+    cursor: Cursor,
+    window: Window,
+    track: Track,
+}
+
+impl Model for Finder {
+    ghost use Rattle.parfind.specs.Finders.{FinderState};
+    ghost use Rattle.parfind.specs.Tracks.{fetched_of};
+
+    ghost Value = { FinderState };
+
+    ghost view = { λ f. record {
+      cursor = f.cursor;
+      opening = f.opening;
+      fetched = fetched_of f.track;
+      digests = f.window.digests;
+      window = f.window;
+      track = f.track;
+    } };
+}
+
+impl Finder {
+    /// A search from a cursor on. It takes all memory that it needs, and reads nothing yet.
+    pub fn open<H: Shelf>(
+        alloc: Global,
+        index: &Index,
+        shelf: &H,
+        at: Cursor,
+    ) -> Result<Finder, AllocError>
+        ensures cursor { IfOk result (λ finder. finder.cursor ≡ at) }
+        ensures opening { IfOk result (λ finder. finder.opening ≡ at) }
+        ensures fetched { IfOk result (λ finder. finder.fetched ≡ place_at at) }
+        ensures digests { IfOk result (λ finder. finder.digests ≡ 0) }
+        ensures belongs { IfOk result (λ finder. BelongsTo finder index.now (H.state shelf.now)) }
+    {
+        // Only the contract speaks of it.
+        let _ = shelf;
+        let window = Window::new(alloc, index.size() as usize)?;
+        Ok(Finder {
+            opening: at,
+            cursor: at,
+            window,
+            track: Track::new(at.file, at.offset),
+        })
+    }
+
+    /// Where the search stands.
+    pub fn cursor(&self) -> Cursor
+        ensures { result ≡ self.now.cursor }
+    {
+        self.cursor
+    }
+
+    /// How many digests were taken, as only contracts see it. The search is given up.
+    pub fn into_digests(self) -> Tally
+        ensures { result.count ≡ self.digests }
+    {
+        self.window.into_digests()
+    }
+
+    /// The next sighting, or `Done`.
+    pub fn next<H: Shelf>(&mut self, index: &Index, shelf: &mut H) -> Result<Step, ReadFault>
+        requires { BelongsTo self.old index.now (H.state shelf.old) }
+        ensures belongs { BelongsTo self.new index.now (H.state shelf.new) }
+
+        // The answer, the cursor and the shelf, where it is steady.
+        ensures answer { IsTrue (H.state shelf.old).is_steady →
+            StepGives index.now (H.state shelf.old) (H.state shelf.new) None
+            self.old.cursor result self.new.cursor }
+
+        // On any shelf: where the search goes, that it comes nearer to its end, what was counted.
+        ensures moves { StepMoves (H.state shelf.old).lengths None
+            self.old.cursor result self.new.cursor }
+        ensures advances { IfOk result (λ step.
+            Advances index.now (H.state shelf.old).lengths None
+            self.old.cursor step self.new.cursor) }
+        ensures ok { OnOk result (ReadsOnly (H.state shelf.old) (H.state shelf.new)) }
+        ensures fault { IfErr result
+            (FaultsIn (H.state shelf.old) (H.state shelf.new) self.new.cursor.file) }
+
+        // How much is read, on any shelf.
+        ensures reads { CallReads index.now.slice_size
+            (search_of (H.state shelf.old) self.old) (search_of (H.state shelf.new) self.new) }
+        ensures digests { IsTrue (H.state shelf.new).is_steady → self.new.digests
+            ≤ marks (scan_of index.now (H.state shelf.new)) self.new.opening self.new.cursor }
+        ensures opening { self.new.opening ≡ self.old.opening }
+        ensures no_fewer { self.old.digests ≤ self.new.digests }
+    {
+        self.advance(index, shelf, None)
+    }
+
+    /// The next sighting, if it is at one of the first `budget` places; `Done`, where fewer places
+    /// are ahead and there is none; else `Spent`.
+    pub fn step<H: Shelf>(
+        &mut self,
+        index: &Index,
+        shelf: &mut H,
+        budget: u64,
+    ) -> Result<Step, ReadFault>
+        requires budget { 0 < budget }
+        requires belongs { BelongsTo self.old index.now (H.state shelf.old) }
+        ensures belongs { BelongsTo self.new index.now (H.state shelf.new) }
+
+        // The answer, the cursor and the shelf, where it is steady.
+        ensures answer { IsTrue (H.state shelf.old).is_steady →
+            StepGives index.now (H.state shelf.old) (H.state shelf.new) (Some budget)
+            self.old.cursor result self.new.cursor }
+
+        // On any shelf: where the search goes, that it comes nearer to its end, what was counted.
+        ensures moves { StepMoves (H.state shelf.old).lengths (Some budget)
+            self.old.cursor result self.new.cursor }
+        ensures advances { IfOk result (λ step.
+            Advances index.now (H.state shelf.old).lengths (Some budget)
+            self.old.cursor step self.new.cursor) }
+        ensures ok { OnOk result (ReadsOnly (H.state shelf.old) (H.state shelf.new)) }
+        ensures fault { IfErr result
+            (FaultsIn (H.state shelf.old) (H.state shelf.new) self.new.cursor.file) }
+
+        // How much is read, on any shelf.
+        ensures reads { CallReads index.now.slice_size
+            (search_of (H.state shelf.old) self.old) (search_of (H.state shelf.new) self.new) }
+        ensures digests { IsTrue (H.state shelf.new).is_steady → self.new.digests
+            ≤ marks (scan_of index.now (H.state shelf.new)) self.new.opening self.new.cursor }
+        ensures opening { self.new.opening ≡ self.old.opening }
+        ensures no_fewer { self.old.digests ≤ self.new.digests }
+    {
+        self.advance(index, shelf, Some(budget))
+    }
+
+    // A step with a budget of places, or with none.
+    fn advance<H: Shelf>(
+        &mut self,
+        index: &Index,
+        shelf: &mut H,
+        budget: Option<u64>,
+    ) -> Result<Step, ReadFault>
+        requires budget { budget ≢ Some 0 }
+        requires belongs { BelongsTo self.old index.now (H.state shelf.old) }
+        ensures belongs { BelongsTo self.new index.now (H.state shelf.new) }
+
+        ensures answer { IsTrue (H.state shelf.old).is_steady →
+            StepGives index.now (H.state shelf.old) (H.state shelf.new) budget
+            self.old.cursor result self.new.cursor }
+        ensures moves { StepMoves (H.state shelf.old).lengths budget
+            self.old.cursor result self.new.cursor }
+        ensures advances { IfOk result (λ step.
+            Advances index.now (H.state shelf.old).lengths budget
+            self.old.cursor step self.new.cursor) }
+
+        ensures ok { OnOk result (ReadsOnly (H.state shelf.old) (H.state shelf.new)) }
+        ensures fault { IfErr result
+            (FaultsIn (H.state shelf.old) (H.state shelf.new) self.new.cursor.file) }
+
+        ensures reads { ReadsUpTo (H.state shelf.old) (H.state shelf.new)
+            self.old.fetched self.new.fetched }
+        ensures opening { self.new.opening ≡ self.old.opening }
+        ensures no_fewer { self.old.digests ≤ self.new.digests }
+    {
+        let mut left = budget;
+        loop {
+            let (step, count) = self.visit(index, shelf, left)?;
+            match step {
+                Step::Spent => {
+                    left = fewer(left, count);
+                    if left == Some(0) {
+                        return Ok(Step::Spent);
+                    }
+                }
+                other => return Ok(other),
+            }
+        }
+    }
+
+    // A step with a budget that it names, which is within the one that is left: the first place
+    // from the cursor on, and those behind it where the window's CRC-32 is no slice's, or all that
+    // are left of a file into which no slice fits any more.
+    fn visit<H: Shelf>(
+        &mut self,
+        index: &Index,
+        shelf: &mut H,
+        left: Option<u64>,
+    ) -> Result<(Step, u64), ReadFault>
+        requires left { left ≢ Some 0 }
+        requires belongs { BelongsTo self.old index.now (H.state shelf.old) }
+        ensures belongs { BelongsTo self.new index.now (H.state shelf.new) }
+
+        ensures sees { IsTrue (H.state shelf.old).is_steady →
+            StepSees (scan_of index.now (H.state shelf.old))
+            self.old.cursor (step_of result) self.new.cursor }
+        ensures moves { StepMoves (H.state shelf.old).lengths (Some (count_of result))
+            self.old.cursor (step_of result) self.new.cursor }
+        ensures advances { IfOk result (λ step.
+            Advances index.now (H.state shelf.old).lengths (Some 1)
+            self.old.cursor step.0 self.new.cursor) }
+        ensures within { IfOk result (λ step. (0 < step.1) × IsWithin step.1 left) }
+
+        ensures ok { OnOk result (ReadsOnly (H.state shelf.old) (H.state shelf.new)) }
+        ensures fault { IfErr result
+            (FaultsIn (H.state shelf.old) (H.state shelf.new) self.new.cursor.file) }
+        ensures reads { ReadsUpTo (H.state shelf.old) (H.state shelf.new)
+            self.old.fetched self.new.fetched }
+        ensures opening { self.new.opening ≡ self.old.opening }
+        ensures no_fewer { self.old.digests ≤ self.new.digests }
+    {
+        let Some(at) = next_place(shelf, self.cursor) else {
+            if self.cursor.file < shelf.count() {
+                self.cursor = Cursor {
+                    file: shelf.count(),
+                    offset: 0,
+                    slice: 0,
+                };
+            }
+            return Ok((Step::Done, 1));
+        };
+        if !index.fits(rest_of(shelf, at)) {
+            return Ok((Step::Spent, self.skip(index, shelf, at, left)));
+        }
+        self.arrive(index, shelf, at)?;
+        self.look(index, shelf, left)
+    }
+
+    // Passes the places that are left of a file into which no slice fits any more, as many as the
+    // budget has. The window stays.
+    fn skip<H: Shelf>(&mut self, index: &Index, shelf: &H, at: Cursor, left: Option<u64>) -> u64
+        requires left { left ≢ Some 0 }
+        requires next { IsNextPlace (H.state shelf.now).lengths self.old.cursor at }
+        requires none { ¬ HasFit index.now (H.state shelf.now).lengths at }
+        requires belongs { BelongsTo self.old index.now (H.state shelf.now) }
+        ensures belongs { BelongsTo self.new index.now (H.state shelf.now) }
+
+        ensures sees { IsTrue (H.state shelf.now).is_steady →
+            StepSees (scan_of index.now (H.state shelf.now))
+            self.old.cursor (Ok Spent) self.new.cursor }
+        ensures passes { PassesAll (H.state shelf.now).lengths result
+            self.old.cursor self.new.cursor }
+        ensures advances { steps_left index.now (H.state shelf.now).lengths self.new.cursor
+            < steps_left index.now (H.state shelf.now).lengths self.old.cursor }
+        ensures within { IsWithin result left }
+        ensures stays { self.new ≡ record self.old { cursor = self.new.cursor } }
+    {
+        // Only the contract speaks of it.
+        let _ = index;
+        let count = rest_of(shelf, at).min(left.unwrap_or(u64::MAX));
+        self.cursor = Cursor {
+            file: at.file,
+            offset: at.offset + count,
+            slice: 0,
+        };
+        count
+    }
+
+    // Goes to the next place, and brings the window there.
+    fn arrive<H: Shelf>(
+        &mut self,
+        index: &Index,
+        shelf: &mut H,
+        at: Cursor,
+    ) -> Result<(), ReadFault>
+        requires next { IsNextPlace (H.state shelf.old).lengths self.old.cursor at }
+        requires fits { HasFit index.now (H.state shelf.old).lengths at }
+        requires belongs { BelongsTo self.old index.now (H.state shelf.old) }
+        ensures belongs { BelongsTo self.new index.now (H.state shelf.new) }
+        ensures cursor { self.new.cursor ≡ at }
+        ensures stands { StandsAt self.new.track at }
+        ensures full { OnOk result (length self.new.window.content ≡ self.new.window.capacity) }
+
+        ensures ok { OnOk result (ReadsOnly (H.state shelf.old) (H.state shelf.new)) }
+        ensures fault { IfErr result (FaultsIn (H.state shelf.old) (H.state shelf.new) at.file) }
+        ensures reads { ReadsUpTo (H.state shelf.old) (H.state shelf.new)
+            self.old.fetched self.new.fetched }
+        ensures opening { self.new.opening ≡ self.old.opening }
+        ensures no_fewer { self.old.digests ≤ self.new.digests }
+    {
+        // Only the contract speaks of it.
+        let _ = index;
+        self.cursor = at;
+        self.track.enter(&mut self.window, at.file, at.offset);
+        self.track.fill(&mut self.window, shelf)
+    }
+
+    // What `visit` gives at the place where the search stands, whose window is there.
+    fn look<H: Shelf>(
+        &mut self,
+        index: &Index,
+        shelf: &mut H,
+        left: Option<u64>,
+    ) -> Result<(Step, u64), ReadFault>
+        requires left { left ≢ Some 0 }
+        requires file { self.old.cursor.file < length (H.state shelf.old).lengths }
+        requires there { IsAtPlace (H.state shelf.old).lengths self.old.cursor }
+        requires stands { StandsAt self.old.track self.old.cursor }
+        requires full { length self.old.window.content ≡ self.old.window.capacity }
+        requires belongs { BelongsTo self.old index.now (H.state shelf.old) }
+        ensures belongs { BelongsTo self.new index.now (H.state shelf.new) }
+
+        ensures sees { IsTrue (H.state shelf.old).is_steady →
+            StepSees (scan_of index.now (H.state shelf.old))
+            self.old.cursor (step_of result) self.new.cursor }
+        ensures moves { StepMoves (H.state shelf.old).lengths (Some (count_of result))
+            self.old.cursor (step_of result) self.new.cursor }
+        ensures advances { IfOk result (λ step.
+            Advances index.now (H.state shelf.old).lengths (Some 1)
+            self.old.cursor step.0 self.new.cursor) }
+        ensures within { IfOk result (λ step. (0 < step.1) × IsWithin step.1 left) }
+
+        ensures ok { OnOk result (ReadsOnly (H.state shelf.old) (H.state shelf.new)) }
+        ensures fault { IfErr result
+            (FaultsIn (H.state shelf.old) (H.state shelf.new) self.new.cursor.file) }
+        ensures reads { ReadsUpTo (H.state shelf.old) (H.state shelf.new)
+            self.old.fetched self.new.fetched }
+        ensures opening { self.new.opening ≡ self.old.opening }
+        ensures no_fewer { self.old.digests ≤ self.new.digests }
+    {
+        let at = self.cursor;
+        let rest = rest_of(shelf, at);
+        if let Some(slice) = self
+            .track
+            .first_seen(&mut self.window, index, rest, at.slice)
+        {
+            self.cursor.slice = slice + 1;
+            let sighting = Sighting {
+                file: at.file,
+                offset: at.offset,
+                slice,
+            };
+            return Ok((Step::Hit(sighting), 1));
+        }
+        let most = left.unwrap_or(u64::MAX);
+        let count = self.track.pass(&mut self.window, index, shelf, most)?;
+        self.cursor = Cursor {
+            file: at.file,
+            offset: at.offset + count,
+            slice: 0,
+        };
+        Ok((Step::Spent, count))
+    }
+}
+
+// What is left of a budget after so many more places.
+fn fewer(budget: Option<u64>, count: u64) -> Option<u64>
+    requires { IsWithin count budget }
+    ensures { result ≡ option_map (λ places. places - count) budget }
+{
+    match budget {
+        None => None,
+        Some(places) => Some(places - count),
+    }
+}

@@ -1,0 +1,33 @@
+ghost use Rattle.std.specs.Prelude.{◌≡◌, ◌<◌, length, IfSome, IfNone};
+ghost use Rattle.parfind.specs.Looking.{IsAtPlace, IsNextPlace, NoPlaceFrom, rest_of};
+
+use crate::cursors::Cursor;
+use parshelf::Shelf;
+
+/// The first place from a cursor on. Where the cursor stands at a place, it keeps its slice.
+pub fn next_place<H: Shelf>(shelf: &H, from: Cursor) -> Option<Cursor>
+    ensures found { IfSome result (IsNextPlace (H.state shelf.now).lengths from) }
+    ensures none { IfNone result (NoPlaceFrom (H.state shelf.now).lengths from) }
+{
+    let mut at = from;
+    while at.file < shelf.count() {
+        if at.offset < shelf.length(at.file) {
+            return Some(at);
+        }
+        at = Cursor {
+            file: at.file + 1,
+            offset: 0,
+            slice: 0,
+        };
+    }
+    None
+}
+
+/// How many bytes of its file are ahead of a place.
+pub fn rest_of<H: Shelf>(shelf: &H, at: Cursor) -> u64
+    requires counted { at.file < length (H.state shelf.now).lengths }
+    requires there { IsAtPlace (H.state shelf.now).lengths at }
+    ensures { result ≡ rest_of (H.state shelf.now).lengths at }
+{
+    shelf.length(at.file) - at.offset
+}

@@ -1,0 +1,16 @@
+//! The way of a window along a scanned file, with the bytes read ahead of it, and which slice its
+//! content is.
+//!
+//! From below: `track` is where a window goes along a file, with what was read ahead of it, `ahead`
+//! reads that, and `sliding` brings the window from place to place over it. `looking` tells which
+//! slice is seen in a full window.
+//!
+//! The window and the shelf are lent to each call. No call takes memory.
+
+mod ahead;
+mod looking;
+mod sliding;
+mod track;
+
+pub(crate) use crate::tracks::looking::first_fit;
+pub(crate) use crate::tracks::track::{AHEAD, Track};

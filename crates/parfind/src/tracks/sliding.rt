@@ -1,0 +1,98 @@
+ghost use Rattle.std.specs.Prelude.{◌≡◌, ◌≢◌, ◌+◌, ◌<◌, ◌≤◌, ◌++◌, [], length, slice_index, IsTrue, OnOk, IfOk, IfErr};
+ghost use Rattle.parshelf.specs.Shelf.{file_of};
+ghost use Rattle.parshelf.specs.Reads.{ReadsOnly, FaultsIn};
+ghost use Rattle.parfind.specs.Tracks.{IsTied, IsUnread, SameTrack, HasNoCrc, Passes, fetched_of};
+ghost use Rattle.parfind.specs.Fetched.{ReadsUpTo};
+
+use crate::tracks::track::Track;
+use parshelf::{ReadFault, Shelf};
+use parwindow::{Index, Window};
+
+impl Track {
+    /// Goes to an offset of another file, with an empty window. In the same file nothing changes.
+    pub fn enter(&mut self, window: &mut Window, file: u32, offset: u64)
+        ensures same { self.old.file ≡ file → (self.new ≡ self.old) × (window.new ≡ window.old) }
+        ensures other { self.old.file ≢ file → IsUnread file offset self.new
+            × (window.new ≡ record window.old { content = [] }) }
+    {
+        if self.file != file {
+            window.clear();
+            *self = Track::new(file, offset);
+        }
+    }
+
+    /// Fills the window from its file, and with zeros past the file's end.
+    pub fn fill<H: Shelf>(&mut self, window: &mut Window, shelf: &mut H) -> Result<(), ReadFault>
+        requires file { self.old.file < length (H.state shelf.old).lengths }
+        requires inside { self.old.held < slice_index (H.state shelf.old).lengths self.old.file }
+        requires tied { IsTied (H.state shelf.old) window.old self.old }
+        ensures tied { IsTied (H.state shelf.new) window.new self.new }
+        ensures full { OnOk result (length window.new.content ≡ window.new.capacity) }
+        ensures same { SameTrack self.old self.new }
+        ensures window { window.new ≡ record window.old { content = window.new.content } }
+
+        ensures reads { ReadsUpTo (H.state shelf.old) (H.state shelf.new)
+            (fetched_of self.old) (fetched_of self.new) }
+        ensures ok { OnOk result (ReadsOnly (H.state shelf.old) (H.state shelf.new)) }
+        ensures fault { IfErr result
+            (FaultsIn (H.state shelf.old) (H.state shelf.new) self.old.file) }
+    {
+        while !window.is_full() {
+            self.ready(window, shelf)?;
+            let room = (window.size() - window.len()) as u64;
+            append(window, self.piece(window, shelf.length(self.file), room));
+        }
+        Ok(())
+    }
+
+    /// Passes the place of a full window, and those behind it up to the first whose CRC-32 is that
+    /// of a slice; at most so many, and only of this file. The answer is how many.
+    pub fn pass<H: Shelf>(
+        &mut self,
+        window: &mut Window,
+        index: &Index,
+        shelf: &mut H,
+        most: u64,
+    ) -> Result<u64, ReadFault>
+        requires some { 0 < most }
+        requires file { self.old.file < length (H.state shelf.old).lengths }
+        requires inside { self.old.held < slice_index (H.state shelf.old).lengths self.old.file }
+        requires sized { window.old.capacity ≡ index.now.slice_size }
+        requires full { length window.old.content ≡ window.old.capacity }
+        requires tied { IsTied (H.state shelf.old) window.old self.old }
+        ensures tied { IsTied (H.state shelf.new) window.new self.new }
+        ensures window { window.new ≡ record window.old { content = window.new.content } }
+
+        ensures passes { IfOk result (Passes
+            (slice_index (H.state shelf.old).lengths self.old.file) self.old self.new most) }
+        ensures none { IsTrue (H.state shelf.old).is_steady → IfOk result
+            (HasNoCrc index.now (file_of (H.state shelf.old) self.old.file) self.old.held) }
+        ensures stays { IfErr result (λ _.
+            SameTrack self.old self.new × (window.new ≡ window.old)) }
+        ensures same { self.new.file ≡ self.old.file }
+
+        ensures reads { ReadsUpTo (H.state shelf.old) (H.state shelf.new)
+            (fetched_of self.old) (fetched_of self.new) }
+        ensures ok { OnOk result (ReadsOnly (H.state shelf.old) (H.state shelf.new)) }
+        ensures fault { IfErr result
+            (FaultsIn (H.state shelf.old) (H.state shelf.new) self.old.file) }
+    {
+        self.ready(window, shelf)?;
+        let file_end = shelf.length(self.file);
+        let piece = self.piece(window, file_end, most.min(file_end - self.held));
+        let count = window.push_until(index, piece) as u64;
+        self.held += count;
+        self.digest = None;
+        Ok(count)
+    }
+}
+
+// Appends bytes to a window that has room for them.
+fn append(window: &mut Window, bytes: &[u8])
+    requires { length window.old.content + length bytes.now ≤ window.old.capacity }
+    ensures { window.new ≡ record window.old { content = window.old.content ++ bytes.now } }
+{
+    for &byte in bytes {
+        let _ = window.push(byte);
+    }
+}

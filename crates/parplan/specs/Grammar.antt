@@ -1,0 +1,41 @@
+-- The four command lines, as commands of `clap`.
+use Rattle.std.specs.Prelude.{codes, Some, true}
+use Rattle.clap.specs.Simple.{App, new_app, new_rule, on_top, with_rule}
+use Rattle.clap.specs.Walk.{Rule, Text}
+use Rattle.clap.specs.declared.builder.action.ArgAction.TheVariants.{Set, Append, Count}
+use Rattle.parplan.specs.declared.words.grammar.Verb.{Verb}
+use Rattle.parplan.specs.declared.words.grammar.Verb.TheVariants as verb
+
+-- an option `--name` with a value
+abbrev pub option_rule : Text → Rule
+option_rule name = record (new_rule name) { long = Some name; action = Some Set }
+
+-- `-B DIR` or `--base DIR` (66 is `B`)
+abbrev pub base_rule : Rule
+base_rule = record (option_rule (codes "base")) { short = Some 66 }
+
+-- FILES, one or more
+abbrev pub files_rule : Rule
+files_rule = record (new_rule (codes "files")) { required = true; action = Some Append }
+
+-- `-q`, which may be repeated (113 is `q`)
+abbrev pub quiet_rule : Rule
+quiet_rule = record (new_rule (codes "quiet")) { short = Some 113; action = Some Count }
+
+-- a command line without arguments, which knows no `--help`
+abbrev pub empty_grammar : App
+empty_grammar = on_top (λ s. record s { disable_help_flag = true }) (new_app (codes "parv"))
+
+-- what all four take
+abbrev pub shared_grammar : App
+shared_grammar =
+    with_rule (with_rule (with_rule empty_grammar (option_rule (codes "set"))) base_rule) files_rule
+
+-- the command line of a verb
+abbrev pub grammar_of : Verb → App
+grammar_of verb.Packets = shared_grammar
+grammar_of verb.Set = shared_grammar
+grammar_of verb.Find =
+    with_rule (with_rule shared_grammar (option_rule (codes "limit")))
+    (option_rule (codes "cursor"))
+grammar_of verb.Verify = with_rule shared_grammar quiet_rule

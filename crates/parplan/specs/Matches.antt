@@ -1,0 +1,34 @@
+-- What `clap` makes of the words of a command, of which the first names it and is passed over.
+use Rattle.std.specs.Prelude.{List, [], ◌∷◌, Result, Ok, Err}
+use Rattle.clap.specs.Faults.{fault_of}
+use Rattle.clap.specs.Kinds.{Kinds}
+use Rattle.clap.specs.Simple.{matches_of}
+use Rattle.clap.specs.Walk.{Row, Text}
+use Rattle.clap.specs.declared.error.kind.ErrorKind.{ErrorKind}
+use Rattle.clap.specs.declared.error.kind.ErrorKind.TheVariants.{OutOfMemory}
+use Rattle.parplan.specs.Grammar.{grammar_of}
+use Rattle.parplan.specs.declared.command.PlanFault.{PlanFault}
+use Rattle.parplan.specs.declared.command.PlanFault.TheVariants.{Memory, Usage}
+use Rattle.parplan.specs.declared.words.grammar.Verb.{Verb}
+
+-- the kinds of error that clap's definition gives the words
+unfoldable pub faults_given : Verb → List Text → Kinds
+faults_given verb words = fault_of (grammar_of verb) words
+
+-- the matches that clap's definition gives them
+unfoldable pub rows_given : Verb → List Text → List Row
+rows_given verb words = matches_of (grammar_of verb) words
+
+-- the matches, where there is no fault
+abbrev pub rows_by : Kinds → List Row → Result (List Row) PlanFault
+rows_by [] rows = Ok rows
+rows_by (fault ∷ faults) rows = Err Usage
+
+-- the matches of the words, where clap's definition takes them
+abbrev pub rows_in : Verb → List Text → Result (List Row) PlanFault
+rows_in verb words = rows_by (faults_given verb words) (rows_given verb words)
+
+-- what an error of clap comes to
+abbrev pub fault_by : ErrorKind → PlanFault
+fault_by OutOfMemory = Memory
+fault_by _ = Usage

@@ -1,0 +1,60 @@
+-- What clap's matches say of a command and of its options.
+use Rattle.std.specs.Prelude.{ℕ, ◌==◌, min, List, length, Option, Some, None, Result, Ok, Err, if◌then◌else◌, codes}
+use Rattle.clap.specs.Walk.{Row, first_of, count_of}
+use Rattle.parfield.specs.Chain.{◌>>=◌}
+use Rattle.parfield.specs.Hash16.{hash_in}
+use Rattle.parfield.specs.declared.hash16.Hash16.{Hash16}
+use Rattle.parfind.specs.declared.cursors.cursor.Cursor.{Cursor}
+use Rattle.parfind.specs.CursorText.{cursor_in}
+use Rattle.parplan.specs.Limit.{limit_in}
+use Rattle.parplan.specs.declared.command.Command.{Command}
+use Rattle.parplan.specs.declared.command.Command.TheVariants as command
+use Rattle.parplan.specs.declared.command.PlanFault.{PlanFault}
+use Rattle.parplan.specs.declared.command.PlanFault.TheVariants.{Value}
+use Rattle.parplan.specs.declared.words.grammar.Verb.{Verb}
+use Rattle.parplan.specs.declared.words.grammar.Verb.TheVariants as verb
+
+-- the value that an option's text has to have
+abbrev pub value_needed : {A : Type 0} → Option A → Result (Option A) PlanFault
+value_needed None = Err Value
+value_needed (Some value) = Ok (Some value)
+
+-- the value of an option that may be missing
+abbrev pub value_by :
+    {A : Type 0} → (List ℕ → Option A) → Option (List ℕ) → Result (Option A) PlanFault
+value_by read None = Ok None
+value_by read (Some text) = value_needed (read text)
+
+-- DIR, a text that is not empty
+abbrev pub dir_in : List ℕ → Option (List ℕ)
+dir_in text = if length text == 0 then None else Some text
+
+-- `--set HEX`
+abbrev pub set_option_of : List Row → Result (Option Hash16) PlanFault
+set_option_of rows = value_by hash_in (first_of (codes "set") rows)
+
+-- `-B DIR`
+abbrev pub base_option_of : List Row → Result (Option (List ℕ)) PlanFault
+base_option_of rows = value_by dir_in (first_of (codes "base") rows)
+
+-- `--limit N`
+abbrev pub limit_option_of : List Row → Result (Option ℕ) PlanFault
+limit_option_of rows = value_by limit_in (first_of (codes "limit") rows)
+
+-- `--cursor TEXT`
+abbrev pub cursor_option_of : List Row → Result (Option (Hash16 × Cursor)) PlanFault
+cursor_option_of rows = value_by cursor_in (first_of (codes "cursor") rows)
+
+-- how often `-q` stands, at most 2
+abbrev pub quiet_of : List Row → ℕ
+quiet_of rows = min (count_of (codes "quiet") rows) 2
+
+-- the command of a verb, with the options that it alone has
+abbrev pub command_of : Verb → List Row → Result Command PlanFault
+command_of verb.Packets rows = Ok command.Packets
+command_of verb.Set rows = Ok command.Set
+command_of verb.Find rows = do
+  limit ← limit_option_of rows
+  cursor ← cursor_option_of rows
+  Ok (command.Find limit cursor)
+command_of verb.Verify rows = Ok (command.Verify (quiet_of rows))

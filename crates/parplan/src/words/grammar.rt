@@ -1,0 +1,93 @@
+ghost use Rattle.std.specs.Prelude.{◌≡◌, IfOk, false};
+ghost use Rattle.clap.specs.Words.{app_of, rule_of, with_rule};
+ghost use Rattle.parplan.specs.Grammar.{empty_grammar, shared_grammar, grammar_of, option_rule, base_rule, files_rule, quiet_rule};
+
+use clap::{Arg, ArgAction, Command};
+use std::alloc::{AllocError, Global};
+
+/// The word that names a command.
+#[derive(Clone, Copy)]
+pub enum Verb {
+    /// `packets`.
+    Packets,
+    /// `set`.
+    Set,
+    /// `find`.
+    Find,
+    /// `verify`.
+    Verify,
+}
+
+/// The command line of a verb.
+pub fn command_line<'a>(alloc: Global, verb: Verb) -> Result<Command<'a>, AllocError>
+    ensures { IfOk result (λ command. app_of command ≡ grammar_of verb) }
+{
+    let shared = shared(alloc)?;
+    match verb {
+        Verb::Packets | Verb::Set => Ok(shared),
+        Verb::Find => {
+            let limited = with(shared, option(alloc, "limit"))?;
+            with(limited, option(alloc, "cursor"))
+        }
+        Verb::Verify => with(shared, quiet(alloc)),
+    }
+}
+
+// The command line of what all verbs take.
+fn shared<'a>(alloc: Global) -> Result<Command<'a>, AllocError>
+    ensures { IfOk result (λ command. app_of command ≡ shared_grammar) }
+{
+    let chosen = with(empty(alloc), option(alloc, "set"))?;
+    let based = with(chosen, base(alloc))?;
+    with(based, files(alloc))
+}
+
+// A command line without arguments, which knows no `--help`.
+fn empty<'a>(alloc: Global) -> Command<'a>
+    ensures { app_of result ≡ empty_grammar }
+{
+    Command::new(alloc, "parv").disable_help_flag(true)
+}
+
+// The command line with one argument more.
+fn with<'a>(command: Command<'a>, arg: Arg<'a>) -> Result<Command<'a>, AllocError>
+    requires { arg.global ≡ false }
+    ensures { IfOk result (λ longer. app_of longer
+        ≡ with_rule (app_of command.entry) (rule_of arg.entry)) }
+{
+    command.arg(arg)
+}
+
+// `--NAME VALUE`.
+fn option<'a>(alloc: Global, name: &'a str) -> Arg<'a>
+    ensures rule { rule_of result ≡ option_rule name.entry.now }
+    ensures own { result.global ≡ false }
+{
+    Arg::new(alloc, name).long(name).action(ArgAction::Set)
+}
+
+// `-B DIR`, or `--base DIR`.
+fn base<'a>(alloc: Global) -> Arg<'a>
+    ensures rule { rule_of result ≡ base_rule }
+    ensures own { result.global ≡ false }
+{
+    option(alloc, "base").short('B')
+}
+
+// FILES, one or more.
+fn files<'a>(alloc: Global) -> Arg<'a>
+    ensures rule { rule_of result ≡ files_rule }
+    ensures own { result.global ≡ false }
+{
+    Arg::new(alloc, "files")
+        .required(true)
+        .action(ArgAction::Append)
+}
+
+// `-q`, which may be repeated.
+fn quiet<'a>(alloc: Global) -> Arg<'a>
+    ensures rule { rule_of result ≡ quiet_rule }
+    ensures own { result.global ≡ false }
+{
+    Arg::new(alloc, "quiet").short('q').action(ArgAction::Count)
+}

@@ -1,0 +1,94 @@
+ghost use Rattle.std.specs.Prelude.{◌≡◌, ◌≢◌, ◌<◌, ◌≤◌, Some, IfOk, IfErr, IfSome, Ok, Err, option_map};
+ghost use Rattle.clap.specs.Words.{found_of, rows_of};
+ghost use Rattle.parplan.specs.Options.{set_option_of, base_option_of, limit_option_of, cursor_option_of, quiet_of, command_of, value_needed};
+ghost use Rattle.parplan.specs.Commands.{HasLimit};
+
+use crate::words::grammar::Verb;
+use crate::words::limit::read_limit;
+use crate::words::matches::{uses_of, value_of};
+use crate::{Command, PlanFault};
+use clap::ArgMatches;
+use parfield::Hash16;
+use parfind::{Cursor, split_cursor};
+
+/// The command of a verb, with the options that it alone has.
+pub fn command_given(verb: Verb, matches: &ArgMatches<'_>) -> Result<Command, PlanFault>
+    ensures command { result ≡ command_of verb (rows_of (found_of matches.now)) }
+    ensures limit { IfOk result HasLimit }
+{
+    match verb {
+        Verb::Packets => Ok(Command::Packets),
+        Verb::Set => Ok(Command::Set),
+        Verb::Find => {
+            let limit = limit_given(matches)?;
+            let cursor = cursor_given(matches)?;
+            Ok(Command::Find { limit, cursor })
+        }
+        Verb::Verify => Ok(Command::Verify {
+            quiet: quiet_given(matches),
+        }),
+    }
+}
+
+/// `--set HEX`.
+pub fn set_given(matches: &ArgMatches<'_>) -> Result<Option<Hash16>, PlanFault>
+    ensures { result ≡ set_option_of (rows_of (found_of matches.now)) }
+{
+    match value_of(matches, "set") {
+        None => Ok(None),
+        Some(text) => needed(Hash16::read(text.as_bytes())),
+    }
+}
+
+/// `-B DIR`, which is not empty.
+pub fn base_given<'a>(matches: &ArgMatches<'a>) -> Result<Option<&'a str>, PlanFault>
+    ensures base { IfOk result (λ base. base_option_of (rows_of (found_of matches.now))
+        ≡ Ok (option_map (λ text. text.now) base)) }
+    ensures fault { IfErr result (λ fault. base_option_of (rows_of (found_of matches.now))
+        ≡ Err fault) }
+{
+    match value_of(matches, "base") {
+        None => Ok(None),
+        Some("") => Err(PlanFault::Value),
+        Some(text) => Ok(Some(text)),
+    }
+}
+
+// `--limit N`.
+fn limit_given(matches: &ArgMatches<'_>) -> Result<Option<u64>, PlanFault>
+    ensures limit { result ≡ limit_option_of (rows_of (found_of matches.now)) }
+    ensures some { IfOk result (λ limit. limit ≢ Some 0) }
+{
+    match value_of(matches, "limit") {
+        None => Ok(None),
+        Some(text) => needed(read_limit(text)),
+    }
+}
+
+// `--cursor TEXT`.
+fn cursor_given(matches: &ArgMatches<'_>) -> Result<Option<(Hash16, Cursor)>, PlanFault>
+    ensures { result ≡ cursor_option_of (rows_of (found_of matches.now)) }
+{
+    match value_of(matches, "cursor") {
+        None => Ok(None),
+        Some(text) => needed(split_cursor(text.as_bytes())),
+    }
+}
+
+// How often `-q` stands, at most 2.
+fn quiet_given(matches: &ArgMatches<'_>) -> u8
+    ensures quiet { result ≡ quiet_of (rows_of (found_of matches.now)) }
+    ensures few { result ≤ 2 }
+{
+    uses_of(matches, "quiet").min(2)
+}
+
+// The value that an option's text has to have.
+fn needed<T>(value: Option<T>) -> Result<Option<T>, PlanFault>
+    ensures { result ≡ value_needed value }
+{
+    match value {
+        None => Err(PlanFault::Value),
+        Some(value) => Ok(Some(value)),
+    }
+}

@@ -1,0 +1,93 @@
+ghost use Rattle.std.specs.Prelude.{◌≡◌, ◌≢◌, ◌≤◌, ◌<◌, map, length, string_bytes, IfOk, IfErr, Ok, Err};
+ghost use Rattle.clap.specs.Words.{found_of, rows_of};
+ghost use Rattle.parplan.specs.Commands.{HasLimit};
+ghost use Rattle.parplan.specs.Plans.{plan_of, plan_in, verb_of, verb_in, files_of, AnswersPlan, TellsTaken};
+
+use crate::words::files::{packet_files, scanned_files};
+use crate::words::grammar::Verb;
+use crate::words::matches::{matches_for, values_of};
+use crate::words::options::{base_given, command_given, set_given};
+use crate::{Plan, PlanFault, may_be_given};
+use clap::ArgMatches;
+use std::alloc::Global;
+
+/// The plan of the words behind the program's name.
+pub fn plan(alloc: Global, words: &[String]) -> Result<Plan, PlanFault>
+    ensures plan { AnswersPlan (plan_of (map string_bytes words.now)) result }
+
+    // `Usage` is the fault of exactly the words that clap's definition refuses.
+    ensures usage { TellsTaken (map string_bytes words.now) result }
+
+    // What every plan keeps to.
+    ensures few { IfOk result (λ plan.
+        (length plan.packets ≤ 65535) × (length plan.scanned ≤ 65535)) }
+    ensures some_packets { IfOk result (λ plan. 0 < length plan.packets) }
+    ensures limit { IfOk result (λ plan. HasLimit plan.command) }
+{
+    let verb = first_verb(words)?;
+    let matches = matches_for(alloc, verb, words)?;
+    plan_by(alloc, verb, &matches)
+}
+
+// The plan of what the words give a verb, which takes them.
+fn plan_by(alloc: Global, verb: Verb, matches: &ArgMatches<'_>) -> Result<Plan, PlanFault>
+    ensures plan { AnswersPlan (plan_in verb (rows_of (found_of matches.now))) result }
+    ensures taken { IfErr result (λ fault. fault ≢ PlanFault.Usage) }
+    ensures few { IfOk result (λ plan.
+        (length plan.packets ≤ 65535) × (length plan.scanned ≤ 65535)) }
+    ensures some_packets { IfOk result (λ plan. 0 < length plan.packets) }
+    ensures limit { IfOk result (λ plan. HasLimit plan.command) }
+{
+    let command = command_given(verb, matches)?;
+    let set = set_given(matches)?;
+    let base = base_given(matches)?;
+    let files = files_given(matches)?;
+    let packets = packet_files(alloc, files)?;
+    if packets.is_empty() {
+        return Err(PlanFault::NoPacketFile);
+    }
+    let scanned = scanned_files(alloc, base, files)?;
+    Ok(Plan {
+        command,
+        set,
+        packets,
+        scanned,
+    })
+}
+
+// The verb that the first word names.
+fn first_verb(words: &[String]) -> Result<Verb, PlanFault>
+    ensures { result ≡ verb_in (map string_bytes words.now) }
+{
+    match words.first() {
+        None => Err(PlanFault::Usage),
+        Some(word) => verb_named(word.as_str()),
+    }
+}
+
+// The verb that a word names.
+fn verb_named(word: &str) -> Result<Verb, PlanFault>
+    ensures { result ≡ verb_of word.now }
+{
+    match word {
+        "packets" => Ok(Verb::Packets),
+        "set" => Ok(Verb::Set),
+        "find" => Ok(Verb::Find),
+        "verify" => Ok(Verb::Verify),
+        _ => Err(PlanFault::Usage),
+    }
+}
+
+// FILES, of which there are not too many.
+fn files_given<'m, 'a>(matches: &'m ArgMatches<'a>) -> Result<&'m [&'a str], PlanFault>
+    ensures files { IfOk result (λ files. files_of (rows_of (found_of matches.now))
+        ≡ Ok (map (λ file. file.now) files.now)) }
+    ensures few { IfOk result (λ files. length files.now ≤ 65535) }
+    ensures fault { IfErr result (λ fault. files_of (rows_of (found_of matches.now)) ≡ Err fault) }
+{
+    match values_of(matches, "files") {
+        None => Err(PlanFault::NoPacketFile),
+        Some(files) if may_be_given(files.len()) => Ok(files),
+        Some(_) => Err(PlanFault::Value),
+    }
+}

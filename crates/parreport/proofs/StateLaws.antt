@@ -1,0 +1,187 @@
+-- What the scanned files show, by their names, lengths and MD5s, and by the marks of a survey.
+use Rattle.std.proofs.Common.{◌≡◌, ℕ, ◌+◌, ◌<◌, ◌≤◌, ◌∙◌, ◌&&◌, ◌||◌, not, Bool, false, List, [], ◌∷◌, ◌++◌, Option, None, length, map, drop, take, get_or, position, ap, sym, refl, cond, append-nil, arith, nat_lt, Some, IsTrue, inl, inr}
+use Rattle.std.specs.BTreeSet.{BTreeSet, contains}
+use Rattle.std.specs.List.{list_any, zip, enumerate_from, prefix_len}
+use Rattle.std.proofs.Math.Seq.{drop-append-add}
+use Rattle.std.proofs.lemmas.Bool.{cases_Bool}
+use Rattle.std.proofs.lemmas.Bool.Decides.{nat_tests}
+use Rattle.std.proofs.lemmas.Slice.Zip.{length-zip}
+use Rattle.std.proofs.lemmas.List.{ext_get_or, get_or-map, drop_all, length-map, take_all}
+use Rattle.parfield.specs.HashOrder.{id_cmp}
+use Rattle.parfield.specs.declared.hash16.Hash16.{Hash16}
+use Rattle.parshelf.specs.Shelf.{ShelfState, IsShelf}
+use Rattle.parshelf.specs.Reads.{ReadsOnly}
+use Rattle.parset.specs.RecoverySet.{SetView}
+use Rattle.parset.specs.declared.recovery_set.SetFile.{SetFile}
+use Rattle.parset.specs.declared.recovery_set.SetSlice.{SetSlice}
+use Rattle.parwindow.specs.Index.{slice_set_of}
+use Rattle.parfind.specs.Sightings.{Scan}
+use Rattle.parfind.specs.Steps.{scan_of}
+use Rattle.parfind.specs.Surveys.{is_sighted}
+use Rattle.parreport.specs.States.{named_files, length_and_md5, asked_of, has_content_of, shows_content_of, shows_both, is_content_of, is_name_of, state_by, state_of}
+use Rattle.parreport.specs.Findings.{is_in_whole_file, findings_of}
+use Rattle.parplan.specs.declared.command.Scanned.{Scanned}
+use Rattle.parreport.specs.declared.states.contents.LengthAndMd5.{LengthAndMd5}
+use Rattle.parreport.specs.declared.states.findings.Findings.{Findings}
+use Rattle.parreport.specs.declared.states.state.State.{State}
+use Rattle.parreport.specs.declared.states.state.State.TheVariants.{Missing}
+use Rattle.parreport.proofs.LengthLaws.{shown_asked}
+
+-- ---- names and contents
+-- a steady shelf has a content for each name
+pub contents_sized : (s : ShelfState) (files : List Scanned) → IsShelf s → length s.lengths ≡ length files → IsTrue s.is_steady
+    → length s.files ≡ length files
+contents_sized s files shelf names steady = sym (length-map s.files length) ∙ (ap length (shelf.files_each steady) ∙ names)
+
+pub map-content : (files : List Scanned) (contents : List (List ℕ)) → length contents ≡ length files
+    → map (λ one. one.content) (named_files files contents) ≡ contents
+map-content [] [] e = refl
+map-content [] (content ∷ contents) e = absurd (omega arith)
+map-content (file ∷ files) [] e = refl
+map-content (file ∷ files) (content ∷ contents) e = ap (λ xs. content ∷ xs) (map-content files contents (omega arith))
+
+pub map-name : (files : List Scanned) (contents : List (List ℕ)) → length contents ≡ length files
+    → map (λ one. one.name) (named_files files contents) ≡ map (λ file. file.name) files
+map-name [] contents e = refl
+map-name (file ∷ files) [] e = absurd (omega arith)
+map-name (file ∷ files) (content ∷ contents) e = ap (λ xs. file.name ∷ xs) (map-name files contents (omega arith))
+
+-- ---- the state of a file
+-- what is asked of bytes shows the file's content exactly where they have it
+abbrev Shows : List SetFile → SetFile → Type 0
+Shows own file = (bytes : List ℕ) → shows_content_of file (asked_of own bytes) ≡ has_content_of file (length_and_md5 bytes)
+
+complete_same : (own : List SetFile) (file : SetFile) (files : List Scanned) (contents : List (List ℕ)) → Shows own file
+    → list_any (shows_both file) (zip files (map (asked_of own) contents))
+    ≡ list_any (λ one. is_content_of file one && is_name_of file one.name) (named_files files contents)
+complete_same own file [] contents shows = refl
+complete_same own file (one ∷ files) [] shows = refl
+complete_same own file (one ∷ files) (content ∷ contents) shows =
+    ap (λ b. (b && is_name_of file one.name) || list_any (shows_both file) (zip files (map (asked_of own) contents))) (shows content)
+    ∙ ap (λ b. (has_content_of file (length_and_md5 content) && is_name_of file one.name) || b) (complete_same own file files contents shows)
+
+named_same : (file : SetFile) (files : List Scanned) (contents : List (List ℕ)) → length contents ≡ length files
+    → list_any (λ one. is_name_of file one.name) files ≡ list_any (λ one. is_name_of file one.name) (named_files files contents)
+named_same file [] contents e = refl
+named_same file (one ∷ files) [] e = absurd (omega arith)
+named_same file (one ∷ files) (content ∷ contents) e = ap (λ b. is_name_of file one.name || b) (named_same file files contents (omega arith))
+
+places_same : (own : List SetFile) (file : SetFile) (files : List Scanned) (contents : List (List ℕ)) → Shows own file → length contents ≡ length files
+    → prefix_len (λ c. not (shows_content_of file c)) (map (asked_of own) contents)
+    ≡ prefix_len (λ one. not (is_content_of file one)) (named_files files contents)
+places_same own file [] [] shows e = refl
+places_same own file [] (content ∷ contents) shows e = absurd (omega arith)
+places_same own file (one ∷ files) [] shows e = refl
+places_same own file (one ∷ files) (content ∷ contents) shows e =
+    ap (λ b. cond (not b) (1 + prefix_len (λ c. not (shows_content_of file c)) (map (asked_of own) contents)) 0) (shows content)
+    ∙ ap (λ n. cond (not (has_content_of file (length_and_md5 content))) (1 + n) 0) (places_same own file files contents shows (omega arith))
+
+position_same : (own : List SetFile) (file : SetFile) (files : List Scanned) (contents : List (List ℕ)) → Shows own file → length contents ≡ length files
+    → position (shows_content_of file) (map (asked_of own) contents) ≡ position (is_content_of file) (named_files files contents)
+position_same own file files contents shows e =
+    let lengths : length (map (asked_of own) contents) ≡ length (named_files files contents)
+    = length-map contents (asked_of own) ∙ (ap length (sym (map-content files contents e)) ∙ length-map (named_files files contents) (λ one. one.content)) in
+    ap (λ n. cond (nat_lt n (length (map (asked_of own) contents))) (Some n) None) (places_same own file files contents shows e)
+    ∙ ap (λ n. cond (nat_lt (prefix_len (λ one. not (is_content_of file one)) (named_files files contents)) n)
+    (Some (prefix_len (λ one. not (is_content_of file one)) (named_files files contents))) None) lengths
+
+state_by-state_of : (own : List SetFile) (files : List Scanned) (contents : List (List ℕ)) → length contents ≡ length files → (file : SetFile)
+    → Shows own file → state_by files (map (asked_of own) contents) file ≡ state_of (named_files files contents) file
+unfolding state_of
+state_by-state_of own files contents e file shows =
+    let whole = complete_same own file files contents shows in
+    let first = position_same own file files contents shows e in
+    let named = named_same file files contents e in cc
+
+some_position : (n len at : ℕ) → cond (nat_lt n len) (Some n) None ≡ Some at → n ≡ at
+some_position n len at h = grind (arith, nat_tests)
+
+no_position : (n len : ℕ) → cond (nat_lt n len) (Some n) None ≡ None → len ≤ n
+no_position n len h = grind (arith, nat_tests)
+
+-- whether one has both shows from the first on that has the content, since none before it has
+none_before : (file : SetFile) (files : List Scanned) (asked : List (Option LengthAndMd5))
+    → list_any (shows_both file) (zip files asked)
+    ≡ list_any (shows_both file) (drop (prefix_len (λ c. not (shows_content_of file c)) asked) (zip files asked))
+none_before file [] asked = ap (list_any (shows_both file)) (sym (drop_all _ [] (omega arith)))
+none_before file (one ∷ files) [] = refl
+none_before file (one ∷ files) (content ∷ asked) =
+    let n = prefix_len (λ c. not (shows_content_of file c)) asked in
+    let rest = zip files asked in
+    let from = λ (b : Bool). list_any (shows_both file) (drop (cond (not b) (1 + n) 0) ((one, content) ∷ rest)) in
+    elim (cases_Bool (shows_content_of file content)) [
+      | inl shows ↦ ap from (sym shows)
+      | inr hides ↦ ap (λ b. (b && is_name_of file one.name) || list_any (shows_both file) rest) hides
+          ∙ (none_before file files asked
+          ∙ (ap (list_any (shows_both file)) (sym (drop-append-add ((one, content) ∷ []) rest n)) ∙ ap from (sym hides)))
+    ]
+
+-- the same, where the number of that first one is known
+pub both_from : (file : SetFile) (files : List Scanned) (asked : List (Option LengthAndMd5)) (first : ℕ) → position (shows_content_of file) asked ≡ Some first
+    → list_any (shows_both file) (zip files asked) ≡ list_any (shows_both file) (drop first (zip files asked))
+both_from file files asked first at =
+    none_before file files asked ∙ ap (λ k. list_any (shows_both file) (drop k (zip files asked))) (some_position _ (length asked) first at)
+
+-- where none has the content, none has both
+pub none_both : (file : SetFile) (files : List Scanned) (asked : List (Option LengthAndMd5)) → position (shows_content_of file) asked ≡ None
+    → list_any (shows_both file) (zip files asked) ≡ false
+none_both file files asked none =
+    let n = prefix_len (λ c. not (shows_content_of file c)) asked in
+    let all = no_position n (length asked) none in let zipped = length-zip files asked in
+    none_before file files asked ∙ ap (list_any (shows_both file)) (drop_all n (zip files asked) (omega arith))
+
+-- maps by functions that agree are the same
+pub map-same : {A B : Type 0} (f g : A → B) → ((x : A) → f x ≡ g x) → (xs : List A) → map f xs ≡ map g xs
+map-same f g same [] = refl
+map-same f g same (x ∷ xs) = ap (λ y. y ∷ map f xs) (same x) ∙ ap (λ ys. g x ∷ ys) (map-same f g same xs)
+
+-- the states of the files of the set
+states_same : (files : List Scanned) (contents : List (List ℕ)) (own : List SetFile) → length contents ≡ length files
+    → map (state_by files (map (asked_of own) contents)) own ≡ map (state_of (named_files files contents)) own
+states_same files contents own sized =
+    let by = state_by files (map (asked_of own) contents) in let of = state_of (named_files files contents) in
+    let d : SetFile = record { id = record { 0 = [] }; length = 0; whole = record { 0 = [] }; name = []; known = false } in
+    let each = length-map own by in let other = length-map own of in
+    ext_get_or Missing (map by own) (map of own) (omega arith) (λ k within.
+    let here : k < length own = omega arith in
+    get_or-map by own k d Missing here
+    ∙ (state_by-state_of own files contents sized (get_or own k d) (shown_asked own k d here) ∙ sym (get_or-map of own k d Missing here)))
+
+-- the states by the contents that were read
+pub states_read : (files : List Scanned) (contents : List (List ℕ)) (read : List (Option LengthAndMd5)) (asked own : List SetFile) (states : List State)
+    → length contents ≡ length files → states ≡ map (state_by files read) asked → read ≡ map (asked_of own) contents → asked ≡ own
+    → states ≡ map (state_of (named_files files contents)) own
+states_read files contents read asked own states sized by_read whole same =
+    by_read ∙ (ap (λ cs. map (state_by files cs) asked) whole
+    ∙ (ap (map (state_by files (map (asked_of own) contents))) same ∙ states_same files contents own sized))
+
+-- ---- the marks of a survey
+-- a slice that is taken as it was written back
+pub take-all_back : (n : ℕ) (now was : List Bool) → length now ≡ length was → n ≡ length was → take n (now ++ drop (length now) was) ≡ now
+take-all_back n now was same all =
+    let none : drop (length now) was ≡ [] = drop_all (length now) was (omega arith) in
+    ap (λ rest. take n (now ++ rest)) none ∙ (ap (take n) (append-nil now) ∙ take_all n now (omega arith))
+
+-- reads change no mark
+pub found_read : (set : SetView) (old now : ShelfState) (whole : SetSlice → Bool) (found : List Bool) → ReadsOnly old now
+    → found ≡ map (λ slice. whole slice.1 || is_sighted (scan_of (slice_set_of set.size set.slices) now) slice.0) (enumerate_from 0 set.slices)
+    → found ≡ map (λ slice. whole slice.1 || is_sighted (scan_of (slice_set_of set.size set.slices) old) slice.0) (enumerate_from 0 set.slices)
+found_read set old now whole found reads e =
+    e ∙ ap (λ (s : ShelfState). map (λ (slice : ℕ × SetSlice). whole slice.1 || is_sighted (scan_of (slice_set_of set.size set.slices) s) slice.0)
+    (enumerate_from 0 set.slices)) reads
+
+-- ---- all findings
+pub findings_made : (set : SetView) (files : List Scanned) (s : ShelfState) (states : List State) (found : List Bool) (whole : BTreeSet Hash16)
+    → length s.files ≡ length files
+    → states ≡ map (state_of (named_files files s.files)) set.files
+    → ((id : Hash16) → contains id_cmp whole id ≡ is_in_whole_file set (named_files files s.files) id)
+    → found ≡ map (λ slice. contains id_cmp whole slice.1.id || is_sighted (scan_of (slice_set_of set.size set.slices) s) slice.0) (enumerate_from 0 set.slices)
+    → record { states = states; found = found } ≡ findings_of set (named_files files s.files)
+findings_made set files s states found whole sized by_state by_id by_mark =
+    let scanned = named_files files s.files in
+    let scan = λ (contents : List (List ℕ)). let one : Scan = record { set = slice_set_of set.size set.slices; contents = contents } in one in
+    let found_are : found ≡ (findings_of set scanned).found
+    = by_mark ∙ map-same _ _ (λ (slice : ℕ × SetSlice). ap (λ b. b || is_sighted (scan s.files) slice.0) (by_id slice.1.id)
+    ∙ ap (λ cs. is_in_whole_file set scanned slice.1.id || is_sighted (scan cs) slice.0) (sym (map-content files s.files sized))) (enumerate_from 0 set.slices) in
+    ap (λ (xs : List State). let r : Findings = record { states = xs; found = found } in r) by_state
+    ∙ ap (λ (xs : List Bool). let r : Findings = record { states = map (state_of scanned) set.files; found = xs } in r) found_are

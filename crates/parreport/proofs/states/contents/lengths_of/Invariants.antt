@@ -1,0 +1,10 @@
+use Rattle.std.proofs.Common.{◌≡◌, ◌||◌, ℕ, drop}
+use Rattle.std.specs.BTreeSet.{contains}
+use Rattle.std.specs.Ordering.{nat_cmp}
+use Rattle.parreport.specs.States.{has_length}
+use Rattle.parreport.proofs.states.contents.lengths_of.Given as goal
+
+-- a length is there, or is that of a file among those that are left
+abbrev pub invariant-loop-file : goal.invariant-loop-file
+invariant-loop-file l =
+    (n : ℕ) → (contains nat_cmp l.lengths n || has_length (drop l.file-index l.files) n) ≡ has_length l.files n

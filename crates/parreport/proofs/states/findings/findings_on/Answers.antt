@@ -1,0 +1,151 @@
+use Rattle.std.proofs.Common.{arith, ◌≡◌, ◌∙◌, ◌&&◌, IsTrue, ap, map, subst, sym}
+use Rattle.std.proofs.lemmas.Grind.{common_steps}
+use Rattle.std.specs.BTreeSet.{contains}
+use Rattle.std.specs.List.{list_any}
+use Rattle.std.specs.Str.{bytes_eq}
+use Rattle.parfield.specs.HashOrder.{id_cmp}
+use Rattle.parset.specs.declared.recovery_set.SetFile.{SetFile}
+use Rattle.parset.specs.declared.recovery_set.SetSlice.{SetSlice}
+use Rattle.parshelf.specs.Shelf.{ShelfState}
+use Rattle.parreport.specs.States.{named_files, asked_of, is_whole, state_of}
+use Rattle.parreport.specs.Contents.{HandsAsked}
+use Rattle.parreport.proofs.SumLaws.{unsearched}
+use Rattle.parreport.proofs.StateLaws.{contents_sized, findings_made, found_read, states_read}
+use Rattle.parreport.proofs.states.findings.findings_on.Goals as goal
+
+pub returns-clause-findings : goal.returns-clause-findings
+returns-clause-findings g c = λ steady.
+    let set = c.args.set.now in let files = c.args.files.now in
+    let old : ShelfState = g.Q.Shelf.state c.args.shelf.now in
+    let now : ShelfState = g.Q.Shelf.state c.contents.new.shelf in
+    let state = state_of (named_files files old.files) in
+    let reads = c.in_ok-contents.ensures.ok in
+    let sized = contents_sized old files (g.met.Q.Shelf.in_order c.args.shelf.now) c.requires steady in
+    let same = c.files-set_files.ensures.field in
+    let states = states_read files old.files c.deref.result.now c.files-set_files.result.now set.files c.in_ok-states.states.items sized
+    c.in_ok-states.ensures
+    (c.deref.ensures.value ∙ (c.in_ok-contents.ensures.contents steady ∙ ap (λ own. map (asked_of own) old.files) same)) same in
+    let asked : c.as_slice.result.now ≡ map state c.files-set_files.result.now
+    = c.as_slice.ensures.value ∙ (states ∙ ap (map state) (sym c.files-set_files.ensures.field)) in
+    let still : IsTrue now.is_steady = ap (λ (s : ShelfState). s.is_steady) reads ∙ steady in
+    findings_made set files old c.from_vec.result c.from_vec-2.result c.in_ok-whole.whole sized
+    (c.from_vec.ensures ∙ states)
+    (λ id. c.in_ok-whole.ensures state asked id
+    ∙ ap (list_any (λ (file : SetFile). bytes_eq file.id.0 id.0 && is_whole (state file))) c.files-set_files.ensures.field)
+    (c.from_vec-2.ensures ∙ found_read set old now (λ (slice : SetSlice). contains id_cmp c.in_ok-whole.whole slice.id) c.in_ok-found.found.items reads
+    (c.in_ok-found.ensures.found still))
+
+pub returns-clause-unsearched : goal.returns-clause-unsearched
+returns-clause-unsearched g c =
+    let old : ShelfState = g.Q.Shelf.state c.args.shelf.now in
+    let now : ShelfState = g.Q.Shelf.state c.contents.new.shelf in
+    unsearched c.args.set.now.files c.in_ok-whole.whole c.args.set.now.slices old now _
+    (subst (λ files. HandsAsked files old now) c.files-set_files.ensures.field c.in_ok-contents.ensures.bytes)
+    c.found_slices.ensures.none
+
+pub returns-in_err-found-clause-unsearched : goal.returns-in_err-found-clause-unsearched
+returns-in_err-found-clause-unsearched g c =
+    let old : ShelfState = g.Q.Shelf.state c.args.shelf.now in
+    let now : ShelfState = g.Q.Shelf.state c.contents.new.shelf in
+    unsearched c.args.set.now.files c.in_ok-whole.whole c.args.set.now.slices old now _
+    (subst (λ files. HandsAsked files old now) c.files-set_files.ensures.field c.in_ok-contents.ensures.bytes)
+    c.found_slices.ensures.none
+
+pub returns-in_err-contents-clause-findings : goal.returns-in_err-contents-clause-findings
+returns-in_err-contents-clause-findings g c = grind (arith, common_steps) steps 100000
+
+pub returns-in_err-contents-clause-states : goal.returns-in_err-contents-clause-states
+returns-in_err-contents-clause-states g c = grind (arith, common_steps) steps 100000
+
+pub returns-in_err-contents-clause-slices : goal.returns-in_err-contents-clause-slices
+returns-in_err-contents-clause-slices g c = grind (arith, common_steps) steps 100000
+
+pub returns-in_err-contents-clause-handed : goal.returns-in_err-contents-clause-handed
+returns-in_err-contents-clause-handed g c = grind (arith, common_steps) steps 1500000
+
+pub returns-in_err-contents-clause-unsearched : goal.returns-in_err-contents-clause-unsearched
+returns-in_err-contents-clause-unsearched g c = grind (arith, common_steps) steps 1500000
+
+pub returns-in_err-contents-clause-ok : goal.returns-in_err-contents-clause-ok
+returns-in_err-contents-clause-ok g c = grind (arith, common_steps) steps 100000
+
+pub returns-in_err-contents-clause-fault : goal.returns-in_err-contents-clause-fault
+returns-in_err-contents-clause-fault g c = grind (arith, common_steps) steps 100000
+
+pub returns-in_err-states-clause-findings : goal.returns-in_err-states-clause-findings
+returns-in_err-states-clause-findings g c = grind (arith, common_steps) steps 100000
+
+pub returns-in_err-states-clause-states : goal.returns-in_err-states-clause-states
+returns-in_err-states-clause-states g c = grind (arith, common_steps) steps 100000
+
+pub returns-in_err-states-clause-slices : goal.returns-in_err-states-clause-slices
+returns-in_err-states-clause-slices g c = grind (arith, common_steps) steps 100000
+
+pub returns-in_err-states-clause-handed : goal.returns-in_err-states-clause-handed
+returns-in_err-states-clause-handed g c = grind (arith, common_steps) steps 1500000
+
+pub returns-in_err-states-clause-unsearched : goal.returns-in_err-states-clause-unsearched
+returns-in_err-states-clause-unsearched g c = grind (arith, common_steps) steps 1500000
+
+pub returns-in_err-states-clause-ok : goal.returns-in_err-states-clause-ok
+returns-in_err-states-clause-ok g c = grind (arith, common_steps) steps 100000
+
+pub returns-in_err-states-clause-fault : goal.returns-in_err-states-clause-fault
+returns-in_err-states-clause-fault g c = grind (arith, common_steps) steps 100000
+
+pub whole_ids-requires : goal.whole_ids-requires
+whole_ids-requires g c = grind (arith, common_steps) steps 400000
+
+pub returns-in_err-whole-clause-findings : goal.returns-in_err-whole-clause-findings
+returns-in_err-whole-clause-findings g c = grind (arith, common_steps) steps 400000
+
+pub returns-in_err-whole-clause-states : goal.returns-in_err-whole-clause-states
+returns-in_err-whole-clause-states g c = grind (arith, common_steps) steps 400000
+
+pub returns-in_err-whole-clause-slices : goal.returns-in_err-whole-clause-slices
+returns-in_err-whole-clause-slices g c = grind (arith, common_steps) steps 400000
+
+pub returns-in_err-whole-clause-handed : goal.returns-in_err-whole-clause-handed
+returns-in_err-whole-clause-handed g c = grind (arith, common_steps) steps 1500000
+
+pub returns-in_err-whole-clause-unsearched : goal.returns-in_err-whole-clause-unsearched
+returns-in_err-whole-clause-unsearched g c = grind (arith, common_steps) steps 1500000
+
+pub returns-in_err-whole-clause-ok : goal.returns-in_err-whole-clause-ok
+returns-in_err-whole-clause-ok g c = grind (arith, common_steps) steps 400000
+
+pub returns-in_err-whole-clause-fault : goal.returns-in_err-whole-clause-fault
+returns-in_err-whole-clause-fault g c = grind (arith, common_steps) steps 400000
+
+pub returns-in_err-found-clause-findings : goal.returns-in_err-found-clause-findings
+returns-in_err-found-clause-findings g c = grind (arith, common_steps) steps 400000
+
+pub returns-in_err-found-clause-states : goal.returns-in_err-found-clause-states
+returns-in_err-found-clause-states g c = grind (arith, common_steps) steps 400000
+
+pub returns-in_err-found-clause-slices : goal.returns-in_err-found-clause-slices
+returns-in_err-found-clause-slices g c = grind (arith, common_steps) steps 400000
+
+pub returns-in_err-found-clause-ok : goal.returns-in_err-found-clause-ok
+returns-in_err-found-clause-ok g c = grind (arith, common_steps) steps 400000
+
+pub returns-in_err-found-clause-fault : goal.returns-in_err-found-clause-fault
+returns-in_err-found-clause-fault g c = grind (arith, common_steps) steps 1500000
+
+pub returns-clause-states : goal.returns-clause-states
+returns-clause-states g c = grind (arith, common_steps) steps 400000
+
+pub returns-clause-slices : goal.returns-clause-slices
+returns-clause-slices g c = grind (arith, common_steps) steps 100000
+
+pub returns-clause-ok : goal.returns-clause-ok
+returns-clause-ok g c = grind (arith, common_steps) steps 400000
+
+pub returns-clause-fault : goal.returns-clause-fault
+returns-clause-fault g c = grind (arith, common_steps) steps 100000
+
+pub returns-in_err-found-clause-handed : goal.returns-in_err-found-clause-handed
+returns-in_err-found-clause-handed g c = grind (arith, common_steps, g.met.Q.Shelf.in_order)
+
+pub returns-clause-handed : goal.returns-clause-handed
+returns-clause-handed g c = grind (arith, common_steps, g.met.Q.Shelf.in_order)

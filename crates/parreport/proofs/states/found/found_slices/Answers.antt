@@ -1,0 +1,138 @@
+use Rattle.std.proofs.lemmas.Grind.{common_steps}
+use Rattle.std.proofs.Common.{◌≡◌, ◌∙◌, ◌&&◌, ap, arith, length, map, subst}
+use Rattle.std.proofs.lemmas.List.{length-map}
+use Rattle.parshelf.specs.Shelf.{ShelfState}
+use Rattle.parwindow.specs.Index.{slice_set_of}
+use Rattle.parfind.specs.Steps.{scan_of}
+use Rattle.parfind.specs.Surveys.{mark_of, MarksSighted, StopsOnceFound}
+use Rattle.parreport.specs.Findings.{is_settled, can_be_found}
+use Rattle.parreport.proofs.StateLaws.{take-all_back}
+use Rattle.parreport.proofs.SumLaws.{marks_found, all_settled}
+use Rattle.parreport.proofs.states.found.found_slices.Goals as goal
+
+pub returns-clause-found : goal.returns-clause-found
+returns-clause-found g c = λ steady.
+    let slices = c.args.set.now.slices in
+    let whole = c.args.whole.now in
+    let shelf : ShelfState = g.Q.Shelf.state c.args.shelf.now in
+    let own = slice_set_of c.args.set.now.size slices in
+    let was : c.deref_mut.result.now ≡ map (is_settled whole) slices
+    = c.deref_mut.ensures.value ∙ (c.in_ok-found.ensures ∙ ap (map (is_settled whole)) c.slices.ensures.field) in
+    let same : length c.survey.new.found ≡ length c.in_ok-found.found.items
+    = omega (arith, c.survey.auto.found, ap length c.deref_mut.ensures.value) in
+    let back = take-all_back c.in_ok-found.found.len c.survey.new.found c.in_ok-found.found.items same (omega arith) in
+    let now : c.deref_mut-2.result.now ≡ c.survey.new.found = c.deref_mut-2.ensures.value ∙ back in
+    let sized : length c.survey.new.found ≡ length slices = omega (arith, c.survey.auto.found, ap length was, length-map slices (is_settled whole)) in
+    let kept : length c.take_back.new.found ≡ length slices = omega (arith, c.take_back.auto.found, ap length now, sized) in
+    let marked : MarksSighted (scan_of own shelf) c.deref_mut.result.now c.survey.new.found
+    = subst (λ set. MarksSighted (scan_of set shelf) c.deref_mut.result.now c.survey.new.found) c.in_ok-index.ensures (c.in_ok-survey.ensures.found steady) in
+    take-all_back c.in_ok-found.found.len c.take_back.new.found _ (omega (arith, c.take_back.auto.found, ap length c.deref_mut-2.ensures.value))
+    (omega (arith, ap length back, same))
+    ∙ marks_found whole (scan_of own shelf) c.deref_mut.result.now c.survey.new.found c.take_back.new.found was sized kept marked (λ n within.
+    c.take_back.ensures n within
+    ∙ (ap (λ marks. mark_of marks n && can_be_found whole c.slices-2.result.now n) now
+    ∙ ap (λ xs. mark_of c.survey.new.found n && can_be_found whole xs n) c.slices-2.ensures.field))
+
+pub returns-clause-none : goal.returns-clause-none
+returns-clause-none g c = λ settled.
+    let was : c.deref_mut.result.now ≡ map (is_settled c.args.whole.now) c.args.set.now.slices
+    = c.deref_mut.ensures.value ∙ (c.in_ok-found.ensures ∙ ap (map (is_settled c.args.whole.now)) c.slices.ensures.field) in
+    c.survey.ensures.none (all_settled c.args.whole.now c.args.set.now.slices c.deref_mut.result.now was settled)
+
+pub returns-in_err-survey-clause-none : goal.returns-in_err-survey-clause-none
+returns-in_err-survey-clause-none g c = λ settled.
+    let was : c.deref_mut.result.now ≡ map (is_settled c.args.whole.now) c.args.set.now.slices
+    = c.deref_mut.ensures.value ∙ (c.in_ok-found.ensures ∙ ap (map (is_settled c.args.whole.now)) c.slices.ensures.field) in
+    c.survey.ensures.none (all_settled c.args.whole.now c.args.set.now.slices c.deref_mut.result.now was settled)
+
+pub returns-in_err-index-clause-found : goal.returns-in_err-index-clause-found
+returns-in_err-index-clause-found g c = grind (arith, common_steps) steps 100000
+
+pub returns-in_err-index-clause-stops : goal.returns-in_err-index-clause-stops
+returns-in_err-index-clause-stops g c = grind (arith, common_steps) steps 100000
+
+pub returns-in_err-index-clause-slices : goal.returns-in_err-index-clause-slices
+returns-in_err-index-clause-slices g c = grind (arith, common_steps) steps 100000
+
+pub returns-in_err-index-clause-handed : goal.returns-in_err-index-clause-handed
+returns-in_err-index-clause-handed g c = grind (arith, common_steps) steps 100000
+
+pub returns-in_err-index-clause-none : goal.returns-in_err-index-clause-none
+returns-in_err-index-clause-none g c = grind (arith, common_steps) steps 100000
+
+pub returns-in_err-index-clause-ok : goal.returns-in_err-index-clause-ok
+returns-in_err-index-clause-ok g c = grind (arith, common_steps) steps 100000
+
+pub returns-in_err-index-clause-fault : goal.returns-in_err-index-clause-fault
+returns-in_err-index-clause-fault g c = grind (arith, common_steps) steps 100000
+
+pub returns-in_err-found-clause-found : goal.returns-in_err-found-clause-found
+returns-in_err-found-clause-found g c = grind (arith, common_steps) steps 400000
+
+pub returns-in_err-found-clause-stops : goal.returns-in_err-found-clause-stops
+returns-in_err-found-clause-stops g c = grind (arith, common_steps) steps 100000
+
+pub returns-in_err-found-clause-slices : goal.returns-in_err-found-clause-slices
+returns-in_err-found-clause-slices g c = grind (arith, common_steps) steps 400000
+
+pub returns-in_err-found-clause-handed : goal.returns-in_err-found-clause-handed
+returns-in_err-found-clause-handed g c = grind (arith, common_steps) steps 100000
+
+pub returns-in_err-found-clause-none : goal.returns-in_err-found-clause-none
+returns-in_err-found-clause-none g c = grind (arith, common_steps) steps 100000
+
+pub returns-in_err-found-clause-ok : goal.returns-in_err-found-clause-ok
+returns-in_err-found-clause-ok g c = grind (arith, common_steps) steps 400000
+
+pub returns-in_err-found-clause-fault : goal.returns-in_err-found-clause-fault
+returns-in_err-found-clause-fault g c = grind (arith, common_steps) steps 400000
+
+pub returns-in_err-survey-clause-found : goal.returns-in_err-survey-clause-found
+returns-in_err-survey-clause-found g c = grind (arith, common_steps) steps 1500000
+
+pub returns-in_err-survey-clause-slices : goal.returns-in_err-survey-clause-slices
+returns-in_err-survey-clause-slices g c = grind (arith, common_steps) steps 1500000
+
+pub returns-in_err-survey-clause-handed : goal.returns-in_err-survey-clause-handed
+returns-in_err-survey-clause-handed g c = grind (arith, common_steps) steps 400000
+
+pub returns-in_err-survey-clause-ok : goal.returns-in_err-survey-clause-ok
+returns-in_err-survey-clause-ok g c = grind (arith, common_steps) steps 1500000
+
+pub returns-in_err-survey-clause-fault : goal.returns-in_err-survey-clause-fault
+returns-in_err-survey-clause-fault g c = grind (arith, common_steps) steps 1500000
+
+pub returns-clause-slices : goal.returns-clause-slices
+returns-clause-slices g c = grind (arith, common_steps) steps 400000
+
+pub returns-clause-handed : goal.returns-clause-handed
+returns-clause-handed g c = grind (arith, common_steps) steps 400000
+
+pub returns-clause-ok : goal.returns-clause-ok
+returns-clause-ok g c = grind (arith, common_steps) steps 400000
+
+pub returns-clause-fault : goal.returns-clause-fault
+returns-clause-fault g c = grind (arith, common_steps) steps 100000
+
+pub returns-clause-stops : goal.returns-clause-stops
+returns-clause-stops g c = λ steady.
+    let own = slice_set_of c.args.set.now.size c.args.set.now.slices in
+    let old : ShelfState = g.Q.Shelf.state c.args.shelf.now in
+    let new : ShelfState = g.Q.Shelf.state c.survey.new.shelf in
+    let was : c.deref_mut.result.now ≡ map (is_settled c.args.whole.now) c.args.set.now.slices
+    = c.deref_mut.ensures.value ∙ (c.in_ok-found.ensures ∙ ap (map (is_settled c.args.whole.now)) c.slices.ensures.field) in
+    subst (λ marks. StopsOnceFound own old new marks) was
+    (subst (λ set. StopsOnceFound set old new c.deref_mut.result.now) c.in_ok-index.ensures (c.survey.ensures.stops steady))
+
+pub returns-in_err-survey-clause-stops : goal.returns-in_err-survey-clause-stops
+returns-in_err-survey-clause-stops g c = λ steady.
+    let own = slice_set_of c.args.set.now.size c.args.set.now.slices in
+    let old : ShelfState = g.Q.Shelf.state c.args.shelf.now in
+    let new : ShelfState = g.Q.Shelf.state c.survey.new.shelf in
+    let was : c.deref_mut.result.now ≡ map (is_settled c.args.whole.now) c.args.set.now.slices
+    = c.deref_mut.ensures.value ∙ (c.in_ok-found.ensures ∙ ap (map (is_settled c.args.whole.now)) c.slices.ensures.field) in
+    subst (λ marks. StopsOnceFound own old new marks) was
+    (subst (λ set. StopsOnceFound set old new c.deref_mut.result.now) c.in_ok-index.ensures (c.survey.ensures.stops steady))
+
+pub take_back-requires : goal.take_back-requires
+take_back-requires g c = grind (arith, common_steps) steps 400000

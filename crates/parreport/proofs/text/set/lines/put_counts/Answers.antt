@@ -1,0 +1,34 @@
+use Rattle.std.proofs.Common.{arith}
+use Rattle.std.proofs.lemmas.Grind.{common_steps}
+use Rattle.std.proofs.lemmas.Result.{err_from_is_err_and}
+use Rattle.parshelf.proofs.BlockLaws.{Begins_all}
+use Rattle.parreport.proofs.text.set.lines.put_counts.Goals as goal
+
+pub returns-in_err-push_counts-clause-fault : goal.returns-in_err-push_counts-clause-fault
+returns-in_err-push_counts-clause-fault g c =
+    let failed = err_from_is_err_and c.from_residual.result c.from_residual.ensures.1 in
+    rw (failed.1, failed.2) (Begins_all _ _)
+
+pub returns-in_err-push_counts-clause-lines : goal.returns-in_err-push_counts-clause-lines
+returns-in_err-push_counts-clause-lines g c = grind (arith, common_steps)
+
+pub returns-in_err-push_counts-clause-less : goal.returns-in_err-push_counts-clause-less
+returns-in_err-push_counts-clause-less g c = grind (arith, common_steps)
+
+pub returns-in_err-write_block-clause-lines : goal.returns-in_err-write_block-clause-lines
+returns-in_err-write_block-clause-lines g c = grind (arith, common_steps)
+
+pub returns-in_err-write_block-clause-fault : goal.returns-in_err-write_block-clause-fault
+returns-in_err-write_block-clause-fault g c = grind (arith, common_steps)
+
+pub returns-in_err-write_block-clause-less : goal.returns-in_err-write_block-clause-less
+returns-in_err-write_block-clause-less g c = grind (arith, common_steps)
+
+pub returns-clause-lines : goal.returns-clause-lines
+returns-clause-lines g c = grind (arith, common_steps)
+
+pub returns-clause-fault : goal.returns-clause-fault
+returns-clause-fault g c = grind (arith, common_steps)
+
+pub returns-clause-less : goal.returns-clause-less
+returns-clause-less g c = grind (arith, common_steps)

@@ -1,0 +1,59 @@
+-- What scanned files show of a recovery set: the state of each file, and which slices are found.
+use Rattle.std.specs.Prelude.{ℕ, ◌&&◌, ◌||◌, not, Bool, false, List, map, count_by, is_none, is_some, slice_get}
+use Rattle.std.specs.BTreeSet.{BTreeSet, contains}
+use Rattle.std.specs.List.{list_any, zip, enumerate_from}
+use Rattle.std.specs.Option.{option_map_or}
+use Rattle.std.specs.Str.{bytes_eq}
+use Rattle.parfield.specs.HashOrder.{id_cmp}
+use Rattle.parfield.specs.declared.hash16.Hash16.{Hash16}
+use Rattle.parset.specs.RecoverySet.{SetView}
+use Rattle.parset.specs.declared.recovery_set.SetSlice.{SetSlice}
+use Rattle.parwindow.specs.Index.{slice_set_of}
+use Rattle.parfind.specs.Sightings.{Scan}
+use Rattle.parfind.specs.Surveys.{is_sighted}
+use Rattle.parreport.specs.States.{NamedFile, is_whole, state_of}
+use Rattle.parreport.specs.declared.states.findings.Findings.{Findings}
+
+-- the file of this ID is complete or renamed
+abbrev pub is_in_whole_file : SetView → List NamedFile → Hash16 → Bool
+is_in_whole_file set scanned id =
+    list_any (λ file. bytes_eq file.id.0 id.0 && is_whole (state_of scanned file)) set.files
+
+-- the slices of a set, looked for in these contents
+abbrev pub scan_in : SetView → List (List ℕ) → Scan
+scan_in set contents = record { set = slice_set_of set.size set.slices; contents = contents }
+
+-- the search for the slices of the set
+abbrev pub scan_for : SetView → List NamedFile → Scan
+scan_for set scanned = scan_in set (map (λ one. one.content) scanned)
+
+-- a slice, by its number, is found: its file is complete or renamed, or it has a sighting
+abbrev pub is_found : SetView → List NamedFile → ℕ × SetSlice → Bool
+is_found set scanned (n, slice) =
+    is_in_whole_file set scanned slice.id || is_sighted (scan_for set scanned) n
+
+-- no search is needed for a slice: its file is one of these, or it has no sums to be found by
+abbrev pub is_settled : BTreeSet Hash16 → SetSlice → Bool
+is_settled whole slice = contains id_cmp whole slice.id || is_none slice.sums
+
+-- there is a slice n that can be found: its file is one of these, or it has sums to be found by
+abbrev pub can_be_found : BTreeSet Hash16 → List SetSlice → ℕ → Bool
+can_be_found whole slices n =
+    option_map_or (λ slice. contains id_cmp whole slice.id || is_some slice.sums)
+    (slice_get slices n) false
+
+-- what the scanned files show of the set
+abbrev pub findings_of : SetView → List NamedFile → Findings
+findings_of set scanned = record {
+  states = map (state_of scanned) set.files;
+  found = map (is_found set scanned) (enumerate_from 0 set.slices);
+}
+
+-- how many slices are not found
+abbrev pub need_of : List Bool → ℕ
+need_of found = count_by not found
+
+-- how many of the slices of the file of this ID are found
+unfoldable pub found_count_of : List SetSlice → List Bool → Hash16 → ℕ
+found_count_of slices found id =
+    count_by (λ pair. bytes_eq pair.0.id.0 id.0 && pair.1) (zip slices found)

@@ -1,0 +1,85 @@
+-- What a run writes and answers, over whole files, where nothing comes between.
+use Rattle.std.specs.Prelude.{ℕ, List, [], Option, None, Some, Result, Ok, Err, if◌then◌else◌}
+use Rattle.std.specs.Str.{bytes_eq}
+use Rattle.parfield.specs.declared.hash16.Hash16.{Hash16}
+use Rattle.parfind.specs.Order.{origin}
+use Rattle.parfind.specs.Sightings.{sightings_from}
+use Rattle.parfind.specs.declared.cursors.cursor.Cursor.{Cursor}
+use Rattle.parreport.specs.Faults.{cause_of}
+use Rattle.parreport.specs.Findings.{scan_in}
+use Rattle.parreport.specs.FindText.{find_text, names_of}
+use Rattle.parsalvage.specs.Kept.{kept_in_files}
+use Rattle.parsalvage.specs.declared.kept.Kept.{Kept}
+use Rattle.parset.specs.RecoverySet.{SetView, set_of}
+use Rattle.parset.specs.declared.recovery_set.SetFault.{SetFault}
+use Rattle.parreport.specs.PacketsText.{packets_text}
+use Rattle.parreport.specs.SetText.{set_text}
+use Rattle.parreport.specs.States.{named_files}
+use Rattle.parreport.specs.VerifyText.{verify_text, verify_status_of}
+use Rattle.parplan.specs.declared.command.Command.{Command}
+use Rattle.parplan.specs.declared.command.Command.TheVariants as command
+use Rattle.parplan.specs.declared.command.Plan.{Plan}
+use Rattle.parreport.specs.declared.text.faults.RunFault.{RunFault}
+use Rattle.parreport.specs.declared.text.faults.RunFault.TheVariants as fault
+use Rattle.parreport.specs.declared.text.status.Status.{Status}
+use Rattle.parreport.specs.declared.text.status.Status.TheVariants.{Listed}
+
+-- a text, and the answer where nothing comes between
+pub record Report : Type 0 where
+  pub text : List ℕ
+  pub answer : Result Status RunFault
+
+-- a text that lists
+abbrev pub listed : List ℕ → Report
+listed text = record { text = text; answer = Ok Listed }
+
+-- the report over the recovery set, or of the cause why there is none
+abbrev pub report_with_set : Result SetView SetFault → (SetView → Report) → Report
+report_with_set (Ok set) report = report set
+report_with_set (Err why) report = record { text = []; answer = Err (cause_of why) }
+
+-- the report of `packets`
+abbrev pub packets_report : Plan → List Kept → Report
+packets_report plan packets = listed (packets_text plan.packets plan.set packets)
+
+-- the report of `set`
+abbrev pub set_report : Plan → SetView → Report
+set_report plan set = listed (set_text plan.packets set)
+
+-- where a search begins in a set: at the first cursor, or at one that is of this set
+abbrev pub start_in : SetView → Option (Hash16 × Cursor) → Option Cursor
+start_in set None = Some origin
+start_in set (Some (id, at)) = if bytes_eq id.0 set.id.0 then Some at else None
+
+-- the report of `find` from a cursor on, if it is of the set
+abbrev pub report_from : Option Cursor → (Cursor → List ℕ) → Report
+report_from None text = record { text = []; answer = Err fault.OtherSet }
+report_from (Some at) text = listed (text at)
+
+-- the report of `find`
+abbrev pub find_report :
+    Plan → Option ℕ → Option (Hash16 × Cursor) → List (List ℕ) → SetView → Report
+find_report plan limit cursor scanned set =
+    report_from (start_in set cursor)
+    (λ at. find_text (names_of plan.scanned) set limit (sightings_from (scan_in set scanned) at))
+
+-- the report of `verify`
+abbrev pub verify_report : Plan → ℕ → List (List ℕ) → SetView → Report
+verify_report plan quiet scanned set = record {
+  text = verify_text quiet set (named_files plan.scanned scanned);
+  answer = Ok (verify_status_of set (named_files plan.scanned scanned));
+}
+
+-- the report of a command over the packets and the scanned files
+abbrev pub report_by : Command → Plan → List Kept → List (List ℕ) → Report
+report_by command.Packets plan packets scanned = packets_report plan packets
+report_by command.Set plan packets scanned =
+    report_with_set (set_of packets plan.set) (set_report plan)
+report_by (command.Find limit cursor) plan packets scanned =
+    report_with_set (set_of packets plan.set) (find_report plan limit cursor scanned)
+report_by (command.Verify quiet) plan packets scanned =
+    report_with_set (set_of packets plan.set) (verify_report plan quiet scanned)
+
+-- the report of a plan over the contents of its packet files and its scanned files
+abbrev pub report_of : Plan → List (List ℕ) → List (List ℕ) → Report
+report_of plan packets scanned = report_by plan.command plan (kept_in_files packets) scanned

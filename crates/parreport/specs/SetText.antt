@@ -1,0 +1,30 @@
+-- The text of `set`.
+use Rattle.std.specs.Prelude.{ℕ, List, [], ◌++◌, Option, Some, None, slice_index_or}
+use Rattle.std.specs.List.{flat_map}
+use Rattle.parset.specs.RecoverySet.{SetView}
+use Rattle.parset.specs.declared.recovery_set.SetAside.{SetAside}
+use Rattle.parreport.specs.Lines.{set_line, file_line, others_line, have_line, creator_line, aside_line}
+
+-- the line of a text, where there is one
+abbrev pub creator_lines : Option (List ℕ) → List ℕ
+creator_lines None = []
+creator_lines (Some text) = creator_line text
+
+-- the lines between those of the files and those of what is put aside
+abbrev pub counts_lines : SetView → List ℕ
+counts_lines set =
+    others_line set.others ++ (have_line set.have ++ creator_lines set.creator)
+
+-- the line of a packet that is put aside, among files of these names
+abbrev pub aside_among : List (List ℕ) → SetAside → List ℕ
+aside_among names put_aside = aside_line (slice_index_or names put_aside.file []) put_aside
+
+-- the set, its files by ID, how many others, how many exponents, who made it, what is put aside
+unfoldable pub set_text : List (List ℕ) → SetView → List ℕ
+set_text names set =
+    set_line set
+    ++ (flat_map (file_line set.size) set.files
+    ++ (others_line set.others
+    ++ (have_line set.have
+    ++ (creator_lines set.creator
+    ++ flat_map (aside_among names) set.aside))))

@@ -1,0 +1,88 @@
+-- The state of each file of a recovery set, by the scanned files.
+use Rattle.std.specs.Prelude.{ℕ, ◌==◌, ◌&&◌, Bool, true, false, List, length, map, position, Option, Some, None, if◌then◌else◌}
+use Rattle.std.specs.List.{list_any, zip}
+use Rattle.std.specs.Str.{bytes_eq}
+use Rattle.parfield.specs.Md5.{md5}
+use Rattle.parset.specs.declared.recovery_set.SetFile.{SetFile}
+use Rattle.parplan.specs.declared.command.Scanned.{Scanned}
+use Rattle.parreport.specs.declared.states.contents.LengthAndMd5.{LengthAndMd5}
+use Rattle.parreport.specs.declared.states.state.State.{State}
+use Rattle.parreport.specs.declared.states.state.State.TheVariants.{Complete, Renamed, Damaged, Missing}
+
+-- a scanned file
+pub record NamedFile : Type 0 where
+  pub name : List ℕ
+  pub content : List ℕ
+
+-- the scanned files, each with its content
+abbrev pub named_files : List Scanned → List (List ℕ) → List NamedFile
+named_files files contents =
+    map (λ pair. record { name = pair.0.name; content = pair.1 }) (zip files contents)
+
+-- the length and the MD5 of bytes
+abbrev pub length_and_md5 : List ℕ → LengthAndMd5
+length_and_md5 bytes = record { length = length bytes; whole = record { 0 = md5 bytes } }
+
+-- they are those of a file of the set
+abbrev pub has_content_of : SetFile → LengthAndMd5 → Bool
+has_content_of file content = content.length == file.length && bytes_eq content.whole.0 file.whole.0
+
+-- a scanned file has the content of a file of the set, by length and MD5
+abbrev pub is_content_of : SetFile → NamedFile → Bool
+is_content_of file scanned = has_content_of file (length_and_md5 scanned.content)
+
+-- some of the files has this length
+abbrev pub has_length : List SetFile → ℕ → Bool
+has_length files n = list_any (λ file. file.length == n) files
+
+-- what is asked of bytes: nothing, where none of the files has their length
+abbrev pub asked_of : List SetFile → List ℕ → Option LengthAndMd5
+asked_of files bytes = if has_length files (length bytes) then Some (length_and_md5 bytes) else None
+
+-- what was asked shows the content of a file of the set
+abbrev pub shows_content_of : SetFile → Option LengthAndMd5 → Bool
+shows_content_of file None = false
+shows_content_of file (Some content) = has_content_of file content
+
+-- a name is that of a file of the set
+abbrev pub is_name_of : SetFile → List ℕ → Bool
+is_name_of file name = bytes_eq name file.name
+
+-- the state where no file of the name is whole: by the first that is, and whether one has the name
+abbrev pub state_else : Option ℕ → Bool → State
+state_else (Some k) has_name = Renamed k
+state_else None true = Damaged
+state_else None false = Missing
+
+-- complete by a file with its name and content, else renamed from the first with its content,
+-- else damaged where a file has its name, else missing
+unfoldable pub state_of : List NamedFile → SetFile → State
+state_of scanned file =
+    if list_any (λ one. is_content_of file one && is_name_of file one.name) scanned then Complete
+    else state_else (position (is_content_of file) scanned)
+    (list_any (λ one. is_name_of file one.name) scanned)
+
+-- a scanned file has the content and the name of a file of the set, by what was asked of it
+abbrev pub shows_both : SetFile → Scanned × Option LengthAndMd5 → Bool
+shows_both file pair = shows_content_of file pair.1 && is_name_of file pair.0.name
+
+-- the state of `state_of`, by what was asked of the scanned files
+abbrev pub state_by : List Scanned → List (Option LengthAndMd5) → SetFile → State
+state_by files asked file =
+    if list_any (shows_both file) (zip files asked) then Complete
+    else state_else (position (shows_content_of file) asked)
+    (list_any (λ one. is_name_of file one.name) files)
+
+-- the file is complete or renamed
+abbrev pub is_whole : State → Bool
+is_whole Complete = true
+is_whole (Renamed k) = true
+is_whole Damaged = false
+is_whole Missing = false
+
+-- the file is complete
+abbrev pub is_complete : State → Bool
+is_complete Complete = true
+is_complete (Renamed k) = false
+is_complete Damaged = false
+is_complete Missing = false

@@ -1,0 +1,94 @@
+ghost use Rattle.std.specs.Prelude.{◌≡◌, ◌||◌, ◌==◌, ◌<◌, ℕ, length, map, IsTrue, IfOk, OnOk, IfErr};
+ghost use Rattle.std.specs.BTreeSet.{contains};
+ghost use Rattle.std.specs.Ordering.{nat_cmp};
+ghost use Rattle.parshelf.specs.Reads.{ReadsOnly};
+ghost use Rattle.parshelf.specs.Shelf.{file_of};
+ghost use Rattle.parreport.specs.Contents.{HandsOnce, HandsAsked};
+ghost use Rattle.parreport.specs.Files.{FilesLeave};
+ghost use Rattle.parreport.specs.States.{has_length, asked_of};
+
+use crate::states::faults::FilesFault;
+use parfield::Hash16;
+use parset::SetFile;
+use parshelf::{Shelf, digest_of};
+use std::alloc::{AllocError, Global};
+use std::collections::BTreeSet;
+
+/// What the content of a scanned file is compared by.
+#[derive(Clone, Copy, PartialEq, Eq)]
+pub struct LengthAndMd5 {
+    /// The length in bytes.
+    pub length: u64,
+    /// The MD5 of the whole file.
+    pub whole: Hash16,
+}
+
+/// What is asked of each scanned file, in order: its length and its MD5, where some file of the set
+/// has that length. Of no other file a byte is handed over.
+pub fn contents<Q: Shelf>(
+    alloc: Global,
+    files: &[SetFile],
+    shelf: &mut Q,
+) -> Result<Vec<Option<LengthAndMd5>>, FilesFault>
+    ensures contents { IsTrue (Q.state shelf.old).is_steady → IfOk result (λ contents.
+        contents.items ≡ map (asked_of files.now) (Q.state shelf.old).files) }
+    ensures bytes { HandsAsked files.now (Q.state shelf.old) (Q.state shelf.new) }
+    ensures ok { OnOk result (ReadsOnly (Q.state shelf.old) (Q.state shelf.new)) }
+    ensures fault { IfErr result (FilesLeave (Q.state shelf.old) (Q.state shelf.new)) }
+{
+    let lengths = lengths_of(alloc, files)?;
+    let mut contents = Vec::new(alloc);
+    for file in 0..shelf.count() {
+        contents
+            .push(content_at(files, &lengths, shelf, file)?)
+            .map_err(AllocError::from)?;
+    }
+    Ok(contents)
+}
+
+// The lengths of the files.
+fn lengths_of(alloc: Global, files: &[SetFile]) -> Result<BTreeSet<u64>, AllocError>
+    ensures { IfOk result (λ lengths. (n : ℕ)
+        → contains nat_cmp lengths n ≡ has_length files.now n) }
+{
+    let mut lengths = BTreeSet::new(alloc);
+    for file in files {
+        add_length(&mut lengths, file.length)?;
+    }
+    Ok(lengths)
+}
+
+// Adds a length.
+fn add_length(lengths: &mut BTreeSet<u64>, length: u64) -> Result<(), AllocError>
+    ensures { OnOk result ((n : ℕ) → contains nat_cmp lengths.new n
+        ≡ (length == n || contains nat_cmp lengths.old n)) }
+{
+    lengths.insert(length)?;
+    Ok(())
+}
+
+// The length and the MD5 of a file, where its length is one of those of the files of the set.
+fn content_at<Q: Shelf>(
+    files: &[SetFile],
+    lengths: &BTreeSet<u64>,
+    shelf: &mut Q,
+    file: u32,
+) -> Result<Option<LengthAndMd5>, FilesFault>
+    requires lengths { (n : ℕ) → contains nat_cmp lengths.now n ≡ has_length files.now n }
+    requires file { file < length (Q.state shelf.old).lengths }
+    ensures content { IsTrue (Q.state shelf.old).is_steady → IfOk result (λ content.
+        content ≡ asked_of files.now (file_of (Q.state shelf.old) file)) }
+    ensures bytes { HandsOnce files.now (Q.state shelf.old) (Q.state shelf.new) file }
+    ensures ok { OnOk result (ReadsOnly (Q.state shelf.old) (Q.state shelf.new)) }
+    ensures fault { IfErr result (FilesLeave (Q.state shelf.old) (Q.state shelf.new)) }
+{
+    let _ = files;
+    let length = shelf.length(file);
+    if !lengths.contains(&length) {
+        return Ok(None);
+    }
+    match digest_of(shelf, file) {
+        Ok(whole) => Ok(Some(LengthAndMd5 { length, whole })),
+        Err(fault) => Err(FilesFault::Read { file, fault }),
+    }
+}

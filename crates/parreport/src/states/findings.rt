@@ -1,0 +1,71 @@
+ghost use Rattle.std.specs.Prelude.{◌≡◌, length, is_none, All, IsTrue, IfOk, OnOk, IfErr};
+ghost use Rattle.parshelf.specs.Reads.{ReadsOnly};
+ghost use Rattle.parreport.specs.Contents.{HandsAsked, HandsAskedAndOnce};
+ghost use Rattle.parreport.specs.Files.{FilesLeave};
+ghost use Rattle.parreport.specs.States.{named_files};
+ghost use Rattle.parreport.specs.Findings.{findings_of};
+
+use crate::states::contents::contents;
+use crate::states::faults::FilesFault;
+use crate::states::found::{found_slices, need_of};
+use crate::states::state::{State, states, whole_ids};
+use parfield::Sequence;
+use parplan::Scanned;
+use parset::RecoverySet;
+use parshelf::Shelf;
+use std::alloc::Global;
+
+/// What the scanned files show of a recovery set.
+#[derive(Debug, Drop)]
+pub(crate) struct Findings {
+    /// The state of each file, by ID.
+    pub states: Sequence<State>,
+    /// Whether each slice is found, by number.
+    pub found: Sequence<bool>,
+}
+
+impl Findings {
+    ghost use Rattle.parreport.specs.Findings.{need_of};
+
+    /// How many slices are not found.
+    pub fn need(&self) -> usize
+        ensures { result ≡ need_of self.now.found }
+    {
+        need_of(self.found.as_slice())
+    }
+}
+
+/// The findings of the files on the shelf, of these names. Those of a length of the set are read
+/// whole, and then all are searched for slices that are not found yet, unless none of these has
+/// its sums.
+pub(crate) fn findings_on<Q: Shelf>(
+    alloc: Global,
+    files: &[Scanned],
+    set: &RecoverySet,
+    shelf: &mut Q,
+) -> Result<Findings, FilesFault>
+    requires { length (Q.state shelf.old).lengths ≡ length files.now }
+
+    // On a steady shelf.
+    ensures findings { IsTrue (Q.state shelf.old).is_steady → IfOk result (λ findings.
+        findings ≡ findings_of set.now (named_files files.now (Q.state shelf.old).files)) }
+
+    // On any shelf.
+    ensures states { IfOk result (λ findings. length findings.states ≡ length set.now.files) }
+    ensures slices { IfOk result (λ findings. length findings.found ≡ length set.now.slices) }
+    ensures handed { HandsAskedAndOnce set.now.files (Q.state shelf.old) (Q.state shelf.new) }
+    ensures unsearched { All (λ slice. IsTrue (is_none slice.sums)) set.now.slices →
+        HandsAsked set.now.files (Q.state shelf.old) (Q.state shelf.new) }
+    ensures ok { OnOk result (ReadsOnly (Q.state shelf.old) (Q.state shelf.new)) }
+    ensures fault { IfErr result (FilesLeave (Q.state shelf.old) (Q.state shelf.new)) }
+{
+    let set_files = set.files();
+    let contents = contents(alloc, set_files, shelf)?;
+    let states = states(alloc, files, &contents, set_files)?;
+    let whole = whole_ids(alloc, set_files, states.as_slice())?;
+    let found = found_slices(alloc, set, &whole, shelf)?;
+    Ok(Findings {
+        states: Sequence::from_vec(states),
+        found: Sequence::from_vec(found),
+    })
+}

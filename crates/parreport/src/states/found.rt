@@ -1,0 +1,88 @@
+ghost use Rattle.std.specs.Prelude.{◌≡◌, ◌&&◌, ◌||◌, map, length, All, EachIndex, IsTrue, IfOk, OnOk, IfErr};
+ghost use Rattle.std.specs.BTreeSet.{contains};
+ghost use Rattle.std.specs.List.{enumerate_from};
+ghost use Rattle.parfield.specs.HashOrder.{id_cmp};
+ghost use Rattle.parshelf.specs.Reads.{ReadsOnly};
+ghost use Rattle.parwindow.specs.Index.{slice_set_of};
+ghost use Rattle.parfind.specs.Steps.{scan_of};
+ghost use Rattle.parfind.specs.Handed.{HandsEachOnce};
+ghost use Rattle.parfind.specs.Surveys.{is_sighted, mark_of, StopsOnceFound};
+ghost use Rattle.parreport.specs.Files.{FilesLeave};
+ghost use Rattle.parreport.specs.Findings.{need_of, is_settled, can_be_found};
+
+use crate::states::faults::FilesFault;
+use parfield::Hash16;
+use parfind::survey;
+use parset::{RecoverySet, SetSlice};
+use parshelf::Shelf;
+use parwindow::Index;
+use std::alloc::{AllocError, Global};
+use std::collections::BTreeSet;
+
+/// Which slices are found: those of these files, and those that have a sighting. Files are searched
+/// until each slice of another file that has its sums is found; where none is left to be found so,
+/// nothing is read.
+pub fn found_slices<Q: Shelf>(
+    alloc: Global,
+    set: &RecoverySet,
+    whole: &BTreeSet<Hash16>,
+    shelf: &mut Q,
+) -> Result<Vec<bool>, FilesFault>
+
+    // On a steady shelf.
+    ensures found { IsTrue (Q.state shelf.old).is_steady → IfOk result (λ found. found.items
+        ≡ map (λ slice. contains id_cmp whole.now slice.1.id || is_sighted
+        (scan_of (slice_set_of set.now.size set.now.slices) (Q.state shelf.old)) slice.0)
+        (enumerate_from 0 set.now.slices)) }
+    ensures stops { IsTrue (Q.state shelf.old).is_steady → StopsOnceFound
+        (slice_set_of set.now.size set.now.slices) (Q.state shelf.old) (Q.state shelf.new)
+        (map (is_settled whole.now) set.now.slices) }
+
+    // On any shelf.
+    ensures slices { IfOk result (λ found. length found.items ≡ length set.now.slices) }
+    ensures handed { HandsEachOnce (Q.state shelf.old) (Q.state shelf.new) }
+    ensures none { All (λ slice. IsTrue (is_settled whole.now slice)) set.now.slices →
+        Q.state shelf.new ≡ Q.state shelf.old }
+    ensures ok { OnOk result (ReadsOnly (Q.state shelf.old) (Q.state shelf.new)) }
+    ensures fault { IfErr result (FilesLeave (Q.state shelf.old) (Q.state shelf.new)) }
+{
+    let index = Index::new(alloc, set)?;
+    let mut found = settled(alloc, set.slices(), whole)?;
+    survey(alloc, &index, shelf, &mut found)?;
+    take_back(set.slices(), whole, &mut found);
+    Ok(found)
+}
+
+// Marks the slices that need no search: those of these files, and those that none can find.
+fn settled(
+    alloc: Global,
+    slices: &[SetSlice],
+    whole: &BTreeSet<Hash16>,
+) -> Result<Vec<bool>, AllocError>
+    ensures { IfOk result (λ marks. marks.items ≡ map (is_settled whole.now) slices.now) }
+{
+    slices
+        .iter()
+        .map(|slice| whole.contains(&slice.id) || slice.sums.is_none())
+        .collect(alloc)
+}
+
+// Takes the marks back of slices of other files that lack their sums.
+fn take_back(slices: &[SetSlice], whole: &BTreeSet<Hash16>, found: &mut [bool])
+    requires { length found.old ≡ length slices.now }
+    ensures { EachIndex found.new (λ n. mark_of found.new n
+        ≡ (mark_of found.old n && can_be_found whole.now slices.now n)) }
+{
+    for (index, slice) in slices.iter().enumerate() {
+        if slice.sums.is_none() && !whole.contains(&slice.id) {
+            found[index] = false;
+        }
+    }
+}
+
+/// How many slices are not found.
+pub fn need_of(found: &[bool]) -> usize
+    ensures { result ≡ need_of found.now }
+{
+    found.iter().filter(|found| !**found).count()
+}

@@ -1,0 +1,22 @@
+//! The text that each command writes, and the fault where it is not written whole.
+//!
+//! `packets`, `set`, `find` and `verify` have a command each, with its lines in `lines`. `whole_text`
+//! writes a text with its status, `status` is what a run found, `faults` are the faults of a run and
+//! what others become there, and `names` are the names of files.
+
+mod faults;
+mod find;
+mod names;
+mod packets;
+mod set;
+mod status;
+mod verify;
+mod whole_text;
+
+pub(crate) use crate::text::faults::packet_fault;
+pub use crate::text::faults::{Cause, RunFault};
+pub(crate) use crate::text::find::write_find;
+pub(crate) use crate::text::packets::write_packets;
+pub(crate) use crate::text::set::write_set;
+pub use crate::text::status::Status;
+pub(crate) use crate::text::verify::write_verify;

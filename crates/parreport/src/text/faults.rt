@@ -1,0 +1,153 @@
+ghost use Rattle.std.specs.Prelude.{◌≡◌};
+ghost use Rattle.parreport.specs.Faults.{cause_of, packet_fault_of, scanned_fault_of, search_fault_of};
+ghost use Rattle.parreport.specs.declared.text.faults.FindFault.TheVariants as find_fault;
+ghost use Rattle.parreport.specs.declared.text.faults.RunFault.TheVariants as run_fault;
+
+use crate::FilesFault;
+use parfield::Hash16;
+use parset::SetFault;
+use parshelf::{Failed, ReadFault};
+use std::alloc::AllocError;
+use thiserror::Error;
+
+/// Why packets give no recovery set, in the order in which it is tested.
+#[derive(Clone, Copy, Debug, PartialEq, Eq)]
+pub enum Cause {
+    /// There is no usable Main packet, or none of the set that is asked for.
+    NoMain,
+    /// The least recovery ID that has no usable FileDesc packet.
+    NoDesc(Hash16),
+    /// The least recovery ID whose name a smaller recovery ID has.
+    NameTwice(Hash16),
+    /// The files have more than 32,768 slices together.
+    TooManySlices,
+}
+
+/// Why a run wrote no whole text.
+#[derive(Clone, Copy, Debug, PartialEq, Eq, Error)]
+pub enum RunFault {
+    /// The packets give no recovery set.
+    #[error("no usable set")]
+    Set(Cause),
+    /// The packet file of this number, where `packet`, or else the scanned file could not be read.
+    #[error("read fault")]
+    Read {
+        packet: bool,
+        file: u32,
+        fault: ReadFault,
+    },
+    /// The output failed, or took nothing.
+    #[error("write fault")]
+    Write,
+    /// Memory was refused.
+    #[error("out of memory")]
+    Memory,
+    /// The cursor is one in a search for the slices of another set; nothing was written.
+    #[error("cursor of another set")]
+    OtherSet,
+}
+
+/// Why a search did not write all that it was asked for.
+#[derive(Clone, Copy)]
+pub enum FindFault {
+    /// The scanned file of this number could not be read.
+    Read { file: u32, fault: ReadFault },
+    /// The output failed, or took nothing.
+    Write,
+    /// Memory was refused.
+    Memory,
+}
+
+impl From<AllocError> for RunFault {
+    ghost from_gives = { λ _ e. e ≡ run_fault.Memory };
+
+    fn from(_e: AllocError) -> RunFault {
+        RunFault::Memory
+    }
+}
+
+// A sink that failed.
+impl From<Failed> for RunFault {
+    ghost from_gives = { λ _ e. e ≡ run_fault.Write };
+
+    fn from(_e: Failed) -> RunFault {
+        RunFault::Write
+    }
+}
+
+impl From<SetFault> for RunFault {
+    ghost from_gives = { λ why e. e ≡ cause_of why };
+
+    fn from(why: SetFault) -> RunFault {
+        match why {
+            SetFault::NoMain => RunFault::Set(Cause::NoMain),
+            SetFault::NoDesc(id) => RunFault::Set(Cause::NoDesc(id)),
+            SetFault::NameTwice(id) => RunFault::Set(Cause::NameTwice(id)),
+            SetFault::TooManySlices => RunFault::Set(Cause::TooManySlices),
+            SetFault::Memory => RunFault::Memory,
+        }
+    }
+}
+
+// A fault of the scanned files; `packet_fault` is one of the packet files.
+impl From<FilesFault> for RunFault {
+    ghost from_gives = { λ why e. e ≡ scanned_fault_of why };
+
+    fn from(why: FilesFault) -> RunFault {
+        match why {
+            FilesFault::Read { file, fault } => RunFault::Read {
+                packet: false,
+                file,
+                fault,
+            },
+            FilesFault::Memory => RunFault::Memory,
+        }
+    }
+}
+
+/// The fault that it is for a run that the packet files were not all read.
+pub(crate) fn packet_fault(why: FilesFault) -> RunFault
+    ensures { result ≡ packet_fault_of why }
+{
+    match why {
+        FilesFault::Read { file, fault } => RunFault::Read {
+            packet: true,
+            file,
+            fault,
+        },
+        FilesFault::Memory => RunFault::Memory,
+    }
+}
+
+impl From<FindFault> for RunFault {
+    ghost from_gives = { λ why e. e ≡ search_fault_of why };
+
+    fn from(why: FindFault) -> RunFault {
+        match why {
+            FindFault::Read { file, fault } => RunFault::Read {
+                packet: false,
+                file,
+                fault,
+            },
+            FindFault::Write => RunFault::Write,
+            FindFault::Memory => RunFault::Memory,
+        }
+    }
+}
+
+impl From<AllocError> for FindFault {
+    ghost from_gives = { λ _ e. e ≡ find_fault.Memory };
+
+    fn from(_e: AllocError) -> FindFault {
+        FindFault::Memory
+    }
+}
+
+// A sink that failed.
+impl From<Failed> for FindFault {
+    ghost from_gives = { λ _ e. e ≡ find_fault.Write };
+
+    fn from(_e: Failed) -> FindFault {
+        FindFault::Write
+    }
+}

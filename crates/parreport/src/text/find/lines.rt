@@ -1,0 +1,78 @@
+ghost use Rattle.std.specs.Prelude.{◌≡◌, IfOk, string_bytes};
+ghost use Rattle.parreport.specs.FindText.{found_line, line_of_slice, names_of, WritesLine};
+ghost use Rattle.parreport.specs.Lines.{sighting_line, end_line, cursor_line};
+
+use crate::text::faults::FindFault;
+use crate::text::names::scanned_name;
+use parfield::{Hash16, Shown};
+use parfind::{Cursor, Sighting};
+use parplan::Scanned;
+use parset::{RecoverySet, SetSlice};
+use parshelf::{Sink, write_text};
+use std::alloc::{AllocError, Global};
+
+/// Writes the line of a sighting.
+pub fn put_sighting<W: Sink>(
+    alloc: Global,
+    files: &[Scanned],
+    set: &RecoverySet,
+    sighting: Sighting,
+    out: &mut W,
+) -> Result<(), FindFault>
+    ensures { WritesLine (found_line (names_of files.now) set.now sighting) result
+        (W.state out.old) (W.state out.new) }
+{
+    let line = line_of(alloc, files, set, sighting)?;
+    Ok(write_text(out, line.as_bytes())?)
+}
+
+/// Writes the line behind the last sighting.
+#[tactic(auto, unfolding(crate::specs::Lines::end_line))]
+pub fn put_end<W: Sink>(out: &mut W) -> Result<(), FindFault>
+    ensures { WritesLine end_line result (W.state out.old) (W.state out.new) }
+{
+    Ok(write_text(out, b"end\n")?)
+}
+
+/// Writes the line of the cursor to go on from.
+pub fn put_cursor<W: Sink>(
+    alloc: Global,
+    set: Hash16,
+    at: Cursor,
+    out: &mut W,
+) -> Result<(), FindFault>
+    ensures { WritesLine (cursor_line set at) result (W.state out.old) (W.state out.new) }
+{
+    let line = line_behind(alloc, set, at)?;
+    Ok(write_text(out, &line)?)
+}
+
+// The line of a sighting.
+#[tactic(auto, unfolding(crate::specs::Lines::sighting_line))]
+fn line_of(
+    alloc: Global,
+    files: &[Scanned],
+    set: &RecoverySet,
+    sighting: Sighting,
+) -> Result<String, AllocError>
+    ensures { IfOk result (λ line. string_bytes line
+        ≡ found_line (names_of files.now) set.now sighting) }
+{
+    let name = Shown(scanned_name(files, sighting.file as usize));
+    let offset = sighting.offset;
+    match set.slices().get(sighting.slice as usize) {
+        None => Ok(String::new(alloc)),
+        Some(SetSlice { id, number, .. }) => format!(in alloc; "{name} {offset} {id} {number}\n"),
+    }
+}
+
+// The line of the cursor to go on from.
+#[tactic(auto, unfolding(crate::specs::Lines::cursor_line))]
+fn line_behind(alloc: Global, set: Hash16, at: Cursor) -> Result<Vec<u8>, AllocError>
+    ensures { IfOk result (λ line. line.items ≡ cursor_line set at) }
+{
+    let mut line = Vec::from_slice(alloc, b"cursor ")?;
+    line.append(&mut at.text(alloc, set)?)?;
+    line.push(b'\n')?;
+    Ok(line)
+}

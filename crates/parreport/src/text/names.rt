@@ -1,0 +1,25 @@
+ghost use Rattle.std.specs.Prelude.{◌≡◌, slice_index_or, []};
+ghost use Rattle.parreport.specs.FindText.{names_of};
+
+use parfield::Text;
+use parplan::Scanned;
+
+/// The name of a packet file, or nothing where there is no such file.
+pub fn packet_name(names: &[Text], file: u32) -> &[u8]
+    ensures { result.now ≡ slice_index_or names.now file [] }
+{
+    match names.get(file as usize) {
+        Some(name) => name.as_str().as_bytes(),
+        None => b"",
+    }
+}
+
+/// The name of a scanned file, or nothing where there is no such file.
+pub fn scanned_name(files: &[Scanned], file: usize) -> &[u8]
+    ensures { result.now ≡ slice_index_or (names_of files.now) file [] }
+{
+    match files.get(file) {
+        Some(file) => file.name.as_str().as_bytes(),
+        None => b"",
+    }
+}

@@ -1,0 +1,25 @@
+//! Bodies of PAR2 packets: the fields of each, or the first reason why it is not usable.
+//!
+//! From below: `aside` has the reasons, `fields` reads the numbers and hashes of a body. Above them
+//! stands a module for each kind of body: `main_packet`, `description`, `checksums`,
+//! `recovery_slice` and `creator`.
+
+mod aside;
+mod checksums;
+mod creator;
+mod description;
+mod fields;
+mod main_packet;
+mod recovery_slice;
+
+pub use crate::bodies::aside::{Aside, BodyFault};
+pub(crate) use crate::bodies::checksums::{SLICES_LIMIT, checksums_reason};
+pub use crate::bodies::checksums::{Ifsc, ifsc_body};
+pub use crate::bodies::creator::creator_body;
+pub(crate) use crate::bodies::creator::creator_reason;
+pub(crate) use crate::bodies::description::description_reason;
+pub use crate::bodies::description::{Desc, desc_body};
+pub(crate) use crate::bodies::main_packet::main_reason;
+pub use crate::bodies::main_packet::{Main, main_body};
+pub(crate) use crate::bodies::recovery_slice::EXPONENT_LIMIT;
+pub use crate::bodies::recovery_slice::slice_body;

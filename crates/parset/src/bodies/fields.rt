@@ -1,0 +1,54 @@
+ghost use Rattle.std.specs.Prelude.{◌≡◌, ◌+◌, ◌≤◌, length, slice_range};
+ghost use Rattle.parfield.specs.Bytes.{le_value};
+ghost use Rattle.parset.specs.Bodies.{hash_of, without_end_zeros};
+ghost use Rattle.parset.specs.Reasons.{is_over_limit};
+
+use byteorder::{ByteOrder, LittleEndian};
+use parfield::Hash16;
+
+// The most bytes of a body that is kept whole.
+const BODY_LIMIT: usize = 1_048_576;
+
+/// Whether the body has more bytes than are kept.
+pub fn is_over_limit(body: &[u8]) -> bool
+    ensures { result ≡ is_over_limit body.now }
+{
+    body.len() > BODY_LIMIT
+}
+
+/// The hash or the ID in the sixteen bytes from an offset on.
+pub fn hash_at(bytes: &[u8], at: usize) -> Hash16
+    requires { at + 16 ≤ length bytes.now }
+    ensures { result ≡ hash_of (slice_range bytes.now at (at + 16)) }
+{
+    let mut hash = [0; 16];
+    hash.copy_from_slice(&bytes[at..at + 16]);
+    Hash16(hash)
+}
+
+/// The little-endian number in the eight bytes from an offset on.
+pub fn u64_at(bytes: &[u8], at: usize) -> u64
+    requires { at + 8 ≤ length bytes.now }
+    ensures { result ≡ le_value (slice_range bytes.now at (at + 8)) }
+{
+    LittleEndian::read_u64(&bytes[at..at + 8])
+}
+
+/// The little-endian number in the four bytes from an offset on.
+pub fn u32_at(bytes: &[u8], at: usize) -> u32
+    requires { at + 4 ≤ length bytes.now }
+    ensures { result ≡ le_value (slice_range bytes.now at (at + 4)) }
+{
+    LittleEndian::read_u32(&bytes[at..at + 4])
+}
+
+/// The bytes without the zero bytes at their end.
+pub fn trimmed(bytes: &[u8]) -> &[u8]
+    ensures { result.now ≡ without_end_zeros bytes.now }
+{
+    let mut end = bytes.len();
+    while end > 0 && bytes[end - 1] == 0 {
+        end -= 1;
+    }
+    &bytes[..end]
+}

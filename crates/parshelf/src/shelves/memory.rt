@@ -1,0 +1,126 @@
+ghost use Rattle.std.specs.Prelude.{◌≡◌, ◌+◌, ◌-◌, ◌<◌, ◌≤◌, ◌^◌, ◌↔◌, min, sum, length, take, drop, map, slice_index, All, Contains, IsErr, IfOk, OnErr, vec_len};
+
+use crate::shelves::shelf::Shelf;
+use crate::sinks::Failed;
+use parfield::Counts;
+
+/// Files in memory, of which certain reads fail.
+#[derive(Drop)]
+pub struct MemShelf {
+    files: Vec<Vec<u8>>,
+    piece: usize,
+    failing: Vec<u64>,
+    calls: u64,
+    handed: u64,
+    failures_by_file: Counts,
+    early_ends_by_file: Counts,
+    handed_by_file: Counts,
+    ghost few: { length files.items < 2 ^ 32 },
+    ghost short: { All (λ file. length file.items < 2 ^ 63) files.items },
+    ghost has_piece: { 0 < piece },
+    ghost failures_each: { length failures_by_file.counts ≡ length files.items },
+    ghost early_ends_each: { length early_ends_by_file.counts ≡ length files.items },
+    ghost handed_each: { length handed_by_file.counts ≡ length files.items },
+    ghost handed_total: { handed ≡ min (sum handed_by_file.counts) (2 ^ 64 - 1) },
+}
+
+impl MemShelf {
+    ghost use Rattle.parshelf.specs.Memory.{unread_over, shelf_state_of, piece_of, failing_of, read_number_of};
+
+    /// Files that are read at most `piece` bytes at a time, and the numbers of the reads that fail.
+    /// Reads are numbered from 1, over all files.
+    #[tactic(auto, using(crate::proofs::MemoryLaws::maps))]
+    pub fn new(files: Vec<Vec<u8>>, piece: usize, failing: Vec<u64>) -> MemShelf
+        requires few { vec_len files < 2 ^ 32 }
+        requires short { All (λ file. length file.items < 2 ^ 63) files.items }
+        requires piece { 0 < piece }
+
+        ensures state { shelf_state_of result ≡ unread_over (map (λ file. file.items) files.items) }
+        ensures piece { piece_of result ≡ piece }
+        ensures failing { failing_of result ≡ failing.items }
+        ensures number { read_number_of result ≡ 0 }
+    {
+        let count = files.len();
+        MemShelf {
+            files,
+            piece,
+            failing,
+            calls: 0,
+            handed: 0,
+            failures_by_file: Counts::new(count),
+            early_ends_by_file: Counts::new(count),
+            handed_by_file: Counts::new(count),
+        }
+    }
+
+    /// How many bytes the shelf has handed over, at most the greatest `u64`.
+    pub fn handed(&self) -> u64
+        ensures { result ≡ min (sum (shelf_state_of self.now).handed) (2 ^ 64 - 1) }
+    {
+        self.handed
+    }
+}
+
+impl Shelf for MemShelf {
+    ghost use Rattle.parshelf.specs.Shelf.{after_read, failed_in, bytes_at};
+    ghost use Rattle.parshelf.specs.Memory.{shelf_state_of, piece_of, failing_of, read_number_of, shelf_state_of-IsShelf};
+
+    ghost state = { shelf_state_of };
+
+    fn count(&self) -> u32 {
+        self.files.len() as u32
+    }
+
+    fn length(&self, file: u32) -> u64 {
+        self.files[file as usize].len() as u64
+    }
+
+    #[tactic(auto, using(parfield::specs::Added::added, crate::proofs::MemoryLaws::maps))]
+    fn read_at(&mut self, file: u32, offset: u64, buf: &mut [u8]) -> Result<usize, Failed>
+        requires { file < length (shelf_state_of self.old).lengths }
+
+        // As every shelf, and it is a steady one.
+        ensures ok { IfOk result (λ n.
+            shelf_state_of self.new
+            ≡ after_read (shelf_state_of self.old) file offset (length buf.old) n) }
+        ensures failed { OnErr result
+            (shelf_state_of self.new ≡ failed_in (shelf_state_of self.old) file) }
+        ensures bytes { IfOk result (λ n.
+            take n buf.new ≡ bytes_at (shelf_state_of self.old) file offset n) }
+
+        // Which reads fail, and how much the others give.
+        ensures number { read_number_of self.new ≡ min (read_number_of self.old + 1) (2 ^ 64 - 1) }
+        ensures failing { IsErr result ↔ Contains (failing_of self.old) (read_number_of self.new) }
+        ensures piece { IfOk result (λ n. n ≡ min (min (piece_of self.old) (length buf.old))
+            (slice_index (shelf_state_of self.old).lengths file - offset)) }
+        ensures same_piece { piece_of self.new ≡ piece_of self.old }
+        ensures same_failing { failing_of self.new ≡ failing_of self.old }
+    {
+        self.calls = self.calls.saturating_add(1);
+        if self.failing.contains(&self.calls) {
+            self.failures_by_file.add_at(file, 1);
+            return Err(Failed);
+        }
+        let bytes = self.files[file as usize].as_slice();
+        let size = copy_piece(bytes, offset, self.piece, buf);
+        self.handed_by_file.add_at(file, size as u64);
+        self.handed = self.handed.saturating_add(size as u64);
+        Ok(size)
+    }
+
+    ghost in_order = { shelf_state_of-IsShelf };
+}
+
+// Puts the bytes from an offset on, at most `piece` of them, at the front of `buf`.
+fn copy_piece(bytes: &[u8], offset: u64, piece: usize, buf: &mut [u8]) -> usize
+    ensures size { result ≡ min (min piece (length buf.old)) (length bytes.now - offset) }
+    ensures bytes { take result buf.new ≡ take result (drop offset bytes.now) }
+{
+    if offset >= bytes.len() as u64 {
+        return 0;
+    }
+    let rest = &bytes[offset as usize..];
+    let size = piece.min(buf.len()).min(rest.len());
+    buf[..size].copy_from_slice(&rest[..size]);
+    size
+}

@@ -1,0 +1,114 @@
+ghost use Rattle.std.specs.Prelude.{◌≡◌, ◌+◌, ◌<◌, ◌≤◌, ◌↔◌, length, slice_index, IsTrue, OnOk, IfOk, IfErr};
+ghost use Rattle.md5.specs.Md5.{md5};
+ghost use Rattle.parshelf.specs.Shelf.{handed_over, bytes_at, file_of, failure_count, early_end_count};
+ghost use Rattle.parshelf.specs.Reads.{FaultsWithin};
+
+use crate::shelves::shelf::Shelf;
+use crate::sinks::Failed;
+use md5::{Digest, Md5};
+use parfield::Hash16;
+
+/// Why a part of a file could not be read.
+#[derive(Clone, Copy, Debug, PartialEq, Eq)]
+pub enum ReadFault {
+    /// A read failed.
+    Failed,
+    /// A read gave no byte before the file's length.
+    Ended,
+}
+
+/// Fills `buf` with a file's bytes from an offset on. After a fault the content of `buf` is open.
+pub fn fill<H: Shelf>(
+    shelf: &mut H,
+    file: u32,
+    offset: u64,
+    buf: &mut [u8],
+) -> Result<(), ReadFault>
+    requires file { file < length (H.state shelf.old).lengths }
+    requires within { offset + length buf.old ≤ slice_index (H.state shelf.old).lengths file }
+
+    ensures ok { OnOk result
+        (H.state shelf.new ≡ handed_over (H.state shelf.old) file (length buf.old)) }
+    ensures bytes { IsTrue (H.state shelf.old).is_steady →
+        OnOk result (buf.new ≡ bytes_at (H.state shelf.old) file offset (length buf.old)) }
+
+    // There is one failure or early end at most, and none is passed over.
+    ensures fault { IfErr result
+        (FaultsWithin (H.state shelf.old) (H.state shelf.new) file (length buf.old)) }
+    ensures failed { (result ≡ Err ReadFault.Failed)
+        ↔ (failure_count (H.state shelf.old) < failure_count (H.state shelf.new)) }
+    ensures ended { (result ≡ Err ReadFault.Ended)
+        ↔ (early_end_count (H.state shelf.old) < early_end_count (H.state shelf.new)) }
+{
+    let mut done = 0;
+    while done < buf.len() {
+        match shelf.read_at(file, offset + done as u64, &mut buf[done..]) {
+            Ok(0) => return Err(ReadFault::Ended),
+            Ok(n) => done += n,
+            Err(Failed) => return Err(ReadFault::Failed),
+        }
+    }
+    Ok(())
+}
+
+// How many bytes of a file are hashed at a time. Larger pieces are no faster, and their array is
+// filled with zeros at each call.
+const PIECE: usize = 32_768;
+
+/// The MD5 of a whole file.
+pub fn digest_of<H: Shelf>(shelf: &mut H, file: u32) -> Result<Hash16, ReadFault>
+    requires { file < length (H.state shelf.old).lengths }
+
+    ensures ok { OnOk result (H.state shelf.new
+        ≡ handed_over (H.state shelf.old) file (slice_index (H.state shelf.old).lengths file)) }
+    ensures digest { IsTrue (H.state shelf.old).is_steady →
+        IfOk result (λ hash. hash.0 ≡ md5 (file_of (H.state shelf.old) file)) }
+
+    // There is one failure or early end at most, and none is passed over.
+    ensures fault { IfErr result (FaultsWithin (H.state shelf.old) (H.state shelf.new) file
+        (slice_index (H.state shelf.old).lengths file)) }
+    ensures failed { (result ≡ Err ReadFault.Failed)
+        ↔ (failure_count (H.state shelf.old) < failure_count (H.state shelf.new)) }
+    ensures ended { (result ≡ Err ReadFault.Ended)
+        ↔ (early_end_count (H.state shelf.old) < early_end_count (H.state shelf.new)) }
+{
+    let end = shelf.length(file);
+    let mut buffer = [0; PIECE];
+    digest_of_part(shelf, file, 0, end, &mut buffer)
+}
+
+/// The MD5 of a part of a file, which is read into `buffer` piece by piece.
+pub fn digest_of_part<H: Shelf>(
+    shelf: &mut H,
+    file: u32,
+    offset: u64,
+    size: u64,
+    buffer: &mut [u8],
+) -> Result<Hash16, ReadFault>
+    requires file { file < length (H.state shelf.old).lengths }
+    requires within { offset + size ≤ slice_index (H.state shelf.old).lengths file }
+    requires buffer { 0 < length buffer.old }
+
+    ensures ok { OnOk result (H.state shelf.new ≡ handed_over (H.state shelf.old) file size) }
+    ensures digest { IsTrue (H.state shelf.old).is_steady →
+        IfOk result (λ hash. hash.0 ≡ md5 (bytes_at (H.state shelf.old) file offset size)) }
+
+    // There is one failure or early end at most, and none is passed over.
+    ensures fault { IfErr result (FaultsWithin (H.state shelf.old) (H.state shelf.new) file size) }
+    ensures failed { (result ≡ Err ReadFault.Failed)
+        ↔ (failure_count (H.state shelf.old) < failure_count (H.state shelf.new)) }
+    ensures ended { (result ≡ Err ReadFault.Ended)
+        ↔ (early_end_count (H.state shelf.old) < early_end_count (H.state shelf.new)) }
+{
+    let room = buffer.len() as u64;
+    let mut hasher = Md5::new();
+    let mut done = 0;
+    while done < size {
+        let next = (size - done).min(room) as usize;
+        let piece = &mut buffer[..next];
+        fill(shelf, file, offset + done, piece)?;
+        hasher.update(&*piece);
+        done += next as u64;
+    }
+    Ok(Hash16(hasher.finalize()))
+}

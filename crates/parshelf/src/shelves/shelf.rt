@@ -1,0 +1,40 @@
+ghost use Rattle.std.specs.Prelude.{◌≡◌, ◌<◌, ◌≤◌, ◌^◌, length, take, slice_index, IsTrue, IfOk, OnErr};
+ghost use Rattle.parshelf.specs.Shelf.{ShelfState, IsShelf, after_read, failed_in, bytes_at};
+
+use crate::sinks::Failed;
+
+/// Files that are read by number, the first being 0.
+pub trait Shelf {
+    /// The lengths, what was counted so far, and the content where it is a fixed one.
+    ghost state: { Self → ShelfState };
+
+    /// How many files there are.
+    fn count(&self) -> u32
+        ensures { result ≡ length (state self.now).lengths };
+
+    /// The length of a file in bytes.
+    fn length(&self, file: u32) -> u64
+        requires { file < length (state self.now).lengths }
+        ensures value { result ≡ slice_index (state self.now).lengths file }
+        ensures bound { result < 2 ^ 63 };
+
+    /// Reads a file from an offset on into the front of `buf`, and gives the number of bytes read.
+    /// After a failure the content of `buf` is open.
+    fn read_at(&mut self, file: u32, offset: u64, buf: &mut [u8]) -> Result<usize, Failed>
+        requires { file < length (state self.old).lengths }
+
+        // One count of this file changes, and nothing else.
+        ensures ok { IfOk result (λ n.
+            state self.new ≡ after_read (state self.old) file offset (length buf.old) n) }
+        ensures failed { OnErr result (state self.new ≡ failed_in (state self.old) file) }
+
+        ensures bound { IfOk result (λ n. n ≤ length buf.old) }
+        ensures bytes { IsTrue (state self.old).is_steady →
+            IfOk result (λ n. take n buf.new ≡ bytes_at (state self.old) file offset n) }
+        ensures end { IsTrue (state self.old).is_steady →
+            IfOk result (λ n. n ≡ 0 → 0 < length buf.old
+            → slice_index (state self.old).lengths file ≤ offset) };
+
+    /// What holds of every shelf.
+    ghost in_order: { (shelf : Self) → IsShelf (state shelf) };
+}

@@ -1,0 +1,12 @@
+//! What a text is written to: `sink` has the trait, `memory` and `writer` the two that there are, and
+//! `writing` how a text is written to any of them.
+
+mod memory;
+mod sink;
+mod writer;
+mod writing;
+
+pub use crate::sinks::memory::MemSink;
+pub use crate::sinks::sink::{Failed, Sink};
+pub use crate::sinks::writer::WriteSink;
+pub use crate::sinks::writing::{write_block, write_text};

@@ -1,0 +1,86 @@
+ghost use Rattle.std.specs.Prelude.{◌≡◌, ◌+◌, ◌<◌, ◌≤◌, ◌↔◌, min, length, take, IfOk, OnErr, IsErr, false, vec_len};
+
+use crate::sinks::sink::{Failed, Sink};
+use parfield::Tally;
+use std::alloc::{AllocError, Global};
+
+/// A sink in memory, with room for so many bytes.
+#[derive(Drop)]
+pub struct MemSink {
+    buffer: Vec<u8>,
+    used: usize,
+    piece: usize,
+    zero: bool,
+    failures: Tally,
+    ghost within: { used ≤ vec_len buffer },
+    ghost has_piece: { 0 < piece },
+}
+
+impl MemSink {
+    ghost use Rattle.parshelf.specs.SinkState.{empty_sink};
+    ghost use Rattle.parshelf.specs.MemorySink.{memory_sink_state, room_of, piece_of, takes_zero};
+
+    /// A sink that takes `room` bytes, at most `piece` a call. With no room left it takes 0 bytes
+    /// of a part that is not empty where `zero`, else it fails.
+    pub fn new(alloc: Global, room: usize, piece: usize, zero: bool) -> Result<MemSink, AllocError>
+        requires { 0 < piece }
+        ensures state { IfOk result (λ sink. memory_sink_state sink ≡ empty_sink) }
+        ensures room { IfOk result (λ sink. room_of sink ≡ room) }
+        ensures piece { IfOk result (λ sink. piece_of sink ≡ piece) }
+        ensures zero { IfOk result (λ sink. takes_zero sink ≡ zero) }
+    {
+        Ok(MemSink {
+            buffer: vec![in alloc; 0; room]?,
+            used: 0,
+            piece,
+            zero,
+            failures: Tally::new(),
+        })
+    }
+
+    /// The bytes written to it.
+    pub fn text(&self) -> &[u8]
+        ensures { result.now ≡ (memory_sink_state self.now).bytes }
+    {
+        &self.buffer[..self.used]
+    }
+}
+
+impl Sink for MemSink {
+    ghost use Rattle.parshelf.specs.SinkState.{appended, refused};
+    ghost use Rattle.parshelf.specs.MemorySink.{memory_sink_state, room_of, piece_of, takes_zero};
+
+    ghost state = { memory_sink_state };
+
+    fn put(&mut self, part: &[u8]) -> Result<usize, Failed>
+        ensures bound { IfOk result (λ n. n ≤ length part.now) }
+        ensures taken { IfOk result (λ n. 0 < n
+            → memory_sink_state self.new
+            ≡ appended (memory_sink_state self.old) (take n part.now)) }
+        ensures nothing { IfOk result (λ _. length part.now ≡ 0
+            → memory_sink_state self.new ≡ memory_sink_state self.old) }
+        ensures full { IfOk result (λ n. n ≡ 0 → 0 < length part.now
+            → memory_sink_state self.new ≡ refused (memory_sink_state self.old)) }
+        ensures failed { OnErr result
+            (memory_sink_state self.new ≡ refused (memory_sink_state self.old)) }
+
+        ensures size { IfOk result (λ n. n
+            ≡ min (min (length part.now) (piece_of self.old)) (room_of self.old)) }
+        ensures room { IfOk result (λ n. room_of self.new + n ≡ room_of self.old) }
+        ensures fails { IsErr result
+            ↔ ((room_of self.old ≡ 0) × (0 < length part.now) × (takes_zero self.old ≡ false)) }
+        ensures same_piece { piece_of self.new ≡ piece_of self.old }
+        ensures same_zero { takes_zero self.new ≡ takes_zero self.old }
+    {
+        let rest = self.buffer.len() - self.used;
+        if rest == 0 && !part.is_empty() {
+            self.failures.add(1);
+            return if self.zero { Ok(0) } else { Err(Failed) };
+        }
+        let size = part.len().min(self.piece).min(rest);
+        let end = self.used + size;
+        self.buffer[self.used..end].copy_from_slice(&part[..size]);
+        self.used = end;
+        Ok(size)
+    }
+}

@@ -1,0 +1,24 @@
+ghost use Rattle.std.specs.Prelude.{◌≡◌, ◌<◌, ◌≤◌, length, take, IfOk, OnErr};
+ghost use Rattle.parshelf.specs.SinkState.{SinkState, appended, refused};
+
+/// A read or a write that failed.
+#[derive(Clone, Copy, Debug, PartialEq, Eq)]
+pub struct Failed;
+
+/// A place that bytes are written to.
+pub trait Sink {
+    /// The bytes written to it, and how often it refused some.
+    ghost state: { Self → SinkState };
+
+    /// Writes some first bytes of `part`, and gives their number.
+    fn put(&mut self, part: &[u8]) -> Result<usize, Failed>
+        ensures bound { IfOk result (λ n. n ≤ length part.now) }
+        ensures taken { IfOk result (λ n. 0 < n
+            → state self.new ≡ appended (state self.old) (take n part.now)) }
+
+        // Nothing is taken of an empty part; nothing taken of another is a failure.
+        ensures nothing { IfOk result (λ _. length part.now ≡ 0 → state self.new ≡ state self.old) }
+        ensures full { IfOk result (λ n. n ≡ 0 → 0 < length part.now
+            → state self.new ≡ refused (state self.old)) }
+        ensures failed { OnErr result (state self.new ≡ refused (state self.old)) };
+}

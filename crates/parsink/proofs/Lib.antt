@@ -1,2 +1,0 @@
-pub mod BlockLaws
-pub mod FrontLaws

@@ -1,4 +1,0 @@
-pub mod Blocks
-pub mod MemorySink
-pub mod SinkState
-pub mod WriterSink

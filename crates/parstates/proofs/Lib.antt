@@ -1,5 +1,0 @@
-pub mod ContentLaws
-pub mod CountLaws
-pub mod LengthLaws
-pub mod StateLaws
-pub mod SumLaws

@@ -1,9 +1,0 @@
-use Rattle.std.proofs.Common.{◌∙◌}
-use Rattle.std.specs.BTreeSet.{contains}
-use Rattle.std.specs.Ordering.{nat_cmp}
-use Rattle.parstates.proofs.LengthLaws.{there_after}
-use Rattle.parstates.proofs.contents.add_length.Goals as goal
-
-pub returns : goal.returns
-returns c n =
-    c.in_ok-insert.ensures.updates.0 n ∙ there_after c.args.length n (contains nat_cmp c.args.lengths.now n)

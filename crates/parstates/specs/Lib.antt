@@ -1,4 +1,0 @@
-pub mod Contents
-pub mod Files
-pub mod Findings
-pub mod States

@@ -1,3 +1,0 @@
-pub mod FindLaws
-pub mod ListingLaws
-pub mod RunLaws

@@ -1,9 +1,0 @@
-pub mod Faults
-pub mod FindText
-pub mod Lines
-pub mod Listing
-pub mod Outcomes
-pub mod PacketsText
-pub mod Report
-pub mod SetText
-pub mod VerifyText

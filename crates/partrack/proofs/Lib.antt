@@ -1,4 +1,0 @@
-pub mod FetchedLaws
-pub mod FittingLaws
-pub mod TrackLaws
-pub mod SlideLaws

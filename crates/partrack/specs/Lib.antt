@@ -1,9 +1,0 @@
-pub mod Fetched
-pub mod Fitting
-pub mod Tracks
-pub use Rattle.parshelf.specs.Reads
-pub use Rattle.parshelf.specs.Shelf
-pub use Rattle.parwindow.specs.Crc32
-pub use Rattle.parwindow.specs.Index
-pub use Rattle.parwindow.specs.Least
-pub use Rattle.parwindow.specs.Missing

@@ -1,5 +1,0 @@
-use Rattle.std.proofs.Common.{rules}
-use Rattle.parwords.proofs.files.scanned_file.Goals as goal
-
-pub returns : goal.returns
-returns c = search rules steps 1000000

@@ -1,5 +1,0 @@
-use Rattle.std.proofs.Common.{rules}
-use Rattle.parwords.proofs.words.files_given.Goals as goal
-
-pub returns-in-Some-2-clause-few : goal.returns-in-Some-2-clause-few
-returns-in-Some-2-clause-few c = search rules

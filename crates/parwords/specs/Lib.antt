@@ -1,6 +1,0 @@
-pub mod FileWords
-pub mod Grammar
-pub mod Limit
-pub mod Matches
-pub mod Options
-pub mod Plans
