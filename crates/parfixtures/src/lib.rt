@@ -4,7 +4,6 @@
 #![tactic(auto)]
 
 mod bytes;
-mod places;
 mod sets;
 mod shelves;
 mod standing;
@@ -13,7 +12,6 @@ mod types;
 mod worked;
 
 pub use crate::bytes::{inverted, joined};
-pub use crate::places::{START, Spot, cursor, sighting};
 pub use crate::sets::{set_of, set_with};
 pub use crate::shelves::{file_of, shelf_of};
 pub use crate::standing::{Standing, all_standing, field, packet_of};

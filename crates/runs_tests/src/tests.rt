@@ -7,6 +7,7 @@ mod large;
 mod listing;
 mod parts;
 mod reads;
+mod surface;
 mod verifying;
 mod whole_rows;
 mod words;

@@ -1,4 +1,6 @@
+mod cursors;
 mod drives;
 mod fixtures;
+mod places;
 mod searches;
 mod windows;

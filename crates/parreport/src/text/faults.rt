@@ -3,7 +3,7 @@ ghost use Rattle.parreport.specs.Faults.{cause_of, packet_fault_of, scanned_faul
 ghost use Rattle.parreport.specs.declared.text.faults.FindFault.TheVariants as find_fault;
 ghost use Rattle.parreport.specs.declared.text.faults.RunFault.TheVariants as run_fault;
 
-use crate::FilesFault;
+use crate::states::FilesFault;
 use parfield::Hash16;
 use parset::SetFault;
 use parshelf::{Failed, ReadFault};

@@ -5,13 +5,13 @@ ghost use Rattle.parreport.specs.Report.{report_with_set, verify_report};
 ghost use Rattle.parreport.specs.VerifyText.{status_by, text_by};
 ghost use Rattle.parplan.specs.declared.command.Command.TheVariants as command;
 
+use crate::states::{Findings, findings_on};
 use crate::text::faults::RunFault;
 use crate::text::set::asked_set;
 use crate::text::status::Status;
 use crate::text::verify::lines::put_verify;
 use crate::text::verify::status::status_by;
 use crate::text::whole_text::write_whole;
-use crate::{Findings, findings_on};
 use parplan::{Plan, Scanned};
 use parsalvage::Kept;
 use parset::RecoverySet;

@@ -1,5 +1,4 @@
-// Fields, cursors and shelves.
-mod cursors;
+// Fields and shelves.
 mod fields;
 mod shelves;
 

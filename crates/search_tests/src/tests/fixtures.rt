@@ -2,8 +2,9 @@
 // in memory, and how values are compared.
 ghost use Rattle.std.specs.Prelude.{◌≡◌, Ok};
 
+use crate::tests::places::{Spot, cursor, sighting};
 use parfind::{Cursor, Step};
-use parfixtures::{Spot, cursor, set_of, set_with, shelf_of, sighting};
+use parfixtures::{set_of, set_with, shelf_of};
 use parset::{RecoverySet, SetFault};
 use parshelf::{MemShelf, ReadFault};
 use parwindow::Index;

@@ -6,12 +6,12 @@ ghost use Rattle.parshelf.specs.Blocks.{block, Waits};
 ghost use Rattle.parreport.specs.Listing.{Breaks};
 ghost use Rattle.parreport.specs.VerifyText.{state_line, counted_line, complete_line, renamed_line, damaged_line, missing_line, need_line, result_line, status_word, states_text, result_text, text_by};
 
+use crate::states::{Findings, State, count_at, found_counts};
 use crate::text::faults::RunFault;
 use crate::text::names::scanned_name;
 use crate::text::set::lines::push_set;
 use crate::text::status::Status;
 use crate::text::verify::status::status_by;
-use crate::{Findings, State, count_at, found_counts};
 use parfield::{Hash16, Shown};
 use parplan::Scanned;
 use parset::{RecoverySet, SetFile};

@@ -3,8 +3,8 @@ ghost use Rattle.std.specs.List.{list_all};
 ghost use Rattle.parreport.specs.States.{is_complete};
 ghost use Rattle.parreport.specs.VerifyText.{status_of, status_by};
 
+use crate::states::{Findings, State};
 use crate::text::status::Status;
-use crate::{Findings, State};
 use parset::RecoverySet;
 
 /// The status that the findings come to.

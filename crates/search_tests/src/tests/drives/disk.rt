@@ -1,7 +1,7 @@
 // Drives over a file on a disk.
 use crate::tests::drives::driven;
 use crate::tests::fixtures::{index_of, is, must};
-use parfixtures::{START, cursor};
+use crate::tests::places::{START, cursor};
 use parshelf::DiskShelf;
 use parwindow::Index;
 use std::fs::{File, Files};

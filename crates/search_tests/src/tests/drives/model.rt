@@ -4,8 +4,9 @@ ghost use Rattle.parfind.specs.Runs.{HasBudget};
 
 use crate::tests::drives::FAILED;
 use crate::tests::fixtures::{holds, index_of, is, must};
+use crate::tests::places::{cursor, sighting};
 use parfind::{Answer, Call, Cursor, Drive, Step, drive};
-use parfixtures::{cursor, shelf_of, sighting};
+use parfixtures::shelf_of;
 use parshelf::MemShelf;
 use std::alloc::{AllocError, Global};
 use std::process::Abort;

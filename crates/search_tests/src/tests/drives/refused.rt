@@ -4,8 +4,9 @@ ghost use Rattle.parfind.specs.Runs.{HasBudget};
 
 use crate::tests::drives::{are_told, behind, call_on, calls_of};
 use crate::tests::fixtures::{Search, cursor_of, index_of, is, must, part};
+use crate::tests::places::{START, Spot, cursor};
 use parfind::{Answer, Call, Cursor, Drive, drive};
-use parfixtures::{START, Spot, cursor, file_of};
+use parfixtures::file_of;
 use parshelf::MemShelf;
 use parwindow::Index;
 use std::panic::Expect;

@@ -1,8 +1,8 @@
-use super::is;
-use crate::runs::is_same;
+// Texts of cursors.
+use crate::tests::fixtures::is;
+use crate::tests::places::cursor;
 use parfield::Hash16;
 use parfind::{Cursor, CursorFault, read_cursor, split_cursor};
-use parfixtures::cursor;
 use std::process::Abort;
 use std::test::Fail;
 
@@ -66,13 +66,8 @@ static TEXTS: [&[u8]; 17] = [
 
 // Wants that no cursor can be read from a text.
 fn is_refused(rt: &impl Abort, text: &[u8]) {
-    is_same(rt, &text, &split_cursor(text), &None);
-    is_same(
-        rt,
-        &text,
-        &read_cursor(text, ZEROS),
-        &Err(CursorFault::Form),
-    );
+    is(rt, &split_cursor(text), &None);
+    is(rt, &read_cursor(text, ZEROS), &Err(CursorFault::Form));
 }
 
 #[test]
