@@ -1,6 +1,6 @@
 //! Tests of the plans of words, and of `packets`, `set`, `find` and `verify` over files in memory, of
-//! reads and writes that fail in turn, of long texts, of files on disk and of ends; and those of
-//! `parcount`, `parfield`, `parcursor`, and `parshelf` with `parsink`.
+//! reads and writes that fail in turn, of long texts, of files on disk and of ends; those of
+//! `parfield` and `parshelf`; and each public call of the libraries by its path.
 #![tactic(auto)]
 
 #[cfg(test)]

@@ -1,5 +1,5 @@
-//! Tests of `parwindow`, `parfind` and `pardrive`. A check of tests proves their crate anew, so they
-//! stand in a crate of their own.
+//! Tests of `parwindow` and `parfind`. A check of tests proves their crate anew, so they stand in a
+//! crate of their own.
 #![tactic(auto)]
 
 #[cfg(test)]
