@@ -44,7 +44,7 @@ checks: build
 # SIZE=large, on those whose ratios count. It needs Debian's par2, keeps its sets in $PARV_BENCH
 # (/tmp/parv-bench) and is no test. PARV=/path measures another program, and builds none.
 bench: $(if $(filter file,$(origin PARV)),build)
-	@PYTHONDONTWRITEBYTECODE=1 PARV=$(PARV) tools/bench.py $(SIZE)
+	@PYTHONDONTWRITEBYTECODE=1 PARV=$(PARV) tools/bench/bench.py $(SIZE)
 
 check:
 	rt all check

@@ -6,9 +6,9 @@ cd "$work" || exit 1
 
 PYTHONPATH=$tools python3 - << 'END'
 import random
-from hostile_cost import set_of
-from hostile_packets import desc_of, ids_of, sums_of
-from vectors import main_body
+from bench.hostile_cost import set_of
+from hostile.hostile_packets import desc_of, ids_of, sums_of
+from make.vectors import main_body
 
 def write(name, data):
     with open(name, "wb") as out:

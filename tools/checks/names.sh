@@ -9,7 +9,7 @@ cd "$work/below" || exit 1
 one_file() {
     PYTHONPATH=$tools PYTHONDONTWRITEBYTECODE=1 python3 - "$1" << 'END'
 import os, sys
-from vectors import SLICE_SIZE, desc_body, file_id, ifsc_body, main_body, md5, packet
+from make.vectors import SLICE_SIZE, desc_body, file_id, ifsc_body, main_body, md5, packet
 name, content = os.fsencode(sys.argv[1]), b"abcdefgh"
 main = main_body(SLICE_SIZE, [file_id(name, content)])
 bodies = [("main", main), ("filedesc", desc_body(name, content)),
@@ -60,10 +60,10 @@ result complete" "" "$parv" verify that.par2 "$name"
     rm "$name"
 done
 
-"$tools/packet_files.py" sets > made || exit 1
+"$tools/make/packet_files.py" sets > made || exit 1
 : > $'../g\n.bin'
 wants "an empty file whose name has a line feed is missing" 1 \
-    "$("$tools/describe_set.py" sets/many_packets.par2 | sed -n 1p)
+    "$("$tools/models/describe_set.py" sets/many_packets.par2 | sed -n 1p)
 missing ../g\\x0a.bin 0/0
 need 0 have 2
 result possible" "" "$parv" verify sets/many_packets.par2

@@ -6,11 +6,11 @@
 # there may be none, and then nothing is run. The other tests, whose refusals are tried on the built program, give
 # back what they take.
 . "$(dirname "$0")/wants.sh"
-gcc -shared -fPIC -O1 -o "$work/disturb.so" "$tools/disturb.c" -ldl || fails "no compiler"
+gcc -shared -fPIC -O1 -o "$work/disturb.so" "$tools/disturb/disturb.c" -ldl || fails "no compiler"
 while IFS='|' read -r crate mode word told; do
     tests=$top/crates/$crate/out/${crate}_tests
     if [ -x "$tests" ]; then
-        "$tools/refuse_tests.py" "$work/disturb.so" "$mode" "$tests" "$word" ${told:+"$told"} || failed=1
+        "$tools/disturb/refuse_tests.py" "$work/disturb.so" "$mode" "$tests" "$word" ${told:+"$told"} || failed=1
     elif [ -n "${GATE:-}" ]; then
         fails "there is no $tests"
     else

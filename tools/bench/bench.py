@@ -25,10 +25,11 @@ import tempfile
 import time
 from typing import NamedTuple
 
-from bench_sets import INDEX, OTHER, SHAPES, data_files, packet_files, sets_of, size_text
+sys.path[0] = os.path.dirname(os.path.dirname(os.path.realpath(__file__)))  # tools/, where imports begin
 
-HERE = os.path.dirname(os.path.abspath(__file__))
-PARV = os.path.abspath(os.environ.get("PARV") or os.path.join(HERE, "../crates/parv/out/parv"))
+from bench.bench_sets import INDEX, OTHER, SHAPES, data_files, packet_files, sets_of, size_text
+from hostile.runs import PARV
+
 ROOT = os.path.abspath(os.environ.get("PARV_BENCH") or "/tmp/parv-bench")
 ROUNDS = {"small": 3, "large": 5}
 LIMIT = {"small": 3, "large": 60}

@@ -7,10 +7,13 @@ Each FILE gets COUNT packets of every kind. Their bodies have up to 1,500 bytes,
 recovery slice, which has 300,000; one packet in eight is broken: a byte of it is another.
 """
 
+import os
 import random
 import sys
 
-from vectors import TYPES, md5, packet
+sys.path[0] = os.path.dirname(os.path.dirname(os.path.realpath(__file__)))  # tools/, where imports begin
+
+from make.vectors import TYPES, md5, packet
 
 KINDS = [*TYPES, "other"]
 

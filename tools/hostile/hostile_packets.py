@@ -7,7 +7,7 @@ at a bound, or beside it.
 import struct
 import zlib
 
-from vectors import MAGIC, TYPES, file_id, filled, main_body, md5, slices
+from make.vectors import MAGIC, TYPES, file_id, filled, main_body, md5, slices
 
 K32, K63, K64 = 1 << 32, 1 << 63, 1 << 64
 MOST, LIMIT = 32768, 1048576

@@ -17,7 +17,10 @@ import subprocess
 import sys
 import tempfile
 
-PARV = os.path.join(os.path.dirname(os.path.abspath(__file__)), "../crates/parv/out/parv")
+sys.path[0] = os.path.dirname(os.path.dirname(os.path.realpath(__file__)))  # tools/, where imports begin
+
+from hostile.runs import PARV
+
 VERDICTS = {0: "complete", 1: "possible", 2: "impossible", 4: "no set"}
 SIZES = [512, 65536, 1048576]
 # Lengths, and below the places of damage, are those of slices of 512 bytes; larger ones multiply them.

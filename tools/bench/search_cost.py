@@ -18,10 +18,11 @@ import subprocess
 import sys
 import zlib
 
-from vectors import main_body, md5, packet
+sys.path[0] = os.path.dirname(os.path.dirname(os.path.realpath(__file__)))  # tools/, where imports begin
 
-HERE = os.path.dirname(os.path.abspath(__file__))
-PARV = os.path.abspath(os.environ.get("PARV") or os.path.join(HERE, "../crates/parv/out/parv"))
+from hostile.runs import PARV
+from make.vectors import main_body, md5, packet
+
 KIB, MIB = 1 << 10, 1 << 20
 SIZES = [4, 64, KIB, 64 * KIB, MIB, 16 * MIB, 256 * MIB]
 COUNTS = [1, 256, 32768]

@@ -11,7 +11,9 @@ import os
 import struct
 import sys
 
-from vectors import (CONTENT, NAME, SLICE_SIZE, TYPES, desc_body, file_id, ifsc_body, main_body, md5, packet,
+sys.path[0] = os.path.dirname(os.path.dirname(os.path.realpath(__file__)))  # tools/, where imports begin
+
+from make.vectors import (CONTENT, NAME, SLICE_SIZE, TYPES, desc_body, file_id, ifsc_body, main_body, md5, packet,
                      recvslic_body, slices, filled)
 import zlib
 
@@ -244,7 +246,7 @@ def literal(data):
 
 def write_archive(folder, module, name_of_all, what, files):
     """The packet files as one byte string in a source file, and each in a file of its own."""
-    lines = [f"// {what}, as tools/packet_files.py writes them.", "",
+    lines = [f"// {what}, as tools/make/packet_files.py writes them.", "",
              "/// Of each packet file a line with its name and how many bytes it has, and then those.",
              f'pub static {name_of_all}: &[u8] = b"\\']
     for name, data in files.items():

@@ -4,7 +4,7 @@
 # takes some three minutes, and is no part of the gate, which takes a .rt file in a crate alone.
 set -euo pipefail
 here=$(cd "$(dirname "$0")" && pwd)
-crates=$(cd "$here/../../crates" && pwd)
+crates=$(cd "$here/../../../crates" && pwd)
 kit=$(dirname "$(dirname "$(readlink -f "$(command -v rt)")")")
 room=$(mktemp -d)
 trap 'rm -rf "$room"' EXIT

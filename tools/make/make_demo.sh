@@ -3,7 +3,7 @@
 # volume. Needs par2 (Debian package par2) and python3. demo/README.md is kept by hand.
 set -euo pipefail
 
-demo=$(cd "$(dirname "$0")/.." && pwd)/demo
+demo=$(cd "$(dirname "$0")/../.." && pwd)/demo
 work=$(mktemp -d)
 trap 'rm -rf "$work"' EXIT
 cd "$work"

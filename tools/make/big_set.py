@@ -13,7 +13,9 @@ import struct
 import sys
 import zlib
 
-from vectors import main_body, md5, packet
+sys.path[0] = os.path.dirname(os.path.dirname(os.path.realpath(__file__)))  # tools/, where imports begin
+
+from make.vectors import main_body, md5, packet
 
 
 def main():

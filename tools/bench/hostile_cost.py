@@ -13,14 +13,17 @@ names    Names of 4,096 bytes that are shown by 16,384 each, and one long name o
 PARV is the program (crates/parv/out/parv). A run is stopped after 1,000 seconds.
 """
 
+import os
 import shutil
 import struct
 import sys
 import zlib
 
-from hostile_packets import desc_of, ids_of, numbers, packet_of
-from runs import PARV, Runner, as_text
-from vectors import MAGIC, main_body, md5
+sys.path[0] = os.path.dirname(os.path.dirname(os.path.realpath(__file__)))  # tools/, where imports begin
+
+from hostile.hostile_packets import desc_of, ids_of, numbers, packet_of
+from hostile.runs import PARV, Runner, as_text
+from make.vectors import MAGIC, main_body, md5
 
 KIB, MIB = 1 << 10, 1 << 20
 GREATEST = 268435456
