@@ -58,9 +58,8 @@ steps verify -q v.par2 x.bin
 # to scan, in 4 MiB more than the least. Nor are bodies held more than once that lie in one another.
 few=$((least + 4096))
 PYTHONPATH=$tools python3 - << 'END'
-from bench.hostile_cost import nested_creators, set_of
-from hostile.hostile_packets import desc_of
-from make.vectors import main_body, packet
+from hostile.hostile_packets import nested_creators
+from make.packets import desc_body, main_body, packet, set_of
 owner, content = bytes(16), bytes(64 << 20)
 with open("large.par2", "wb") as file:
     file.write(packet(owner, "recvslic", bytes(4) + content))
@@ -69,7 +68,7 @@ with open("sparse.par2", "wb") as file:
 with open("zeros.bin", "wb") as file:
     file.truncate(len(content))
 with open("zeros.par2", "wb") as file:
-    file.write(set_of(main_body(65536, [owner]), ("filedesc", desc_of(owner, b"zeros.bin", content))))
+    file.write(set_of(main_body(65536, [owner]), ("filedesc", desc_body(owner, b"zeros.bin", content))))
 with open("nested.par2", "wb") as file:
     file.write(nested_creators(128 << 10))
 END

@@ -42,7 +42,7 @@ gives "the packets of a set of 32,768 files" 0 wanted "" "$parv" packets full/*.
 PYTHONPATH=$tools python3 - << 'END'
 import random
 from make.packet_files import DESC_OF_G, G_SET, MAIN_OF_G, SUMS_OF_G
-from make.vectors import packet, recvslic_body
+from make.packets import packet, recvslic_body
 exponents = [*range(25535, 65545), *range(30000, 32000)]
 random.Random(1).shuffle(exponents)
 with open("exponents.par2", "wb") as out:
@@ -96,14 +96,12 @@ counts "two sightings and the end" 3 3 writes find v.par2 x.bin
 # 8 MiB are 2,048 pieces of 4,096 bytes for the search of slices, 129 of 65,536 for that of packets, of which
 # two share seven bytes, and 256 of 32,768 for an MD5; beside them a packet file is read.
 PYTHONPATH=$tools python3 - << 'END'
-from bench.hostile_cost import set_of
-from hostile.hostile_packets import desc_of
-from make.vectors import main_body
+from make.packets import desc_body, main_body, set_of
 owner, content = bytes(16), bytes(8 << 20)
 with open("zeros.bin", "wb") as out:
     out.write(content)
 with open("zeros.par2", "wb") as out:
-    out.write(set_of(main_body(65536, [owner]), ("filedesc", desc_of(owner, b"zeros.bin", content))))
+    out.write(set_of(main_body(65536, [owner]), ("filedesc", desc_body(owner, b"zeros.bin", content))))
 with open("padded.par2", "wb") as out:
     out.write(content)
 END

@@ -6,8 +6,8 @@ and are cut, changed, repeated, laid over and put into one another. A hash that 
 made anew more often than not, so that a change comes as far as what reads the bodies.
 """
 
-from hostile.hostile_packets import K32, K63, K64, OTHER_TYPES, md5, numbers, packets_of, some_bytes
-from make.vectors import MAGIC, TYPES
+from hostile.hostile_packets import K32, K63, K64, OTHER_TYPES, packets_of, some_bytes
+from make.packets import MAGIC, TYPES, md5, numbers
 
 LENGTHS = [0, 4, 60, 62, 64, 65, 66, 68, K32 - 4, K32, K32 + 64, K32 + 128, K63 - 4, K63, K63 + 64,
            K64 - 64, K64 - 4, K64 - 1]

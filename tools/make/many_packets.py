@@ -13,9 +13,9 @@ import sys
 
 sys.path[0] = os.path.dirname(os.path.dirname(os.path.realpath(__file__)))  # tools/, where imports begin
 
-from make.vectors import TYPES, md5, packet
+from make.packets import TYPES, md5, packet
 
-KINDS = [*TYPES, "other"]
+KINDS = [*TYPES, b"PAR 2.0\0Another\0"]
 
 
 def written(name, number, chance):
@@ -30,7 +30,6 @@ def written(name, number, chance):
 
 def main():
     count, names = int(sys.argv[1]), sys.argv[2:]
-    TYPES["other"] = b"PAR 2.0\0Another\0"
     for name in names:
         chance = random.Random(name)
         with open(name, "wb") as out:
