@@ -13,6 +13,7 @@ import sys
 
 sys.path[0] = os.path.dirname(os.path.dirname(os.path.realpath(__file__)))  # tools/, where imports begin
 
+from make.damage import flip
 from make.packets import TYPES, md5, packet
 
 KINDS = [*TYPES, b"PAR 2.0\0Another\0"]
@@ -24,7 +25,7 @@ def written(name, number, chance):
     size = 300_000 if number == KINDS.index("recvslic") else 4 * chance.randrange(376)
     data = bytearray(packet(md5(name.encode()), kind, chance.randbytes(size)))
     if chance.randrange(8) == 0:
-        data[chance.randrange(len(data))] ^= 1 << chance.randrange(8)
+        flip(data, chance.randrange(len(data)), bits=1 << chance.randrange(8))
     return bytes(data)
 
 
