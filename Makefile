@@ -38,9 +38,8 @@ checks: build
 
 # Processor time of the program against that of par2's, case by case, on small sets or, with
 # SIZE=large, on those whose ratios count. It needs Debian's par2, keeps its sets in $PARV_BENCH
-# (/tmp/parv-bench) and is no test. PARV=/path measures another program, and builds none. With
-# BEFORE=/path, another parv runs in turn with them: its ratios, those of the two, whether both
-# answer alike.
+# (/tmp/parv-bench) and is no test. PARV=/path measures another program, and builds none.
+# BEFORE=/path has another parv run in turn with them: it is measured too, and must answer alike.
 bench: $(if $(filter file,$(origin PARV)),build)
 	@PYTHONDONTWRITEBYTECODE=1 PARV="$(PARV)" BEFORE="$(BEFORE)" tools/bench/bench.py $(SIZE)
 
