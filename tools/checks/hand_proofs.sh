@@ -3,7 +3,7 @@
 # lists were read, as they are, with the one definition that a clause of theirs names (`added_at`), and there
 # is no other at any depth of a crate's proofs.
 cd "$(dirname "$0")/../.." || exit 1
-found=$({ find crates/*/proofs -name Proof.antt -print0; printf '%s\0' crates/parcount/specs/Added.antt; } \
+found=$({ find crates/*/proofs -name Proof.antt -print0; printf '%s\0' crates/parfield/specs/Added.antt; } \
     | LC_ALL=C sort -z | xargs -0 -r sha256sum)
 if [ "$found" = "$(cat tools/checks/hand_proofs.txt)" ]; then
     echo "ok: no proof by hand but those that were read"

@@ -1,5 +1,5 @@
 #!/usr/bin/env bash
-# Each allocation of each test of five libraries, and of some tests of two others, is refused in turn: a test
+# Each allocation of each test of parwindow and parfind, and of some tests of others, is refused in turn: a test
 # passes, or it fails by want of memory, and where what it says then is named, some test says it. With `later`
 # all that come behind are refused too.
 # A crate of tests has its own name before the _tests of its program. The gate leaves these programs; elsewhere
@@ -25,7 +25,6 @@ packets_tests|one|bodies_up_to
 runs_tests|none
 runs_tests|one|names_are_shown
 runs_tests|one|::shelves::
-runs_tests|one|::cursors::
 search_tests|one||OutOfMemory before the first call,NoMemory told at a reopening,NoMemory told at a first reopening
 search_tests|later|equal_slices
 END
