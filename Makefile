@@ -8,10 +8,6 @@ CRATE ?= parv
 SIZE ?= small
 PARV = crates/parv/out/parv
 
-# The prover keeps what memory it was given until it ends: giving back and taking anew costs 3 to
-# 10 % of a check's processor time. (Its allocator is mimalloc.)
-export MIMALLOC_PURGE_DELAY ?= -1
-
 .PHONY: demo build test checks bench check try plant mustfail format install uninstall
 
 # Builds the proved program and runs it on a real damaged set. Its log is out/demo.log.
@@ -43,8 +39,9 @@ checks: build
 # Processor time of the program against that of par2's, case by case, on small sets or, with
 # SIZE=large, on those whose ratios count. It needs Debian's par2, keeps its sets in $PARV_BENCH
 # (/tmp/parv-bench) and is no test. PARV=/path measures another program, and builds none.
+# BEFORE=/path has another parv run in turn with them: it is measured too, and must answer alike.
 bench: $(if $(filter file,$(origin PARV)),build)
-	@PYTHONDONTWRITEBYTECODE=1 PARV=$(PARV) tools/bench.py $(SIZE)
+	@PYTHONDONTWRITEBYTECODE=1 PARV="$(PARV)" BEFORE="$(BEFORE)" tools/bench/bench.py $(SIZE)
 
 check:
 	rt all check

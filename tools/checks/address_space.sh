@@ -5,7 +5,7 @@
 cd "$work" || exit 1
 cp "$top/crates/parv/data/v.par2" v.par2
 printf 'XXabcdefgh' > x.bin
-"$tools/many_packets.py" 400 many.par2
+"$tools/make/many_packets.py" 400 many.par2
 
 # The exit status under a limit of so many KiB.
 limited() {
@@ -58,9 +58,8 @@ steps verify -q v.par2 x.bin
 # to scan, in 4 MiB more than the least. Nor are bodies held more than once that lie in one another.
 few=$((least + 4096))
 PYTHONPATH=$tools python3 - << 'END'
-from hostile_cost import nested_creators, set_of
-from hostile_packets import desc_of
-from vectors import main_body, packet
+from hostile.hostile_packets import nested_creators
+from make.packets import desc_body, main_body, packet, set_of
 owner, content = bytes(16), bytes(64 << 20)
 with open("large.par2", "wb") as file:
     file.write(packet(owner, "recvslic", bytes(4) + content))
@@ -69,7 +68,7 @@ with open("sparse.par2", "wb") as file:
 with open("zeros.bin", "wb") as file:
     file.truncate(len(content))
 with open("zeros.par2", "wb") as file:
-    file.write(set_of(main_body(65536, [owner]), ("filedesc", desc_of(owner, b"zeros.bin", content))))
+    file.write(set_of(main_body(65536, [owner]), ("filedesc", desc_body(owner, b"zeros.bin", content))))
 with open("nested.par2", "wb") as file:
     file.write(nested_creators(128 << 10))
 END
@@ -77,12 +76,12 @@ in_few=(sh -c 'ulimit -v "$0" && exec "$@"' $few "$parv")
 wants "a recovery slice of 64 MiB in $few KiB" 0 "large.par2 0 67108932 recvslic 00000000000000000000000000000000
 packets 1" "" "${in_few[@]}" packets large.par2
 wants "a file of 1 GiB in $few KiB" 0 "packets 0" "" "${in_few[@]}" packets sparse.par2
-{ "$tools/describe_set.py" zeros.par2 | grep '^set'; printf '%s\n' "complete zeros.bin" "need 0 have 0" \
+{ "$tools/models/describe_set.py" zeros.par2 | grep '^set'; printf '%s\n' "complete zeros.bin" "need 0 have 0" \
     "result complete"; } > wanted
 gives "the verdict on 64 MiB in $few KiB" 0 wanted "" "${in_few[@]}" verify zeros.par2 zeros.bin
 wants "no slice in 64 MiB in $few KiB" 0 end "" "${in_few[@]}" find zeros.par2 zeros.bin
-"$tools/list_packets.py" nested.par2 > wanted
+"$tools/models/list_packets.py" nested.par2 > wanted
 gives "packets in one another in $few KiB" 0 wanted "" "${in_few[@]}" packets nested.par2
-"$tools/describe_set.py" nested.par2 > wanted
+"$tools/models/describe_set.py" nested.par2 > wanted
 gives "a set of packets in one another in $few KiB" 0 wanted "" "${in_few[@]}" set nested.par2
 exit $failed

@@ -6,9 +6,7 @@ cd "$work" || exit 1
 
 PYTHONPATH=$tools python3 - << 'END'
 import random
-from hostile_cost import set_of
-from hostile_packets import desc_of, ids_of, sums_of
-from vectors import main_body
+from make.packets import desc_body, ids_of, ifsc_body, main_body, set_of
 
 def write(name, data):
     with open(name, "wb") as out:
@@ -17,7 +15,7 @@ def write(name, data):
 def whole_set(name, size, *files):
     ids = ids_of(len(files), 1)
     bodies = [body for owner, (of, content) in zip(ids, files)
-              for body in (("filedesc", desc_of(owner, of, content)), ("ifsc", sums_of(owner, content, size)))]
+              for body in (("filedesc", desc_body(owner, of, content)), ("ifsc", ifsc_body(owner, content, size)))]
     write(name, set_of(main_body(size, ids), *bodies))
 
 # 16,384 slices of zeros, 16,383 of ones, and one that stands nowhere; runs of both in turn.
@@ -34,7 +32,7 @@ write("tail", b"x" * 5000 + bytes(60000))
 # 32,768 slices of 64 bytes, and others.
 chance = random.Random(1)
 owner, length = bytes(16), 64 * 32768
-write("many.par2", set_of(main_body(64, [owner]), ("filedesc", desc_of(owner, b"many", b"", length)),
+write("many.par2", set_of(main_body(64, [owner]), ("filedesc", desc_body(owner, b"many", b"", length)),
                           ("ifsc", owner + chance.randbytes(20 * 32768))))
 write("random", chance.randbytes(64 << 20))
 END

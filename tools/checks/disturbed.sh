@@ -2,14 +2,14 @@
 # Runs that are disturbed at each place in turn, and that each end leaves nothing behind: openings, reads and
 # writes that fail, and files that end while they are read. (Memory that is refused: refused.sh.)
 . "$(dirname "$0")/disturbing.sh"
-"$tools/packet_files.py" sets > made || exit 1
+"$tools/make/packet_files.py" sets > made || exit 1
 printf 'abcdXXXX' > z.bin
 
 # A disturbance that ends runs, and the lines that it must have made, each once and in this order.
 names() {
     local named=$1 line
     shift
-    line=$("$tools/disturb.sh" "$@")
+    line=$("$tools/disturb/disturb.sh" "$@")
     case $line in
     "ok: "*": parv ${*:2}$named") echo "$line" ;;
     *) fails "it should name$named: $line" ;;
@@ -29,7 +29,7 @@ about() {
 }
 
 reads "$(about v.par2 w.par2)" packets v.par2 w.par2
-"$tools/many_packets.py" 240 long.par2 || exit 1
+"$tools/make/many_packets.py" 240 long.par2 || exit 1
 reads "$(about long.par2 v.par2)" packets long.par2 v.par2
 reads "$(about v.par2 w.par2)" set v.par2 w.par2
 reads "$(about v.par2 w.par2 x.bin y.bin)" find v.par2 x.bin w.par2 y.bin

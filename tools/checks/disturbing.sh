@@ -9,5 +9,5 @@ printf 'abcdefgh' > y.bin
 export DISTURB=$work/disturb.so
 
 disturb() {
-    "$tools/disturb.sh" "$@" || failed=1
+    "$tools/disturb/disturb.sh" "$@" || failed=1
 }

@@ -48,7 +48,7 @@ head -c 300000 /dev/zero > 'disc image'
 { cat "$demo/beach.raw"; printf 'x'; tail -c 9001 "$demo/harbour.raw"; } >> 'disc image'
 cat "$demo/tower.raw" "$demo/notes.txt" >> 'disc image'
 words=("$demo/photos.par2" 'disc image' "$demo/notes.txt")
-"$tools/find_slices.py" "${words[@]}" > wanted
+"$tools/models/find_slices.py" "${words[@]}" > wanted
 sed -i '$d' wanted
 [ "$(wc -l < wanted)" -gt 25 ] || fails "there is little to find"
 for limit in 7 1000; do

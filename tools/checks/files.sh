@@ -34,7 +34,7 @@ cannot "a FIFO" fifo.par2 packets fifo.par2
 cannot "a device" zero.par2 packets zero.par2
 cannot "a broken link" broken.par2 packets broken.par2
 cannot "a folder behind files that are open" folder.par2 packets v.par2 link.par2 folder.par2
-"$tools/list_packets.py" link.par2 > linked
+"$tools/models/list_packets.py" link.par2 > linked
 gives "a link to a file" 0 linked "" "$parv" packets link.par2
 deep=$(printf 'none\t/%.0s' $(seq 650))
 cannot "a path of 3,909 bytes, each tab of which is shown by four" \

@@ -1,11 +1,11 @@
 #!/usr/bin/env bash
-# A proof by hand can claim anything of the data that only contracts see: those that tools/hand_proofs.txt
+# A proof by hand can claim anything of the data that only contracts see: those that hand_proofs.txt
 # lists were read, as they are, with the one definition that a clause of theirs names (`added_at`), and there
 # is no other at any depth of a crate's proofs.
 cd "$(dirname "$0")/../.." || exit 1
-found=$({ find crates/*/proofs -name Proof.antt -print0; printf '%s\0' crates/parcount/specs/Added.antt; } \
+found=$({ find crates/*/proofs -name Proof.antt -print0; printf '%s\0' crates/parfield/specs/Added.antt; } \
     | LC_ALL=C sort -z | xargs -0 -r sha256sum)
-if [ "$found" = "$(cat tools/hand_proofs.txt)" ]; then
+if [ "$found" = "$(cat tools/checks/hand_proofs.txt)" ]; then
     echo "ok: no proof by hand but those that were read"
 else
     echo "FAILED: proofs by hand: $found"

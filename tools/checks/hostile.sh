@@ -5,6 +5,6 @@
 cd "$work" || exit 1
 export PARV=$parv PYTHONDONTWRITEBYTECODE=1
 
-"$tools/hostile.py" --seed "${SEED:-1}" --cases "${HOSTILE:-2000}" --jobs "$(nproc)" || failed=1
-"$tools/fuzz.py" --seed "${SEED:-1}" --cases "${FUZZED:-1000}" || failed=1
+"$tools/hostile/hostile.py" --seed "${SEED:-1}" --cases "${HOSTILE:-2000}" --jobs "$(nproc)" || failed=1
+"$tools/hostile/fuzz.py" --seed "${SEED:-1}" --cases "${FUZZED:-1000}" || failed=1
 exit $failed

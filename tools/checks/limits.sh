@@ -5,8 +5,8 @@
 . "$(dirname "$0")/wants.sh"
 cd "$work" || exit 1
 
-"$tools/many_packets.py" 6000 long.par2
-"$tools/list_packets.py" long.par2 > wanted
+"$tools/make/many_packets.py" 6000 long.par2
+"$tools/models/list_packets.py" long.par2 > wanted
 if [ "$(stat -c %s long.par2)" -gt 5000000 ] && [ "$(wc -l < wanted)" -gt 5000 ]; then
     echo "ok: a packet file of $(stat -c %s long.par2) bytes has $(tail -n 1 wanted)"
 else
@@ -16,33 +16,33 @@ gives "the packets of a large file" 0 wanted "" "$parv" packets long.par2
 
 files=()
 for i in $(seq 100); do files+=("few$i.par2"); done
-"$tools/many_packets.py" 4 "${files[@]}"
-"$tools/list_packets.py" "${files[@]}" > wanted
+"$tools/make/many_packets.py" 4 "${files[@]}"
+"$tools/models/list_packets.py" "${files[@]}" > wanted
 gives "the packets of a hundred files" 0 wanted "" "$parv" packets "${files[@]}"
 files=()
 for i in $(seq 300); do files+=("three$i.par2"); done
-"$tools/many_packets.py" 3 "${files[@]}"
-"$tools/list_packets.py" "${files[@]}" > wanted
+"$tools/make/many_packets.py" 3 "${files[@]}"
+"$tools/models/list_packets.py" "${files[@]}" > wanted
 gives "the packets of three hundred files" 0 wanted "" "$parv" packets "${files[@]}"
 
-"$tools/big_set.py" big 3000 2
-"$tools/describe_set.py" big/*.par2 > set
+"$tools/make/big_set.py" big 3000 2
+"$tools/models/describe_set.py" big/*.par2 > set
 gives "a set of 3,000 files" 0 set "" "$parv" set big/*.par2
-"$tools/big_set.py" full 32768 1
-"$tools/describe_set.py" full/*.par2 > wanted
+"$tools/make/big_set.py" full 32768 1
+"$tools/models/describe_set.py" full/*.par2 > wanted
 gives "a set of 32,768 files" 0 wanted "" "$parv" set full/*.par2
 awk '$1 == "set" { print } $1 == "file" { print "missing " $6 " 0/1" }
     $1 == "have" { print "need 32768 have", $2; print "result impossible" }' wanted > states
 gives "the states of 32,768 files, none of them there" 2 states "" "$parv" verify full/*.par2
-"$tools/list_packets.py" full/*.par2 > wanted
+"$tools/models/list_packets.py" full/*.par2 > wanted
 gives "the packets of a set of 32,768 files" 0 wanted "" "$parv" packets full/*.par2
 
 # The set of g.bin with 40,000 recovery slices, no two alike and in no order, of which some stand twice, and
 # some have an exponent above the limit.
 PYTHONPATH=$tools python3 - << 'END'
 import random
-from packet_files import DESC_OF_G, G_SET, MAIN_OF_G, SUMS_OF_G
-from vectors import packet, recvslic_body
+from make.packet_files import DESC_OF_G, G_SET, MAIN_OF_G, SUMS_OF_G
+from make.packets import packet, recvslic_body
 exponents = [*range(25535, 65545), *range(30000, 32000)]
 random.Random(1).shuffle(exponents)
 with open("exponents.par2", "wb") as out:
@@ -50,14 +50,14 @@ with open("exponents.par2", "wb") as out:
     for exponent in exponents:
         out.write(packet(G_SET, "recvslic", recvslic_body(exponent, b"data")))
 END
-"$tools/describe_set.py" exponents.par2 > wanted
+"$tools/models/describe_set.py" exponents.par2 > wanted
 [ "$(grep '^have' wanted)" = "have 40000" ] || fails "the exponents are not as they should be: $(grep '^have' wanted)"
 gives "a set with 40,000 exponents" 0 wanted "" "$parv" set exponents.par2
 wants "the verdict with 40,000 exponents" 1 "need 2 have 40000
 result possible" "" "$parv" verify -q exponents.par2
 
 # Texts are written in blocks of 65,536 bytes as they are made, and a block ends with a line.
-gcc -shared -fPIC -O1 -o disturb.so "$tools/disturb.c" -ldl || exit 1
+gcc -shared -fPIC -O1 -o disturb.so "$tools/disturb/disturb.c" -ldl || exit 1
 in_blocks() {
     local size writes
     rm -f report
@@ -96,14 +96,12 @@ counts "two sightings and the end" 3 3 writes find v.par2 x.bin
 # 8 MiB are 2,048 pieces of 4,096 bytes for the search of slices, 129 of 65,536 for that of packets, of which
 # two share seven bytes, and 256 of 32,768 for an MD5; beside them a packet file is read.
 PYTHONPATH=$tools python3 - << 'END'
-from hostile_cost import set_of
-from hostile_packets import desc_of
-from vectors import main_body
+from make.packets import desc_body, main_body, set_of
 owner, content = bytes(16), bytes(8 << 20)
 with open("zeros.bin", "wb") as out:
     out.write(content)
 with open("zeros.par2", "wb") as out:
-    out.write(set_of(main_body(65536, [owner]), ("filedesc", desc_of(owner, b"zeros.bin", content))))
+    out.write(set_of(main_body(65536, [owner]), ("filedesc", desc_body(owner, b"zeros.bin", content))))
 with open("padded.par2", "wb") as out:
     out.write(content)
 END
@@ -119,7 +117,7 @@ for i in $(seq 0 137 2700); do
     scanned+=("$name")
 done
 { head -c 150000 /dev/zero; cat "${scanned[@]}"; head -c 150001 /dev/zero; cat "${scanned[@]}"; } > long.bin
-"$tools/find_slices.py" big/*.par2 "${scanned[@]}" long.bin > wanted
+"$tools/models/find_slices.py" big/*.par2 "${scanned[@]}" long.bin > wanted
 gives "the slices in ${#scanned[@]} files and in a long one" 0 wanted "" \
     "$parv" find --limit 400000 big/*.par2 "${scanned[@]}" long.bin
 
@@ -143,7 +141,7 @@ for i in $(seq "$many"); do
     others+=("many/$i")
 done
 cp 0000137 "many/$many"
-"$tools/find_slices.py" big/*.par2 "${others[@]}" > wanted
+"$tools/models/find_slices.py" big/*.par2 "${others[@]}" > wanted
 if [ "$(wc -l < wanted)" -eq 2 ]; then
     gives "the last of $many files to scan" 0 wanted "" "$parv" find big/*.par2 "${others[@]}"
     # Its one file is renamed, and each other one is missing.

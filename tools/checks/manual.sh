@@ -108,7 +108,7 @@ example 8 "the names of files with slices" 0 "./a\b c.raw
 ./harbour.raw
 ./tower.raw
 ./disc.img"
-"$tools/find_slices.py" photos.par2 disc.img > ../found
+"$tools/models/find_slices.py" photos.par2 disc.img > ../found
 example 9 "a search from a cursor on" 0 "$(cat ../found; awk '$1 == "end" || $2 > 51200' ../found)"
 sed -i 's/1000/3/' ../examples/10
 example 10 "a search in parts" 0 "$(sed '$d' ../found)"

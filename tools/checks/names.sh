@@ -9,13 +9,12 @@ cd "$work/below" || exit 1
 one_file() {
     PYTHONPATH=$tools PYTHONDONTWRITEBYTECODE=1 python3 - "$1" << 'END'
 import os, sys
-from vectors import SLICE_SIZE, desc_body, file_id, ifsc_body, main_body, md5, packet
+from make.packets import desc_body, file_id, ifsc_body, main_body, md5, set_of
 name, content = os.fsencode(sys.argv[1]), b"abcdefgh"
-main = main_body(SLICE_SIZE, [file_id(name, content)])
-bodies = [("main", main), ("filedesc", desc_body(name, content)),
-          ("ifsc", ifsc_body(name, content, SLICE_SIZE))]
+owner = file_id(name, content)
+main = main_body(4, [owner])
 with open("that.par2", "wb") as out:
-    out.write(b"".join(packet(md5(main), kind, body) for kind, body in bodies))
+    out.write(set_of(main, ("filedesc", desc_body(owner, name, content)), ("ifsc", ifsc_body(owner, content, 4))))
 print(md5(main).hex())
 END
 }
@@ -60,10 +59,10 @@ result complete" "" "$parv" verify that.par2 "$name"
     rm "$name"
 done
 
-"$tools/packet_files.py" sets > made || exit 1
+"$tools/make/packet_files.py" sets > made || exit 1
 : > $'../g\n.bin'
 wants "an empty file whose name has a line feed is missing" 1 \
-    "$("$tools/describe_set.py" sets/many_packets.par2 | sed -n 1p)
+    "$("$tools/models/describe_set.py" sets/many_packets.par2 | sed -n 1p)
 missing ../g\\x0a.bin 0/0
 need 0 have 2
 result possible" "" "$parv" verify sets/many_packets.par2

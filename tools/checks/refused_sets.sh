@@ -2,10 +2,10 @@
 # Allocations that are refused in turn over more sets: a packet inside another, a recovery slice that stands
 # twice and none, places with equal slices, a set of some hundred packets, and that of the demonstration.
 . "$(dirname "$0")/disturbing.sh"
-"$tools/packet_files.py" sets > made || exit 1
+"$tools/make/packet_files.py" sets > made || exit 1
 printf 'abcd' > a.bin
 printf 'aaaaXaaaa' > e.bin
-"$tools/big_set.py" big 40 3 || exit 1
+"$tools/make/big_set.py" big 40 3 || exit 1
 disturb REFUSE packets sets/packet_in_packet.par2
 for words in "" -q "-q -q"; do
     # shellcheck disable=SC2086

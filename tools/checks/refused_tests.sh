@@ -1,16 +1,16 @@
 #!/usr/bin/env bash
-# Each allocation of each test of five libraries, and of some tests of two others, is refused in turn: a test
+# Each allocation of each test of parwindow and parfind, and of some tests of others, is refused in turn: a test
 # passes, or it fails by want of memory, and where what it says then is named, some test says it. With `later`
 # all that come behind are refused too.
 # A crate of tests has its own name before the _tests of its program. The gate leaves these programs; elsewhere
 # there may be none, and then nothing is run. The other tests, whose refusals are tried on the built program, give
 # back what they take.
 . "$(dirname "$0")/wants.sh"
-gcc -shared -fPIC -O1 -o "$work/disturb.so" "$tools/disturb.c" -ldl || fails "no compiler"
+gcc -shared -fPIC -O1 -o "$work/disturb.so" "$tools/disturb/disturb.c" -ldl || fails "no compiler"
 while IFS='|' read -r crate mode word told; do
     tests=$top/crates/$crate/out/${crate}_tests
     if [ -x "$tests" ]; then
-        "$tools/refuse_tests.py" "$work/disturb.so" "$mode" "$tests" "$word" ${told:+"$told"} || failed=1
+        "$tools/disturb/refuse_tests.py" "$work/disturb.so" "$mode" "$tests" "$word" ${told:+"$told"} || failed=1
     elif [ -n "${GATE:-}" ]; then
         fails "there is no $tests"
     else
@@ -25,7 +25,6 @@ packets_tests|one|bodies_up_to
 runs_tests|none
 runs_tests|one|names_are_shown
 runs_tests|one|::shelves::
-runs_tests|one|::cursors::
 search_tests|one||OutOfMemory before the first call,NoMemory told at a reopening,NoMemory told at a first reopening
 search_tests|later|equal_slices
 END

@@ -1,6 +1,6 @@
 // A worked packet file.
 
-/// The set of one file `g.bin` of the bytes `abcdefgh`, in slices of 4 bytes, as `tools/vectors.py`
+/// The set of one file `g.bin` of the bytes `abcdefgh`, in slices of 4 bytes, as `tools/make/vectors.py`
 /// writes it: a Main packet of 92 bytes, a FileDesc packet of 128, an IFSC packet of 120 and a
 /// RecvSlic packet of 76.
 pub static WORKED: [u8; 416] =

@@ -11,7 +11,7 @@ use parfixtures::{CREATOR_TYPE, DESC_TYPE, IFSC_TYPE, MAIN_TYPE, SLICE_TYPE};
 use parset::*;
 use std::process::Abort;
 
-// The set of one file `g.bin` of the bytes `abcdefgh`, in slices of 4 bytes, as `tools/vectors.py`
+// The set of one file `g.bin` of the bytes `abcdefgh`, in slices of 4 bytes, as `tools/make/vectors.py`
 // writes it.
 const SET: Hash16 = Hash16(*b"a|\xdcr\xbaS\xd9O\xe7\x13\xfe\xa2\xae\x18\xf7v");
 

@@ -1,4 +1,4 @@
-// Packets and sets at both sides of limits, as tools/packet_files.py writes them.
+// Packets and sets at both sides of limits, as tools/make/packet_files.py writes them.
 
 /// Of each packet file a line with its name and how many bytes it has, and then those.
 pub static PACKET_EDGES: &[u8] = b"\

@@ -1,4 +1,4 @@
-// Packets, and the set of g.bin, as tools/packet_files.py writes them.
+// Packets, and the set of g.bin, as tools/make/packet_files.py writes them.
 
 /// Of each packet file a line with its name and how many bytes it has, and then those.
 pub static PACKET_FILES: &[u8] = b"\

@@ -1,4 +1,4 @@
-// Sets of other files, as tools/packet_files.py writes them.
+// Sets of other files, as tools/make/packet_files.py writes them.
 
 /// Of each packet file a line with its name and how many bytes it has, and then those.
 pub static PACKET_SETS: &[u8] = b"\

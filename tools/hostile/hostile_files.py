@@ -6,8 +6,9 @@ and are cut, changed, repeated, laid over and put into one another. A hash that 
 made anew more often than not, so that a change comes as far as what reads the bodies.
 """
 
-from hostile_packets import K32, K63, K64, OTHER_TYPES, md5, numbers, packets_of, some_bytes
-from vectors import MAGIC, TYPES
+from hostile.hostile_packets import K32, K63, K64, OTHER_TYPES, packets_of, some_bytes
+from make import damage
+from make.packets import MAGIC, TYPES, md5, numbers
 
 LENGTHS = [0, 4, 60, 62, 64, 65, 66, 68, K32 - 4, K32, K32 + 64, K32 + 128, K63 - 4, K63, K63 + 64,
            K64 - 64, K64 - 4, K64 - 1]
@@ -51,7 +52,7 @@ def other_length(chance, data):
 
 def other_bytes(chance, data):
     for _ in range(chance.choice([1, 1, 2, 5]) if data else 0):
-        data[chance.randrange(len(data))] ^= 1 << chance.randrange(8)
+        damage.flip(data, chance.randrange(len(data)), bits=1 << chance.randrange(8))
 
 
 def other_type(chance, data):
@@ -67,19 +68,18 @@ def other_owner(chance, data):
 
 def cut(chance, data):
     ends = [*places(data), len(data)]
-    del data[max(0, chance.choice([chance.randrange(len(data) + 1), chance.choice(ends) - 1])):]
+    damage.cut(data, max(0, chance.choice([chance.randrange(len(data) + 1), chance.choice(ends) - 1])))
 
 
 def put_in(chance, data):
     at = chance.choice([chance.randrange(len(data) + 1), *places(data)])
     few = chance.randbytes(chance.randrange(1, 9))
     zeros = bytes(chance.randrange(1, 80))
-    data[at:at] = chance.choice([zeros, MAGIC, MAGIC + bytes(8), MAGIC[:-1], few, b"xyz"])
+    damage.insert(data, at, chance.choice([zeros, MAGIC, MAGIC + bytes(8), MAGIC[:-1], few, b"xyz"]))
 
 
 def take_out(chance, data):
-    at = chance.randrange(len(data) + 1)
-    del data[at:at + chance.choice([1, 3, 4, 16, 64])]
+    damage.remove(data, chance.randrange(len(data) + 1), chance.choice([1, 3, 4, 16, 64]))
 
 
 def repeat(chance, data):
@@ -89,7 +89,7 @@ def repeat(chance, data):
     part = data[first:last]
     times = 3000 if len(part) < 200 and chance.randrange(60) == 0 else chance.choice([1, 2, 9])
     if len(part) < 2000:
-        data[last:last] = part * times
+        damage.insert(data, last, part * times)
 
 
 def lay_over(chance, data):
@@ -100,7 +100,7 @@ def lay_over(chance, data):
         length = 64 + 4 * chance.choice([rest, rest, chance.randrange(rest + 1)])
         kind = chance.choice([*TYPES.values(), OTHER_TYPES[1]])
         owner = chance.choice([bytes(data[at + 32:at + 48]).ljust(16, b"\0"), bytes(16)])
-        data[at:at] = MAGIC + numbers(length) + bytes(16) + owner + kind
+        damage.insert(data, at, MAGIC + numbers(length) + bytes(16) + owner + kind)
 
 
 CHANGES = [other_length, other_length, other_bytes, other_type, other_owner, cut, put_in, take_out,

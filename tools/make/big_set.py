@@ -7,13 +7,13 @@ Each of FILES files has one slice of 4 bytes. FOLDER gets VOLUMES packet files, 
 packet, a FileDesc and an IFSC packet of every file, and one recovery slice of its own.
 """
 
-import hashlib
 import os
 import struct
 import sys
-import zlib
 
-from vectors import main_body, md5, packet
+sys.path[0] = os.path.dirname(os.path.dirname(os.path.realpath(__file__)))  # tools/, where imports begin
+
+from make.packets import desc_body, file_id, ifsc_body, main_body, md5, packet, recvslic_body, set_of
 
 
 def main():
@@ -22,19 +22,17 @@ def main():
     ids, bodies = [], []
     for number in range(files):
         content = struct.pack("<I", number)
-        name = b"%07d" % number + b"\0"
-        whole = md5(content)
-        file = md5(whole + struct.pack("<Q", 4) + name[:7])
+        name = b"%07d" % number
+        file = file_id(name, content)
         ids.append(file)
-        bodies.append(("filedesc", file + whole + whole + struct.pack("<Q", 4) + name))
-        bodies.append(("ifsc", file + whole + struct.pack("<I", zlib.crc32(content))))
-    body = main_body(4, ids)
-    owner = hashlib.md5(body).digest()
-    common = packet(owner, "main", body) + b"".join(packet(owner, kind, body) for kind, body in bodies)
+        bodies.append(("filedesc", desc_body(file, name, content)))
+        bodies.append(("ifsc", ifsc_body(file, content, 4)))
+    main = main_body(4, ids)
+    common = set_of(main, *bodies)
     for volume in range(volumes):
         with open(os.path.join(folder, f"big.vol{volume:03d}.par2"), "wb") as out:
             out.write(common)
-            out.write(packet(owner, "recvslic", struct.pack("<I", volume) + b"data"))
+            out.write(packet(md5(main), "recvslic", recvslic_body(volume, b"data")))
 
 
 if __name__ == "__main__":

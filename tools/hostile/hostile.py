@@ -19,12 +19,14 @@ import random
 import sys
 from concurrent.futures import ProcessPoolExecutor
 
-from describe_set import NoSet, description, packets_of, set_of
-from find_slices import line_of, sightings, slices_of
-from hostile_files import case
-from list_packets import listing, shown
-from runs import Runner, as_text
-from tell_states import verdict
+sys.path[0] = os.path.dirname(os.path.dirname(os.path.realpath(__file__)))  # tools/, where imports begin
+
+from hostile.hostile_files import case
+from hostile.runs import Runner, as_text
+from models.describe_set import NoSet, description, packets_of, set_of
+from models.find_slices import line_of, sightings, slices_of
+from models.list_packets import listing, shown
+from models.tell_states import verdict
 
 CHUNK = 100             # cases that one process makes at once
 DEAR = 4 << 20          # bytes of windows that the model hashes in a case; slices may have 256 MiB

@@ -11,35 +11,14 @@ import os
 import struct
 import sys
 
-from vectors import (CONTENT, NAME, SLICE_SIZE, TYPES, desc_body, file_id, ifsc_body, main_body, md5, packet,
-                     recvslic_body, slices, filled)
-import zlib
+sys.path[0] = os.path.dirname(os.path.dirname(os.path.realpath(__file__)))  # tools/, where imports begin
 
-ZEROS = bytes(16)
+from make.packets import (MAGIC, NO_ID, TYPES, desc_body, file_id, ifsc_body, main_body, md5, numbers, packet,
+                          recvslic_body, set_of)
+from make.vectors import CONTENT, NAME, SLICE_SIZE, common_set
+
 GREATEST = (1 << 63) - 1
 LARGE = 1048580
-
-
-def named(body_of_main):
-    """The ID of a set with this Main body."""
-    return md5(body_of_main)
-
-
-def description(owner, name, content=b"", length=None):
-    """The body of a FileDesc packet of any ID, whose length field may not be that of the content."""
-    length = len(content) if length is None else length
-    return owner + md5(content) * 2 + struct.pack("<Q", length) + filled(name, 4)
-
-
-def sums(owner, content):
-    """The body of an IFSC packet of any ID."""
-    pieces = [filled(piece, SLICE_SIZE) for piece in slices(content, SLICE_SIZE)]
-    return owner + b"".join(md5(piece) + struct.pack("<I", zlib.crc32(piece)) for piece in pieces)
-
-
-def set_of(main, *rest):
-    """The packets of a set with this Main body; the rest are pairs of kind and body."""
-    return b"".join(packet(named(main), kind, body) for kind, body in [("main", main), *rest])
 
 
 def whole_set(members, exponents=()):
@@ -47,54 +26,50 @@ def whole_set(members, exponents=()):
     rest = []
     for byte, name, content, known in members:
         owner = bytes([byte]) * 16
-        rest.append(("filedesc", description(owner, name, content)))
+        rest.append(("filedesc", desc_body(owner, name, content)))
         if known:
-            rest.append(("ifsc", sums(owner, content)))
+            rest.append(("ifsc", ifsc_body(owner, content, SLICE_SIZE)))
     rest += [("recvslic", recvslic_body(exponent, b"data")) for exponent in exponents]
     return set_of(main_body(SLICE_SIZE, [bytes([member[0]]) * 16 for member in members]), *rest)
 
 
 def with_length(data, length):
     """The packet with another length field, and the hash that it had."""
-    return data[:8] + struct.pack("<Q", length) + data[16:]
+    return data[:8] + numbers(length) + data[16:]
 
 
 # The set of the one file g.bin, which holds abcdefgh; its recovery slice has 8 bytes and not 4.
 G = file_id(NAME, CONTENT)
 G_MAIN = main_body(SLICE_SIZE, [G])
 G_SET = md5(G_MAIN)
-MAIN_OF_G = packet(G_SET, "main", G_MAIN)
-DESC_OF_G = packet(G_SET, "filedesc", desc_body(NAME, CONTENT))
-SUMS_OF_G = packet(G_SET, "ifsc", ifsc_body(NAME, CONTENT, SLICE_SIZE))
-ODD_SLICE = packet(G_SET, "recvslic", recvslic_body(0, bytes(range(8))))
+MAIN_OF_G, DESC_OF_G, SUMS_OF_G, ODD_SLICE = (data for _, data in common_set())
 WHOLE_G = MAIN_OF_G + DESC_OF_G + SUMS_OF_G + ODD_SLICE
 
-CREATOR = packet(ZEROS, "creator", b"")
+CREATOR = packet(NO_ID, "creator", b"")
 
 
 def listings():
     """Files for `packets`."""
-    second = packet(ZEROS, "creator", b"abcd")
-    TYPES["comment"] = b"PAR 2.0\0CommASCI"
+    second = packet(NO_ID, "creator", b"abcd")
     return {
         "empty": b"",
         "creator": CREATOR,
         "odd_length": with_length(CREATOR, 66) + bytes(2),
         "changed_type": CREATOR[:63] + b"\x01",
-        "packet_in_packet": b"xyz" + packet(ZEROS, "recvslic", recvslic_body(0, CREATOR)),
-        "overlapping": packet(ZEROS, "creator", second[:64]) + second[64:],
-        "behind_magic": b"PAR2\0PKT" + CREATOR,
+        "packet_in_packet": b"xyz" + packet(NO_ID, "recvslic", recvslic_body(0, CREATOR)),
+        "overlapping": packet(NO_ID, "creator", second[:64]) + second[64:],
+        "behind_magic": MAGIC + CREATOR,
         "behind_greatest_length": with_length(CREATOR, 0xFFFFFFFFFFFFFFFC) + CREATOR,
         "behind_wrong_hash": with_length(CREATOR, 128) + CREATOR,
-        "comment": packet(G_SET, "comment", b"text"),
+        "comment": packet(G_SET, b"PAR 2.0\0CommASCI", b"text"),
         "creator_then_g": CREATOR + WHOLE_G,
     }
 
 
 def sets_of_g():
     """The set of g.bin, its beginnings, and what it lacks or has beside it."""
-    other = packet(G_SET, "filedesc", description(G, NAME, b"other", 8))
-    main_of_zeros = packet(ZEROS, "main", main_body(SLICE_SIZE, []))
+    other = packet(G_SET, "filedesc", desc_body(G, NAME, b"other", 8))
+    main_of_zeros = packet(NO_ID, "main", main_body(SLICE_SIZE, []))
     return {
         "g": WHOLE_G,
         "g_to_219": WHOLE_G[:219],
@@ -108,14 +83,14 @@ def sets_of_g():
             G_MAIN + bytes(4),
             main_body(6, [G]),
             main_body(SLICE_SIZE, [G, G]),
-            main_body(SLICE_SIZE, [G], [ZEROS]),
+            main_body(SLICE_SIZE, [G], [NO_ID]),
             main_body(268435460, [G]),
         ]),
         "unusable_others": b"".join(packet(G_SET, kind, body) for kind, body in [
-            ("filedesc", description(G, NAME, CONTENT)[:52]),
-            ("filedesc", description(G, b"g\0bin", CONTENT)),
-            ("filedesc", description(G, NAME, CONTENT, 1 << 63)),
-            ("ifsc", sums(G, CONTENT) + bytes(4)),
+            ("filedesc", desc_body(G, NAME, CONTENT)[:52]),
+            ("filedesc", desc_body(G, b"g\0bin", CONTENT)),
+            ("filedesc", desc_body(G, NAME, CONTENT, 1 << 63)),
+            ("ifsc", ifsc_body(G, CONTENT, SLICE_SIZE) + bytes(4)),
             ("recvslic", recvslic_body(65535, b"data")),
         ]),
         # The front of a packet whose body is LARGE zeros.
@@ -128,13 +103,13 @@ def other_sets():
     """Sets of other files."""
     ones, twos = b"\x01" * 16, b"\x02" * 16
     main_of_ones = main_body(SLICE_SIZE, [ones])
-    lengths = {f"of_length_{name}": set_of(main_of_ones, ("filedesc", description(ones, b"n", b"", length)))
+    lengths = {f"of_length_{name}": set_of(main_of_ones, ("filedesc", desc_body(ones, b"n", b"", length)))
                for name, length in [("131072", 131072), ("131073", 131073), ("greatest", GREATEST)]}
     # IDs compare by their last byte first, and the Main packet has the greater one first.
     smaller, greater = b"\xff" + bytes(14) + b"\x01", b"\x01" + bytes(14) + b"\x02"
     pairs = {name: set_of(main_body(SLICE_SIZE, [greater, smaller]),
-                          ("filedesc", description(greater, second, b"", lengths[1])),
-                          ("filedesc", description(smaller, first, b"", lengths[0])))
+                          ("filedesc", desc_body(greater, second, b"", lengths[1])),
+                          ("filedesc", desc_body(smaller, first, b"", lengths[0])))
              for name, lengths, first, second in [
                  ("greater_id_first", (1, 9), b"a", b"b"),
                  ("one_name", (1, 2), b"n", b"n"),
@@ -143,15 +118,15 @@ def other_sets():
         main_body(SLICE_SIZE, [G], [b"\x07" * 16, b"\x08" * 16]),
         *[("recvslic", recvslic_body(exponent, b"data")) for exponent in [5, 5, 6, 65535]],
         *[("creator", text) for text in [bytes(4), b"a\nb\\", b"later"]],
-        ("filedesc", description(G, b"../g\n.bin", b"")))
+        ("filedesc", desc_body(G, b"../g\n.bin", b"")))
     return {
         "no_files": set_of(main_body(SLICE_SIZE, [])),
         **lengths, **pairs,
         "many_packets": many,
         "one_and_two": set_of(main_body(SLICE_SIZE, [twos, ones]),
-                              ("filedesc", description(ones, b"one", b"abcd")),
-                              ("filedesc", description(twos, b"two", b"efghij")),
-                              ("ifsc", sums(twos, b"efghij"))),
+                              ("filedesc", desc_body(ones, b"one", b"abcd")),
+                              ("filedesc", desc_body(twos, b"two", b"efghij")),
+                              ("ifsc", ifsc_body(twos, b"efghij", SLICE_SIZE))),
         "a_and_b": whole_set([(1, b"a.bin", b"abcd", True), (2, b"b.bin", b"abcdefgh", True)]),
         "a_without_sums": whole_set([(1, b"a.bin", b"abcdef", False)]),
         "a": whole_set([(1, b"a.bin", b"abcdef", True)]),
@@ -163,8 +138,8 @@ def other_sets():
 
 def with_hashed_length(length, count):
     """A header with this length field, and the hash that is right where it has so many bytes behind that."""
-    hashed = ZEROS + TYPES["creator"] + CREATOR
-    return b"PAR2\0PKT" + struct.pack("<Q", length) + md5(hashed[:count]) + hashed[:32]
+    hashed = NO_ID + TYPES["creator"] + CREATOR
+    return MAGIC + numbers(length) + md5(hashed[:count]) + hashed[:32]
 
 
 def edges():
@@ -178,10 +153,10 @@ def edges():
         twice, main_body(SLICE_SIZE, [], [G, G]), main_body(268435460, [G], [G]),
     ]
     others = [
-        ("filedesc", description(G, b"")), ("filedesc", description(G, bytes(4))),
-        ("filedesc", description(G, b"\0abc")), ("filedesc", description(G, b"n", b"", (1 << 64) - 1)),
-        ("filedesc", description(ZEROS, b"n", b"", GREATEST)),
-        ("filedesc", description(G, b"g\0bin", b"", 1 << 63)),
+        ("filedesc", desc_body(G, b"")), ("filedesc", desc_body(G, bytes(4))),
+        ("filedesc", desc_body(G, b"\0abc")), ("filedesc", desc_body(G, b"n", b"", (1 << 64) - 1)),
+        ("filedesc", desc_body(NO_ID, b"n", b"", GREATEST)),
+        ("filedesc", desc_body(G, b"g\0bin", b"", 1 << 63)),
         ("ifsc", G[:12]), ("ifsc", G), ("ifsc", G + bytes(12)), ("ifsc", G + bytes(16)), ("ifsc", G + bytes(20)),
         ("recvslic", b""), ("recvslic", bytes(4)), ("recvslic", recvslic_body(65534, b"data")),
         ("recvslic", recvslic_body(65536, b"data")), ("recvslic", recvslic_body(0xFFFFFFFF, b"data")),
@@ -198,7 +173,7 @@ def edges():
         "greatest_size": set_of(main_body(268435456, [])),
         "no_usable_main": b"".join(map(set_of, unusable)),
         **{f"lengths_{name}": set_of(main_body(SLICE_SIZE, [bytes([at]) * 16 for at in range(1, len(lengths) + 1)]),
-                                     *[("filedesc", description(bytes([at]) * 16, b"%d" % at, b"", length))
+                                     *[("filedesc", desc_body(bytes([at]) * 16, b"%d" % at, b"", length))
                                        for at, length in enumerate(lengths, 1)])
            for name, lengths in [("131068_and_4", [131068, 4]), ("131068_and_5", [131068, 5]),
                                  ("of_32_bits", [1 << 33] * 2), ("of_64_bits", [GREATEST] * 8)]},
@@ -211,7 +186,7 @@ def large_bodies():
     """Large bodies: the kind, the bytes that differ, and those behind them, which tests put there."""
     of_length, over_length = bytes(1048576), bytes(LARGE)
     ids = main_body(SLICE_SIZE, [])
-    letters = description(G, b"")
+    letters = desc_body(G, b"")
     return [
         ("creator_at_limit", "creator", b"", of_length),
         ("main_at_limit", "main", b"", of_length), ("main_above_limit", "main", b"", over_length),
@@ -235,7 +210,7 @@ def literal(data):
             text = chr(byte)
         else:
             text = f"\\x{byte:02x}"
-        if row and (len(row) + len(text) > 88 or data[at:at + 8] == b"PAR2\0PKT"):
+        if row and (len(row) + len(text) > 88 or data[at:at + 8] == MAGIC):
             rows.append(row)
             row = ""
         row += text
@@ -244,7 +219,7 @@ def literal(data):
 
 def write_archive(folder, module, name_of_all, what, files):
     """The packet files as one byte string in a source file, and each in a file of its own."""
-    lines = [f"// {what}, as tools/packet_files.py writes them.", "",
+    lines = [f"// {what}, as tools/make/packet_files.py writes them.", "",
              "/// Of each packet file a line with its name and how many bytes it has, and then those.",
              f'pub static {name_of_all}: &[u8] = b"\\']
     for name, data in files.items():

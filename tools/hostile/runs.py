@@ -11,7 +11,9 @@ import tempfile
 from typing import NamedTuple
 
 HERE = os.path.dirname(os.path.abspath(__file__))
-PARV = os.path.abspath(os.environ.get("PARV") or os.path.join(HERE, "../crates/parv/out/parv"))
+TOOLS = os.path.dirname(HERE)
+TOP = os.path.dirname(TOOLS)
+PARV = os.path.abspath(os.environ.get("PARV") or os.path.join(TOP, "crates/parv/out/parv"))
 WHERE = "/dev/shm" if os.access("/dev/shm", os.W_OK) else None
 
 

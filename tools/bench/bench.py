@@ -10,8 +10,12 @@ and peak memory. Each case is run once before it is measured, to see that it is 
 verdicts, and what parv lists. A case isn't measured where a run would take longer than the limit:
 where parv hashes each window anew, that is told by the smallest set, and such a run isn't begun.
 
-PARV is the program (crates/parv/out/parv), PARV_BENCH the folder that keeps the sets
-(/tmp/parv-bench), ROUNDS the number of rounds, LIMIT the seconds that a run may take.
+With BEFORE, another parv runs in turn with them. Each case then has a second line, of that one beside
+par2, and at the end of the first the processor time of parv by that of the one before. Both must give the
+same text and the same exit status: where they don't, that is told, and the exit status is 1.
+
+PARV is the program (crates/parv/out/parv), BEFORE the other one (none), PARV_BENCH the folder that keeps
+the sets (/tmp/parv-bench), ROUNDS the number of rounds, LIMIT the seconds that a run may take.
 """
 
 import ctypes
@@ -23,12 +27,15 @@ import subprocess
 import sys
 import tempfile
 import time
+from itertools import zip_longest
 from typing import NamedTuple
 
-from bench_sets import INDEX, OTHER, SHAPES, data_files, packet_files, sets_of, size_text
+sys.path[0] = os.path.dirname(os.path.dirname(os.path.realpath(__file__)))  # tools/, where imports begin
 
-HERE = os.path.dirname(os.path.abspath(__file__))
-PARV = os.path.abspath(os.environ.get("PARV") or os.path.join(HERE, "../crates/parv/out/parv"))
+from bench.bench_sets import INDEX, OTHER, SHAPES, data_files, packet_files, sets_of, size_text
+from hostile.runs import PARV
+
+BEFORE = os.path.abspath(os.environ["BEFORE"]) if os.environ.get("BEFORE") else None
 ROOT = os.path.abspath(os.environ.get("PARV_BENCH") or "/tmp/parv-bench")
 ROUNDS = {"small": 3, "large": 5}
 LIMIT = {"small": 3, "large": 60}
@@ -74,6 +81,13 @@ class Run(NamedTuple):
     status: int
 
 
+class Answer(NamedTuple):
+    """What a parv says of a case: its exit status, its text, and the number in that which `expected` has."""
+    status: int
+    text: bytes
+    number: int
+
+
 def run(words, folder, limit, out=subprocess.DEVNULL):
     """One run, or nothing where it was stopped at the limit."""
     start = time.monotonic()
@@ -86,6 +100,9 @@ def run(words, folder, limit, out=subprocess.DEVNULL):
         _, ended, usage = os.wait4(program, 0)
     except ChildProcessError:
         # It ended before the shell did, which took its end for itself.
+        if out is not subprocess.DEVNULL:
+            out.seek(0)
+            out.truncate()
         return run(words, folder, limit, out)
     except KeyboardInterrupt:
         os.kill(program, signal.SIGKILL)
@@ -102,8 +119,8 @@ def best(runs):
     return Run(*(min(values) for values in zip(*runs)))
 
 
-def by_parv(case, folder):
-    return [PARV, case.command, *packet_files(folder), *data_files(folder)]
+def by_parv(program, case, folder):
+    return [program, case.command, *packet_files(folder), *data_files(folder)]
 
 
 def by_par2(folder, options=()):
@@ -127,39 +144,53 @@ def expected(case, shape):
     return lost if case.command == "verify" else slices - lost
 
 
-def told(case, out):
+def told(case, text):
     """The number in parv's text that `expected` has."""
-    out.seek(0)
-    lines = (line.decode() for line in out)
+    lines = text.decode().split("\n")
     if case.command == "verify":
         return sum(int(found[1]) for found in (re.search(VERIFIED, line) for line in lines) if found)
     return sum(1 for line in lines if re.search(LISTED if case.command == "packets" else SEEN, line))
 
 
-def disagreement(case, shape, folder, limit):
-    """Why the case isn't measured, by a run of each that isn't counted; or nothing."""
+def answer(program, case, folder, limit):
+    """What a parv says of the case, by a run that isn't counted; nothing where it was stopped."""
     with tempfile.TemporaryFile() as out:
-        ours = run(by_parv(case, folder), folder, limit, out)
-        if ours is None:
-            return f"not measured (over {limit:g} s)"
-        number = told(case, out)
-    theirs = run(by_par2(folder), folder, limit)
-    if theirs is None:
-        return f"not measured (par2 over {limit:g} s)"
-    if case.command != "verify" and ours.status == 0:
-        ours = ours._replace(status=case.status)
-    if (ours.status, theirs.status, number) != (case.status, case.status, expected(case, shape)):
-        return f"NOT THE CASE: parv {ours.status}, par2 {theirs.status} for {case.status}, " \
-               f"{number} slices for {expected(case, shape)}"
+        ran = run(by_parv(program, case, folder), folder, limit, out)
+        if ran is None:
+            return None
+        out.seek(0)
+        text = out.read()
+    return Answer(ran.status, text, told(case, text))
+
+
+def disagreement(case, shape, ours, theirs):
+    """How the answer of a parv, or the exit status of par2, isn't the case's; or nothing."""
+    status = ours.status
+    if case.command != "verify" and status == 0:
+        status = case.status
+    if (status, theirs, ours.number) != (case.status, case.status, expected(case, shape)):
+        return f"NOT THE CASE: parv {status}, par2 {theirs} for {case.status}, " \
+               f"{ours.number} slices for {expected(case, shape)}"
     return None
 
 
-def window_cost(case, probe, sets, limit):
+def difference(ours, before):
+    """How the answers of the two programs differ; an empty text where they don't."""
+    if ours.status != before.status:
+        return f"exit status {ours.status} and {before.status}"
+    if ours.text != before.text:
+        pairs = zip_longest(ours.text.splitlines(), before.text.splitlines())
+        line = next((line for line, (one, other) in enumerate(pairs, 1) if one != other), "the last")
+        return f"texts of {len(ours.text)} and {len(before.text)} bytes, from line {line} on"
+    return ""
+
+
+def window_cost(program, case, probe, sets, limit):
     """Seconds for each byte of each window where parv hashes each anew, by the smallest set; 0 where it doesn't."""
     folder = os.path.join(sets, case.folder)
     if case.command == "packets":
         return 0
-    runs = [run(by_parv(case, folder), folder, limit) for _ in range(2)]
+    runs = [run(by_parv(program, case, folder), folder, limit) for _ in range(2)]
     seconds = limit if None in runs else best(runs).processor
     return seconds / (probe.slice_size * probe.data) if seconds > PLAIN else 0
 
@@ -168,17 +199,43 @@ def ratio(ours, theirs):
     return f"{ours / theirs:6.2f}" if theirs > 0 else "     -"
 
 
-def row(case, folder, limit, rounds, alone):
-    """The case measured: parv, par2 on one thread, par2 by itself, in turn."""
-    before, options = alone
-    runs = [(run(by_parv(case, folder), folder, limit), run(before + by_par2(folder, options), folder, limit),
-             run(by_par2(folder), folder, limit)) for _ in range(rounds)]
-    if any(None in turn for turn in runs):
-        return f"not measured (over {limit:g} s)"
-    ours, theirs, threads = (best(column) for column in zip(*runs))
+def in_turn(programs, case, folder, limit, rounds, alone):
+    """The best runs of each program, of par2 on one thread and of par2 by itself; nothing for one that was stopped."""
+    words, options = alone
+    commands = [*(by_parv(program, case, folder) for program in programs),
+                words + by_par2(folder, options), by_par2(folder)]
+    turns = [[run(command, folder, limit) for command in commands] for _ in range(rounds)]
+    return [None if None in runs else best(runs) for runs in zip(*turns)]
+
+
+def columns(ours, theirs, threads):
+    """A program beside par2 on one thread, and beside par2 by itself."""
     return f"{ours.processor:8.3f} {theirs.processor:8.3f} {ratio(ours.processor, theirs.processor)} " \
            f"{ours.wall:9.3f} {threads.wall:8.3f} {ratio(ours.wall, threads.wall)} " \
            f"{ours.memory / 1024:8.1f} {theirs.memory / 1024:7.1f}"
+
+
+def rows(programs, costs, case, shape, folder, limit, rounds, alone):
+    """The text of each program, and how the answers of two differ; nothing where not both were run."""
+    over = f"not measured (over {limit:g} s)"
+    answers = [answer(program, case, folder, limit) if cost * shape.slice_size * shape.data <= limit else None
+               for program, cost in zip(programs, costs)]
+    if not any(answers):
+        return [over for _ in programs], None
+    differs = difference(*answers) if len(programs) == 2 and all(answers) else None
+    theirs = run(by_par2(folder), folder, limit)
+    if theirs is None:
+        return [f"not measured (par2 over {limit:g} s)" for _ in programs], differs
+    texts = [disagreement(case, shape, ours, theirs.status) if ours else over for ours in answers]
+    measured = [place for place, text in enumerate(texts) if text is None]
+    if not measured:
+        return texts, differs
+    *runs, theirs, threads = in_turn([programs[place] for place in measured], case, folder, limit, rounds, alone)
+    for place, ours in zip(measured, runs):
+        texts[place] = columns(ours, theirs, threads) if ours and theirs and threads else over
+    if len(runs) == 2 and all([*runs, theirs, threads]):
+        texts[0] += f"        {ratio(runs[0].processor, runs[1].processor)}"
+    return texts, differs
 
 
 def say_machine(size, rounds, limit, alone):
@@ -189,6 +246,8 @@ def say_machine(size, rounds, limit, alone):
     print(f"processor: {names[0] if names else 'unknown'}, {os.cpu_count()} cores, load {os.getloadavg()[0]:.1f}")
     print(f"par2: {version}, on one thread by `{words}`")
     print(f"parv: {PARV}")
+    if BEFORE:
+        print(f"before: {BEFORE}")
     print(f"{size} sets, best of {rounds} rounds; a run may take {limit:g} s")
 
 
@@ -202,6 +261,9 @@ def main():
         sys.exit("bench: par2 isn't here, so nothing is measured: apt-get update && apt-get install par2")
     if not os.access(PARV, os.X_OK):
         sys.exit(f"bench: no program at {PARV}: make build")
+    if BEFORE and not os.access(BEFORE, os.X_OK):
+        sys.exit(f"bench: no program before at {BEFORE}")
+    programs = [PARV, BEFORE] if BEFORE else [PARV]
     rounds = int(os.environ.get("ROUNDS") or ROUNDS[size])
     limit = float(os.environ.get("LIMIT") or LIMIT[size])
     alone = one_thread()
@@ -211,21 +273,27 @@ def main():
     say_machine(size, rounds, limit, alone)
     print(f"\n{'':35} processor time, s         clock, s                  peak, MiB")
     print(f"{'case':26} {'slices':8} {'parv':>8} {'par2':>8}  ratio {'parv':>9} {'par2':>8}  ratio "
-          f"{'parv':>8} {'par2':>7}")
-    wrong = False
+          f"{'parv':>8} {'par2':>7}{'   parv/before' if BEFORE else ''}")
+    wrong, compared, differing = False, 0, 0
     for case in cases:
-        cost = window_cost(case, probe, probes, limit)
+        costs = [window_cost(program, case, probe, probes, limit) for program in programs]
         for shape, sets in zip(SHAPES[size], folders):
             folder = os.path.join(sets, case.folder)
             if not os.path.exists(folder):
                 continue
-            if cost * shape.slice_size * shape.data > limit:
-                text = f"not measured (over {limit:g} s)"
-            else:
-                text = disagreement(case, shape, folder, limit) or row(case, folder, limit, rounds, alone)
-            wrong = wrong or text.startswith("NOT")
-            print(f"{case.name:26} {size_text(shape.slice_size):8} {text}", flush=True)
-    return 1 if wrong else 0
+            texts, differs = rows(programs, costs, case, shape, folder, limit, rounds, alone)
+            wrong = wrong or any(text.startswith("NOT") for text in texts)
+            print(f"{case.name:26} {size_text(shape.slice_size):8} {texts[0]}", flush=True)
+            for text in texts[1:]:
+                print(f"{'  before':26} {'':8} {text}", flush=True)
+            compared += differs is not None
+            if differs:
+                differing += 1
+                print(f"DIFFERENT ANSWERS: {differs}: parv {case.command} in {folder}", flush=True)
+    if BEFORE:
+        print(f"DIFFERENT ANSWERS in {differing} of {compared} cases" if differing
+              else f"The two programs answer alike in {compared} cases.")
+    return 1 if wrong or differing else 0
 
 
 if __name__ == "__main__":

@@ -6,75 +6,21 @@ usage: vectors.py v.par2 > vectors.txt
 All values come from the definitions, with hashlib and zlib alone.
 """
 
-import hashlib
-import struct
+import os
 import sys
 import zlib
 
-MAGIC = b"PAR2\0PKT"
+sys.path[0] = os.path.dirname(os.path.dirname(os.path.realpath(__file__)))  # tools/, where imports begin
 
-TYPES = {
-    "main": b"PAR 2.0\0Main\0\0\0\0",
-    "filedesc": b"PAR 2.0\0FileDesc",
-    "ifsc": b"PAR 2.0\0IFSC\0\0\0\0",
-    "recvslic": b"PAR 2.0\0RecvSlic",
-    "creator": b"PAR 2.0\0Creator\0",
-}
-
-NO_SET = bytes(16)
+from make.packets import NO_ID, desc_body, file_id, ifsc_body, main_body, md5, packet, recvslic_body, slices
 
 SLICE_SIZE = 4
 NAME = b"g.bin"
 CONTENT = b"abcdefgh"
 
 
-def md5(data):
-    return hashlib.md5(data).digest()
-
-
-def filled(data, unit):
-    """The data with zeros up to a multiple of the unit."""
-    return data + bytes(-len(data) % unit)
-
-
-def slices(content, size):
-    """The slices of the content, the last one as it is."""
-    return [content[at:at + size] for at in range(0, len(content), size)]
-
-
-def packet(set_id, kind, body):
-    hashed = set_id + TYPES[kind] + body
-    return MAGIC + struct.pack("<Q", 32 + len(hashed)) + md5(hashed) + hashed
-
-
 def header_md5(packet):
     return packet[16:32]
-
-
-def file_id(name, content):
-    return md5(md5(content[:16384]) + struct.pack("<Q", len(content)) + name)
-
-
-def main_body(slice_size, recovery, others=()):
-    """The body of Main; the file IDs stand in the order given."""
-    return struct.pack("<QI", slice_size, len(recovery)) + b"".join([*recovery, *others])
-
-
-def desc_body(name, content):
-    sums = md5(content) + md5(content[:16384])
-    return file_id(name, content) + sums + struct.pack("<Q", len(content)) + filled(name, 4)
-
-
-def ifsc_body(name, content, slice_size):
-    body = file_id(name, content)
-    for piece in slices(content, slice_size):
-        whole = filled(piece, slice_size)
-        body += md5(whole) + struct.pack("<I", zlib.crc32(whole))
-    return body
-
-
-def recvslic_body(exponent, data):
-    return struct.pack("<I", exponent) + data
 
 
 def common_set():
@@ -82,11 +28,12 @@ def common_set():
 
     The recovery slice is 8 bytes long, twice the slice size, so it can't be used.
     """
-    main = main_body(SLICE_SIZE, [file_id(NAME, CONTENT)])
+    owner = file_id(NAME, CONTENT)
+    main = main_body(SLICE_SIZE, [owner])
     bodies = [
         ("main", main),
-        ("filedesc", desc_body(NAME, CONTENT)),
-        ("ifsc", ifsc_body(NAME, CONTENT, SLICE_SIZE)),
+        ("filedesc", desc_body(owner, NAME, CONTENT)),
+        ("ifsc", ifsc_body(owner, CONTENT, SLICE_SIZE)),
         ("recvslic", recvslic_body(0, bytes(range(8)))),
     ]
     return [(kind, packet(md5(main), kind, body)) for kind, body in bodies]
@@ -118,7 +65,7 @@ def print_common_set(packets):
 
 
 def print_one_packet():
-    creator = packet(NO_SET, "creator", b"")
+    creator = packet(NO_ID, "creator", b"")
     print("# one Creator packet: set ID zeros, empty body")
     print("header MD5 of creator:", header_md5(creator).hex())
     print("hex:", creator.hex())
@@ -127,8 +74,8 @@ def print_one_packet():
 
 def print_packet_in_packet():
     before = b"xyz"
-    inner = packet(NO_SET, "creator", b"")
-    outer = packet(NO_SET, "recvslic", recvslic_body(0, inner))
+    inner = packet(NO_ID, "creator", b"")
+    outer = packet(NO_ID, "recvslic", recvslic_body(0, inner))
     inner_at = len(before) + len(outer) - len(inner)
     print("# the bytes xyz, then a RecvSlic packet whose data is that Creator packet")
     print("header MD5 of recvslic:", header_md5(outer).hex())

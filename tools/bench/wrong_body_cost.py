@@ -20,7 +20,7 @@ import sys
 import tempfile
 from concurrent.futures import ThreadPoolExecutor
 
-ROOT = os.path.dirname(os.path.dirname(os.path.abspath(__file__)))
+ROOT = os.path.dirname(os.path.dirname(os.path.dirname(os.path.abspath(__file__))))
 RT = os.path.realpath(shutil.which("rt") or sys.exit("wrong_body_cost.py: no rt in the PATH"))
 KIT = os.path.dirname(os.path.dirname(RT))
 STAGES = ("front-end", "session", "offers")

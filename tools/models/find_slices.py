@@ -12,8 +12,10 @@ import os
 import sys
 import zlib
 
-from describe_set import number, packets_of, set_of
-from list_packets import is_packet_file, shown, with_bytes
+sys.path[0] = os.path.dirname(os.path.dirname(os.path.realpath(__file__)))  # tools/, where imports begin
+
+from models.describe_set import number, packets_of, set_of
+from models.list_packets import is_packet_file, shown, with_bytes
 
 
 def slices_of(found):

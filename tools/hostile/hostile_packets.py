@@ -5,9 +5,9 @@ at a bound, or beside it.
 """
 
 import struct
-import zlib
 
-from vectors import MAGIC, TYPES, file_id, filled, main_body, md5, slices
+from make.packets import (MAGIC, desc_body, file_id, filled, ids_of, ifsc_body, main_body, md5, numbers, packet,
+                          recvslic_body, set_of)
 
 K32, K63, K64 = 1 << 32, 1 << 63, 1 << 64
 MOST, LIMIT = 32768, 1048576
@@ -22,21 +22,6 @@ NAMES = [b"a", b"b.bin", b"", b"..", b".", b"../g.bin", b"/etc/passwd", b"a\0b",
 OTHER_TYPES = [b"PAR 2.0\0Main\0\0\0\1", b"PAR 2.0\0CommASCI", b"PAR 2.0\0filedesc",
                b"PAR 2.1\0FileDesc", b"PAR 2.0\0PkdMain\0", bytes(16), MAGIC * 2]
 EXPONENTS = [0, 1, 5, 65533, 65534, 65535, 65536, K32 - 1]
-
-
-def numbers(first, *rest):
-    return struct.pack("<" + "Q" * (1 + len(rest)), first % K64, *(value % K64 for value in rest))
-
-
-def packet_of(owner, kind, body):
-    """A packet; a kind is a word of TYPES, or the sixteen bytes themselves."""
-    hashed = owner + TYPES.get(kind, kind) + body
-    return MAGIC + numbers(32 + len(hashed)) + md5(hashed) + hashed
-
-
-def ids_of(count, seed=0):
-    """So many different IDs."""
-    return [numbers(number, seed) for number in range(count)]
 
 
 def some_bytes(chance, count):
@@ -62,32 +47,22 @@ def changed_main(chance, size, ids, others):
     ])()
 
 
-def desc_of(owner, name, content, length=None):
-    length = len(content) if length is None else length
-    return owner + md5(content) + md5(content[:16384]) + numbers(length) + filled(name, 4)
-
-
 def changed_desc(chance, owner, name, content, size):
-    whole = desc_of(owner, name, content)
+    whole = desc_body(owner, name, content)
     at_most = size * (MOST + chance.choice([-1, 0, 1])) + chance.choice([-1, 0, 1])
     return chance.choice([
-        lambda: desc_of(owner, chance.choice(NAMES), content),
-        lambda: desc_of(owner, name, content, chance.choice(FILE_LENGTHS)),
-        lambda: desc_of(owner, name, content, at_most),
-        lambda: desc_of(chance.choice([bytes(16), owner[:15] + b"\x7f"]), name, content),
+        lambda: desc_body(owner, chance.choice(NAMES), content),
+        lambda: desc_body(owner, name, content, chance.choice(FILE_LENGTHS)),
+        lambda: desc_body(owner, name, content, at_most),
+        lambda: desc_body(chance.choice([bytes(16), owner[:15] + b"\x7f"]), name, content),
         lambda: whole[:chance.choice([0, 16, 52, 56, 60])],
         lambda: whole + chance.choice([b"pad\0", b"\0pad", bytes(4), bytes(64), b"\n\x80\xc3\\"]),
-        lambda: desc_of(owner, name, content + b"x", len(content)),
+        lambda: desc_body(owner, name, content + b"x", len(content)),
     ])()
 
 
-def sums_of(owner, content, size):
-    pieces = [filled(piece, size) for piece in slices(content, size)]
-    return owner + b"".join(md5(piece) + struct.pack("<I", zlib.crc32(piece)) for piece in pieces)
-
-
 def changed_sums(chance, owner, content, size):
-    whole = sums_of(owner, content, size)
+    whole = ifsc_body(owner, content, size)
     return chance.choice([
         lambda: whole + bytes(chance.choice([4, 8, 16, 20, 40])),
         lambda: whole[:chance.choice([0, 12, 16, 20, 36, len(whole) - 20])],
@@ -100,7 +75,7 @@ def changed_sums(chance, owner, content, size):
 
 def slice_of(chance, size):
     length = chance.choice([size, size, size, size, size + 4, max(size - 4, 0), 0])
-    body = struct.pack("<I", chance.choice(EXPONENTS)) + chance.randbytes(length)
+    body = recvslic_body(chance.choice(EXPONENTS), chance.randbytes(length))
     return b"" if chance.randrange(12) == 0 else body
 
 
@@ -113,22 +88,34 @@ def large_bodies(chance, size, owner):
     content = struct.pack(f"<{count}I", *range(count))[:4 * count - chance.choice([0, 3])]
     described = chance.choice([content, content[:4 * MOST]])
     few = many[:chance.choice([2, 8, 8, 9])]
-    greatest = [("filedesc", desc_of(of, b"%d" % at, b"", K63 - 1)) for at, of in enumerate(few)]
+    greatest = [("filedesc", desc_body(of, b"%d" % at, b"", K63 - 1)) for at, of in enumerate(few)]
     return chance.choice([
         lambda: [("main", main_body(4, few)), *greatest],
         lambda: [("main", main_body(size, [], many[:MOST - 1] + many[:1]))],
         lambda: [("main", main_body(size, [], many))],
         lambda: [("main", main_body(size, many[:split], many[split:]))],
         lambda: [("main", numbers(4) + bytes(4) + ids_of(1)[0] * count)],
-        lambda: [("main", main_body(4, [owner])), ("filedesc", desc_of(owner, b"many", described)),
-                 ("ifsc", sums_of(owner, content, 4))],
+        lambda: [("main", main_body(4, [owner])), ("filedesc", desc_body(owner, b"many", described)),
+                 ("ifsc", ifsc_body(owner, content, 4))],
         lambda: [("main", main_body(size, [])), ("creator", b"c" * most)],
         lambda: [("main", main_body(size, [])), ("main", main_body(size, []) + bytes(most - 12))],
         lambda: [("main", main_body(size, [])),
-                 ("filedesc", desc_of(owner, b"n" * (most - 56), b""))],
+                 ("filedesc", desc_body(owner, b"n" * (most - 56), b""))],
         lambda: [("main", main_body(size, [])), ("ifsc", bytes(most))],
         lambda: [("main", main_body(size, [])), (b"PAR 2.0\0CommASCI", bytes(most))],
     ])()
+
+
+def nested_creators(length):
+    """So many bytes of headers of Creator packets, each with all that comes for its body."""
+    main = main_body(4, [])
+    owner, behind = md5(main), set_of(main)
+    data = bytearray(length // 64 * 64) + behind
+    for at in range(length // 64 * 64 - 64, -1, -64):
+        data[at:at + 16] = MAGIC + numbers(len(data) - at)
+        data[at + 32:at + 64] = owner + b"PAR 2.0\0Creator\0"
+        data[at + 16:at + 32] = md5(memoryview(data)[at + 32:])
+    return bytes(data)
 
 
 # Sets, and files of their packets.
@@ -161,11 +148,11 @@ def bodies_of(chance, size, members):
         if is_wrong():
             bodies.append(("filedesc", changed_desc(chance, owner, name, content, size)))
         if not is_wrong() or chance.random() < 0.5:
-            bodies.append(("filedesc", desc_of(owner, name, content)))
+            bodies.append(("filedesc", desc_body(owner, name, content)))
         if is_wrong():
             bodies.append(("ifsc", changed_sums(chance, owner, content, size)))
         if not is_wrong():
-            bodies.append(("ifsc", sums_of(owner, content, size)))
+            bodies.append(("ifsc", ifsc_body(owner, content, size)))
     bodies += [("recvslic", slice_of(chance, size)) for _ in range(chance.choice([0, 0, 1, 2, 4]))]
     texts = [b"", b"client", b"a\nb\\", b"\0\0x", b"\xff" * 9]
     texts = chance.choices(texts, k=chance.choice([0, 0, 1, 2]))
@@ -187,9 +174,9 @@ def packets_of(chance):
         bodies = large_bodies(chance, size, bytes(16)) if is_large else \
             bodies_of(chance, size, members)
         owner = md5(bodies[0][1])
-        own = [packet_of(owner, kind, body) for kind, body in bodies]
+        own = [packet(owner, kind, body) for kind, body in bodies]
         if chance.randrange(8) == 0:
-            own.append(packet_of(bytes(16), *chance.choice(bodies)))
+            own.append(packet(bytes(16), *chance.choice(bodies)))
         if chance.randrange(3) == 0:
             own += chance.choices(own, k=1 if is_large else chance.choice([1, 2, len(own)]))
         if chance.randrange(3) == 0:

@@ -11,9 +11,11 @@ import hashlib
 import os
 import sys
 
-from describe_set import packets_of, set_line, set_of
-from find_slices import sightings, slices_of
-from list_packets import is_packet_file, shown, with_bytes
+sys.path[0] = os.path.dirname(os.path.dirname(os.path.realpath(__file__)))  # tools/, where imports begin
+
+from models.describe_set import packets_of, set_line, set_of
+from models.find_slices import sightings, slices_of
+from models.list_packets import is_packet_file, shown, with_bytes
 
 RESULTS = ["complete", "possible", "impossible"]
 

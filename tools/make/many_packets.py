@@ -7,12 +7,16 @@ Each FILE gets COUNT packets of every kind. Their bodies have up to 1,500 bytes,
 recovery slice, which has 300,000; one packet in eight is broken: a byte of it is another.
 """
 
+import os
 import random
 import sys
 
-from vectors import TYPES, md5, packet
+sys.path[0] = os.path.dirname(os.path.dirname(os.path.realpath(__file__)))  # tools/, where imports begin
 
-KINDS = [*TYPES, "other"]
+from make.damage import flip
+from make.packets import TYPES, md5, packet
+
+KINDS = [*TYPES, b"PAR 2.0\0Another\0"]
 
 
 def written(name, number, chance):
@@ -21,13 +25,12 @@ def written(name, number, chance):
     size = 300_000 if number == KINDS.index("recvslic") else 4 * chance.randrange(376)
     data = bytearray(packet(md5(name.encode()), kind, chance.randbytes(size)))
     if chance.randrange(8) == 0:
-        data[chance.randrange(len(data))] ^= 1 << chance.randrange(8)
+        flip(data, chance.randrange(len(data)), bits=1 << chance.randrange(8))
     return bytes(data)
 
 
 def main():
     count, names = int(sys.argv[1]), sys.argv[2:]
-    TYPES["other"] = b"PAR 2.0\0Another\0"
     for name in names:
         chance = random.Random(name)
         with open(name, "wb") as out:

@@ -4,7 +4,7 @@
 # takes some three minutes, and is no part of the gate, which takes a .rt file in a crate alone.
 set -euo pipefail
 here=$(cd "$(dirname "$0")" && pwd)
-crates=$(cd "$here/../../crates" && pwd)
+crates=$(cd "$here/../../../crates" && pwd)
 kit=$(dirname "$(dirname "$(readlink -f "$(command -v rt)")")")
 room=$(mktemp -d)
 trap 'rm -rf "$room"' EXIT
@@ -13,8 +13,8 @@ cp "$here/main.rt.txt" "$room/src/main.rt"
 cd "$room"
 
 words=(--extern "std=$kit/rlibs/std.rlib" -L "dependency=$kit/rlibs" --extern "md5=$kit/rlibs/md5.rlib")
-for crate in parcount parfield parcursor parsink parshelf parsalvage parbody parset; do
-    words+=(-L "dependency=$crates/$crate/out/rlib")
+for folder in "$crates"/*/out/rlib; do
+    words+=(-L "dependency=$folder")
 done
 for crate in parfixtures parwindow; do
     words+=(--extern "$crate=$crates/$crate/out/rlib/$crate.rlib")

@@ -18,10 +18,11 @@ import subprocess
 import sys
 import zlib
 
-from vectors import main_body, md5, packet
+sys.path[0] = os.path.dirname(os.path.dirname(os.path.realpath(__file__)))  # tools/, where imports begin
 
-HERE = os.path.dirname(os.path.abspath(__file__))
-PARV = os.path.abspath(os.environ.get("PARV") or os.path.join(HERE, "../crates/parv/out/parv"))
+from hostile.runs import PARV
+from make.packets import main_body, md5, numbers, set_of
+
 KIB, MIB = 1 << 10, 1 << 20
 SIZES = [4, 64, KIB, 64 * KIB, MIB, 16 * MIB, 256 * MIB]
 COUNTS = [1, 256, 32768]
@@ -71,10 +72,8 @@ def packets_of(size, count, windows):
         number += 1
         if crc not in windows:
             pairs.append(md5(b"%d" % number) + struct.pack("<I", crc))
-    body = main_body(size, [owner])
-    desc = owner + bytes(32) + struct.pack("<Q", size * count) + b"file"
-    kinds = [("main", body), ("filedesc", desc), ("ifsc", owner + b"".join(pairs))]
-    return b"".join(packet(md5(body), kind, text) for kind, text in kinds)
+    desc = owner + bytes(32) + numbers(size * count) + b"file"
+    return set_of(main_body(size, [owner]), ("filedesc", desc), ("ifsc", owner + b"".join(pairs)))
 
 
 def searched(folder, length):

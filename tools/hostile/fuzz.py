@@ -20,10 +20,12 @@ import random
 import sys
 from concurrent.futures import ProcessPoolExecutor
 
-from describe_set import NoSet, packets_of, set_of
-from hostile_files import case, change
-from list_packets import is_packet_file, shown
-from runs import HERE, Runner, as_text
+sys.path[0] = os.path.dirname(os.path.dirname(os.path.realpath(__file__)))  # tools/, where imports begin
+
+from hostile.hostile_files import case, change
+from hostile.runs import TOP, Runner, as_text
+from models.describe_set import NoSet, packets_of, set_of
+from models.list_packets import is_packet_file, shown
 
 CHUNK = 250                                   # cases that one process makes at once
 STATUSES = {0, 1, 2, 3, 4, 6, 8}
@@ -44,7 +46,7 @@ def read(path):
 
 
 def read_all(pattern):
-    return [read(path) for path in sorted(glob.glob(os.path.join(HERE, "..", pattern)))]
+    return [read(path) for path in sorted(glob.glob(os.path.join(TOP, pattern)))]
 
 
 REAL = read_all("demo/*.par2") + read_all("crates/parv/data/v.par2")

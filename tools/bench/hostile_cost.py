@@ -13,22 +13,20 @@ names    Names of 4,096 bytes that are shown by 16,384 each, and one long name o
 PARV is the program (crates/parv/out/parv). A run is stopped after 1,000 seconds.
 """
 
+import os
 import shutil
 import struct
 import sys
 import zlib
 
-from hostile_packets import desc_of, ids_of, numbers, packet_of
-from runs import PARV, Runner, as_text
-from vectors import MAGIC, main_body, md5
+sys.path[0] = os.path.dirname(os.path.dirname(os.path.realpath(__file__)))  # tools/, where imports begin
+
+from hostile.hostile_packets import nested_creators
+from hostile.runs import PARV, Runner, as_text
+from make.packets import MAGIC, desc_body, ids_of, main_body, numbers, set_of
 
 KIB, MIB = 1 << 10, 1 << 20
 GREATEST = 268435456
-
-
-def set_of(main, *rest):
-    """The packets of a set with this Main body; the rest are pairs of kind and body."""
-    return b"".join(packet_of(md5(main), kind, body) for kind, body in [("main", main), *rest])
 
 
 def told(runner, name, words, size):
@@ -38,18 +36,6 @@ def told(runner, name, words, size):
     print(f"{name}: {ran.seconds:.2f} s, {ran.memory / KIB:.1f} MiB with a packet file of "
           f"{size / KIB:.1f} KiB, {len(ran.out)} bytes written, {ended}", flush=True)
     return ran
-
-
-def nested_creators(length):
-    """So many bytes of headers of Creator packets, each with all that comes for its body."""
-    main = main_body(4, [])
-    owner, behind = md5(main), set_of(main)
-    data = bytearray(length // 64 * 64) + behind
-    for at in range(length // 64 * 64 - 64, -1, -64):
-        data[at:at + 16] = MAGIC + numbers(len(data) - at)
-        data[at + 32:at + 64] = owner + b"PAR 2.0\0Creator\0"
-        data[at + 16:at + 32] = md5(memoryview(data)[at + 32:])
-    return bytes(data)
 
 
 def cost_of_nested(runner):
@@ -70,7 +56,7 @@ def cost_of_headers(runner):
 
 def cost_of_windows(runner):
     main, owner = main_body(GREATEST, [bytes(16)]), bytes(16)
-    data = set_of(main, ("filedesc", desc_of(owner, b"a.bin", b"", 64 * MIB)))
+    data = set_of(main, ("filedesc", desc_body(owner, b"a.bin", b"", 64 * MIB)))
     runner.write("p.par2", data)
     for name, length in [("a.bin", 64 * MIB), ("b.bin", 64 * MIB - 1)]:
         runner.write(name, bytes(length))
@@ -86,7 +72,7 @@ def cost_of_sums(runner):
         for _ in range(size // MIB):
             crc = zlib.crc32(bytes(MIB), crc)
         main = main_body(size, [owner])
-        data = set_of(main, ("filedesc", desc_of(owner, b"a.bin", b"", 1)),
+        data = set_of(main, ("filedesc", desc_body(owner, b"a.bin", b"", 1)),
                       ("ifsc", owner + bytes(16) + struct.pack("<I", crc)))
         runner.write("p.par2", data)
         for scanned in (1, 5):
@@ -99,14 +85,14 @@ def cost_of_names(runner):
     count = 4096
     ids = ids_of(count)
     main = main_body(4, ids)
-    data = set_of(main, *[("filedesc", desc_of(owner, b"%05d" % at + b"\n" * 4091, b""))
+    data = set_of(main, *[("filedesc", desc_body(owner, b"%05d" % at + b"\n" * 4091, b""))
                           for at, owner in enumerate(ids)])
     runner.write("p.par2", data)
     for command in ("set", "verify"):
         told(runner, f"names, {command}", [PARV, command, "p.par2"], len(data))
     count = 32768
     ids = ids_of(count)
-    data = set_of(main_body(4, ids), *[("filedesc", desc_of(owner, b"%05d" % at, b""))
+    data = set_of(main_body(4, ids), *[("filedesc", desc_body(owner, b"%05d" % at, b""))
                                        for at, owner in enumerate(ids)])
     runner.write("p.par2", data)
     name = "./" * 1900 + "\n" * 200

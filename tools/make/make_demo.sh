@@ -3,7 +3,8 @@
 # volume. Needs par2 (Debian package par2) and python3. demo/README.md is kept by hand.
 set -euo pipefail
 
-demo=$(cd "$(dirname "$0")/.." && pwd)/demo
+tools=$(cd "$(dirname "$0")/.." && pwd)
+demo=$(dirname "$tools")/demo
 work=$(mktemp -d)
 trap 'rm -rf "$work"' EXIT
 cd "$work"
@@ -30,9 +31,12 @@ END
 par2 create -q -q -s1024 -c15 photos.par2 beach.raw harbour.raw tower.raw notes.txt
 
 # Damage one volume, from the back to the front so that the offsets stay true.
-python3 - photos.vol03+4.par2 photos.vol03+4.damaged.par2 <<'END'
+PYTHONPATH=$tools PYTHONDONTWRITEBYTECODE=1 \
+    python3 - photos.vol03+4.par2 photos.vol03+4.damaged.par2 <<'END'
 import struct
 import sys
+
+from make.damage import cut, flip, insert
 
 source, target = sys.argv[1:]
 with open(source, "rb") as file:
@@ -50,19 +54,18 @@ while at < len(data):
 
 # The end is cut off in the middle of the last packet.
 at, length = packets[-1]
-del data[at + length // 2:]
+cut(data, at + length // 2)
 
 # Five bytes come in before a packet, so it and those after it stand at odd offsets.
 at, length = recovery[5]
-data[at:at] = b"#####"
+insert(data, at, b"#####")
 
 # Sixteen bytes in the middle of a packet are flipped.
 at, length = recovery[4]
-for place in range(at + length // 2, at + length // 2 + 16):
-    data[place] ^= 0xFF
+flip(data, at + length // 2, 16)
 
 # A line of text comes in before the first packet.
-data[0:0] = b"This line of text stands ahead of the first packet.\n"
+insert(data, 0, b"This line of text stands ahead of the first packet.\n")
 
 with open(target, "wb") as file:
     file.write(data)

@@ -11,9 +11,10 @@ import shutil
 import subprocess
 from typing import NamedTuple
 
+from make.damage import flip, in_file, insert, remove
+
 VERSION = 1  # of what is made here
 KIB, MIB = 1 << 10, 1 << 20
-PIECE = MIB  # what is held of a file: a child's peak memory is seen above the bench's own alone
 DATA, OTHER, INDEX = "data.bin", "other.bin", "set.par2"
 VOLUME_SLICES = 32  # input slices of a set that is made for its volume
 
@@ -49,9 +50,9 @@ def data_files(folder):
 def write_data(path, length):
     """Bytes that are fixed by the file's name and each one's place."""
     with open(path, "wb") as out:
-        for at in range(0, length, PIECE):
+        for at in range(0, length, MIB):
             seed = f"{os.path.basename(path)} {at}".encode()
-            out.write(hashlib.shake_256(seed).digest(min(PIECE, length - at)))
+            out.write(hashlib.shake_256(seed).digest(min(MIB, length - at)))
 
 
 def create(folder, slice_size, recovery):
@@ -61,23 +62,10 @@ def create(folder, slice_size, recovery):
                    env={**os.environ, "OMP_NUM_THREADS": "1"})
 
 
-def copy(source, target, start, end):
-    """Appends these bytes of the one file to the other."""
-    with open(source, "rb") as file, open(target, "ab") as out:
-        file.seek(start)
-        while start < end:
-            piece = file.read(min(PIECE, end - start))
-            out.write(piece)
-            start += len(piece)
-
-
-def flip(path, places):
-    with open(path, "r+b", buffering=0) as file:
-        for at in places:
-            file.seek(at)
-            byte = file.read(1)[0]
-            file.seek(at)
-            file.write(bytes([byte ^ 0xFF]))
+def flip_each(data, size):
+    """Flips a byte in the middle of each slice."""
+    for at in range(size // 2, len(data), size):
+        flip(data, at)
 
 
 def damage(folder, case, shape):
@@ -91,15 +79,15 @@ def damage(folder, case, shape):
         os.link(source, os.path.join(target, OTHER))
         return
     file = os.path.join(target, DATA)
-    if case == "in front":
-        with open(file, "wb") as out:
-            out.write(b"x")
-    copy(source, file, 0, middle)
-    copy(source, file, middle + (case == "left out"), shape.data)
+    shutil.copyfile(source, file)
     if case == "flipped":
-        flip(file, [middle])
+        in_file(file, flip, middle)
+    if case == "left out":
+        in_file(file, remove, middle, 1)
+    if case == "in front":
+        in_file(file, insert, 0, b"x")
     if case == "every slice":
-        flip(file, range(shape.slice_size // 2, shape.data, shape.slice_size))
+        in_file(file, flip_each, shape.slice_size)
 
 
 def make_many(folder, shape):

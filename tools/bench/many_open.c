@@ -3,7 +3,7 @@
    read and asked by its name for its kind and length, and that time and the names' memory are in what is
    measured.
 
-       gcc -shared -fPIC -O2 -o /tmp/many_open.so tools/many_open.c
+       gcc -shared -fPIC -O2 -o /tmp/many_open.so tools/bench/many_open.c
        LD_PRELOAD=/tmp/many_open.so parv verify FILES */
 #define _GNU_SOURCE
 #include <errno.h>

@@ -13,7 +13,9 @@ import os
 import sys
 from typing import NamedTuple
 
-from list_packets import packets_in, shown, with_bytes
+sys.path[0] = os.path.dirname(os.path.dirname(os.path.realpath(__file__)))  # tools/, where imports begin
+
+from models.list_packets import packets_in, shown, with_bytes
 
 LIMIT = 1048576
 GREATEST_SIZE = 268435456

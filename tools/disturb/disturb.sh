@@ -13,8 +13,8 @@
 # Usage: disturb.sh REFUSE|FAIL_OPEN|FAIL_STAT|FAIL_READ|CUT_READ|FAIL_WRITE|EMPTY_WRITE|SHORT ARGUMENTS, in the
 # folder of the files. DISTURB, where it is set, is the library that disturbs, built there by the first that lacks it.
 set -uo pipefail
-tools=$(cd "$(dirname "$0")" && pwd)
-parv=${PARV:-$tools/../crates/parv/out/parv}
+here=$(cd "$(dirname "$0")" && pwd)
+parv=${PARV:-$here/../../crates/parv/out/parv}
 what=$1
 shift
 work=$(mktemp -d)
@@ -64,7 +64,7 @@ is_undisturbed() {
 words=$*
 n=0
 library=${DISTURB:-$work/disturb.so}
-[ -e "$library" ] || gcc -shared -fPIC -O1 -o "$library" "$tools/disturb.c" -ldl || fail "no compiler"
+[ -e "$library" ] || gcc -shared -fPIC -O1 -o "$library" "$here/disturb.c" -ldl || fail "no compiler"
 run "$@"
 whole=$status
 [ -z "${FAIL_OPEN-}${FAIL_STAT-}${FAIL_READ-}${CUT_READ-}${FAIL_WRITE-}" ] || [ $whole -eq 6 ] || fail "nothing else failed"

@@ -20,7 +20,9 @@ import sys
 import tempfile
 from concurrent.futures import ThreadPoolExecutor
 
-from runs import HERE, PARV
+sys.path[0] = os.path.dirname(os.path.dirname(os.path.realpath(__file__)))  # tools/, where imports begin
+
+from hostile.runs import HERE, PARV, TOOLS
 
 MOST_MEMORY = 2 << 30   # of each process, in bytes
 
@@ -94,16 +96,16 @@ def notices(edit, cases):
     """The first line that says how the wrong model differs, or nothing."""
     module, old, new = edit
     with tempfile.TemporaryDirectory() as folder:
-        for path in glob.glob(os.path.join(HERE, "*.py")) + [os.path.join(HERE, "runner.c")]:
-            shutil.copy(path, folder)
-        path = os.path.join(folder, module)
+        for part in ("hostile", "make", "models"):
+            shutil.copytree(os.path.join(TOOLS, part), os.path.join(folder, part))
+        path, = glob.glob(os.path.join(folder, "*", module))
         with open(path) as file:
             text = file.read()
         if text.count(old) != 1:
             sys.exit(f"{module}: it isn't one place that has {old!r}")
         with open(path, "w") as file:
             file.write(text.replace(old, new))
-        ran = subprocess.run([sys.executable, "hostile.py", "--cases", str(cases)], cwd=folder,
+        ran = subprocess.run([sys.executable, "hostile/hostile.py", "--cases", str(cases)], cwd=folder,
                              env={**os.environ, "PARV": PARV}, capture_output=True, text=True)
         if "MemoryError" in ran.stderr:
             return "its model takes more than 2 GiB"

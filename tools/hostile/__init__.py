@@ -1,0 +1,1 @@
+"""Hostile packet files, and the runs of the program over them."""

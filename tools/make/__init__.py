@@ -1,0 +1,1 @@
+"""What makes packet files, and other files to run the program on."""

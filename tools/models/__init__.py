@@ -1,0 +1,1 @@
+"""Independent readings of packet files. Nothing here knows what makes them."""
