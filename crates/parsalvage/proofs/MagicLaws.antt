@@ -1,5 +1,5 @@
 -- Two occurrences of the magic never overlap, so a search without overlaps finds each.
-use Rattle.std.proofs.Common.{◌≡◌, ◌<◌, ◌≤◌, ◌+◌, ◌∙◌, ℕ, zero, suc, Bool, true, false, cond, List, [], ◌∷◌, ◌++◌, length, drop, map, filter, ap, refl, sym, arith, slice_index, ⊎_elim, length-drop, subst, ◌-◌, nat_le, add-one, append_assoc}
+use Rattle.std.proofs.Common.{◌≡◌, ◌<◌, ◌≤◌, ◌+◌, ◌∙◌, ℕ, zero, suc, Bool, IsTrue, true, false, cond, List, [], ◌∷◌, ◌++◌, length, drop, map, filter, ap, refl, sym, arith, slice_index, ⊎_elim, length-drop, subst, ◌-◌, nat_le, add-one, append_assoc}
 use Rattle.std.specs.List.{range_with_len}
 use Rattle.std.proofs.lemmas.Bool.{cases_Bool, cond-true, cond-false, false≢true, and_parts, and_from, leb-true, le-leb}
 use Rattle.std.specs.List.{slice_range}
@@ -7,6 +7,7 @@ use Rattle.std.specs.Str.{bytes_eq}
 use Rattle.memchr.specs.Find.{OccursAt, occurs_at, matches_from, matches}
 use Rattle.memchr.proofs.lemmas.MatchLemmas.{OccursAt-true}
 use Rattle.parfield.specs.Packet.{magic_bytes, has_header}
+use Rattle.parsalvage.specs.MagicPlaces.{is_magic_at, magic_places_between}
 use Rattle.parsalvage.specs.Packets.{is_packet_at, packet_found_at, packets_of}
 
 -- where two occurrences overlap, the magic repeats itself
@@ -27,6 +28,19 @@ magic_apart bytes i (suc (suc (suc (suc (suc zero))))) a b low high = let e : 75
 magic_apart bytes i (suc (suc (suc (suc (suc (suc zero)))))) a b low high = let e : 75 ≡ 80 = repeats bytes i 6 0 a b (omega arith) in omega (arith, e)
 magic_apart bytes i (suc (suc (suc (suc (suc (suc (suc zero))))))) a b low high = let e : 84 ≡ 80 = repeats bytes i 7 0 a b (omega arith) in omega (arith, e)
 magic_apart bytes i (suc (suc (suc (suc (suc (suc (suc (suc k)))))))) a b low high = omega arith
+
+overlap_not : (bytes : List ℕ) (a b : ℕ) → is_magic_at bytes a ≡ true → is_magic_at bytes b ≡ true
+    → a < b → ¬ (b < a + 8)
+overlap_not bytes a b first second later within =
+    let place : b ≡ a + (b - a) = omega arith in
+    let again : OccursAt bytes magic_bytes (a + (b - a))
+    = subst (OccursAt bytes magic_bytes) place (OccursAt-true bytes magic_bytes b second) in
+    magic_apart bytes a (b - a) (OccursAt-true bytes magic_bytes a first) again (omega arith) (omega arith)
+
+pub magics_apart : (bytes : List ℕ) (a b : ℕ) → IsTrue (is_magic_at bytes a) → IsTrue (is_magic_at bytes b)
+    → a < b → a + 8 ≤ b
+magics_apart bytes a b first second later =
+    let far = overlap_not bytes a b first second later in omega (arith, far)
 
 cond_same : {X : Type 0} (b : Bool) (x y u v : X) → (b ≡ true → x ≡ u) → (b ≡ false → y ≡ v) → cond b x y ≡ cond b u v
 cond_same true x y u v at_true at_false = at_true refl
@@ -81,6 +95,20 @@ filter_range_last p a zero fails =
 filter_range_last p a (suc n) fails =
     let place : (a + 1) + n ≡ a + suc n = omega arith in
     ap (λ ys. cond (p a) (a ∷ ys) ys) (filter_range_last p (a + 1) n (ap p place ∙ fails))
+
+no_magic_at_end : (bytes : List ℕ) → is_magic_at bytes (0 + length bytes) ≡ false
+no_magic_at_end bytes =
+    ⊎_elim (λ yes. absurd (omega (arith, (OccursAt-true bytes magic_bytes _ yes).fits)))
+    (λ no. no) (cases_Bool (is_magic_at bytes (0 + length bytes)))
+
+pub matches-places : (bytes : List ℕ) → matches bytes magic_bytes 0 ≡ magic_places_between bytes 0 (length bytes)
+matches-places bytes =
+    let more : length bytes + 1 ≡ suc (length bytes) = add-one (length bytes) in
+    let count : length bytes ≡ length bytes - 0 = omega arith in
+    matches-all bytes
+    ∙ (ap (λ n. filter (is_magic_at bytes) (range_with_len 0 n)) more
+    ∙ (filter_range_last (is_magic_at bytes) 0 (length bytes) (no_magic_at_end bytes)
+    ∙ ap (λ n. filter (is_magic_at bytes) (range_with_len 0 n)) count))
 
 -- a packet begins with the magic
 pub packet_has_magic : (bytes : List ℕ) (at : ℕ) → is_packet_at bytes at ≡ true → occurs_at bytes magic_bytes at ≡ true
