@@ -12,11 +12,9 @@ use Rattle.parfind.specs.Order.{is_from}
 use Rattle.parfind.proofs.OrderLaws.{From-by_test, is_from-true, From-trans}
 use Rattle.parfind.specs.declared.searches.finder.Step.{Step}
 use Rattle.parfind.specs.Finders.{FinderState, search_of}
-use Rattle.parfind.specs.Marks.{marks}
 use Rattle.parfind.specs.Moves.{StepMoves}
 use Rattle.parfind.specs.Reach.{SearchState, CallReads, CallsRead, HandsWithin}
-use Rattle.parfind.specs.Sightings.{Scan}
-use Rattle.parfind.specs.Steps.{StepGives, scan_of}
+use Rattle.parfind.specs.Steps.{StepGives}
 use Rattle.parfind.proofs.MoveLaws.{moves_onward}
 use Rattle.parfind.proofs.ReachLaws.{reach_adds_up}
 use Rattle.parfind.specs.declared.drives.calls.Call.{Call}
@@ -72,7 +70,6 @@ pub record DriveSoFar
   pub each : EachBefore calls later answers
   pub onward : IsTrue (is_from start finder.cursor)
   pub kept : ¬ Contains calls call.Reopen → KeptSoFar set.slice_size old now start finder
-  pub marked : IsTrue now.is_steady → finder.digests ≤ marks (scan_of set now) finder.opening finder.cursor
 
 -- what is said of a step that was made, with its budget
 pub record StepMade
@@ -82,7 +79,6 @@ pub record StepMade
   pub ok : OnOk r (ReadsOnly old new)
   pub fault : IfErr r (FaultsIn old new after.cursor.file)
   pub reads : CallReads set.slice_size (search_of old before) (search_of new after)
-  pub digests : IsTrue new.is_steady → after.digests ≤ marks (scan_of set new) after.opening after.cursor
   pub opening : after.opening ≡ before.opening
 
 -- the call of a step with this budget
@@ -116,21 +112,19 @@ drive_steps set old s t start before after calls later k budget r xs ys asks she
         read = reads_more set.slice_size (search_at old start) (search_of s before) (search_of t after) kept.states kept.read made.reads;
         opening = made.opening ∙ kept.opening;
       };
-  marked = made.digests;
 }
 
 -- another finder was opened at the cursor
 pub drive_reopens : (set : SliceSet) (old s : ShelfState) (start : Cursor) (before after : FinderState) (calls later : List Call)
     (xs ys : List Answer) → Contains calls call.Reopen
-    → DriveSoFar set old s start before calls (call.Reopen ∷ later) xs → after.cursor ≡ before.cursor → after.digests ≡ 0
+    → DriveSoFar set old s start before calls (call.Reopen ∷ later) xs → after.cursor ≡ before.cursor
     → ys ≡ xs ++ answer.Reopened ∷ [] → DriveSoFar set old s start after calls later ys
-drive_reopens set old s start before after calls later xs ys there so_far cursor digests items = record {
+drive_reopens set old s start before after calls later xs ys there so_far cursor items = record {
   told = rw items (tells_same old s xs answer.Reopened so_far.told refl refl);
   gives = λ h. gives_more set old s s start before.cursor after.cursor calls later call.Reopen answer.Reopened xs ys (so_far.gives h) (refl, cursor) items;
   each = each_more calls later call.Reopen answer.Reopened xs ys so_far.each tt items;
   onward = rw cursor so_far.onward;
   kept = λ none. absurd (none there);
-  marked = λ _. omega (arith, digests);
 }
 
 -- no other finder could be opened
@@ -144,23 +138,20 @@ drive_stops set old s start before calls later xs ys there so_far items = record
   each = each_more calls later call.Reopen answer.NoMemory xs ys so_far.each tt items;
   onward = so_far.onward;
   kept = λ none. absurd (none there);
-  marked = so_far.marked;
 }
 
 -- what holds at last
 pub record DriveGave
-    (set : SliceSet) (old new : ShelfState) (start d : Cursor) (calls : List Call) (answers : List Answer) (digests : ℕ) : Type 0 where
+    (set : SliceSet) (old new : ShelfState) (start d : Cursor) (calls : List Call) (answers : List Answer) : Type 0 where
   pub answer : IsTrue old.is_steady → CallsGive set old start calls answers new d
   pub each : AnswersEach calls answers
   pub onward : IsTrue (is_from start d)
   pub told : TellsOf old new answers
   pub reads : ¬ Contains calls call.Reopen → HandsWithin set.slice_size (search_at old start) (search_at new d)
-  pub counted : ¬ Contains calls call.Reopen → IsTrue old.is_steady → digests ≤ marks (scan_of set old) start d
 
 pub drive_ends : (set : SliceSet) (old new : ShelfState) (start d : Cursor) (finder : FinderState) (calls : List Call) (answers : List Answer)
-    (digests : ℕ) → DriveSoFar set old new start finder calls [] answers → d ≡ finder.cursor → digests ≡ finder.digests
-    → DriveGave set old new start d calls answers digests
-drive_ends set old new start d finder calls answers digests so_far cursor count = rw (cursor, count) (record {
+    → DriveSoFar set old new start finder calls [] answers → d ≡ finder.cursor → DriveGave set old new start d calls answers
+drive_ends set old new start d finder calls answers so_far cursor = rw cursor (record {
   answer = λ h. subst (λ (zs : List Answer). CallsGive set old start calls zs new finder.cursor) (append-nil answers)
       (so_far.gives h [] new finder.cursor (refl, refl));
   each = subst (AnswersEach calls) (append-nil answers) (so_far.each [] tt);
@@ -170,12 +161,6 @@ drive_ends set old new start d finder calls answers digests so_far cursor count 
       let kept = so_far.kept none in
       let within = reach_adds_up set.slice_size (search_at old start) (search_of new finder) kept.states refl kept.read in
       record { room = within.room; none = within.none; near = within.near };
-  counted = λ none steady.
-      let same : scan_of set new ≡ scan_of set old =
-      ap (λ (files : List (List ℕ)). record { set = set; contents = files }) so_far.told.files_are in
-      subst (λ (scan : Scan). finder.digests ≤ marks scan start finder.cursor) same
-      (subst (λ (c : Cursor). finder.digests ≤ marks (scan_of set new) c finder.cursor) (so_far.kept none).opening
-      (so_far.marked (so_far.told.steady_is ∙ steady)));
 })
 
 -- the call at an index, and those behind it

@@ -123,13 +123,6 @@ impl Window {
         self.ring.capacity()
     }
 
-    /// How many digests were taken, as only contracts see it. The window is given up.
-    pub fn into_digests(self) -> Tally
-        ensures { result.count ≡ self.digests }
-    {
-        self.digests
-    }
-
     /// Takes all bytes out.
     #[tactic(auto, unfolding(crate::specs::Crc32::register_of))]
     pub fn clear(&mut self)

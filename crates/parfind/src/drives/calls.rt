@@ -1,5 +1,5 @@
 use crate::{Cursor, Step};
-use parfield::{Sequence, Tally};
+use parfield::Sequence;
 use parshelf::ReadFault;
 
 /// A call of a search.
@@ -31,6 +31,4 @@ pub struct Drive {
     pub answers: Sequence<Answer>,
     /// Where the search stands.
     pub cursor: Cursor,
-    /// How many digests the last finder took. Only contracts see it.
-    pub digests: Tally,
 }

@@ -1,15 +1,13 @@
 ghost use Rattle.std.specs.Prelude.{◌≡◌, ◌+◌, ◌<◌, ◌≤◌, ◌++◌, ◌∷◌, [], All, Contains, IsTrue, IfOk, IfErr, vec_len, vec_capacity};
 ghost use Rattle.parfind.specs.Order.{is_from};
-ghost use Rattle.parfind.specs.Marks.{marks};
 ghost use Rattle.parfind.specs.Reach.{HandsWithin};
-ghost use Rattle.parfind.specs.Steps.{scan_of};
 ghost use Rattle.parfind.specs.Runs.{HasBudget, CallsGive, AnswersEach, search_at};
 ghost use Rattle.parfind.specs.Told.{TellsOf};
 ghost use Rattle.parfind.specs.declared.drives.calls.Call.TheVariants.{Reopen};
 
 use crate::drives::calls::{Answer, Call, Drive};
 use crate::{Cursor, Finder};
-use parfield::{Sequence, Tally};
+use parfield::Sequence;
 use parshelf::Shelf;
 use parwindow::Index;
 use std::alloc::{AllocError, Global};
@@ -37,13 +35,10 @@ pub fn drive<H: Shelf>(
         TellsOf (H.state shelf.old) (H.state shelf.new) drive.answers) }
     ensures untouched { IfErr result (λ _. H.state shelf.new ≡ H.state shelf.old) }
 
-    // How much is read where no call reopens, on any shelf, and how many digests are taken.
+    // How much is read where no call reopens, on any shelf.
     ensures reads { ¬ Contains calls.now Reopen → IfOk result (λ drive.
         HandsWithin index.now.slice_size
         (search_at (H.state shelf.old) start) (search_at (H.state shelf.new) drive.cursor)) }
-    ensures digests { ¬ Contains calls.now Reopen → IsTrue (H.state shelf.old).is_steady →
-        IfOk result (λ drive. drive.digests.count
-        ≤ marks (scan_of index.now (H.state shelf.old)) start drive.cursor) }
 {
     let mut answers = Vec::with_capacity(alloc, calls.len())?;
     let mut finder = Finder::open(alloc, index, shelf, start)?;
@@ -53,7 +48,6 @@ pub fn drive<H: Shelf>(
             Call::Next => Answer::Step(finder.next(index, shelf)),
             Call::Reopen => {
                 let at = finder.cursor();
-                let digests = finder.into_digests();
                 match Finder::open(alloc, index, shelf, at) {
                     Ok(next) => {
                         finder = next;
@@ -61,15 +55,14 @@ pub fn drive<H: Shelf>(
                     }
                     Err(_) => {
                         put(&mut answers, Answer::NoMemory);
-                        return Ok(drive_of(answers, at, digests));
+                        return Ok(drive_of(answers, at));
                     }
                 }
             }
         };
         put(&mut answers, answer);
     }
-    let at = finder.cursor();
-    Ok(drive_of(answers, at, finder.into_digests()))
+    Ok(drive_of(answers, finder.cursor()))
 }
 
 // Appends an answer, for which there is room.
@@ -85,16 +78,13 @@ fn put(answers: &mut Vec<Answer>, answer: Answer)
     }
 }
 
-// What calls came to that gave these answers, left the search at a cursor, and after whose last
-// opening so many digests were taken.
-fn drive_of(answers: Vec<Answer>, cursor: Cursor, digests: Tally) -> Drive
+// What calls came to that gave these answers and left the search at a cursor.
+fn drive_of(answers: Vec<Answer>, cursor: Cursor) -> Drive
     ensures answers { result.answers ≡ answers.items }
     ensures cursor { result.cursor ≡ cursor }
-    ensures digests { result.digests.count ≡ digests.count }
 {
     Drive {
         answers: Sequence::from_vec(answers),
         cursor,
-        digests,
     }
 }

@@ -14,7 +14,6 @@ ghost use Rattle.parfind.specs.Visits.{StepSees, step_of, count_of};
 use crate::cursors::{Cursor, Sighting};
 use crate::searches::places::{next_place, rest_of};
 use crate::tracks::Track;
-use parfield::Tally;
 use parshelf::{ReadFault, Shelf};
 use parwindow::{Index, Window};
 use std::alloc::{AllocError, Global};
@@ -87,13 +86,6 @@ impl Finder {
         ensures { result ≡ self.now.cursor }
     {
         self.cursor
-    }
-
-    /// How many digests were taken, as only contracts see it. The search is given up.
-    pub fn into_digests(self) -> Tally
-        ensures { result.count ≡ self.digests }
-    {
-        self.window.into_digests()
     }
 
     /// The next sighting, or `Done`.

@@ -52,6 +52,7 @@ pub fn survey<H: Shelf>(
     ensures kept { KeepsMarks found.old found.new }
     ensures ok { OnOk result (ReadsOnly (H.state shelf.old) (H.state shelf.new)) }
     ensures fault { IfErr result (SurveyLeaves (H.state shelf.old) (H.state shelf.new)) }
+    ensures untouched { IfErr result (λ fault. fault ≡ Memory → found.new ≡ found.old) }
     ensures handed { HandsEachOnce (H.state shelf.old) (H.state shelf.new) }
     ensures unfit { SkipsUnfit index.now (H.state shelf.old) (H.state shelf.new) }
     ensures none { IsAllMarked found.old → H.state shelf.new ≡ H.state shelf.old }

@@ -39,7 +39,7 @@ fn resumes(
 
 // Opens the file of the process that has this number, and does so.
 fn goes_on(rt: &(impl Abort + AllocGlobal + Files<File = File>), number: u32) {
-    let path = must(rt, format!(in rt.alloc(); "/tmp/pardrive_{number}"));
+    let path = must(rt, format!(in rt.alloc(); "/tmp/parfind_{number}"));
     let mut shelf = shortened(rt, path.as_str());
     let index = must(rt, index_of(rt.alloc(), b"abcdefgh"));
     resumes(rt, path.as_str(), &index, &mut shelf);

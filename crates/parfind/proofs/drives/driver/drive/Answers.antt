@@ -32,7 +32,7 @@ loop-call-preserved g c =
             so_far = drive_steps set old s (g.H.Shelf.state w.step.new.shelf) c.args.start c.loop-call.finder w.step.new.self calls later
                 (call.Step n) (Some n) w.step.result xs c.put-in-loop-call.new.answers.items (asks_step n) (g.met.H.Shelf.in_order c.loop-call.shelf)
                 (rw (next_call calls i (call.Step n) _ c.loop-call-test.true w.in-Step.is) at before.so_far)
-                (record { answer = r.answer; moves = r.moves; ok = r.ok; fault = r.fault; reads = r.reads; digests = r.digests; opening = r.opening })
+                (record { answer = r.answer; moves = r.moves; ok = r.ok; fault = r.fault; reads = r.reads; opening = r.opening })
                 (added ∙ ap (λ (x : Answer). xs ++ x ∷ []) w.answer-is);
           })
       | in-Next w ↦
@@ -44,7 +44,7 @@ loop-call-preserved g c =
             so_far = drive_steps set old s (g.H.Shelf.state w.next.new.shelf) c.args.start c.loop-call.finder w.next.new.self calls later
                 call.Next None w.next.result xs c.put-in-loop-call.new.answers.items asks_next (g.met.H.Shelf.in_order c.loop-call.shelf)
                 (rw (next_call calls i call.Next _ c.loop-call-test.true w.in-Next.is) at before.so_far)
-                (record { answer = r.answer; moves = r.moves; ok = r.ok; fault = r.fault; reads = r.reads; digests = r.digests; opening = r.opening })
+                (record { answer = r.answer; moves = r.moves; ok = r.ok; fault = r.fault; reads = r.reads; opening = r.opening })
                 (added ∙ ap (λ (x : Answer). xs ++ x ∷ []) w.answer-is);
           })
       | in-Reopen+in-Ok w ↦
@@ -58,7 +58,7 @@ loop-call-preserved g c =
             so_far = drive_reopens set old s c.args.start c.loop-call.finder w.in-Ok.next calls later xs
                 c.put-in-loop-call.new.answers.items there
                 (rw (next_call calls i call.Reopen _ c.loop-call-test.true w.in-Reopen.is) at before.so_far)
-                (r.cursor ∙ w.cursor-at.ensures) r.digests (added ∙ ap (λ (x : Answer). xs ++ x ∷ []) w.answer-is);
+                (r.cursor ∙ w.cursor-at.ensures) (added ∙ ap (λ (x : Answer). xs ++ x ∷ []) w.answer-is);
           })
     ]
 
@@ -77,7 +77,7 @@ returns-in-Err g c =
     c.put.ensures.items in
     let e = c.drive_of.ensures in
     let gave = drive_ends set old s c.args.start c.drive_of.result.cursor c.loop-call.finder calls c.put.new.answers.items
-    c.drive_of.result.digests.count so_far (e.cursor ∙ c.cursor-at.ensures) (e.digests ∙ c.into_digests-digests.ensures) in
+    so_far (e.cursor ∙ c.cursor-at.ensures) in
     rw e.answers (record {
       answer = gave.answer;
       each = gave.each;
@@ -85,7 +85,6 @@ returns-in-Err g c =
       told = gave.told;
       untouched = tt;
       reads = gave.reads;
-      digests = gave.counted;
     })
 
 pub returns : goal.returns
@@ -98,7 +97,7 @@ returns g c =
     let so_far = rw (drop_all calls i c.loop-call-test.false) at c.loop-call.invariant.so_far in
     let e = c.drive_of-2.ensures in
     let gave = drive_ends set old s c.args.start c.drive_of-2.result.cursor c.loop-call.finder calls c.loop-call.answers.items
-    c.drive_of-2.result.digests.count so_far (e.cursor ∙ c.cursor-at-2.ensures) (e.digests ∙ c.into_digests.ensures) in
+    so_far (e.cursor ∙ c.cursor.ensures) in
     rw e.answers (record {
       answer = gave.answer;
       each = gave.each;
@@ -106,7 +105,6 @@ returns g c =
       told = gave.told;
       untouched = tt;
       reads = gave.reads;
-      digests = gave.counted;
     })
 
 pub returns-in_err-answers-clause-answer : goal.returns-in_err-answers-clause-answer
@@ -127,9 +125,6 @@ returns-in_err-answers-clause-untouched g c = grind (arith, common_steps) steps 
 pub returns-in_err-answers-clause-reads : goal.returns-in_err-answers-clause-reads
 returns-in_err-answers-clause-reads g c = grind (arith, common_steps) steps 100000
 
-pub returns-in_err-answers-clause-digests : goal.returns-in_err-answers-clause-digests
-returns-in_err-answers-clause-digests g c = grind (arith, common_steps) steps 400000
-
 pub returns-in_err-finder-clause-answer : goal.returns-in_err-finder-clause-answer
 returns-in_err-finder-clause-answer g c = grind (arith, common_steps) steps 100000
 
@@ -147,9 +142,6 @@ returns-in_err-finder-clause-untouched g c = grind (arith, common_steps) steps 1
 
 pub returns-in_err-finder-clause-reads : goal.returns-in_err-finder-clause-reads
 returns-in_err-finder-clause-reads g c = grind (arith, common_steps) steps 100000
-
-pub returns-in_err-finder-clause-digests : goal.returns-in_err-finder-clause-digests
-returns-in_err-finder-clause-digests g c = grind (arith, common_steps) steps 400000
 
 pub loop-call-init : goal.loop-call-init
 loop-call-init g c = grind (arith, common_steps) steps 1500000
