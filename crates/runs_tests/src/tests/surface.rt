@@ -1,7 +1,5 @@
-// What each library offers its callers: every public call, by the path at which it is found, with the
-// types and the fields that it takes and gives.
-ghost use Rattle.std.specs.Prelude.{◌≡◌, ◌≤◌, ◌<◌, length, slice_index};
-ghost use Rattle.parplan.specs.Commands.{HasLimit, reads_scanned};
+// What the libraries offer, by the path at which each call, type and field is found: a caller sees here
+// where to look. Calls that serve other libraries alone are left out, and laws, which do nothing.
 
 use crate::runs::{is_same, must};
 use parfixtures::{WORKED, file_of, shelf_of};
