@@ -20,25 +20,25 @@ pub advance-requires-clause-belongs : goal.advance-requires-clause-belongs
 advance-requires-clause-belongs g c = grind (arith, common_steps) steps 100000
 
 pub returns-clause-belongs : goal.returns-clause-belongs
-returns-clause-belongs g c = grind (arith, common_steps) steps 100000
+returns-clause-belongs g c = c.advance.ensures.belongs
 
 pub returns-clause-answer : goal.returns-clause-answer
-returns-clause-answer g c = grind (arith, common_steps) steps 100000
+returns-clause-answer g c = c.advance.ensures.answer
 
 pub returns-clause-moves : goal.returns-clause-moves
-returns-clause-moves g c = grind (arith, common_steps) steps 100000
+returns-clause-moves g c = c.advance.ensures.moves
 
 pub returns-clause-advances : goal.returns-clause-advances
-returns-clause-advances g c = grind (arith, common_steps) steps 100000
+returns-clause-advances g c = c.advance.ensures.advances
 
 pub returns-clause-ok : goal.returns-clause-ok
-returns-clause-ok g c = grind (arith, common_steps) steps 100000
+returns-clause-ok g c = c.advance.ensures.ok
 
 pub returns-clause-fault : goal.returns-clause-fault
-returns-clause-fault g c = grind (arith, common_steps) steps 100000
+returns-clause-fault g c = c.advance.ensures.fault
 
 pub returns-clause-opening : goal.returns-clause-opening
-returns-clause-opening g c = grind (arith, common_steps) steps 100000
+returns-clause-opening g c = c.advance.ensures.opening
 
 pub returns-clause-no_fewer : goal.returns-clause-no_fewer
-returns-clause-no_fewer g c = grind (arith, common_steps) steps 100000
+returns-clause-no_fewer g c = c.advance.ensures.no_fewer
