@@ -1,4 +1,5 @@
-//! Counts and lists of bytes that only contracts see.
+//! Counts and lists of bytes that only contracts see: `per_file` a number for each file, `tally` one
+//! number, `transcript` a list of bytes.
 
 mod per_file;
 mod tally;

@@ -1,5 +1,10 @@
 //! Fields of PAR2 files: hashes, packet headers, one packet in bytes, names as they are shown; and
 //! counts that only contracts see.
+//!
+//! `hash16` and `kind` have the types of a header's fields, `fields` those of headers and packets, and
+//! `packet` finds a header or a packet at the front of bytes. `shown` shows names, by `hex_byte`;
+//! `sequence` and `text` are lists and texts that contracts see by what they hold. `counts` has counts
+//! without bytes, and `laws` the law of the order of IDs.
 #![tactic(auto)]
 
 mod counts;

@@ -1,4 +1,5 @@
-//! Where a search stands, what it sees, and the text of a cursor.
+//! Where a search stands (`cursor`), what it sees (`sighting`), and the text of a cursor
+//! (`cursor_text`). `laws` are those of the order and of the texts of cursors.
 
 mod cursor;
 mod cursor_text;

@@ -1,5 +1,5 @@
 //! The search, sighting by sighting: `places` names the place that comes next, `finder` is the search,
-//! and `laws` add up what its calls promise.
+//! and `laws` say what its steps hand out, and what all of them are handed since an opening.
 
 mod finder;
 mod laws;

@@ -87,13 +87,13 @@ mark_taken_back whole scan was now last k here before marked back =
     let slice = get_or slices k no_slice in
     let there : slice_get slices k ≡ Some slice = slice_get-get_or slices k no_slice here in
     let whole_is = contains id_cmp whole slice.id in
-    let settled : mark_of was k ≡ (whole_is || is_none slice.sums) = ap (λ marks. mark_of marks k) before ∙ get_or-map (is_settled whole) slices k no_slice false here in
+    let needs_no_search : mark_of was k ≡ (whole_is || is_none slice.sums) = ap (λ marks. mark_of marks k) before ∙ get_or-map (is_settled whole) slices k no_slice false here in
     let known : can_be_found whole slices k ≡ (whole_is || is_some slice.sums)
     = ap (λ one. option_map_or (λ slice. contains id_cmp whole slice.id || is_some slice.sums) one false) there in
     let unseen : is_some slice.sums ≡ false → is_sighted scan k ≡ false
     = λ e. unknown_unseen scan k (ap (λ one. option_map_or (λ slice. is_some slice.sums) one false) there ∙ e) in
     back
-    ∙ (ap (λ b. b && can_be_found whole slices k) (marked ∙ ap (λ b. b || is_sighted scan k) settled)
+    ∙ (ap (λ b. b && can_be_found whole slices k) (marked ∙ ap (λ b. b || is_sighted scan k) needs_no_search)
     ∙ (ap (λ b. ((whole_is || is_none slice.sums) || is_sighted scan k) && b) known ∙ stays whole_is (is_sighted scan k) slice.sums unseen))
 
 pub marks_found : (whole : BTreeSet Hash16) (scan : Scan) (was now last : List Bool) → was ≡ map (is_settled whole) scan.set.slices

@@ -11,13 +11,13 @@ use Rattle.parset.specs.declared.recovery_set.SetSlice.{SetSlice}
 use Rattle.parwindow.specs.Index.{slice_set_of}
 use Rattle.parfind.specs.Sightings.{Scan}
 use Rattle.parfind.specs.Surveys.{is_sighted}
-use Rattle.parreport.specs.States.{NamedFile, is_whole, state_of}
+use Rattle.parreport.specs.States.{NamedFile, is_intact, state_of}
 use Rattle.parreport.specs.declared.states.findings.Findings.{Findings}
 
 -- the file of this ID is complete or renamed
 abbrev pub is_in_whole_file : SetView → List NamedFile → Hash16 → Bool
 is_in_whole_file set scanned id =
-    list_any (λ file. bytes_eq file.id.0 id.0 && is_whole (state_of scanned file)) set.files
+    list_any (λ file. bytes_eq file.id.0 id.0 && is_intact (state_of scanned file)) set.files
 
 -- the slices of a set, looked for in these contents
 abbrev pub scan_in : SetView → List (List ℕ) → Scan

@@ -74,11 +74,11 @@ state_by files asked file =
     (list_any (λ one. is_name_of file one.name) files)
 
 -- the file is complete or renamed
-abbrev pub is_whole : State → Bool
-is_whole Complete = true
-is_whole (Renamed k) = true
-is_whole Damaged = false
-is_whole Missing = false
+abbrev pub is_intact : State → Bool
+is_intact Complete = true
+is_intact (Renamed k) = true
+is_intact Damaged = false
+is_intact Missing = false
 
 -- the file is complete
 abbrev pub is_complete : State → Bool

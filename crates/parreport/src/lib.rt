@@ -1,10 +1,10 @@
 //! The report that a plan asks for, and how a run ends. Plans, sinks and their failures are passed on,
-//! so that a caller finds all of a run here.
+//! so that a caller finds all of a run here but its shelves.
 //!
 //! From below: `states` says what the scanned files show of a set, `text` writes what each command
-//! tells, `report` is the run of a plan over its files. `ends` has how a run ends, `messages` the exit
-//! status and the line of each end, and `opened_files` what the program does once it tried to open the
-//! files.
+//! tells, `salvage` collects the packets of all packet files, and `report` is the run of a plan over
+//! its files. `ends` has how a run ends, `messages` the exit status and the line of each end, and
+//! `opened_files` what the program does once it tried to open the files.
 #![tactic(auto)]
 
 mod ends;

@@ -1,8 +1,9 @@
 //! What scanned files show of a recovery set.
 //!
-//! `contents` has lengths and MD5s of the scanned files that may be files of the set, `state` how they
-//! stand to each file, `found` which slices are found, `findings` both together, and `counts` how many
-//! slices of each file are found.
+//! From below: `faults` is why files were not all read. `contents` has lengths and MD5s of the scanned
+//! files that may be files of the set, `state` how they stand to each file and which files are intact,
+//! `found` which slices are found, `findings` both together, and `counts` how many slices of each file
+//! are found.
 
 mod contents;
 mod counts;

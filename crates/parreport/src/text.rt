@@ -2,7 +2,7 @@
 //!
 //! `packets`, `set`, `find` and `verify` have a command each, with its lines in `lines`. `whole_text`
 //! writes a text with its status, `status` is what a run found, `faults` are the faults of a run and
-//! what others become there, and `names` are the names of files.
+//! how each fault below becomes one, and `names` are the names of files.
 
 mod faults;
 mod find;

@@ -9,7 +9,7 @@ use Rattle.parshelf.specs.Reads.{FaultsWithin}
 use Rattle.parshelf.specs.declared.shelves.reading.ReadFault.{ReadFault}
 use Rattle.parshelf.proofs.PieceLaws.{read_more}
 use Rattle.parsalvage.specs.declared.files.SalvageFault.{SalvageFault}
-use Rattle.parsalvage.specs.declared.noting.Found.{Found}
+use Rattle.parsalvage.specs.declared.file_scan.FileScan.{FileScan}
 use Rattle.parsalvage.specs.Packets.{packets_of}
 use Rattle.parsalvage.specs.Pieces.{IsPiece}
 use Rattle.parsalvage.specs.MagicPlaces.{limit_between, salvage_limit}
@@ -23,13 +23,13 @@ use Rattle.parsalvage.specs.Kept.{kept_as}
 use borrow.Rule.Slice.PartMut.{put_mid}
 
 -- the places below `base` were searched, and of the piece that begins there the front was read
-pub record FileSearched (s t : ShelfState) (file size base held : ℕ) (window : List ℕ) (found : Found) : Type 0 where
+pub record FileSearched (s t : ShelfState) (file size base held : ℕ) (window : List ℕ) (found : FileScan) : Type 0 where
   pub hands : Hands s t file ((base + held) + limit_between (file_of s file) 0 base)
   pub lies : LiesIn size base found
   pub packets : IsTrue s.is_steady → FoundBelow file (file_of s file) base found
   pub front : IsTrue s.is_steady → take held window ≡ take held (drop base (file_of s file))
 
-pub FileSearched-start : (s : ShelfState) (file size : ℕ) (window : List ℕ) (found : Found) → found.notes.items ≡ []
+pub FileSearched-start : (s : ShelfState) (file size : ℕ) (window : List ℕ) (found : FileScan) → found.notes.items ≡ []
     → found.bodies.bytes.items ≡ [] → found.bodies.start ≡ 0 → found.bodies.end ≡ 0 → FileSearched s s file size 0 0 window found
 FileSearched-start s file size window found no_notes no_bytes start_is end_is = record {
   hands = Hands-none s file _;
@@ -48,7 +48,7 @@ FileSearched-start s file size window found no_notes no_bytes start_is end_is = 
   front = λ _. refl;
 }
 
-module _ (s t : ShelfState) (file size_of base held size k : ℕ) (window part : List ℕ) (found : Found)
+module _ (s t : ShelfState) (file size_of base held size k : ℕ) (window part : List ℕ) (found : FileScan)
     (so_far : FileSearched s t file size_of base held window found)
     (within : IsTrue s.is_steady → base + size ≤ length (file_of s file)) (some : 7 ≤ size) (held_within : held ≤ size) (room : held ≤ length window)
     (filled : length part ≡ size - held) (long : size ≤ length (put_mid held k window part))
@@ -98,7 +98,7 @@ module _ (s t : ShelfState) (file size_of base held size k : ℕ) (window part :
       let all = limit_between-split (file_of s file) 0 base (base + (size - 7)) (omega arith) (omega arith) in
       omega (arith, here, all)
 
-  pub FileSearched-next : (v : ShelfState) (more : Found) (moved : List ℕ) → moved ≡ paste (put_mid held k window part) 0 (drop (size - 7) (put_mid held k window part)) (size - (size - 7))
+  pub FileSearched-next : (v : ShelfState) (more : FileScan) (moved : List ℕ) → moved ≡ paste (put_mid held k window part) 0 (drop (size - 7) (put_mid held k window part)) (size - (size - 7))
       → LiesIn size_of (base + (length (take size (put_mid held k window part)) - 7)) more
       → (IsTrue u.is_steady → FoundBelow file (file_of u file) (base + (length (take size (put_mid held k window part)) - 7)) more)
       → Hands u v file (limit_between (file_of u file) base (base + (length (take size (put_mid held k window part)) - 7)))
@@ -138,7 +138,7 @@ module _ (s t : ShelfState) (file size_of base held size k : ℕ) (window part :
       (λ steady some none. some (ap packets_of same_file ∙ none))
 
 -- the read of a piece failed
-pub FileSearched-unread : (s t u : ShelfState) (file size base held n : ℕ) (window : List ℕ) (found : Found) (fault : ReadFault)
+pub FileSearched-unread : (s t u : ShelfState) (file size base held n : ℕ) (window : List ℕ) (found : FileScan) (fault : ReadFault)
     → FileSearched s t file size base held window found → (IsTrue s.is_steady → (base + held) + n ≤ length (file_of s file))
     → FaultsWithin t u file n fault → FaultsAfter s u file (salvage_limit (file_of s file)) fault
 FileSearched-unread s t u file size base held n window found fault so_far within fails =
@@ -149,7 +149,7 @@ FileSearched-unread s t u file size base held n window found fault so_far within
     omega (arith, fits, all))
 
 -- fewer bytes are left than a header has
-module _ (s t : ShelfState) (file size base held : ℕ) (window : List ℕ) (found : Found)
+module _ (s t : ShelfState) (file size base held : ℕ) (window : List ℕ) (found : FileScan)
     (so_far : FileSearched s t file size base held window found) (low : base + held ≤ size) (last : size < base + 64)
     (length_is : IsTrue s.is_steady → length (file_of s file) ≡ size) where
   pub hands_whole : Hands s t file (salvage_limit (file_of s file))

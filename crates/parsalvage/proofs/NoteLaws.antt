@@ -11,13 +11,13 @@ use Rattle.parsalvage.specs.Packets.{is_packet_at, packet_found_at}
 use Rattle.parsalvage.specs.HeldBodies.{IsStore, HoldsRun}
 use Rattle.parsalvage.specs.Kept.{kept_as, body_kept}
 use Rattle.parsalvage.specs.Notes.{body_in, FitsStore, kept_note, packets_below, LiesIn, FoundBelow}
-use Rattle.parsalvage.specs.declared.holding.Held.{Held}
-use Rattle.parsalvage.specs.declared.holding.Held.TheVariants.{Whole, Front}
+use Rattle.parsalvage.specs.declared.stored_body.StoredBody.{StoredBody}
+use Rattle.parsalvage.specs.declared.stored_body.StoredBody.TheVariants.{Whole, Front}
 use Rattle.parsalvage.specs.declared.kept.Kept.{Kept}
 use Rattle.parsalvage.specs.declared.kept.KeptBody.{KeptBody}
 use Rattle.parsalvage.specs.declared.kept.KeptBody.TheVariants as kept
-use Rattle.parsalvage.specs.declared.noting.Note.{Note}
-use Rattle.parsalvage.specs.declared.noting.Found.{Found}
+use Rattle.parsalvage.specs.declared.file_scan.StoredPacket.{StoredPacket}
+use Rattle.parsalvage.specs.declared.file_scan.FileScan.{FileScan}
 use Rattle.parsalvage.proofs.RangeLaws.{range_with_len-split, filter_between, filter_none_between}
 
 -- a number above all rises behind them
@@ -33,43 +33,43 @@ rising_more xs a rises below k within =
 taken_of : (n : ℕ) (xs ys : List ℕ) → take n xs ≡ ys → length ys ≡ n → n ≤ length xs
 taken_of n xs ys is long = omega (arith, ap length is, length-take n xs, long)
 
-fits_longer : (m n : ℕ) (held : Held) → m ≤ n → FitsStore m held → FitsStore n held
+fits_longer : (m n : ℕ) (held : StoredBody) → m ≤ n → FitsStore m held → FitsStore n held
 fits_longer m n (Whole place size) longer fits = omega arith
 fits_longer m n (Front first len) longer fits = tt
 
 -- a packet behind those that were found
-pub LiesIn-more : (size at : ℕ) (old new : Found) (note : Note) → LiesIn size at old
+pub LiesIn-more : (size at : ℕ) (old new : FileScan) (note : StoredPacket) → LiesIn size at old
     → IsStore size new.bodies → new.bodies.start ≤ at + 64 → FitsStore (length new.bodies.bytes.items) note.body
     → take (length old.bodies.bytes.items) new.bodies.bytes.items ≡ old.bodies.bytes.items
     → new.notes.items ≡ old.notes.items ++ note ∷ [] → note.at ≡ at → note.at + note.length ≤ size
     → LiesIn size (at + 1) new
 LiesIn-more size at old new note lies store begins fits keeps more here within =
     let longer : length old.bodies.bytes.items ≤ length new.bodies.bytes.items = taken_of (length old.bodies.bytes.items) new.bodies.bytes.items old.bodies.bytes.items keeps refl in
-    let offsets : map (λ (n : Note). n.at) new.notes.items ≡ map (λ (n : Note). n.at) old.notes.items ++ at ∷ []
-    = ap (map (λ (n : Note). n.at)) more ∙ (map-append (λ (n : Note). n.at) old.notes.items (note ∷ [])
-    ∙ ap (λ (a : ℕ). map (λ (n : Note). n.at) old.notes.items ++ a ∷ []) here) in
+    let offsets : map (λ (n : StoredPacket). n.at) new.notes.items ≡ map (λ (n : StoredPacket). n.at) old.notes.items ++ at ∷ []
+    = ap (map (λ (n : StoredPacket). n.at)) more ∙ (map-append (λ (n : StoredPacket). n.at) old.notes.items (note ∷ [])
+    ∙ ap (λ (a : ℕ). map (λ (n : StoredPacket). n.at) old.notes.items ++ a ∷ []) here) in
     record {
       store = store;
       begins = omega arith;
-      held = subst (All (λ (n : Note). FitsStore (length new.bodies.bytes.items) n.body)) (sym more)
-          (All-push (λ (n : Note). FitsStore (length new.bodies.bytes.items) n.body) old.notes.items note (All-weaker (λ (n : Note). FitsStore (length old.bodies.bytes.items) n.body) (λ (n : Note). FitsStore (length new.bodies.bytes.items) n.body)
-          (λ (n : Note). fits_longer _ _ n.body longer) old.notes.items lies.held) fits);
+      held = subst (All (λ (n : StoredPacket). FitsStore (length new.bodies.bytes.items) n.body)) (sym more)
+          (All-push (λ (n : StoredPacket). FitsStore (length new.bodies.bytes.items) n.body) old.notes.items note (All-weaker (λ (n : StoredPacket). FitsStore (length old.bodies.bytes.items) n.body) (λ (n : StoredPacket). FitsStore (length new.bodies.bytes.items) n.body)
+          (λ (n : StoredPacket). fits_longer _ _ n.body longer) old.notes.items lies.held) fits);
       rising = subst IsStrictlyIncreasing (sym offsets)
-          (rising_more _ at lies.rising (All-map (λ (x : ℕ). x < at) (λ (n : Note). n.at) old.notes.items lies.before));
-      before = subst (All (λ (n : Note). n.at < at + 1)) (sym more)
-          (All-push (λ (n : Note). n.at < at + 1) old.notes.items note
-          (All-weaker (λ (n : Note). n.at < at) (λ (n : Note). n.at < at + 1) (λ (n : Note) h. omega (arith, h)) old.notes.items lies.before) (omega arith));
-      within = subst (All (λ (n : Note). n.at + n.length ≤ size)) (sym more) (All-push (λ (n : Note). n.at + n.length ≤ size) old.notes.items note lies.within within);
+          (rising_more _ at lies.rising (All-map (λ (x : ℕ). x < at) (λ (n : StoredPacket). n.at) old.notes.items lies.before));
+      before = subst (All (λ (n : StoredPacket). n.at < at + 1)) (sym more)
+          (All-push (λ (n : StoredPacket). n.at < at + 1) old.notes.items note
+          (All-weaker (λ (n : StoredPacket). n.at < at) (λ (n : StoredPacket). n.at < at + 1) (λ (n : StoredPacket) h. omega (arith, h)) old.notes.items lies.before) (omega arith));
+      within = subst (All (λ (n : StoredPacket). n.at + n.length ≤ size)) (sym more) (All-push (λ (n : StoredPacket). n.at + n.length ≤ size) old.notes.items note lies.within within);
     }
 
 -- a place without a packet
-pub LiesIn-later : (size at next : ℕ) (found : Found) → LiesIn size at found → at ≤ next → LiesIn size next found
+pub LiesIn-later : (size at next : ℕ) (found : FileScan) → LiesIn size at found → at ≤ next → LiesIn size next found
 LiesIn-later size at next found lies behind = record {
   store = lies.store;
   begins = omega (arith, lies.begins);
   held = lies.held;
   rising = lies.rising;
-  before = All-weaker (λ (n : Note). n.at < at) (λ (n : Note). n.at < next) (λ (n : Note) h. omega (arith, h)) found.notes.items lies.before;
+  before = All-weaker (λ (n : StoredPacket). n.at < at) (λ (n : StoredPacket). n.at < next) (λ (n : StoredPacket) h. omega (arith, h)) found.notes.items lies.before;
   within = lies.within;
 }
 
@@ -107,7 +107,7 @@ packets_below-none bytes at next behind none =
     ∙ (ap (λ (n : ℕ). filter (is_packet_at bytes) (range_with_len 0 n) ++ filter (is_packet_at bytes) (range_with_len at (next - at))) to_at
     ∙ (ap (λ (xs : List ℕ). filter (is_packet_at bytes) (range_with_len 0 at) ++ xs) none_between ∙ append-nil _))))
 
-pub FoundBelow-none : (file at next : ℕ) (bytes : List ℕ) (found : Found) → FoundBelow file bytes at found → at ≤ next
+pub FoundBelow-none : (file at next : ℕ) (bytes : List ℕ) (found : FileScan) → FoundBelow file bytes at found → at ≤ next
     → ((k : ℕ) → at ≤ k → k < next → is_packet_at bytes k ≡ false) → FoundBelow file bytes next found
 FoundBelow-none file at next bytes found so_far behind none = record {
   run = so_far.run;
@@ -115,7 +115,7 @@ FoundBelow-none file at next bytes found so_far behind none = record {
 }
 
 -- what lay in the old store lies at the same place of the new one
-body_in-longer : (old new : List ℕ) (held : Held) → take (length old) new ≡ old → FitsStore (length old) held → body_in new held ≡ body_in old held
+body_in-longer : (old new : List ℕ) (held : StoredBody) → take (length old) new ≡ old → FitsStore (length old) held → body_in new held ≡ body_in old held
 body_in-longer old new (Whole place size) keeps fits =
     let split : length old ≡ place + (length old - place) = omega arith in
     ap kept.Whole (sym (ap (λ (xs : List ℕ). take size (drop place xs)) (sym keeps)
@@ -124,17 +124,17 @@ body_in-longer old new (Whole place size) keeps fits =
     ∙ take-take size (length old - place) (drop place new) (omega arith)))))
 body_in-longer old new (Front first len) keeps fits = refl
 
-kept_notes-longer : (file : ℕ) (old new : List ℕ) (notes : List Note) → take (length old) new ≡ old
+kept_notes-longer : (file : ℕ) (old new : List ℕ) (notes : List StoredPacket) → take (length old) new ≡ old
     → All (λ n. FitsStore (length old) n.body) notes → map (kept_note file new) notes ≡ map (kept_note file old) notes
 kept_notes-longer file old new [] keeps fit = refl
 kept_notes-longer file old new (note ∷ notes) keeps fit =
     let here : kept_note file new note ≡ kept_note file old note
-    = ap (λ (body : KeptBody). record (kept_note file old note) { body = body }) (body_in-longer old new note.body keeps (All-head (λ (n : Note). FitsStore (length old) n.body) note notes fit)) in
+    = ap (λ (body : KeptBody). record (kept_note file old note) { body = body }) (body_in-longer old new note.body keeps (All-head (λ (n : StoredPacket). FitsStore (length old) n.body) note notes fit)) in
     ap (λ (k : Kept). k ∷ map (kept_note file new) notes) here
-    ∙ ap (λ (ks : List Kept). kept_note file old note ∷ ks) (kept_notes-longer file old new notes keeps (All-tail (λ (n : Note). FitsStore (length old) n.body) note notes fit))
+    ∙ ap (λ (ks : List Kept). kept_note file old note ∷ ks) (kept_notes-longer file old new notes keeps (All-tail (λ (n : StoredPacket). FitsStore (length old) n.body) note notes fit))
 
 -- the packet that begins here, noted
-pub noted_packet : (file at : ℕ) (bytes store : List ℕ) (head : Header) (note : Note) → head ≡ header_of (drop at bytes)
+pub noted_packet : (file at : ℕ) (bytes store : List ℕ) (head : Header) (note : StoredPacket) → head ≡ header_of (drop at bytes)
     → note.at ≡ at → note.length ≡ head.length → note.set ≡ head.set → note.kind ≡ head.kind
     → body_in store note.body ≡ body_kept head.kind (take (head.length - 64) (drop (at + 64) bytes))
     → kept_note file store note ≡ kept_as file (packet_found_at bytes at)
@@ -148,7 +148,7 @@ noted_packet file at bytes store head note is at_is length_is set_is kind_is bod
     let kind_now = kind_is ∙ ap (λ (h : Header). h.kind) is in
     cc
 
-pub FoundBelow-packet : (file at : ℕ) (bytes : List ℕ) (old new : Found) (note : Note) → FoundBelow file bytes at old
+pub FoundBelow-packet : (file at : ℕ) (bytes : List ℕ) (old new : FileScan) (note : StoredPacket) → FoundBelow file bytes at old
     → is_packet_at bytes at ≡ true → HoldsRun bytes new.bodies
     → take (length old.bodies.bytes.items) new.bodies.bytes.items ≡ old.bodies.bytes.items
     → All (λ n. FitsStore (length old.bodies.bytes.items) n.body) old.notes.items

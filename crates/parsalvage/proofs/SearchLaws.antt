@@ -8,7 +8,7 @@ use Rattle.memchr.proofs.lemmas.MatchLemmas.{OccursAt-true, occurs_at-true, Occu
 use Rattle.parfield.specs.Packet.{magic_bytes}
 use Rattle.parshelf.specs.Shelf.{ShelfState, file_of}
 use Rattle.parsalvage.specs.declared.files.SalvageFault.{SalvageFault}
-use Rattle.parsalvage.specs.declared.noting.Found.{Found}
+use Rattle.parsalvage.specs.declared.file_scan.FileScan.{FileScan}
 use Rattle.parsalvage.specs.Packets.{is_packet_at, packet_found_at, packets_of}
 use Rattle.parsalvage.specs.Pieces.{IsPiece}
 use Rattle.parsalvage.specs.MagicPlaces.{is_magic_at, framed_size, limit_between}
@@ -66,7 +66,7 @@ module _ (bytes : List ℕ) (base : ℕ) (window : List ℕ) (piece : IsPiece by
       (λ not. not) (cases_Bool (is_packet_at bytes k))
 
 -- the places of the piece before `next` were searched; these are left
-pub record SearchedTo (s t : ShelfState) (file size base : ℕ) (window left : List ℕ) (found : Found) : Type 0 where
+pub record SearchedTo (s t : ShelfState) (file size base : ℕ) (window left : List ℕ) (found : FileScan) : Type 0 where
   pub next : ℕ
   pub low : base ≤ next
   pub high : next ≤ base + (length window - 7)
@@ -75,7 +75,7 @@ pub record SearchedTo (s t : ShelfState) (file size base : ℕ) (window left : L
   pub packets : IsTrue s.is_steady → FoundBelow file (file_of s file) next found
   pub hands : Hands s t file (limit_between (file_of s file) base next)
 
-pub SearchedTo-start : (s : ShelfState) (file size base : ℕ) (window : List ℕ) (found : Found) → LiesIn size base found
+pub SearchedTo-start : (s : ShelfState) (file size base : ℕ) (window : List ℕ) (found : FileScan) → LiesIn size base found
     → (IsTrue s.is_steady → FoundBelow file (file_of s file) base found)
     → SearchedTo s s file size base window (matches window magic_bytes 0) found
 SearchedTo-start s file size base window found lies packets = record {
@@ -92,7 +92,7 @@ SearchedTo-start s file size base window found lies packets = record {
 }
 
 -- the first place that is left
-module _ (s t : ShelfState) (file size base place : ℕ) (window later : List ℕ) (found : Found)
+module _ (s t : ShelfState) (file size base place : ℕ) (window later : List ℕ) (found : FileScan)
     (piece : IsTrue s.is_steady → IsPiece (file_of s file) base window) (so_far : SearchedTo s t file size base window (place ∷ later) found) where
   first : PassesFirst (occurs_at window magic_bytes) (so_far.next - base) ((length window + 1) - (so_far.next - base)) place later
   first = passes_first _ _ _ place later (sym so_far.left_are)
@@ -137,7 +137,7 @@ module _ (s t : ShelfState) (file size base place : ℕ) (window later : List �
       let now = ap (λ (bytes : List ℕ). framed_size (drop (base + place) bytes)) same in
       omega (arith, one, whole, rest, now)
 
-  pub SearchedTo-next : (u : ShelfState) (more : Found) → LiesIn size ((base + place) + 1) more
+  pub SearchedTo-next : (u : ShelfState) (more : FileScan) → LiesIn size ((base + place) + 1) more
       → (IsTrue t.is_steady → FoundBelow file (file_of t file) ((base + place) + 1) more)
       → Hands t u file (64 + 2 * framed_size (drop (base + place) (file_of t file)))
       → SearchedTo s u file size base window later more
@@ -169,7 +169,7 @@ module _ (s t : ShelfState) (file size base place : ℕ) (window later : List �
       (λ _ is. some_packet (file_of s file) (base + place) (ap (λ (bytes : List ℕ). is_packet_at bytes (base + place)) (sym same) ∙ is))
 
 -- no place is left
-module _ (s t : ShelfState) (file size base : ℕ) (window : List ℕ) (found : Found)
+module _ (s t : ShelfState) (file size base : ℕ) (window : List ℕ) (found : FileScan)
     (piece : IsTrue s.is_steady → IsPiece (file_of s file) base window) (all : SearchedTo s t file size base window [] found) where
   pub lies_after : LiesIn size (base + (length window - 7)) found
   lies_after = LiesIn-later size all.next (base + (length window - 7)) found all.lies all.high

@@ -1,16 +1,16 @@
--- Bodies of a file that are held in one list of bytes, no longer than the file.
+-- BodyStore of a file that are held in one list of bytes, no longer than the file.
 use Rattle.std.specs.Prelude.{◌≡◌, ◌≤◌, ◌+◌, ◌-◌, ℕ, List, length, take, drop}
-use Rattle.parsalvage.specs.declared.bodies.Bodies.{Bodies}
+use Rattle.parsalvage.specs.declared.body_store.BodyStore.{BodyStore}
 
 -- no more bytes are held than stand before the end of the last run, in a file of this length
-pub record IsStore (size : ℕ) (bodies : Bodies) : Type 0 where
+pub record IsStore (size : ℕ) (bodies : BodyStore) : Type 0 where
   pub in_order : bodies.start ≤ bodies.end
   pub fits : bodies.end ≤ bodies.start + length bodies.bytes.items
   pub short : length bodies.bytes.items ≤ bodies.end
   pub within : bodies.end ≤ size
 
 -- the last run of the file stands at the end of what is held
-abbrev pub HoldsRun : List ℕ → Bodies → Type 0
+abbrev pub HoldsRun : List ℕ → BodyStore → Type 0
 HoldsRun file bodies =
     drop (length bodies.bytes.items - (bodies.end - bodies.start)) bodies.bytes.items
     ≡ take (bodies.end - bodies.start) (drop bodies.start file)

@@ -1,18 +1,24 @@
 //! The packets of bytes and of files, as they are found and as they are kept.
+//!
+//! `bytes` salvages bytes, and `files` a file: `searching` goes over it for the magic by pieces
+//! (`piece`), `validating` tests what looks like a packet there, and `file_scan` notes each that is
+//! one, with what is held of its body (`stored_body`) in one store for all of the file (`body_store`).
+//! `kept` and `part` are how packets are kept; `keeping` keeps those of bytes, `files` those of a file.
+//! `laws` has the law of the magic.
 #![tactic(auto)]
 
-mod bodies;
+mod body_store;
 mod bytes;
-mod examining;
+mod file_scan;
 mod files;
-mod holding;
 mod keeping;
 mod kept;
 mod laws;
-mod noting;
 mod part;
 mod piece;
 mod searching;
+mod stored_body;
+mod validating;
 
 pub use crate::bytes::salvage;
 pub use crate::files::{SalvageFault, salvage_file};

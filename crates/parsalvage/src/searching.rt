@@ -6,10 +6,10 @@ ghost use Rattle.parsalvage.specs.Packets.{packets_of};
 ghost use Rattle.parsalvage.specs.Pieces.{IsPiece};
 ghost use Rattle.parsalvage.specs.MagicPlaces.{limit_between, salvage_limit};
 
-use crate::bodies::Bodies;
+use crate::body_store::BodyStore;
 use crate::bytes::MAGIC;
+use crate::file_scan::{FileScan, note_at};
 use crate::files::SalvageFault;
-use crate::noting::{Found, note_at};
 use crate::piece::Piece;
 use memchr::memmem;
 use parshelf::{Shelf, fill};
@@ -24,7 +24,7 @@ fn search_piece<H: Shelf>(
     file: u32,
     piece: &Piece<'_>,
     buffer: &mut [u8],
-    found: &mut Found,
+    found: &mut FileScan,
 ) -> Result<(), SalvageFault>
     requires file { file < length (H.state shelf.old).lengths }
     requires within { piece.now.base + length piece.now.bytes.now
@@ -65,7 +65,7 @@ pub fn search_file<H: Shelf>(
     shelf: &mut H,
     file: u32,
     buffer: &mut [u8],
-) -> Result<Found, SalvageFault>
+) -> Result<FileScan, SalvageFault>
     requires file { file < length (H.state shelf.old).lengths }
     requires buffer { 0 < length buffer.old }
 
@@ -82,9 +82,9 @@ pub fn search_file<H: Shelf>(
         (packets_of (file_of (H.state shelf.old) file) ≢ [])) }
 {
     let end = shelf.length(file);
-    let mut found = Found {
+    let mut found = FileScan {
         notes: Vec::new(alloc),
-        bodies: Bodies {
+        bodies: BodyStore {
             bytes: Vec::new(alloc),
             start: 0,
             end: 0,

@@ -1,8 +1,8 @@
 //! Bodies of PAR2 packets: the fields of each, or the first reason why it is not usable.
 //!
 //! From below: `aside` has the reasons, `fields` reads the numbers and hashes of a body. Above them
-//! stands a module for each kind of body: `main_packet`, `description`, `checksums`,
-//! `recovery_slice` and `creator`.
+//! stands a module for each kind of body, with its reader and the reason that comes first:
+//! `main_packet`, `description`, `checksums`, `recovery_slice` and `creator`.
 
 mod aside;
 mod checksums;

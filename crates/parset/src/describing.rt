@@ -18,7 +18,7 @@ pub fn described(alloc: Global, own: &[&Kept], ids: &[Hash16]) -> Result<Sequenc
     let mut files = Vec::new(alloc);
     for id in ids {
         match found.get(id) {
-            Some(file) => add_copy(alloc, file, &mut files)?,
+            Some(file) => push_description(alloc, file, &mut files)?,
             None => return Err(SetFault::NoDesc(*id)),
         }
     }
@@ -26,15 +26,15 @@ pub fn described(alloc: Global, own: &[&Kept], ids: &[Hash16]) -> Result<Sequenc
 }
 
 // Adds the same fields in memory of their own.
-fn add_copy(alloc: Global, file: &Desc, files: &mut Vec<Desc>) -> Result<(), AllocError>
+fn push_description(alloc: Global, file: &Desc, files: &mut Vec<Desc>) -> Result<(), AllocError>
     ensures { IfOk result (λ _. files.new.items ≡ files.old.items ++ file.now ∷ []) }
 {
-    files.push(copy_of(alloc, file)?)?;
+    files.push(description_copy(alloc, file)?)?;
     Ok(())
 }
 
 // The same fields in memory of their own.
-fn copy_of(alloc: Global, file: &Desc) -> Result<Desc, AllocError>
+fn description_copy(alloc: Global, file: &Desc) -> Result<Desc, AllocError>
     ensures { IfOk result (λ copy. copy ≡ file.now) }
 {
     Ok(Desc {

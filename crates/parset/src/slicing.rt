@@ -25,14 +25,14 @@ pub fn slices_checked(size: u64, files: Sequence<Desc>) -> Result<Sequence<Desc>
     requires { 0 < size }
     ensures { AnswersSet (slices_checked size files) result }
 {
-    if has_many(size, files.as_slice()) {
+    if exceeds_slice_limit(size, files.as_slice()) {
         return Err(SetFault::TooManySlices);
     }
     Ok(files)
 }
 
 // Whether the files have more slices than a recovery set may have.
-fn has_many(size: u64, files: &[Desc]) -> bool
+fn exceeds_slice_limit(size: u64, files: &[Desc]) -> bool
     requires { 0 < size }
     ensures { result ≡ nat_lt 32768 (slice_total size files.now) }
 {

@@ -1,4 +1,4 @@
-use parplan::{plan, words_behind};
+use parplan::{plan, words_after_program};
 use parreport::{End, PlanFault, WriteSink, ending, run_opened, scanned_paths};
 use parshelf::DiskShelf;
 use std::alloc::AllocError;
@@ -12,7 +12,7 @@ pub fn perform(rt: &HostRuntime) -> Result<(u8, Vec<u8>), AllocError> {
         Err(_) => return ending(rt.alloc(), &End::Plan(PlanFault::Usage), ""),
     };
     let args: Vec<String> = args.collect(rt.alloc())?;
-    perform_words(rt, words_behind(&args))
+    perform_words(rt, words_after_program(&args))
 }
 
 // Does what the words behind the program's name ask for.

@@ -92,7 +92,7 @@ fn pair_of_parts(id: &[u8], file: &[u8], offset: &[u8], slice: &[u8]) -> Option<
 fn id_in(part: &[u8]) -> Option<Hash16>
     ensures { result ≡ id_in part.now }
 {
-    if has_lower_digits(part) {
+    if are_lower_hex_digits(part) {
         Hash16::read(part)
     } else {
         None
@@ -100,7 +100,7 @@ fn id_in(part: &[u8]) -> Option<Hash16>
 }
 
 // Whether each byte is a hexadecimal digit, those above 9 in lower case.
-fn has_lower_digits(part: &[u8]) -> bool
+fn are_lower_hex_digits(part: &[u8]) -> bool
     ensures { result ≡ list_all is_lower_digit part.now }
 {
     part.iter()
@@ -144,11 +144,11 @@ fn is_canonical(part: &[u8]) -> bool
     if *first == b'0' {
         others.is_empty()
     } else {
-        are_digits(part)
+        are_decimal_digits(part)
     }
 }
 
-fn are_digits(part: &[u8]) -> bool
+fn are_decimal_digits(part: &[u8]) -> bool
     ensures { result ≡ list_all is_ascii_digit part.now }
 {
     part.iter().all(|byte| byte.is_ascii_digit())

@@ -7,7 +7,7 @@ use crate::words::files::{packet_files, scanned_files};
 use crate::words::grammar::Verb;
 use crate::words::matches::{matches_for, values_of};
 use crate::words::options::{base_given, command_given, set_given};
-use crate::{Plan, PlanFault, may_be_given};
+use crate::{Plan, PlanFault, is_within_file_limit};
 use clap::ArgMatches;
 use std::alloc::Global;
 
@@ -87,7 +87,7 @@ fn files_given<'m, 'a>(matches: &'m ArgMatches<'a>) -> Result<&'m [&'a str], Pla
 {
     match values_of(matches, "files") {
         None => Err(PlanFault::NoPacketFile),
-        Some(files) if may_be_given(files.len()) => Ok(files),
+        Some(files) if is_within_file_limit(files.len()) => Ok(files),
         Some(_) => Err(PlanFault::Value),
     }
 }

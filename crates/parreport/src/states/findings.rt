@@ -8,7 +8,7 @@ ghost use Rattle.parreport.specs.Findings.{findings_of};
 use crate::states::contents::contents;
 use crate::states::faults::FilesFault;
 use crate::states::found::{found_slices, need_of};
-use crate::states::state::{State, states, whole_ids};
+use crate::states::state::{State, intact_ids, states};
 use parfield::Sequence;
 use parplan::Scanned;
 use parset::RecoverySet;
@@ -62,7 +62,7 @@ pub(crate) fn findings_on<Q: Shelf>(
     let set_files = set.files();
     let contents = contents(alloc, set_files, shelf)?;
     let states = states(alloc, files, &contents, set_files)?;
-    let whole = whole_ids(alloc, set_files, states.as_slice())?;
+    let whole = intact_ids(alloc, set_files, states.as_slice())?;
     let found = found_slices(alloc, set, &whole, shelf)?;
     Ok(Findings {
         states: Sequence::from_vec(states),

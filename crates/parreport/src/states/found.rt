@@ -47,14 +47,14 @@ pub fn found_slices<Q: Shelf>(
     ensures fault { IfErr result (FilesLeave (Q.state shelf.old) (Q.state shelf.new)) }
 {
     let index = Index::new(alloc, set)?;
-    let mut found = settled(alloc, set.slices(), whole)?;
+    let mut found = needs_no_search(alloc, set.slices(), whole)?;
     survey(alloc, &index, shelf, &mut found)?;
-    take_back(set.slices(), whole, &mut found);
+    unmark_unsearchable(set.slices(), whole, &mut found);
     Ok(found)
 }
 
 // Marks the slices that need no search: those of these files, and those that none can find.
-fn settled(
+fn needs_no_search(
     alloc: Global,
     slices: &[SetSlice],
     whole: &BTreeSet<Hash16>,
@@ -68,7 +68,7 @@ fn settled(
 }
 
 // Takes the marks back of slices of other files that lack their sums.
-fn take_back(slices: &[SetSlice], whole: &BTreeSet<Hash16>, found: &mut [bool])
+fn unmark_unsearchable(slices: &[SetSlice], whole: &BTreeSet<Hash16>, found: &mut [bool])
     requires { length found.old ≡ length slices.now }
     ensures { EachIndex found.new (λ n. mark_of found.new n
         ≡ (mark_of found.old n && can_be_found whole.now slices.now n)) }

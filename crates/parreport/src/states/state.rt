@@ -3,7 +3,7 @@ ghost use Rattle.std.specs.BTreeSet.{contains};
 ghost use Rattle.std.specs.List.{list_any, zip};
 ghost use Rattle.std.specs.Str.{bytes_eq};
 ghost use Rattle.parfield.specs.HashOrder.{id_cmp};
-ghost use Rattle.parreport.specs.States.{shows_content_of, shows_both, is_name_of, is_whole, is_complete, state_by};
+ghost use Rattle.parreport.specs.States.{shows_content_of, shows_both, is_name_of, is_intact, is_complete, state_by};
 
 use crate::states::contents::LengthAndMd5;
 use parfield::Hash16;
@@ -27,8 +27,8 @@ pub(crate) enum State {
 
 impl State {
     /// Whether a scanned file has the whole content.
-    pub fn is_whole(self) -> bool
-        ensures { result ≡ is_whole self }
+    pub fn is_intact(self) -> bool
+        ensures { result ≡ is_intact self }
     {
         match self {
             State::Complete | State::Renamed(_) => true,
@@ -133,7 +133,7 @@ fn has_name(scanned: &Scanned, file: &SetFile) -> bool
 }
 
 /// The IDs of the files that are complete or renamed.
-pub fn whole_ids(
+pub fn intact_ids(
     alloc: Global,
     files: &[SetFile],
     states: &[State],
@@ -142,21 +142,21 @@ pub fn whole_ids(
     ensures { IfOk result (λ whole. (state_at : SetFile → State)
         → states.now ≡ map state_at files.now
         → (id : Hash16) → contains id_cmp whole id
-        ≡ list_any (λ file. bytes_eq file.id.0 id.0 && is_whole (state_at file)) files.now) }
+        ≡ list_any (λ file. bytes_eq file.id.0 id.0 && is_intact (state_at file)) files.now) }
 {
     let mut whole = BTreeSet::new(alloc);
     for (index, file) in files.iter().enumerate() {
-        add_if_whole(&mut whole, file.id, states[index])?;
+        add_if_intact(&mut whole, file.id, states[index])?;
     }
     Ok(whole)
 }
 
 // Adds the ID of a file in this state, if it is complete or renamed.
-fn add_if_whole(whole: &mut BTreeSet<Hash16>, id: Hash16, state: State) -> Result<(), AllocError>
+fn add_if_intact(whole: &mut BTreeSet<Hash16>, id: Hash16, state: State) -> Result<(), AllocError>
     ensures { OnOk result ((q : Hash16) → contains id_cmp whole.new q
-        ≡ (contains id_cmp whole.old q || (bytes_eq id.0 q.0 && is_whole state))) }
+        ≡ (contains id_cmp whole.old q || (bytes_eq id.0 q.0 && is_intact state))) }
 {
-    if state.is_whole() {
+    if state.is_intact() {
         whole.insert(id)?;
     }
     Ok(())

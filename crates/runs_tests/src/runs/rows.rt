@@ -97,7 +97,7 @@ pub fn rows_of<'t>(rt: &(impl Abort + AllocGlobal), table: &'t str, count: usize
 }
 
 // What a word stands for: `''` has no letter, and `_1` and `1_` a space in place of the dash.
-fn word_of(word: &str) -> &str {
+fn meant_word(word: &str) -> &str {
     match word {
         "''" => "",
         "_1" => " 1",
@@ -115,7 +115,7 @@ pub fn replaced(rt: &(impl Abort + AllocGlobal), text: &str, mark: &str, by: &st
 pub fn words_of(rt: &(impl Abort + AllocGlobal), words: &str) -> Vec<String> {
     let mut all = Vec::new(rt.alloc());
     for word in words.split_whitespace() {
-        must(rt, all.push(replaced(rt, word_of(word), "~", "\n")));
+        must(rt, all.push(replaced(rt, meant_word(word), "~", "\n")));
     }
     all
 }

@@ -71,7 +71,7 @@ fn push_packet(text: &mut String, name: &[u8], packet: &Kept) -> Result<(), Allo
         Shown(name),
         packet.at,
         packet.length,
-        word_of(packet.kind),
+        kind_word(packet.kind),
         packet.set
     )
 }
@@ -85,7 +85,7 @@ pub fn push_count(text: &mut String, count: u64) -> Result<(), AllocError>
 }
 
 // The word of a kind.
-fn word_of(kind: Kind) -> &'static str
+fn kind_word(kind: Kind) -> &'static str
     ensures { result.now ≡ kind_word kind }
 {
     match kind {

@@ -237,11 +237,11 @@ fn push_need(text: &mut String, need: usize, have: u32) -> Result<(), AllocError
 fn push_result(text: &mut String, status: Status) -> Result<(), AllocError>
     ensures { OnOk result (string_bytes text.new ≡ string_bytes text.old ++ result_line status) }
 {
-    writeln!(text, "result {}", word_of(status))
+    writeln!(text, "result {}", status_word(status))
 }
 
 // The word of a status.
-fn word_of(status: Status) -> &'static str
+fn status_word(status: Status) -> &'static str
     ensures { result.now ≡ status_word status }
 {
     match status {

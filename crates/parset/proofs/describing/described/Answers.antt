@@ -22,7 +22,7 @@ loop-id-preserved c =
     let found : file_description_of id own ≡ Some c.in-Some.file.now = sym (c.in_ok-found.ensures id) ∙ sym c.in-Some.ensures.value in
     c.loop-id.invariant
     ∙ (described_more own c.args.ids.now c.loop-id.id-index d c.loop-id.files.items c.in-Some.file.now c.loop-id-test.true found
-    ∙ ap (λ files. behind files (descriptions_of own (drop (c.loop-id.id-index + 1) c.args.ids.now))) (sym c.in_ok-add_copy-in-Some.ensures))
+    ∙ ap (λ files. behind files (descriptions_of own (drop (c.loop-id.id-index + 1) c.args.ids.now))) (sym c.in_ok-push_description-in-Some.ensures))
 
 pub returns : goal.returns
 returns c =
@@ -39,5 +39,5 @@ loop-id-init c = grind (arith, common_steps) steps 100000
 pub offset_bounds-ids-id-index : goal.offset_bounds-ids-id-index
 offset_bounds-ids-id-index c = grind (arith, common_steps) steps 100000
 
-pub returns-in_err-add_copy-in-Some : goal.returns-in_err-add_copy-in-Some
-returns-in_err-add_copy-in-Some c = grind (arith, common_steps) steps 400000
+pub returns-in_err-push_description-in-Some : goal.returns-in_err-push_description-in-Some
+returns-in_err-push_description-in-Some c = grind (arith, common_steps) steps 400000

@@ -7,7 +7,7 @@ use Rattle.parfield.specs.HashOrder.{id_cmp}
 use Rattle.parset.specs.declared.recovery_set.SetFile.{SetFile}
 use Rattle.parset.specs.declared.recovery_set.SetSlice.{SetSlice}
 use Rattle.parshelf.specs.Shelf.{ShelfState}
-use Rattle.parreport.specs.States.{named_files, asked_of, is_whole, state_of}
+use Rattle.parreport.specs.States.{named_files, asked_of, is_intact, state_of}
 use Rattle.parreport.specs.Contents.{HandsAsked}
 use Rattle.parreport.proofs.SumLaws.{unsearched}
 use Rattle.parreport.proofs.StateLaws.{contents_sized, findings_made, found_read, states_read}
@@ -31,7 +31,7 @@ returns-clause-findings g c = λ steady.
     findings_made set files old c.from_vec.result c.from_vec-2.result c.in_ok-whole.whole sized
     (c.from_vec.ensures ∙ states)
     (λ id. c.in_ok-whole.ensures state asked id
-    ∙ ap (list_any (λ (file : SetFile). bytes_eq file.id.0 id.0 && is_whole (state file))) c.files-set_files.ensures.field)
+    ∙ ap (list_any (λ (file : SetFile). bytes_eq file.id.0 id.0 && is_intact (state file))) c.files-set_files.ensures.field)
     (c.from_vec-2.ensures ∙ found_read set old now (λ (slice : SetSlice). contains id_cmp c.in_ok-whole.whole slice.id) c.in_ok-found.found.items reads
     (c.in_ok-found.ensures.found still))
 
@@ -93,8 +93,8 @@ returns-in_err-states-clause-ok g c = grind (arith, common_steps) steps 100000
 pub returns-in_err-states-clause-fault : goal.returns-in_err-states-clause-fault
 returns-in_err-states-clause-fault g c = grind (arith, common_steps) steps 100000
 
-pub whole_ids-requires : goal.whole_ids-requires
-whole_ids-requires g c = grind (arith, common_steps) steps 400000
+pub intact_ids-requires : goal.intact_ids-requires
+intact_ids-requires g c = grind (arith, common_steps) steps 400000
 
 pub returns-in_err-whole-clause-findings : goal.returns-in_err-whole-clause-findings
 returns-in_err-whole-clause-findings g c = grind (arith, common_steps) steps 400000

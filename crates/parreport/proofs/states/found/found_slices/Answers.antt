@@ -23,27 +23,27 @@ returns-clause-found g c = λ steady.
     let back = take-all_back c.in_ok-found.found.len c.survey.new.found c.in_ok-found.found.items same (omega arith) in
     let now : c.deref_mut-2.result.now ≡ c.survey.new.found = c.deref_mut-2.ensures.value ∙ back in
     let sized : length c.survey.new.found ≡ length slices = omega (arith, c.survey.auto.found, ap length was, length-map slices (is_settled whole)) in
-    let kept : length c.take_back.new.found ≡ length slices = omega (arith, c.take_back.auto.found, ap length now, sized) in
+    let kept : length c.unmark_unsearchable.new.found ≡ length slices = omega (arith, c.unmark_unsearchable.auto.found, ap length now, sized) in
     let marked : MarksSighted (scan_of own shelf) c.deref_mut.result.now c.survey.new.found
     = subst (λ set. MarksSighted (scan_of set shelf) c.deref_mut.result.now c.survey.new.found) c.in_ok-index.ensures (c.in_ok-survey.ensures.found steady) in
-    take-all_back c.in_ok-found.found.len c.take_back.new.found _ (omega (arith, c.take_back.auto.found, ap length c.deref_mut-2.ensures.value))
+    take-all_back c.in_ok-found.found.len c.unmark_unsearchable.new.found _ (omega (arith, c.unmark_unsearchable.auto.found, ap length c.deref_mut-2.ensures.value))
     (omega (arith, ap length back, same))
-    ∙ marks_found whole (scan_of own shelf) c.deref_mut.result.now c.survey.new.found c.take_back.new.found was sized kept marked (λ n within.
-    c.take_back.ensures n within
+    ∙ marks_found whole (scan_of own shelf) c.deref_mut.result.now c.survey.new.found c.unmark_unsearchable.new.found was sized kept marked (λ n within.
+    c.unmark_unsearchable.ensures n within
     ∙ (ap (λ marks. mark_of marks n && can_be_found whole c.slices-2.result.now n) now
     ∙ ap (λ xs. mark_of c.survey.new.found n && can_be_found whole xs n) c.slices-2.ensures.field))
 
 pub returns-clause-none : goal.returns-clause-none
-returns-clause-none g c = λ settled.
+returns-clause-none g c = λ needs_no_search.
     let was : c.deref_mut.result.now ≡ map (is_settled c.args.whole.now) c.args.set.now.slices
     = c.deref_mut.ensures.value ∙ (c.in_ok-found.ensures ∙ ap (map (is_settled c.args.whole.now)) c.slices.ensures.field) in
-    c.survey.ensures.none (all_settled c.args.whole.now c.args.set.now.slices c.deref_mut.result.now was settled)
+    c.survey.ensures.none (all_settled c.args.whole.now c.args.set.now.slices c.deref_mut.result.now was needs_no_search)
 
 pub returns-in_err-survey-clause-none : goal.returns-in_err-survey-clause-none
-returns-in_err-survey-clause-none g c = λ settled.
+returns-in_err-survey-clause-none g c = λ needs_no_search.
     let was : c.deref_mut.result.now ≡ map (is_settled c.args.whole.now) c.args.set.now.slices
     = c.deref_mut.ensures.value ∙ (c.in_ok-found.ensures ∙ ap (map (is_settled c.args.whole.now)) c.slices.ensures.field) in
-    c.survey.ensures.none (all_settled c.args.whole.now c.args.set.now.slices c.deref_mut.result.now was settled)
+    c.survey.ensures.none (all_settled c.args.whole.now c.args.set.now.slices c.deref_mut.result.now was needs_no_search)
 
 pub returns-in_err-index-clause-found : goal.returns-in_err-index-clause-found
 returns-in_err-index-clause-found g c = grind (arith, common_steps) steps 100000
@@ -134,5 +134,5 @@ returns-in_err-survey-clause-stops g c = λ steady.
     subst (λ marks. StopsOnceFound own old new marks) was
     (subst (λ set. StopsOnceFound set old new c.deref_mut.result.now) c.in_ok-index.ensures (c.survey.ensures.stops steady))
 
-pub take_back-requires : goal.take_back-requires
-take_back-requires g c = grind (arith, common_steps) steps 400000
+pub unmark_unsearchable-requires : goal.unmark_unsearchable-requires
+unmark_unsearchable-requires g c = grind (arith, common_steps) steps 400000

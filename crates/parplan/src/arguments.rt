@@ -1,0 +1,21 @@
+ghost use Rattle.std.specs.Prelude.{◌≡◌, ◌≤◌, ◌↔◌, drop, IsTrue};
+
+/// The words behind the program's name, which is the first of its arguments.
+pub fn words_after_program(args: &[String]) -> &[String]
+    ensures { result.now ≡ drop 1 args.now }
+{
+    match args {
+        [_program, words @ ..] => words,
+        [] => args,
+    }
+}
+
+// How many files may be given.
+const MOST_FILES: usize = 65_535;
+
+/// Whether a command line may give so many files.
+pub fn is_within_file_limit(files: usize) -> bool
+    ensures { IsTrue result ↔ files ≤ 65535 }
+{
+    files <= MOST_FILES
+}

@@ -1,0 +1,99 @@
+use Rattle.std.proofs.lemmas.Grind.{common_steps}
+use Rattle.std.proofs.Common.{◌≡◌, ◌-◌, ◌∙◌, ℕ, List, length, take, drop, ap, arith, rules}
+use Rattle.parshelf.specs.Shelf.{file_of}
+use Rattle.parsalvage.proofs.BodyLaws.{run_more, run_part}
+use Rattle.parsalvage.proofs.body_store.hold.Goals as goal
+
+pub returns-clause-run : goal.returns-clause-run
+returns-clause-run g c = λ steady.
+    let file : List ℕ = file_of (g.H.Shelf.state c.args.shelf.now) c.args.file in
+    let before = c.reach.ensures.run file (c.requires.run steady) in
+    let store = c.reach.ensures.store _ (omega arith) c.requires.store in
+    let after = c.in_ok-extend.ensures in
+    rw (after.start, after.end)
+    (run_more file c.reach.new.bodies.bytes.items c.extend.new.bodies.bytes.items c.reach.new.bodies.start c.reach.new.bodies.end _
+    before store.in_order store.fits (omega arith) after.keeps (after.bytes steady) after.len)
+
+pub returns-clause-part : goal.returns-clause-part
+returns-clause-part g c = λ steady.
+    let file : List ℕ = file_of (g.H.Shelf.state c.args.shelf.now) c.args.file in
+    let before = c.reach.ensures.run file (c.requires.run steady) in
+    let store = c.reach.ensures.store _ (omega arith) c.requires.store in
+    let after = c.in_ok-extend.ensures in
+    let whole = run_more file c.reach.new.bodies.bytes.items c.extend.new.bodies.bytes.items c.reach.new.bodies.start c.reach.new.bodies.end c.max-last.result
+    before store.in_order store.fits (omega arith) after.keeps (after.bytes steady) after.len in
+    let count : c.len.result ≡ length c.extend.new.bodies.bytes.items = search rules in
+    let end : c.extend.new.bodies.end ≡ c.max-last.result = after.end in
+    ap (λ (n : ℕ). take c.args.size (drop (n - (c.extend.new.bodies.end - c.args.from)) c.extend.new.bodies.bytes.items)) count
+    ∙ (ap (λ (n : ℕ). take c.args.size (drop (length c.extend.new.bodies.bytes.items - (n - c.args.from)) c.extend.new.bodies.bytes.items)) end
+    ∙ run_part file c.extend.new.bodies.bytes.items c.reach.new.bodies.start c.max-last.result c.args.from c.args.size whole
+    (omega (arith, after.len, store.fits)) c.reach.ensures.low (omega arith))
+
+pub returns-in_err-extend-clause-store : goal.returns-in_err-extend-clause-store
+returns-in_err-extend-clause-store g c = grind (arith, common_steps) steps 100000
+
+pub returns-in_err-extend-clause-begins : goal.returns-in_err-extend-clause-begins
+returns-in_err-extend-clause-begins g c = grind (arith, common_steps) steps 100000
+
+pub returns-in_err-extend-clause-fits : goal.returns-in_err-extend-clause-fits
+returns-in_err-extend-clause-fits g c = grind (arith, common_steps) steps 100000
+
+pub returns-in_err-extend-clause-keeps : goal.returns-in_err-extend-clause-keeps
+returns-in_err-extend-clause-keeps g c = grind (arith, common_steps) steps 100000
+
+pub returns-in_err-extend-clause-run : goal.returns-in_err-extend-clause-run
+returns-in_err-extend-clause-run g c = grind (arith, common_steps) steps 400000
+
+pub returns-in_err-extend-clause-part : goal.returns-in_err-extend-clause-part
+returns-in_err-extend-clause-part g c = grind (arith, common_steps) steps 100000
+
+pub returns-in_err-extend-clause-ok : goal.returns-in_err-extend-clause-ok
+returns-in_err-extend-clause-ok g c = grind (arith, common_steps) steps 100000
+
+pub returns-in_err-extend-clause-fault : goal.returns-in_err-extend-clause-fault
+returns-in_err-extend-clause-fault g c = grind (arith, common_steps) steps 400000
+
+pub returns-clause-begins : goal.returns-clause-begins
+returns-clause-begins g c = grind (arith, common_steps) steps 100000
+
+pub returns-clause-keeps : goal.returns-clause-keeps
+returns-clause-keeps g c = grind (arith, common_steps) steps 100000
+
+pub returns-clause-ok : goal.returns-clause-ok
+returns-clause-ok g c = grind (arith, common_steps) steps 100000
+
+pub returns-clause-fault : goal.returns-clause-fault
+returns-clause-fault g c = grind (arith, common_steps) steps 100000
+
+pub reach-requires : goal.reach-requires
+reach-requires g c = grind (arith, common_steps) steps 100000
+
+pub overflow_add-from : goal.overflow_add-from
+overflow_add-from g c = grind (arith, common_steps) steps 1500000
+
+pub extend-requires-clause-file : goal.extend-requires-clause-file
+extend-requires-clause-file g c = grind (arith, common_steps) steps 100000
+
+pub extend-requires-clause-more : goal.extend-requires-clause-more
+extend-requires-clause-more g c = grind (arith, common_steps) steps 100000
+
+pub extend-requires-clause-piece : goal.extend-requires-clause-piece
+extend-requires-clause-piece g c = grind (arith, common_steps) steps 100000
+
+pub overflow_sub-result : goal.overflow_sub-result
+overflow_sub-result g c = grind (arith, common_steps) steps 100000
+
+pub extend-requires-clause-within : goal.extend-requires-clause-within
+extend-requires-clause-within g c = search rules steps 300000
+
+pub extend-requires-clause-short : goal.extend-requires-clause-short
+extend-requires-clause-short g c = search rules steps 300000
+
+pub overflow_sub-result-2 : goal.overflow_sub-result-2
+overflow_sub-result-2 g c = search rules steps 2000000
+
+pub returns-clause-store : goal.returns-clause-store
+returns-clause-store g c = search rules steps 2000000
+
+pub returns-clause-fits : goal.returns-clause-fits
+returns-clause-fits g c = search rules steps 2000000

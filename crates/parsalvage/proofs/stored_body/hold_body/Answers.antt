@@ -1,0 +1,126 @@
+use Rattle.std.proofs.Common.{arith}
+use Rattle.std.proofs.lemmas.Grind.{common_steps}
+use Rattle.parsalvage.proofs.stored_body.hold_body.Goals as goal
+
+pub hold-requires-clause-file : goal.hold-requires-clause-file
+hold-requires-clause-file g c = grind (arith, common_steps) steps 100000
+
+pub hold-requires-clause-within : goal.hold-requires-clause-within
+hold-requires-clause-within g c = grind (arith, common_steps) steps 100000
+
+pub hold-requires-clause-later : goal.hold-requires-clause-later
+hold-requires-clause-later g c = grind (arith, common_steps) steps 100000
+
+pub hold-requires-clause-store : goal.hold-requires-clause-store
+hold-requires-clause-store g c = grind (arith, common_steps) steps 100000
+
+pub hold-requires-clause-piece : goal.hold-requires-clause-piece
+hold-requires-clause-piece g c = grind (arith, common_steps) steps 100000
+
+pub hold-requires-clause-run : goal.hold-requires-clause-run
+hold-requires-clause-run g c = grind (arith, common_steps) steps 100000
+
+pub returns-in_err-place-clause-store : goal.returns-in_err-place-clause-store
+returns-in_err-place-clause-store g c = grind (arith, common_steps) steps 100000
+
+pub returns-in_err-place-clause-begins : goal.returns-in_err-place-clause-begins
+returns-in_err-place-clause-begins g c = grind (arith, common_steps) steps 100000
+
+pub returns-in_err-place-clause-fits : goal.returns-in_err-place-clause-fits
+returns-in_err-place-clause-fits g c = grind (arith, common_steps) steps 100000
+
+pub returns-in_err-place-clause-keeps : goal.returns-in_err-place-clause-keeps
+returns-in_err-place-clause-keeps g c = grind (arith, common_steps) steps 100000
+
+pub returns-in_err-place-clause-run : goal.returns-in_err-place-clause-run
+returns-in_err-place-clause-run g c = grind (arith, common_steps) steps 400000
+
+pub returns-in_err-place-clause-body : goal.returns-in_err-place-clause-body
+returns-in_err-place-clause-body g c = grind (arith, common_steps) steps 100000
+
+pub returns-in_err-place-clause-ok : goal.returns-in_err-place-clause-ok
+returns-in_err-place-clause-ok g c = grind (arith, common_steps) steps 100000
+
+pub returns-in_err-place-clause-fault : goal.returns-in_err-place-clause-fault
+returns-in_err-place-clause-fault g c = grind (arith, common_steps) steps 100000
+
+pub returns-then-is_whole-clause-store : goal.returns-then-is_whole-clause-store
+returns-then-is_whole-clause-store g c = grind (arith, common_steps) steps 100000
+
+pub returns-then-is_whole-clause-begins : goal.returns-then-is_whole-clause-begins
+returns-then-is_whole-clause-begins g c = grind (arith, common_steps) steps 100000
+
+pub returns-then-is_whole-clause-fits : goal.returns-then-is_whole-clause-fits
+returns-then-is_whole-clause-fits g c = grind (arith, common_steps) steps 100000
+
+pub returns-then-is_whole-clause-keeps : goal.returns-then-is_whole-clause-keeps
+returns-then-is_whole-clause-keeps g c = grind (arith, common_steps) steps 100000
+
+pub returns-then-is_whole-clause-run : goal.returns-then-is_whole-clause-run
+returns-then-is_whole-clause-run g c = grind (arith, common_steps) steps 100000
+
+pub returns-then-is_whole-clause-body : goal.returns-then-is_whole-clause-body
+returns-then-is_whole-clause-body g c = grind (arith, common_steps) steps 1500000
+
+pub returns-then-is_whole-clause-ok : goal.returns-then-is_whole-clause-ok
+returns-then-is_whole-clause-ok g c = grind (arith, common_steps) steps 100000
+
+pub returns-then-is_whole-clause-fault : goal.returns-then-is_whole-clause-fault
+returns-then-is_whole-clause-fault g c = grind (arith, common_steps) steps 100000
+
+pub front_at-requires-clause-file : goal.front_at-requires-clause-file
+front_at-requires-clause-file g c = grind (arith, common_steps) steps 100000
+
+pub front_at-requires-clause-within : goal.front_at-requires-clause-within
+front_at-requires-clause-within g c = grind (arith, common_steps) steps 100000
+
+pub front_at-requires-clause-piece : goal.front_at-requires-clause-piece
+front_at-requires-clause-piece g c = grind (arith, common_steps) steps 100000
+
+pub returns-in_err-first-clause-store : goal.returns-in_err-first-clause-store
+returns-in_err-first-clause-store g c = grind (arith, common_steps) steps 100000
+
+pub returns-in_err-first-clause-begins : goal.returns-in_err-first-clause-begins
+returns-in_err-first-clause-begins g c = grind (arith, common_steps) steps 100000
+
+pub returns-in_err-first-clause-fits : goal.returns-in_err-first-clause-fits
+returns-in_err-first-clause-fits g c = grind (arith, common_steps) steps 100000
+
+pub returns-in_err-first-clause-keeps : goal.returns-in_err-first-clause-keeps
+returns-in_err-first-clause-keeps g c = grind (arith, common_steps) steps 100000
+
+pub returns-in_err-first-clause-run : goal.returns-in_err-first-clause-run
+returns-in_err-first-clause-run g c = grind (arith, common_steps) steps 100000
+
+pub returns-in_err-first-clause-body : goal.returns-in_err-first-clause-body
+returns-in_err-first-clause-body g c = grind (arith, common_steps) steps 100000
+
+pub returns-in_err-first-clause-ok : goal.returns-in_err-first-clause-ok
+returns-in_err-first-clause-ok g c = grind (arith, common_steps) steps 100000
+
+pub returns-in_err-first-clause-fault : goal.returns-in_err-first-clause-fault
+returns-in_err-first-clause-fault g c = grind (arith, common_steps) steps 400000
+
+pub returns-clause-store : goal.returns-clause-store
+returns-clause-store g c = grind (arith, common_steps) steps 100000
+
+pub returns-clause-begins : goal.returns-clause-begins
+returns-clause-begins g c = grind (arith, common_steps) steps 100000
+
+pub returns-clause-fits : goal.returns-clause-fits
+returns-clause-fits g c = grind (arith, common_steps) steps 100000
+
+pub returns-clause-keeps : goal.returns-clause-keeps
+returns-clause-keeps g c = grind (arith, common_steps) steps 100000
+
+pub returns-clause-run : goal.returns-clause-run
+returns-clause-run g c = grind (arith, common_steps) steps 100000
+
+pub returns-clause-ok : goal.returns-clause-ok
+returns-clause-ok g c = grind (arith, common_steps) steps 100000
+
+pub returns-clause-fault : goal.returns-clause-fault
+returns-clause-fault g c = grind (arith, common_steps) steps 100000
+
+pub returns-clause-body : goal.returns-clause-body
+returns-clause-body g c = grind (arith, common_steps, g.met.H.Shelf.in_order)

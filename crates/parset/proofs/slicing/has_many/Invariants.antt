@@ -1,6 +1,0 @@
-use Rattle.std.proofs.Common.{◌≡◌, ◌+◌, take}
-use Rattle.parset.specs.Slices.{slice_total}
-use Rattle.parset.proofs.slicing.has_many.Given as goal
-
-abbrev pub invariant-loop-file : goal.invariant-loop-file
-invariant-loop-file l = l.left + slice_total l.size (take l.file-index l.files) ≡ 32768
