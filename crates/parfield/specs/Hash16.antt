@@ -5,10 +5,10 @@ use Rattle.hex.specs.declared.error.FromHexError.{FromHexError}
 use Rattle.parfield.specs.declared.hash16.Hash16.{Hash16}
 
 -- the hash of bytes that were decoded
-abbrev pub hash_by : Result (List ℕ) FromHexError → Option Hash16
-hash_by (Ok bytes) = Some (record { 0 = bytes })
-hash_by (Err fault) = None
+abbrev pub decoded_hash_of : Result (List ℕ) FromHexError → Option Hash16
+decoded_hash_of (Ok bytes) = Some (record { 0 = bytes })
+decoded_hash_of (Err fault) = None
 
 -- the hash that 32 hexadecimal digits of either case are
-abbrev pub hash_in : List ℕ → Option Hash16
-hash_in text = hash_by (decode_sized text 16)
+abbrev pub hex_hash_of : List ℕ → Option Hash16
+hex_hash_of text = decoded_hash_of (decode_sized text 16)

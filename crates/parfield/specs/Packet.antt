@@ -4,10 +4,10 @@ use Rattle.std.specs.Str.{bytes_eq}
 use Rattle.md5.specs.Md5.{md5}
 use Rattle.parfield.specs.Bytes.{le_value}
 use Rattle.parfield.specs.Kind.{kind_of}
-use Rattle.parfield.specs.declared.fields.Header.{Header}
-use Rattle.parfield.specs.declared.fields.HeaderFault.{HeaderFault}
-use Rattle.parfield.specs.declared.fields.HeaderFault.TheVariants.{Short, NoMagic, BadLength}
-use Rattle.parfield.specs.declared.fields.Packet.{Packet}
+use Rattle.parfield.specs.declared.headers.Header.{Header}
+use Rattle.parfield.specs.declared.headers.HeaderFault.{HeaderFault}
+use Rattle.parfield.specs.declared.headers.HeaderFault.TheVariants.{Short, NoMagic, BadLength}
+use Rattle.parfield.specs.declared.headers.Packet.{Packet}
 use Rattle.parfield.specs.declared.hash16.Hash16.{Hash16}
 use Rattle.parfield.specs.declared.kind.Kind.{Kind}
 

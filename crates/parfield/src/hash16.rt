@@ -16,11 +16,11 @@ use std::fmt;
 pub struct Hash16(pub [u8; 16]);
 
 impl Hash16 {
-    ghost use Rattle.parfield.specs.Hash16.{hash_in};
+    ghost use Rattle.parfield.specs.Hash16.{hex_hash_of};
 
     /// The hash that 32 hexadecimal digits of either case are; `None` for any other text.
     pub fn read(text: &[u8]) -> Option<Hash16>
-        ensures { result ≡ hash_in text.now }
+        ensures { result ≡ hex_hash_of text.now }
     {
         match <[u8; 16] as FromHex>::from_hex(text) {
             Ok(bytes) => Some(Hash16(bytes)),

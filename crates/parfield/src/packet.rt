@@ -1,14 +1,14 @@
 ghost use Rattle.std.specs.Prelude.{◌≡◌, ◌+◌, ◌≤◌, IsTrue, length, drop, is_ok, is_some, slice_range, IfOk, IfErr, IfSome};
 ghost use Rattle.parfield.specs.Packet.{has_header, header_of, IsFirstFault, begins_packet, packet_of, packet_view, length_field};
 
-use crate::fields::{Header, HeaderFault, Packet};
 use crate::hash16::Hash16;
+use crate::headers::{Header, HeaderFault, Packet};
 use crate::kind::Kind;
 use byteorder::{ByteOrder, LittleEndian};
 use md5::{Digest, Md5};
 
-// What each packet begins with.
-const MAGIC: [u8; 8] = *b"PAR2\0PKT";
+/// What each packet begins with.
+pub const MAGIC: [u8; 8] = *b"PAR2\0PKT";
 
 /// The header that the bytes begin with.
 pub fn header(bytes: &[u8]) -> Result<Header, HeaderFault>
@@ -19,7 +19,7 @@ pub fn header(bytes: &[u8]) -> Result<Header, HeaderFault>
     if bytes.len() < 64 {
         return Err(HeaderFault::Short);
     }
-    if bytes_at::<8>(bytes, 0) != MAGIC {
+    if field_at::<8>(bytes, 0) != MAGIC {
         return Err(HeaderFault::NoMagic);
     }
     let length = length_of(bytes);
@@ -28,9 +28,9 @@ pub fn header(bytes: &[u8]) -> Result<Header, HeaderFault>
     }
     Ok(Header {
         length,
-        hash: Hash16(bytes_at(bytes, 16)),
-        set: Hash16(bytes_at(bytes, 32)),
-        kind: Kind::of_type(bytes_at(bytes, 48)),
+        hash: Hash16(field_at(bytes, 16)),
+        set: Hash16(field_at(bytes, 32)),
+        kind: Kind::of_type(field_at(bytes, 48)),
     })
 }
 
@@ -78,8 +78,8 @@ fn length_of(bytes: &[u8]) -> u64
     LittleEndian::read_u64(&bytes[8..16])
 }
 
-// The bytes of a field.
-fn bytes_at<const N: usize>(bytes: &[u8], at: usize) -> [u8; N]
+/// The bytes of a field that begins at this offset.
+pub fn field_at<const N: usize>(bytes: &[u8], at: usize) -> [u8; N]
     requires { at + N ≤ length bytes.now }
     ensures { result ≡ slice_range bytes.now at (at + N) }
 {

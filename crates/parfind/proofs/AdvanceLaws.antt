@@ -7,7 +7,7 @@ use Rattle.parfind.specs.Order.{is_before, is_from, cursor_of, cursor_after}
 use Rattle.parfind.specs.Places.{cursor_at, cursor_past, start_of, places_of, place_at}
 use Rattle.parfind.specs.Sightings.{triples_of}
 use Rattle.parfind.specs.Moves.{steps_left}
-use Rattle.parfind.specs.Looking.{IsNextPlace}
+use Rattle.parfind.specs.NextPlace.{IsNextPlace}
 use Rattle.parfind.proofs.OrderLaws.{Before, From, is_before-true, is_from-true, From-by_test, From-trans, From-before, Before-after}
 use Rattle.parfind.proofs.ListLaws.{Has, Has-filter}
 use Rattle.parfind.proofs.RisingLaws.{Rises, part_from, part_between, between_and_from}
@@ -40,14 +40,14 @@ no_more set lengths c d on =
     )
 
 module _ (set : SliceSet) (lengths : List ℕ) (c d : Cursor) (next : IsNextPlace lengths c d) where
-  -- behind the next place
+  -- after the next place
   pub fewer_past : steps_left set lengths (cursor_past (place_at d)) < steps_left set lengths c
   fewer_past =
       let past : Cursor = cursor_past (place_at d) in
       let on : From c past = From-trans c d past (From-by_test c d next.onward) (From-past d) in
       omega (arith, parts cursor_of c past on (triples_of set lengths) (Rises-triples_of set lengths), ap length (next_ahead lengths c d next))
 
-  -- behind a slice at the next place
+  -- after a slice at the next place
   pub fewer_after : (n : ℕ) → d.slice ≤ n → n < length set.slices
       → let x : Sighting = record { file = d.file; offset = d.offset; slice = n } in
       steps_left set lengths (cursor_after x) < steps_left set lengths c

@@ -1,49 +1,30 @@
 -- A finder whose window goes on belongs to its slices and files as before.
-use Rattle.std.proofs.Common.{◌≡◌, ℕ, ◌+◌, ◌<◌, ◌≤◌, length, slice_index, refl, sym, ap, ◌∙◌, subst, arith, IsTrue, Result, Ok, Err, OnOk, IfErr}
+use Rattle.std.proofs.Common.{◌≡◌, ℕ, ◌<◌, ◌≤◌, length, slice_index, refl, sym, ap, ◌∙◌, subst, arith, IsTrue, Result, Ok, Err}
 use Rattle.parshelf.specs.Shelf.{ShelfState, IsShelf}
-use Rattle.parshelf.specs.Reads.{ReadsOnly, FaultsIn}
+use Rattle.parshelf.specs.Reads.{ReadsOnly, FaultsIn, ReadsFile}
 use Rattle.parshelf.specs.declared.shelves.reading.ReadFault.{ReadFault}
 use Rattle.parshelf.specs.declared.shelves.reading.ReadFault.TheVariants.{Failed, Ended}
 use Rattle.parwindow.specs.Crc32.{crc_of}
 use Rattle.parwindow.specs.Index.{SliceSet}
-use Rattle.parwindow.specs.Missing.{has_fit_crc_in}
+use Rattle.parwindow.specs.Missing.{set_has_fit_crc}
 use Rattle.parfind.specs.declared.tracks.track.Track.{Track}
-use Rattle.parfind.specs.Fetched.{ReadsUpTo, Place}
 use Rattle.parfind.specs.Tracks.{IsTied, Looks, Remembers, SameTrack, remembered, fetched_of}
 use Rattle.parfind.proofs.SeenLaws.{fit_crc_has}
 use Rattle.parwindow.specs.Window.{WindowState}
 use Rattle.parfind.specs.declared.cursors.cursor.Cursor.{Cursor}
-use Rattle.parfind.specs.Finders.{FinderState, BelongsTo, search_of, StandsAt, hashed_of}
-use Rattle.parfind.specs.Marks.{marked_between, marks}
-use Rattle.parfind.specs.Reach.{CallReads, IsNear}
-use Rattle.parfind.specs.Places.{cursor_past, place_at, start_of}
+use Rattle.parfind.specs.Finders.{FinderState, BelongsTo, StandsAt, hashed_of}
+use Rattle.parfind.specs.Marks.{marked_between}
+use Rattle.parfind.specs.Places.{start_of}
 use Rattle.parfind.specs.Sightings.{Scan}
 use Rattle.parfind.specs.Steps.{scan_of, lengths_of}
 use Rattle.parfind.proofs.LookLaws.{window_there}
-use Rattle.parfind.proofs.MarkLaws.{From-further, counted_look, marked_rises, remembered-most}
+use Rattle.parfind.proofs.MarkLaws.{From-further, counted_look, marked_rises}
 use Rattle.parfind.proofs.OrderLaws.{From, From-by_test, From-trans, is_from-true}
 use Rattle.parfind.proofs.VisitLaws.{same_lengths}
 
 -- a finder whose window and track are others, at another cursor
 abbrev pub with_window : FinderState → Cursor → WindowState → Track → FinderState
 with_window f d w t = record f { cursor = d; fetched = fetched_of t; digests = w.digests; window = w; track = t }
-
--- the digests are no more than the marks up to the cursor
-pub digests_marked : (f : FinderState) (set : SliceSet) (s : ShelfState) → BelongsTo f set s → IsTrue s.is_steady
-    → f.digests ≤ marks (scan_of set s) f.opening f.cursor
-digests_marked f set s belongs steady =
-    let on : From (start_of f.opening) (hashed_of f.track) = From-by_test (start_of f.opening) (hashed_of f.track) belongs.onward in
-    let next : From (hashed_of f.track) (cursor_past (place_at f.cursor)) = record {
-      by_file = belongs.behind;
-      by_offset = λ same. omega (arith, belongs.not_past same, remembered-most f.track.digest);
-      by_slice = λ _ _. omega arith;
-    } in
-    omega (
-      arith,
-      belongs.digests_are,
-      belongs.counted steady,
-      marked_rises (scan_of set s) f.opening (hashed_of f.track) (cursor_past (place_at f.cursor)) on next,
-    )
 
 -- no call changes the files
 pub SameFiles : SliceSet → ShelfState → ShelfState → Type 0
@@ -58,56 +39,29 @@ unfolding SameFiles
 fault_files set s t file Failed faults = (ap (scan_of set) faults.1, ap (λ (u : ShelfState). u.is_steady) faults.1)
 fault_files set s t file Ended faults = (ap (scan_of set) faults.1, ap (λ (u : ShelfState). u.is_steady) faults.1)
 
-pub call_files : {A : Type 0} (set : SliceSet) (s t : ShelfState) (file : ℕ) (answer : Result A ReadFault)
-    → OnOk answer (ReadsOnly s t) → IfErr answer (FaultsIn s t file) → SameFiles set s t
-call_files set s t file (Ok x) reads faults = read_files set s t reads
-call_files set s t file (Err fault) reads faults = fault_files set s t file fault faults
-
-call_lengths : {A : Type 0} (s t : ShelfState) (file : ℕ) (answer : Result A ReadFault)
-    → OnOk answer (ReadsOnly s t) → IfErr answer (FaultsIn s t file) → t.lengths ≡ s.lengths
-call_lengths s t file (Ok x) reads faults = ap (λ (u : ShelfState). u.lengths) reads
-call_lengths s t file (Err Failed) reads faults = ap (λ (u : ShelfState). u.lengths) faults.1
-call_lengths s t file (Err Ended) reads faults = ap (λ (u : ShelfState). u.lengths) faults.1
-
--- files are read little further than the cursor
-near_cursor : (f : FinderState) (set : SliceSet) (s : ShelfState) → BelongsTo f set s → IsNear set.slice_size f.fetched f.cursor
-near_cursor f set s belongs =
-    let file : f.fetched.file ≡ f.track.file = ap (λ (p : Place). p.file) belongs.fetched_is in
-    let offset : f.fetched.offset ≡ f.track.base + f.track.end = ap (λ (p : Place). p.offset) belongs.fetched_is in
-    let t = belongs.tied in
-    record {
-      file_is = omega (arith, file, belongs.behind);
-      offset_is = λ same. omega (arith, offset, belongs.not_past (sym file ∙ same), t.behind, t.within, t.end_fits, belongs.sized);
-    }
-
--- what a call reads, whatever it answers
-pub call_reads : {A : Type 0} (set : SliceSet) (s t : ShelfState) (f g : FinderState) (file : ℕ) (answer : Result A ReadFault)
-    → OnOk answer (ReadsOnly s t) → IfErr answer (FaultsIn s t file) → ReadsUpTo s t f.fetched g.fetched → BelongsTo g set t
-    → CallReads set.slice_size (search_of s f) (search_of t g)
-call_reads set s t f g file answer ok fault reads belongs = record {
-  lengths_are = call_lengths s t file answer ok fault;
-  reads = reads;
-  near = near_cursor g set t belongs;
-}
+pub call_files : {A : Type 0} (set : SliceSet) (s t : ShelfState) (file : ℕ) (answer : Result A ReadFault) → ReadsFile file s t answer
+    → SameFiles set s t
+call_files set s t file (Ok x) reads = read_files set s t reads
+call_files set s t file (Err fault) faults = fault_files set s t file fault faults
 
 -- another place is come to, with a window v and a track a, which are filled
 module _ (f : FinderState) (set : SliceSet) (s t : ShelfState) (belongs : BelongsTo f set s) (files : SameFiles set s t)
     (at : Cursor) (v : WindowState) (a : Track) (w : WindowState) (b : Track) (tied : IsTied t w b) (window : w ≡ record v { content = w.content })
     (same : SameTrack a b) (sized : v.capacity ≡ set.slice_size) (digests : v.digests ≡ f.window.digests)
-    (onward : From (hashed_of f.track) (hashed_of a)) (file : a.file ≡ at.file) (held : a.held ≡ at.offset) where
+    (onward : From (hashed_of f.track) (hashed_of a)) (file : a.file ≡ at.file) (held : a.window_offset ≡ at.offset) where
   pub arrives_belongs : (opening : Cursor) → opening ≡ f.opening → BelongsTo (with_window (record f { opening = opening }) at w b) set t
   unfolding SameFiles
   arrives_belongs opening is =
       let on : From (start_of f.opening) (hashed_of f.track) = From-by_test (start_of f.opening) (hashed_of f.track) belongs.onward in
       let further : From (hashed_of a) (hashed_of b) =
-      From-further a b (sym same.file_is) (omega (arith, same.held_is, ap remembered same.digest_is)) in
+      From-further a b (sym same.file_is) (omega (arith, same.offset_is, ap remembered same.digest_is)) in
       let next : From (hashed_of f.track) (hashed_of b) = From-trans (hashed_of f.track) (hashed_of a) (hashed_of b) onward further in
       rw is (record {
         sized = ap (λ (x : WindowState). x.capacity) window ∙ sized;
         tied = tied;
-        behind = omega (arith, same.file_is, file);
-        not_past = λ _. omega (arith, same.held_is, held);
-        here = λ _ _. same.held_is ∙ held;
+        not_ahead = omega (arith, same.file_is, file);
+        not_past = λ _. omega (arith, same.offset_is, held);
+        here = λ _ _. same.offset_is ∙ held;
         fetched_is = refl;
         digests_are = refl;
         onward = is_from-true (start_of f.opening) (hashed_of b) (From-trans (start_of f.opening) (hashed_of f.track) (hashed_of b) on next);
@@ -122,7 +76,7 @@ module _ (f : FinderState) (set : SliceSet) (s t : ShelfState) (belongs : Belong
 -- the window goes on in its file
 module _ (f : FinderState) (set : SliceSet) (s t : ShelfState) (belongs : BelongsTo f set s) (files : SameFiles set s t)
     (d : Cursor) (w : WindowState) (b : Track) (tied : IsTied t w b) (window : w ≡ record f.window { content = w.content })
-    (onward : From (hashed_of f.track) (hashed_of b)) (behind : b.file ≤ d.file) (here : b.file ≡ d.file → b.held ≡ d.offset) where
+    (onward : From (hashed_of f.track) (hashed_of b)) (not_ahead : b.file ≤ d.file) (here : b.file ≡ d.file → b.window_offset ≡ d.offset) where
   pub goes_on_belongs : BelongsTo (with_window f d w b) set t
   unfolding SameFiles
   goes_on_belongs =
@@ -130,7 +84,7 @@ module _ (f : FinderState) (set : SliceSet) (s t : ShelfState) (belongs : Belong
       record {
         sized = ap (λ (v : WindowState). v.capacity) window ∙ belongs.sized;
         tied = tied;
-        behind = behind;
+        not_ahead = not_ahead;
         not_past = λ there. omega (arith, here there);
         here = λ there _. here there;
         fetched_is = refl;
@@ -149,16 +103,16 @@ module _ (f : FinderState) (set : SliceSet) (s : ShelfState) (shelf : IsShelf s)
     (stands : StandsAt f.track f.cursor) (full : length f.window.content ≡ f.window.capacity)
     (counted : f.cursor.file < length s.lengths) (there : f.cursor.offset < slice_index s.lengths f.cursor.file)
     (w : WindowState) (b : Track) (looks : Looks f.window f.track w b) (remembers : Remembers w b)
-    (left : ℕ) (marked : remembered f.track.digest < remembered b.digest → IsTrue (has_fit_crc_in set (crc_of f.window.content) left)) where
+    (left : ℕ) (marked : remembered f.track.digest < remembered b.digest → IsTrue (set_has_fit_crc set (crc_of f.window.content) left)) where
   tied_look : IsTied s w b
   tied_look =
       let t = belongs.tied in
       let with_digest : IsTied s (record f.window { digests = w.digests }) (record f.track { digest = b.digest }) = record {
         within = t.within;
         few = t.few;
-        end_fits = t.end_fits;
+        buffer_fits = t.buffer_fits;
         small = t.small;
-        behind = t.behind;
+        not_ahead = t.not_ahead;
         reached = t.reached;
         remembers = subst (λ (a : Track). Remembers (record f.window { digests = w.digests }) a) looks.track_is
             (subst (λ (v : WindowState). Remembers v b) looks.window_is remembers);
@@ -171,8 +125,8 @@ module _ (f : FinderState) (set : SliceSet) (s : ShelfState) (shelf : IsShelf s)
   look_file : b.file ≡ f.track.file
   look_file = ap (λ (a : Track). a.file) looks.track_is
 
-  look_held : b.held ≡ f.track.held
-  look_held = ap (λ (a : Track). a.held) looks.track_is
+  look_held : b.window_offset ≡ f.track.window_offset
+  look_held = ap (λ (a : Track). a.window_offset) looks.track_is
 
   look_onward : From (hashed_of f.track) (hashed_of b)
   look_onward = From-further f.track b (sym look_file) (omega (arith, look_held, looks.kept))
@@ -183,8 +137,8 @@ module _ (f : FinderState) (set : SliceSet) (s : ShelfState) (shelf : IsShelf s)
       let window = window_there f set s belongs shelf steady stands full in
       counted_look (scan_of set s) f.opening f.track b f.window.digests w.digests
       (From-by_test (start_of f.opening) (hashed_of f.track) belongs.onward) look_file look_held looks.counted looks.kept
-      (rw (lengths, stands.file_is) counted) (rw (lengths, stands.file_is, stands.held_is) there)
-      (λ more. rw (stands.file_is, stands.held_is) (rw window at (fit_crc_has set (crc_of f.window.content) left (marked more))))
+      (rw (lengths, stands.file_is) counted) (rw (lengths, stands.file_is, stands.offset_is) there)
+      (λ more. rw (stands.file_is, stands.offset_is) (rw window at (fit_crc_has set (crc_of f.window.content) left (marked more))))
       (belongs.counted steady)
 
   pub look_belongs : (d : Cursor) → d.file ≡ f.cursor.file → d.offset ≡ f.cursor.offset → BelongsTo (with_window f d w b) set s
@@ -193,9 +147,9 @@ module _ (f : FinderState) (set : SliceSet) (s : ShelfState) (shelf : IsShelf s)
       record {
         sized = ap (λ (v : WindowState). v.capacity) looks.window_is ∙ belongs.sized;
         tied = tied_look;
-        behind = omega (arith, look_file, stands.file_is);
-        not_past = λ _. omega (arith, look_held, stands.held_is);
-        here = λ _ _. look_held ∙ stands.held_is ∙ sym offset;
+        not_ahead = omega (arith, look_file, stands.file_is);
+        not_past = λ _. omega (arith, look_held, stands.offset_is);
+        here = λ _ _. look_held ∙ stands.offset_is ∙ sym offset;
         fetched_is = refl;
         digests_are = refl;
         onward = is_from-true (start_of f.opening) (hashed_of b) (From-trans (start_of f.opening) (hashed_of f.track) (hashed_of b) on look_onward);

@@ -13,9 +13,9 @@ use Rattle.hex.specs.Hex.{encode_lower, lower_digits}
 use Rattle.hex.proofs.HexLemmas.{length-encode_with}
 use Rattle.parfield.specs.declared.hash16.Hash16.{Hash16}
 use Rattle.parfind.specs.declared.cursors.cursor.Cursor.{Cursor}
-use Rattle.parfind.specs.CursorText.{cursor_in, cursor_text, id_in, is_canonical, is_colon, is_lower_digit, number_in, pair_of_parts, IsPair, ReadsItsText, HasOnePair, ◌>>=◌}
-use Rattle.parfind.proofs.IdLaws.{encode_lower-id_in, id_in-encode_lower, lower-encode_lower}
-use Rattle.parfind.proofs.NumberLaws.{canonical_parts, decimal-number_in, digits-decimal, number_in-decimal}
+use Rattle.parfind.specs.CursorText.{cursor_pair_of, cursor_text, id_of, is_canonical, is_colon, is_lower_digit, number_of, pair_of_parts, IsPair, ReadsItsText, HasOnePair, ◌>>=◌}
+use Rattle.parfind.proofs.IdLaws.{encode_lower-id_of, id_of-encode_lower, lower-encode_lower}
+use Rattle.parfind.proofs.NumberLaws.{canonical_parts, decimal-number_of, digits-decimal, number_of-decimal}
 
 -- ---- parts
 
@@ -73,19 +73,19 @@ bind_none (Some x) f h = h x
 bind_none None f h = refl
 
 -- four parts of which the last is no number
-no_slice : (a b d e : List ℕ) → number_in (2 ^ 32) e ≡ None
+no_slice : (a b d e : List ℕ) → number_of (2 ^ 32) e ≡ None
     → pair_of_parts (a ∷ b ∷ d ∷ e ∷ []) ≡ None
 no_slice a b d e h =
-    bind_none (id_in a) _ (λ id. bind_none (number_in (2 ^ 32) b) _ (λ file.
-    bind_none (number_in (2 ^ 64) d) _ (λ offset. rw h refl)))
+    bind_none (id_of a) _ (λ id. bind_none (number_of (2 ^ 32) b) _ (λ file.
+    bind_none (number_of (2 ^ 64) d) _ (λ offset. rw h refl)))
 
-no_slice_parts : (a b d e : List ℕ) (parts : List (List ℕ)) → number_in (2 ^ 32) e ≡ None
+no_slice_parts : (a b d e : List ℕ) (parts : List (List ℕ)) → number_of (2 ^ 32) e ≡ None
     → join_with_byte 58 parts ≡ e → pair_of_parts (a ∷ b ∷ d ∷ parts) ≡ None
 no_slice_parts a b d e [] h whole = refl
-no_slice_parts a b d e (x ∷ []) h whole = no_slice a b d x (ap (number_in (2 ^ 32)) whole ∙ h)
+no_slice_parts a b d e (x ∷ []) h whole = no_slice a b d x (ap (number_of (2 ^ 32)) whole ∙ h)
 no_slice_parts a b d e (x ∷ y ∷ more) h whole = refl
 
--- the part behind the third colon has none where it is a number
+-- the part after the third colon has none where it is a number
 last_part : (a b d e : List ℕ)
     → pair_of_parts (a ∷ b ∷ d ∷ slice_split is_colon e) ≡ pair_of_parts (a ∷ b ∷ d ∷ e ∷ [])
 last_part a b d e =
@@ -95,19 +95,19 @@ last_part a b d e =
           ap (λ (parts : List (List ℕ)). pair_of_parts (a ∷ b ∷ d ∷ parts))
           (slice_split_none is_colon e (no_colon is_ascii_digit refl e digits))
       | inr other ↦
-          let none : number_in (2 ^ 32) e ≡ None = rw other refl in
+          let none : number_of (2 ^ 32) e ≡ None = rw other refl in
           no_slice_parts a b d e (slice_split is_colon e) none (join_with_byte-slice_split 58 e)
           ∙ sym (no_slice a b d e none)
     ]
 
 -- the pair of a text that was parted three times
-pub cursor_in-parted : (text rest more a b d e : List ℕ)
+pub cursor_pair_of-parted : (text rest more a b d e : List ℕ)
     → slice_split is_colon text ≡ a ∷ slice_split is_colon rest
     → slice_split is_colon rest ≡ b ∷ slice_split is_colon more
     → slice_split is_colon more ≡ d ∷ slice_split is_colon e
-    → cursor_in text ≡ pair_of_parts (a ∷ b ∷ d ∷ e ∷ [])
-unfolding cursor_in
-cursor_in-parted text rest more a b d e first second third =
+    → cursor_pair_of text ≡ pair_of_parts (a ∷ b ∷ d ∷ e ∷ [])
+unfolding cursor_pair_of
+cursor_pair_of-parted text rest more a b d e first second third =
     rw (first, second, third) (last_part a b d e)
 
 -- ---- writing and reading
@@ -137,10 +137,10 @@ pair_written (a ∷ b ∷ []) id c h = cc h
 pair_written (a ∷ b ∷ d ∷ []) id c h = cc h
 pair_written (a ∷ b ∷ d ∷ e ∷ x ∷ more) id c h = cc h
 pair_written (a ∷ b ∷ d ∷ e ∷ []) id c h =
-    let first = bind_some (id_in a) _ (id, c) h in
-    let second = bind_some (number_in (2 ^ 32) b) _ (id, c) first.2 in
-    let third = bind_some (number_in (2 ^ 64) d) _ (id, c) second.2 in
-    let fourth = bind_some (number_in (2 ^ 32) e) _ (id, c) third.2 in
+    let first = bind_some (id_of a) _ (id, c) h in
+    let second = bind_some (number_of (2 ^ 32) b) _ (id, c) first.2 in
+    let third = bind_some (number_of (2 ^ 64) d) _ (id, c) second.2 in
+    let fourth = bind_some (number_of (2 ^ 32) e) _ (id, c) third.2 in
     let pair : Hash16 × Cursor =
     (first.0, record { file = second.0; offset = third.0; slice = fourth.0 }) in
     let same = pair_of_some pair (id, c) fourth.2 in
@@ -148,19 +148,19 @@ pair_written (a ∷ b ∷ d ∷ e ∷ []) id c h =
     let read_b = second.1 ∙ ap (λ (p : Hash16 × Cursor). Some p.1.file) same in
     let read_d = third.1 ∙ ap (λ (p : Hash16 × Cursor). Some p.1.offset) same in
     let read_e = fourth.1 ∙ ap (λ (p : Hash16 × Cursor). Some p.1.slice) same in
-    let own_a = encode_lower-id_in a id read_a in
-    let own_b = decimal-number_in (2 ^ 32) c.file b (omega arith) read_b in
-    let own_d = decimal-number_in (2 ^ 64) c.offset d (omega arith) read_d in
-    let own_e = decimal-number_in (2 ^ 32) c.slice e (omega arith) read_e in (
+    let own_a = encode_lower-id_of a id read_a in
+    let own_b = decimal-number_of (2 ^ 32) c.file b (omega arith) read_b in
+    let own_d = decimal-number_of (2 ^ 64) c.offset d (omega arith) read_d in
+    let own_e = decimal-number_of (2 ^ 32) c.slice e (omega arith) read_e in (
       record { id_is = own_a.1; file_fits = own_b.1; offset_fits = own_d.1; slice_fits = own_e.1 },
       rw (own_a.0, own_b.0, own_d.0, own_e.0) refl,
     )
 
 -- what is read as a pair is its text
-pub cursor_text-cursor_in : (text : List ℕ) (id : Hash16) (c : Cursor)
-    → cursor_in text ≡ Some (id, c) → IsPair id c × (text ≡ cursor_text id c)
-unfolding cursor_in
-cursor_text-cursor_in text id c h =
+pub cursor_text-cursor_pair_of : (text : List ℕ) (id : Hash16) (c : Cursor)
+    → cursor_pair_of text ≡ Some (id, c) → IsPair id c × (text ≡ cursor_text id c)
+unfolding cursor_pair_of
+cursor_text-cursor_pair_of text id c h =
     let p = pair_written (slice_split is_colon text) id c h in
     (p.0, sym (join_with_byte-slice_split 58 text) ∙ p.1)
 
@@ -168,13 +168,13 @@ plain : (n : ℕ) → n < 2 ^ 64 → All (λ x. is_colon x ≡ false) (decimal n
 plain n small = no_colon is_ascii_digit refl (decimal n) (digits-decimal n small)
 
 -- a pair is read of its text
-pub cursor_in-cursor_text : (id : Hash16) (c : Cursor) → IsPair id c
-    → cursor_in (cursor_text id c) ≡ Some (id, c)
-unfolding cursor_in cursor_text
-cursor_in-cursor_text id c h =
-    let file = number_in-decimal (2 ^ 32) c.file (omega arith) h.file_fits in
-    let offset = number_in-decimal (2 ^ 64) c.offset (omega arith) h.offset_fits in
-    let slice = number_in-decimal (2 ^ 32) c.slice (omega arith) h.slice_fits in
+pub cursor_pair_of-cursor_text : (id : Hash16) (c : Cursor) → IsPair id c
+    → cursor_pair_of (cursor_text id c) ≡ Some (id, c)
+unfolding cursor_pair_of cursor_text
+cursor_pair_of-cursor_text id c h =
+    let file = number_of-decimal (2 ^ 32) c.file (omega arith) h.file_fits in
+    let offset = number_of-decimal (2 ^ 64) c.offset (omega arith) h.offset_fits in
+    let slice = number_of-decimal (2 ^ 32) c.slice (omega arith) h.slice_fits in
     let more : List ℕ = decimal c.offset ++ (58 ∷ decimal c.slice) in
     let rest : List ℕ = decimal c.file ++ (58 ∷ more) in
     let lower = no_colon is_lower_digit refl (encode_lower id.0) (lower-encode_lower id h.id_is) in
@@ -184,15 +184,15 @@ cursor_in-cursor_text id c h =
     let digits = plain c.offset h.offset_fits in
     let third = slice_split_at is_colon (decimal c.offset) 58 (decimal c.slice) digits refl in
     let fourth = slice_split_none is_colon (decimal c.slice) (plain c.slice (omega arith)) in
-    rw (first, second, third, fourth, id_in-encode_lower id h.id_is, file, offset, slice) refl
+    rw (first, second, third, fourth, id_of-encode_lower id h.id_is, file, offset, slice) refl
 
 pub reads_its_text : ReadsItsText
 reads_its_text text id c =
-    (cursor_text-cursor_in text id c, λ h. rw h.1 (cursor_in-cursor_text id c h.0))
+    (cursor_text-cursor_pair_of text id c, λ h. rw h.1 (cursor_pair_of-cursor_text id c h.0))
 
 pub has_one_pair : HasOnePair
 has_one_pair id other c d h k same =
     let e : Some (id, c) ≡ Some (other, d) =
-    sym (cursor_in-cursor_text id c h) ∙ ap cursor_in same ∙ cursor_in-cursor_text other d k in
+    sym (cursor_pair_of-cursor_text id c h) ∙ ap cursor_pair_of same ∙ cursor_pair_of-cursor_text other d k in
     let pair = pair_of_some (id, c) (other, d) e in
     (ap (λ (p : Hash16 × Cursor). p.0) pair, ap (λ (p : Hash16 × Cursor). p.1) pair)

@@ -1,10 +1,9 @@
 -- How calls go on, one after another.
-use Rattle.std.proofs.Common.{◌≡◌, ℕ, ◌+◌, ◌<◌, ◌≤◌, List, [], ◌∷◌, ◌++◌, length, drop, get_or, refl, sym, ap, ◌∙◌, subst, arith, append_assoc, append-nil, add-one, IsTrue, Option, Some, None, Result, OnOk, IfErr}
+use Rattle.std.proofs.Common.{◌≡◌, ℕ, ◌+◌, ◌<◌, ◌≤◌, List, [], ◌∷◌, ◌++◌, length, drop, get_or, refl, sym, ap, ◌∙◌, subst, arith, append_assoc, append-nil, add-one, IsTrue, Option, Some, None, Result}
 use Rattle.std.specs.List.{Contains}
 use Rattle.std.proofs.Math.Seq.{drop-cons}
 use Rattle.std.proofs.lemmas.Grind.{common_steps}
 use Rattle.parshelf.specs.Shelf.{ShelfState, IsShelf}
-use Rattle.parshelf.specs.Reads.{ReadsOnly, FaultsIn}
 use Rattle.parshelf.specs.declared.shelves.reading.ReadFault.{ReadFault}
 use Rattle.parwindow.specs.Index.{SliceSet}
 use Rattle.parfind.specs.declared.cursors.cursor.Cursor.{Cursor}
@@ -12,24 +11,25 @@ use Rattle.parfind.specs.Order.{is_from}
 use Rattle.parfind.proofs.OrderLaws.{From-by_test, is_from-true, From-trans}
 use Rattle.parfind.specs.declared.searches.finder.Step.{Step}
 use Rattle.parfind.specs.Finders.{FinderState, search_of}
-use Rattle.parfind.specs.Moves.{StepMoves}
-use Rattle.parfind.specs.Reach.{SearchState, CallReads, CallsRead, HandsWithin}
+use Rattle.parfind.specs.OnePass.{CallReads, CallsRead, HandsWithin}
+use Rattle.parfind.specs.Places.{place_at}
+use Rattle.parfind.specs.Points.{SearchPoint, SearchState, search_at}
 use Rattle.parfind.specs.Steps.{StepGives}
 use Rattle.parfind.proofs.MoveLaws.{moves_onward}
+use Rattle.parfind.proofs.TryLaws.{StepMade}
 use Rattle.parfind.proofs.ReachLaws.{reach_adds_up}
 use Rattle.parfind.specs.declared.drives.calls.Call.{Call}
 use Rattle.parfind.specs.declared.drives.calls.Call.TheVariants as call
 use Rattle.parfind.specs.declared.drives.calls.Answer.{Answer}
 use Rattle.parfind.specs.declared.drives.calls.Answer.TheVariants as answer
-use Rattle.parfind.specs.Runs.{left_after, CallGives, CallsGive, MayAnswer, AnswersEach, search_at}
-use Rattle.parfind.specs.Told.{TellsOf}
+use Rattle.parfind.specs.Runs.{left_after, CallGives, CallsGive, MayAnswer, AnswersEach}
+use Rattle.parfind.specs.AnswersToldOf.{TellsOf}
 use Rattle.parfind.proofs.ToldLaws.{tells_same, tells_step}
 
--- whatever the later calls give, all calls give it behind these answers
-abbrev pub GivesBefore : SliceSet → ShelfState → Cursor → List Call → ShelfState → Cursor → List Call → List Answer → Type 0
-GivesBefore set old start calls now c later answers =
-    (tail : List Answer) (new : ShelfState) (d : Cursor) → CallsGive set now c later tail new d
-    → CallsGive set old start calls (answers ++ tail) new d
+-- whatever the later calls give, all calls give it after these answers
+abbrev pub GivesBefore : SliceSet → SearchPoint → List Call → SearchPoint → List Call → List Answer → Type 0
+GivesBefore set old calls now later answers =
+    (tail : List Answer) (new : SearchPoint) → CallsGive set now later tail new → CallsGive set old calls (answers ++ tail) new
 
 abbrev pub EachBefore : List Call → List Call → List Answer → Type 0
 EachBefore calls later answers =
@@ -38,12 +38,12 @@ EachBefore calls later answers =
 joined : (xs ys tail : List Answer) (a : Answer) → ys ≡ xs ++ a ∷ [] → xs ++ a ∷ tail ≡ ys ++ tail
 joined xs ys tail a items = sym (ap (λ (zs : List Answer). zs ++ tail) items ∙ append_assoc xs (a ∷ []) tail)
 
-gives_more : (set : SliceSet) (old s t : ShelfState) (start c e : Cursor) (calls later : List Call) (k : Call) (a : Answer) (xs ys : List Answer)
-    → GivesBefore set old start calls s c (k ∷ later) xs → CallGives set s c k a t e → ys ≡ xs ++ a ∷ []
-    → GivesBefore set old start calls t e (left_after a later) ys
-gives_more set old s t start c e calls later k a xs ys before one items tail new d h =
-    subst (λ (zs : List Answer). CallsGive set old start calls zs new d) (joined xs ys tail a items)
-    (before (a ∷ tail) new d (t, (e, (one, h))))
+gives_more : (set : SliceSet) (old now next : SearchPoint) (calls later : List Call) (k : Call) (a : Answer) (xs ys : List Answer)
+    → GivesBefore set old calls now (k ∷ later) xs → CallGives set now k a next → ys ≡ xs ++ a ∷ []
+    → GivesBefore set old calls next (left_after a later) ys
+gives_more set old now next calls later k a xs ys before one items tail new h =
+    subst (λ (zs : List Answer). CallsGive set old calls zs new) (joined xs ys tail a items)
+    (before (a ∷ tail) new (next, (one, h)))
 
 each_more : (calls later : List Call) (k : Call) (a : Answer) (xs ys : List Answer) → EachBefore calls (k ∷ later) xs → MayAnswer k a
     → ys ≡ xs ++ a ∷ [] → EachBefore calls (left_after a later) ys
@@ -55,10 +55,14 @@ reads_more : (size : ℕ) (old mid next : SearchState) (states : List SearchStat
 reads_more size old mid next [] same one = (subst (λ (s : SearchState). CallReads size s next) same one, refl)
 reads_more size old mid next (s ∷ others) calls one = (calls.0, reads_more size s mid next others calls.1 one)
 
+-- a search that was opened at a cursor
+abbrev pub opened_at : ShelfState → Cursor → SearchState
+opened_at shelf c = record { shelf = shelf; fetched = place_at c; cursor = c }
+
 -- one finder was there all along, and reads what it may
 pub record KeptSoFar (size : ℕ) (old now : ShelfState) (start : Cursor) (finder : FinderState) : Type 0 where
   pub states : List SearchState
-  pub read : CallsRead size (search_at old start) states (search_of now finder)
+  pub read : CallsRead size (opened_at old start) states (search_of now finder)
   pub opening : finder.opening ≡ start
 
 -- what the answers so far came to, and where the search stands
@@ -66,41 +70,33 @@ pub record DriveSoFar
     (set : SliceSet) (old now : ShelfState) (start : Cursor) (finder : FinderState) (calls later : List Call) (answers : List Answer)
     : Type 0 where
   pub told : TellsOf old now answers
-  pub gives : IsTrue old.is_steady → GivesBefore set old start calls now finder.cursor later answers
+  pub gives : IsTrue old.is_steady → GivesBefore set (search_at old start) calls (search_at now finder.cursor) later answers
   pub each : EachBefore calls later answers
   pub onward : IsTrue (is_from start finder.cursor)
   pub kept : ¬ Contains calls call.Reopen → KeptSoFar set.slice_size old now start finder
 
--- what is said of a step that was made, with its budget
-pub record StepMade
-    (set : SliceSet) (old new : ShelfState) (budget : Option ℕ) (before after : FinderState) (r : Result Step ReadFault) : Type 0 where
-  pub answer : IsTrue old.is_steady → StepGives set old new budget before.cursor r after.cursor
-  pub moves : StepMoves old.lengths budget before.cursor r after.cursor
-  pub ok : OnOk r (ReadsOnly old new)
-  pub fault : IfErr r (FaultsIn old new after.cursor.file)
-  pub reads : CallReads set.slice_size (search_of old before) (search_of new after)
-  pub opening : after.opening ≡ before.opening
-
 -- the call of a step with this budget
 pub record Asks (k : Call) (budget : Option ℕ) : Type 0 where
-  pub gives : (set : SliceSet) (old new : ShelfState) (c d : Cursor) (r : Result Step ReadFault)
-      → StepGives set old new budget c r d → CallGives set old c k (answer.Step r) new d
+  pub gives : (set : SliceSet) (old new : SearchPoint) (r : Result Step ReadFault) → StepGives set budget old r new
+      → CallGives set old k (answer.Step r) new
   pub answers : (r : Result Step ReadFault) → MayAnswer k (answer.Step r)
 
 pub asks_step : (n : ℕ) → Asks (call.Step n) (Some n)
-asks_step n = record { gives = λ set old new c d r h. h; answers = λ r. tt }
+asks_step n = record { gives = λ set old new r h. h; answers = λ r. tt }
 
 pub asks_next : Asks call.Next None
-asks_next = record { gives = λ set old new c d r h. h; answers = λ r. tt }
+asks_next = record { gives = λ set old new r h. h; answers = λ r. tt }
 
 pub drive_steps : (set : SliceSet) (old s t : ShelfState) (start : Cursor) (before after : FinderState) (calls later : List Call)
     (k : Call) (budget : Option ℕ) (r : Result Step ReadFault) (xs ys : List Answer) → Asks k budget → IsShelf s
-    → DriveSoFar set old s start before calls (k ∷ later) xs → StepMade set s t budget before after r
+    → DriveSoFar set old s start before calls (k ∷ later) xs → StepMade set budget s t before after r
+    → CallReads set.slice_size (search_of s before) (search_of t after)
     → ys ≡ xs ++ answer.Step r ∷ [] → DriveSoFar set old t start after calls later ys
-drive_steps set old s t start before after calls later k budget r xs ys asks shelf so_far made items = record {
-  told = rw items (tells_step old s t xs r after.cursor.file shelf so_far.told made.ok made.fault);
-  gives = λ h. gives_more set old s t start before.cursor after.cursor calls later k (answer.Step r) xs ys (so_far.gives h)
-      (asks.gives set s t before.cursor after.cursor r (made.answer (so_far.told.steady_is ∙ h))) items;
+drive_steps set old s t start before after calls later k budget r xs ys asks shelf so_far made reads items = record {
+  told = rw items (tells_step old s t xs r after.cursor.file shelf so_far.told made.along.shelf);
+  gives = λ h. gives_more set (search_at old start) (search_at s before.cursor) (search_at t after.cursor) calls later k (answer.Step r) xs ys
+      (so_far.gives h)
+      (asks.gives set (search_at s before.cursor) (search_at t after.cursor) r (made.answer (so_far.told.steady_is ∙ h))) items;
   each = each_more calls later k (answer.Step r) xs ys so_far.each (asks.answers r) items;
   onward =
       let on = moves_onward s.lengths budget before.cursor after.cursor r made.moves in
@@ -109,8 +105,8 @@ drive_steps set old s t start before after calls later k budget r xs ys asks she
   kept = λ none.
       let kept = so_far.kept none in record {
         states = kept.states ++ search_of t after ∷ [];
-        read = reads_more set.slice_size (search_at old start) (search_of s before) (search_of t after) kept.states kept.read made.reads;
-        opening = made.opening ∙ kept.opening;
+        read = reads_more set.slice_size (opened_at old start) (search_of s before) (search_of t after) kept.states kept.read reads;
+        opening = made.along.opening_is ∙ kept.opening;
       };
 }
 
@@ -121,7 +117,8 @@ pub drive_reopens : (set : SliceSet) (old s : ShelfState) (start : Cursor) (befo
     → ys ≡ xs ++ answer.Reopened ∷ [] → DriveSoFar set old s start after calls later ys
 drive_reopens set old s start before after calls later xs ys there so_far cursor items = record {
   told = rw items (tells_same old s xs answer.Reopened so_far.told refl refl);
-  gives = λ h. gives_more set old s s start before.cursor after.cursor calls later call.Reopen answer.Reopened xs ys (so_far.gives h) (refl, cursor) items;
+  gives = λ h. gives_more set (search_at old start) (search_at s before.cursor) (search_at s after.cursor) calls later call.Reopen answer.Reopened
+      xs ys (so_far.gives h) (ap (search_at s) cursor) items;
   each = each_more calls later call.Reopen answer.Reopened xs ys so_far.each tt items;
   onward = rw cursor so_far.onward;
   kept = λ none. absurd (none there);
@@ -134,7 +131,8 @@ pub drive_stops : (set : SliceSet) (old s : ShelfState) (start : Cursor) (before
     → ys ≡ xs ++ answer.NoMemory ∷ [] → DriveSoFar set old s start before calls [] ys
 drive_stops set old s start before calls later xs ys there so_far items = record {
   told = rw items (tells_same old s xs answer.NoMemory so_far.told refl refl);
-  gives = λ h. gives_more set old s s start before.cursor before.cursor calls later call.Reopen answer.NoMemory xs ys (so_far.gives h) (refl, refl) items;
+  gives = λ h. gives_more set (search_at old start) (search_at s before.cursor) (search_at s before.cursor) calls later call.Reopen answer.NoMemory
+      xs ys (so_far.gives h) refl items;
   each = each_more calls later call.Reopen answer.NoMemory xs ys so_far.each tt items;
   onward = so_far.onward;
   kept = λ none. absurd (none there);
@@ -143,7 +141,7 @@ drive_stops set old s start before calls later xs ys there so_far items = record
 -- what holds at last
 pub record DriveGave
     (set : SliceSet) (old new : ShelfState) (start d : Cursor) (calls : List Call) (answers : List Answer) : Type 0 where
-  pub answer : IsTrue old.is_steady → CallsGive set old start calls answers new d
+  pub answer : IsTrue old.is_steady → CallsGive set (search_at old start) calls answers (search_at new d)
   pub each : AnswersEach calls answers
   pub onward : IsTrue (is_from start d)
   pub told : TellsOf old new answers
@@ -152,18 +150,17 @@ pub record DriveGave
 pub drive_ends : (set : SliceSet) (old new : ShelfState) (start d : Cursor) (finder : FinderState) (calls : List Call) (answers : List Answer)
     → DriveSoFar set old new start finder calls [] answers → d ≡ finder.cursor → DriveGave set old new start d calls answers
 drive_ends set old new start d finder calls answers so_far cursor = rw cursor (record {
-  answer = λ h. subst (λ (zs : List Answer). CallsGive set old start calls zs new finder.cursor) (append-nil answers)
-      (so_far.gives h [] new finder.cursor (refl, refl));
+  answer = λ h. subst (λ (zs : List Answer). CallsGive set (search_at old start) calls zs (search_at new finder.cursor))
+      (append-nil answers) (so_far.gives h [] (search_at new finder.cursor) refl);
   each = subst (AnswersEach calls) (append-nil answers) (so_far.each [] tt);
   onward = so_far.onward;
   told = so_far.told;
   reads = λ none.
       let kept = so_far.kept none in
-      let within = reach_adds_up set.slice_size (search_at old start) (search_of new finder) kept.states refl kept.read in
-      record { room = within.room; none = within.none; near = within.near };
+      reach_adds_up set.slice_size (opened_at old start) (search_of new finder) kept.states refl kept.read;
 })
 
--- the call at an index, and those behind it
+-- the call at an index, and those after it
 pub next_call : (calls : List Call) (i : ℕ) (k z : Call) → i < length calls → get_or calls i z ≡ k → drop i calls ≡ k ∷ drop (i + 1) calls
 next_call calls i k z h e = rw add-one (drop-cons calls i z h) ∙ ap (λ (x : Call). x ∷ drop (i + 1) calls) e
 

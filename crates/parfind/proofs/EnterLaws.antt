@@ -2,6 +2,7 @@
 use Rattle.std.proofs.Common.{◌≡◌, ◌≢◌, ℕ, ◌<◌, ◌≤◌, ◌^◌, [], slice_index, sym, ap, ◌∙◌, subst, arith, inl, inr}
 use Rattle.std.proofs.lemmas.Bool.{cases_eq}
 use Rattle.parshelf.specs.Shelf.{ShelfState, IsShelf, file_of}
+use Rattle.parset.specs.Limits.{slice_size_limit}
 use Rattle.parwindow.specs.Index.{SliceSet}
 use Rattle.parwindow.specs.Window.{WindowState}
 use Rattle.parfind.specs.declared.cursors.cursor.Cursor.{Cursor}
@@ -11,23 +12,23 @@ use Rattle.parfind.specs.Tracks.{IsTied, IsUnread, fetched_of}
 use Rattle.parfind.proofs.FetchedLaws.{hands_none, hands_enter}
 use Rattle.parfind.proofs.TrackLaws.{no_bytes}
 use Rattle.parfind.specs.Finders.{FinderState, BelongsTo, StandsAt, hashed_of}
-use Rattle.parfind.specs.Looking.{HasFit, IsNextPlace}
+use Rattle.parfind.specs.NextPlace.{HasFit, IsNextPlace}
 use Rattle.parfind.proofs.OrderLaws.{From, From-by_test, From-refl, is_from-true}
 
 -- a window without bytes goes along any file
-pub unread_follows : (s : ShelfState) (v w : WindowState) (file offset : ℕ) (t : Track) → offset < 2 ^ 63 → v.capacity ≤ 268435456
+pub unread_follows : (s : ShelfState) (v w : WindowState) (file offset : ℕ) (t : Track) → offset < 2 ^ 63 → v.capacity ≤ slice_size_limit
     → IsUnread file offset t → w ≡ record v { content = [] } → IsTied s w t
 unread_follows s v w file offset t small few unread empty =
     subst (λ (x : WindowState). IsTied s x t) (sym empty) (record {
       within = omega arith;
       few = few;
-      end_fits = omega (arith, unread.end_is);
-      small = omega (arith, unread.base_is, unread.end_is);
-      behind = omega (arith, unread.base_is, unread.held_is);
-      reached = λ _. omega (arith, unread.base_is, unread.held_is, unread.end_is);
+      buffer_fits = omega (arith, unread.buffer_len_is);
+      small = omega (arith, unread.buffer_offset_is, unread.buffer_len_is);
+      not_ahead = omega (arith, unread.buffer_offset_is, unread.offset_is);
+      reached = λ _. omega (arith, unread.buffer_offset_is, unread.offset_is, unread.buffer_len_is);
       remembers = rw unread.digest_is tt;
-      content = λ _. no_bytes (file_of s t.file) t.held;
-      ahead = λ _. rw unread.end_is (no_bytes (file_of s t.file) t.base);
+      content = λ _. no_bytes (file_of s t.file) t.window_offset;
+      ahead = λ _. rw unread.buffer_len_is (no_bytes (file_of s t.file) t.buffer_offset);
     })
 
 module _ (f : FinderState) (set : SliceSet) (s : ShelfState) (shelf : IsShelf s) (belongs : BelongsTo f set s) (at : Cursor)
@@ -69,19 +70,19 @@ module _ (f : FinderState) (set : SliceSet) (s : ShelfState) (shelf : IsShelf s)
       | inr other ↦ (enters other).0.file_is
     ]
 
-    pub enter_held : t.held ≡ at.offset
+    pub enter_held : t.window_offset ≡ at.offset
     enter_held = elim (cases_eq f.track.file at.file) [
       | inl same ↦
           let on : From f.cursor at = From-by_test f.cursor at next.onward in
-          let files : f.cursor.file ≡ at.file = omega (arith, on.by_file, belongs.behind) in
+          let files : f.cursor.file ≡ at.file = omega (arith, on.by_file, belongs.not_ahead) in
           let offset : f.cursor.offset ≡ at.offset = next_offset_same files in
           let room : HasFit set s.lengths f.cursor = rw (files, offset) fits in
-          ap (λ (u : Track). u.held) (stays same).0 ∙ belongs.here (same ∙ sym files) room ∙ offset
-      | inr other ↦ (enters other).0.held_is
+          ap (λ (u : Track). u.window_offset) (stays same).0 ∙ belongs.here (same ∙ sym files) room ∙ offset
+      | inr other ↦ (enters other).0.offset_is
     ]
 
     pub enter_stands : StandsAt t at
-    enter_stands = record { file_is = enter_file; held_is = enter_held }
+    enter_stands = record { file_is = enter_file; offset_is = enter_held }
 
     pub enter_hands : ReadsUpTo s s f.fetched (fetched_of t)
     enter_hands =
@@ -93,7 +94,7 @@ module _ (f : FinderState) (set : SliceSet) (s : ShelfState) (shelf : IsShelf s)
           | inr other ↦
               let on : From f.cursor at = From-by_test f.cursor at next.onward in
               hands_enter s.lengths s.handed f.fetched (fetched_of t)
-              (omega (arith, ap (λ (p : Place). p.file) from, (enters other).0.file_is, on.by_file, belongs.behind))
+              (omega (arith, ap (λ (p : Place). p.file) from, (enters other).0.file_is, on.by_file, belongs.not_ahead))
         ]
 
     pub enter_onward : From (hashed_of f.track) (hashed_of t)
@@ -105,7 +106,7 @@ module _ (f : FinderState) (set : SliceSet) (s : ShelfState) (shelf : IsShelf s)
           let on : From f.cursor at = From-by_test f.cursor at next.onward in
           let file : t.file ≡ at.file = (enters other).0.file_is in
           record {
-            by_file = omega (arith, belongs.behind, on.by_file);
+            by_file = omega (arith, belongs.not_ahead, on.by_file);
             by_offset = λ e. absurd (other (e ∙ file));
             by_slice = λ e _. absurd (other (e ∙ file));
           }

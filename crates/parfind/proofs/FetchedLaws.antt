@@ -21,8 +21,8 @@ module _ (lengths : List ℕ) (p : Place) (f : ℕ) where
       let k : nat_eq f p.file ≡ true = eq-eqb f p.file h in
       rw (e, k) refl
 
-  pub upto-behind : p.file < f → upto lengths p f ≡ 0
-  upto-behind h =
+  pub upto-after : p.file < f → upto lengths p f ≡ 0
+  upto-after h =
       let e : nat_lt f p.file ≡ false = le-ltb f p.file (omega arith) in
       let k : nat_eq f p.file ≡ false = ne_eqb f p.file (omega arith) in
       rw (e, k) refl
@@ -32,7 +32,7 @@ module _ (lengths : List ℕ) (p : Place) (f : ℕ) where
     | inl before ↦ omega (arith, upto-before before)
     | inr past ↦ elim (cases_eq f p.file) [
       | inl here ↦ omega (arith, upto-here here)
-      | inr other ↦ omega (arith, upto-behind (omega arith))
+      | inr other ↦ omega (arith, upto-after (omega arith))
     ]
   ]
 
@@ -40,7 +40,7 @@ module _ (lengths : List ℕ) (p : Place) (f : ℕ) where
 pub upto-rises : (lengths : List ℕ) (p q : Place) (f : ℕ) → p.file < q.file → upto lengths p f ≤ upto lengths q f
 upto-rises lengths p q f h = elim (cases_lt f q.file) [
   | inl before ↦ omega (arith, upto-before lengths q f before, upto-most lengths p f)
-  | inr past ↦ omega (arith, upto-behind lengths p f (omega arith))
+  | inr past ↦ omega (arith, upto-after lengths p f (omega arith))
 ]
 
 -- a read that gives nothing, or none
@@ -68,7 +68,7 @@ hands_read lengths before after file offset n same within =
         ])
         | inr other ↦ rw (slice_index-added_at_other before file n f other) (elim (cases_lt f file) [
           | inl less ↦ omega (arith, upto-before lengths p f less, upto-before lengths q f less)
-          | inr more ↦ omega (arith, upto-behind lengths p f (omega arith), upto-behind lengths q f (omega arith))
+          | inr more ↦ omega (arith, upto-after lengths p f (omega arith), upto-after lengths q f (omega arith))
         ])
       ]);
     }

@@ -7,21 +7,22 @@ use Rattle.std.specs.Str.{bytes_eq}
 use Rattle.parshelf.specs.Shelf.{ShelfState, IsShelf, file_of}
 use Rattle.parshelf.proofs.ShelfLaws.{length-file_of}
 use Rattle.parfield.specs.declared.hash16.Hash16.{Hash16}
-use Rattle.parwindow.specs.Index.{SliceSet, sums_of, has_sums, has_fit_of, has_fit_in}
+use Rattle.parwindow.specs.Index.{SliceSet, sums_of, has_sums, has_fit_of, set_has_fit}
 use Rattle.parwindow.specs.Window.{window_at}
 use Rattle.parfind.specs.declared.cursors.cursor.Cursor.{Cursor}
 use Rattle.parfind.proofs.FittingLaws.{passing, passing_has}
 use Rattle.parfind.specs.declared.searches.finder.Step.TheVariants.{Spent}
+use Rattle.parfind.specs.declared.searches.finder.Visit.TheVariants.{Passed}
 use Rattle.parfind.specs.Order.{cursor_of}
-use Rattle.parfind.specs.Sightings.{Scan, content_of, is_seen, is_seen_in, sightings_of, sightings_between}
-use Rattle.parfind.specs.Looking.{HasFit, IsNextPlace, rest_of}
+use Rattle.parfind.specs.Sightings.{Scan, content_of, is_seen, is_slice_seen, sightings_of, sightings_between}
+use Rattle.parfind.specs.NextPlace.{HasFit, IsNextPlace, rest_of}
 use Rattle.parfind.specs.Moves.{PassesAll, steps_left}
 use Rattle.parfind.specs.Finders.{FinderState, BelongsTo}
 use Rattle.parfind.specs.Steps.{scan_of}
 use Rattle.parfind.proofs.OrderLaws.{From, From-by_test}
 use Rattle.parfind.proofs.RisingLaws.{none_between}
 use Rattle.parfind.proofs.PlaceLaws.{sighting_seen}
-use Rattle.parfind.proofs.PassLaws.{cursor_on, From-on, passes_some, then_look_moves, then_look_sees}
+use Rattle.parfind.proofs.PassLaws.{cursor_on, From-on, passes_some, next_place_moves, next_place_sees}
 use Rattle.parfind.proofs.AdvanceLaws.{fewer_past, no_more}
 
 any_weaker : {A : Type 0} (p q : A → Bool) → ((x : A) → p x ≡ true → q x ≡ true) → (xs : List A)
@@ -38,7 +39,7 @@ known_weaker p q weaker None h = h
 known_weaker p q weaker (Some x) h = weaker x h
 
 -- what fits into less fits into more
-pub fits_more : (set : SliceSet) (less more : ℕ) → less ≤ more → has_fit_in set less ≡ true → has_fit_in set more ≡ true
+pub fits_more : (set : SliceSet) (less more : ℕ) → less ≤ more → set_has_fit set less ≡ true → set_has_fit set more ≡ true
 fits_more set less more up fits =
     any_weaker (has_fit_of less) (has_fit_of more)
     (λ slice. known_weaker (λ known. nat_le slice.length less) (λ known. nat_le slice.length more)
@@ -46,8 +47,8 @@ fits_more set less more up fits =
     slice.sums) set.slices fits
 
 -- a slice that is seen fits
-pub seen_fits : (set : SliceSet) (file : List ℕ) (offset n : ℕ) → is_seen_in set file offset n ≡ true
-    → has_fit_in set (length file - offset) ≡ true
+pub seen_fits : (set : SliceSet) (file : List ℕ) (offset n : ℕ) → is_slice_seen set file offset n ≡ true
+    → set_has_fit set (length file - offset) ≡ true
 seen_fits set file offset n seen =
     let sums : Hash16 × ℕ = sums_of (window_at set.slice_size file offset) in
     let slice = passing (is_seen set.slice_size file offset) (slice_get set.slices n) seen in
@@ -60,8 +61,8 @@ seen_fits set file offset n seen =
     (known_weaker (λ known. known.1 == sums.1 && bytes_eq known.0.0 sums.0.0) (λ known. nat_le slice.0.length (length file - offset))
     (λ known h. fits) slice.0.sums parts.1)
 
--- no sighting lies at or behind a place where no slice fits, in its file
-pub on_unfit : (scan : Scan) (d : Cursor) (n : ℕ) → ¬ IsTrue (has_fit_in scan.set (length (content_of scan d.file) - d.offset))
+-- no sighting lies at or after a place where no slice fits, in its file
+pub on_unfit : (scan : Scan) (d : Cursor) (n : ℕ) → ¬ IsTrue (set_has_fit scan.set (length (content_of scan d.file) - d.offset))
     → sightings_between scan d (cursor_on d n) ≡ []
 on_unfit scan d n none =
     none_between cursor_of d (cursor_on d n) (sightings_of scan)
@@ -78,15 +79,15 @@ on_unfit scan d n none =
 module _ (f : FinderState) (set : SliceSet) (s : ShelfState) (belongs : BelongsTo f set s) (d : Cursor)
     (next : IsNextPlace s.lengths f.cursor d) (none : ¬ HasFit set s.lengths d) where
   -- the window stays, and the cursor goes on
-  pub skip_belongs : (n : ℕ) → BelongsTo (record f { cursor = cursor_on d n }) set s
-  skip_belongs n =
+  pub unfit_belongs : (n : ℕ) → BelongsTo (record f { cursor = cursor_on d n }) set s
+  unfit_belongs n =
       let on : From f.cursor d = From-by_test f.cursor d next.onward in
       record {
         sized = belongs.sized;
         tied = belongs.tied;
-        behind = omega (arith, belongs.behind, on.by_file);
+        not_ahead = omega (arith, belongs.not_ahead, on.by_file);
         not_past = λ there.
-            let file : f.cursor.file ≡ d.file = omega (arith, there, belongs.behind, on.by_file) in
+            let file : f.cursor.file ≡ d.file = omega (arith, there, belongs.not_ahead, on.by_file) in
             omega (arith, on.by_offset file, belongs.not_past (there ∙ sym file));
         here = λ there fits. absurd (none (fits_more set (rest_of s.lengths (cursor_on d n)) (rest_of s.lengths d) (omega arith) fits));
         fetched_is = belongs.fetched_is;
@@ -97,22 +98,22 @@ module _ (f : FinderState) (set : SliceSet) (s : ShelfState) (belongs : BelongsT
 
 -- n places from the next one on
 module _ (lengths : List ℕ) (c d : Cursor) (next : IsNextPlace lengths c d) (n : ℕ) (some : 0 < n) where
-  pub skip_passes : n ≤ rest_of lengths d → PassesAll lengths n c (cursor_on d n)
-  skip_passes within =
-      then_look_moves lengths c d (cursor_on d n) next (Ok (Spent, n))
+  pub unfit_passes : n ≤ rest_of lengths d → PassesAll lengths n c (cursor_on d n)
+  unfit_passes within =
+      next_place_moves lengths c d (cursor_on d n) next (Ok (Passed n))
       (passes_some lengths d n some next.counted (omega (arith, next.there)))
 
-  pub skip_advances : (set : SliceSet) → steps_left set lengths (cursor_on d n) < steps_left set lengths c
-  skip_advances set =
+  pub unfit_advances : (set : SliceSet) → steps_left set lengths (cursor_on d n) < steps_left set lengths c
+  unfit_advances set =
       omega (arith, fewer_past set lengths c d next, no_more set lengths (cursor_on d 1) (cursor_on d n) (From-on d 1 n some))
 
-pub skip_sees : (set : SliceSet) (s : ShelfState) → IsShelf s → IsTrue s.is_steady → (c d : Cursor) → IsNextPlace s.lengths c d
+pub unfit_sees : (set : SliceSet) (s : ShelfState) → IsShelf s → IsTrue s.is_steady → (c d : Cursor) → IsNextPlace s.lengths c d
     → ¬ HasFit set s.lengths d → (n : ℕ) → 0 < n → sightings_between (scan_of set s) c (cursor_on d n) ≡ []
-skip_sees set s shelf steady c d next none n some =
+unfit_sees set s shelf steady c d next none n some =
     let whole : length (file_of s d.file) ≡ slice_index s.lengths d.file = length-file_of s d.file shelf steady in
-    let unfit : ¬ IsTrue (has_fit_in set (length (content_of (scan_of set s) d.file) - d.offset)) = rw whole none in
+    let unfit : ¬ IsTrue (set_has_fit set (length (content_of (scan_of set s) d.file) - d.offset)) = rw whole none in
     let on : From d (cursor_on d n) = record { by_file = omega arith; by_offset = λ _. omega arith; by_slice = λ _ e. absurd (omega arith) } in
-    then_look_sees s.lengths c d (cursor_on d n) next set s refl shelf steady (Ok Spent) on (on_unfit (scan_of set s) d n unfit)
+    next_place_sees s.lengths c d (cursor_on d n) next set s refl shelf steady (Ok Spent) on (on_unfit (scan_of set s) d n unfit)
 
 -- of a budget of places as many as are ahead: some are
 some_within : (left : Option ℕ) (rest most : ℕ) → left ≢ Some 0 → 0 < rest → 0 < most → 0 < min rest (unwrap_or left most)

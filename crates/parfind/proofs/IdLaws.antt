@@ -9,9 +9,9 @@ use Rattle.hex.specs.Hex.{IsBytes, decode_pairs, decode_sized, digit_or_error, e
 use Rattle.hex.specs.declared.error.FromHexError.{FromHexError}
 use Rattle.hex.proofs.HexLemmas.{decode_of-encode_lower, decode_of-ok, decode_sized-ok, decode_sized-twice, length-encode_with}
 use Rattle.hex.proofs.Pairs.{decode_sized-pairs}
-use Rattle.parfield.specs.Hash16.{hash_by}
+use Rattle.parfield.specs.Hash16.{decoded_hash_of}
 use Rattle.parfield.specs.declared.hash16.Hash16.{Hash16}
-use Rattle.parfind.specs.CursorText.{id_in, is_lower_digit, IsId}
+use Rattle.parfind.specs.CursorText.{id_of, is_lower_digit, IsId}
 
 -- ---- the table of digits
 
@@ -110,14 +110,14 @@ lower_bytes (b ∷ rest) h =
 
 -- ---- the digits of an ID
 
-decoded : (r : Result (List ℕ) FromHexError) (id : Hash16) → hash_by r ≡ Some id → r ≡ Ok id.0
+decoded : (r : Result (List ℕ) FromHexError) (id : Hash16) → decoded_hash_of r ≡ Some id → r ≡ Ok id.0
 decoded (Ok bytes) id h = ap (λ (o : Option Hash16). Ok (unwrap_or o (record { 0 = bytes })).0) h
 decoded (Err fault) id h = cc h
 
 -- what is read as an ID is its digits
-pub encode_lower-id_in : (s : List ℕ) (id : Hash16) → id_in s ≡ Some id
+pub encode_lower-id_of : (s : List ℕ) (id : Hash16) → id_of s ≡ Some id
     → (s ≡ encode_lower id.0) × IsId id
-encode_lower-id_in s id h =
+encode_lower-id_of s id h =
     elim (cases_Bool (list_all is_lower_digit s)) [
       | inr other ↦ cc (rw other at h)
       | inl lower ↦
@@ -143,10 +143,10 @@ pub lower-encode_lower : (id : Hash16) → IsId id
 lower-encode_lower id h = lower_bytes id.0 (IsBytes-id id.0 h.bytes)
 
 -- an ID is read of its digits
-pub id_in-encode_lower : (id : Hash16) → IsId id → id_in (encode_lower id.0) ≡ Some id
-id_in-encode_lower id h =
+pub id_of-encode_lower : (id : Hash16) → IsId id → id_of (encode_lower id.0) ≡ Some id
+id_of-encode_lower id h =
     let long : length (encode_lower id.0) ≡ 2 * 16 =
     omega (arith, length-encode_with lower_digits id.0, h.sixteen) in
     let read = decode_sized-twice (encode_lower id.0) 16 long
     ∙ decode_of-encode_lower id.0 (IsBytes-id id.0 h.bytes) in
-    rw (lower-encode_lower id h) (ap hash_by read)
+    rw (lower-encode_lower id h) (ap decoded_hash_of read)

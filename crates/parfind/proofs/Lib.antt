@@ -17,7 +17,10 @@ pub mod PlaceLaws
 pub mod MoveLaws
 pub mod WalkLaws
 pub mod VisitLaws
+pub mod AlongLaws
 pub mod StepLaws
+pub mod TryLaws
+pub mod AtPlaceLaws
 pub mod AdvanceLaws
 pub mod ReachLaws
 pub mod PassLaws
@@ -25,9 +28,12 @@ pub mod LookLaws
 pub mod EnterLaws
 pub mod MarkLaws
 pub mod BelongsLaws
+pub mod CallLaws
 pub mod FitLaws
 pub mod MarkingLaws
 pub mod SightedLaws
 pub mod SurveyLaws
 pub mod SweepLaws
+pub mod SoFarLaws
+pub mod SurveyFilesLaws
 pub mod HandingLaws

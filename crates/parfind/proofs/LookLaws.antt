@@ -1,5 +1,5 @@
 -- What a finder sees at a place whose window is there.
-use Rattle.std.proofs.Common.{◌≡◌, ℕ, ◌+◌, ◌<◌, ◌≤◌, List, length, slice_index, ap, ◌∙◌, arith, IsTrue, Option, Some, None}
+use Rattle.std.proofs.Common.{◌≡◌, ◌≢◌, ℕ, zero, suc, ◌+◌, ◌<◌, ◌≤◌, List, length, slice_index, refl, ap, ◌∙◌, arith, IsTrue, Option, Some, None}
 use Rattle.std.specs.Option.{unwrap_or}
 use Rattle.parshelf.specs.Shelf.{ShelfState, IsShelf, file_of}
 use Rattle.parshelf.proofs.ShelfLaws.{length-file_of}
@@ -11,7 +11,7 @@ use Rattle.parfind.specs.Tracks.{HasNoCrc}
 use Rattle.parfind.proofs.TrackLaws.{whole_window}
 use Rattle.parfind.specs.Finders.{FinderState, BelongsTo, StandsAt}
 use Rattle.parfind.specs.Moves.{IsWithin}
-use Rattle.parfind.specs.Sightings.{is_seen_in}
+use Rattle.parfind.specs.Sightings.{is_slice_seen}
 use Rattle.parfind.proofs.SeenLaws.{first_seen}
 
 module _ (f : FinderState) (set : SliceSet) (s : ShelfState) (belongs : BelongsTo f set s) (shelf : IsShelf s) (steady : IsTrue s.is_steady)
@@ -20,16 +20,16 @@ module _ (f : FinderState) (set : SliceSet) (s : ShelfState) (belongs : BelongsT
   pub window_there : length f.window.content ≡ f.window.capacity
       → f.window.content ≡ window_at set.slice_size (file_of s f.cursor.file) f.cursor.offset
   window_there full =
-      let there : f.window.content ≡ window_at set.slice_size (file_of s f.track.file) f.track.held =
-      whole_window (file_of s f.track.file) set.slice_size f.track.held f.window.content (full ∙ belongs.sized) (belongs.tied.content steady) in
-      there ∙ ap (λ (n : ℕ). window_at set.slice_size (file_of s n) f.track.held) stands.file_is
-      ∙ ap (window_at set.slice_size (file_of s f.cursor.file)) stands.held_is
+      let there : f.window.content ≡ window_at set.slice_size (file_of s f.track.file) f.track.window_offset =
+      whole_window (file_of s f.track.file) set.slice_size f.track.window_offset f.window.content (full ∙ belongs.sized) (belongs.tied.content steady) in
+      there ∙ ap (λ (n : ℕ). window_at set.slice_size (file_of s n) f.track.window_offset) stands.file_is
+      ∙ ap (window_at set.slice_size (file_of s f.cursor.file)) stands.offset_is
 
   -- the slices that fit are those that are seen
   pub look_seen : length f.window.content ≡ f.window.capacity → (left : ℕ) → f.cursor.offset < slice_index s.lengths f.cursor.file
       → f.cursor.offset + left ≡ slice_index s.lengths f.cursor.file → (found : Option ℕ)
-      → IsLeastFrom (slice_passes set (is_fit (sums_of f.window.content) left)) f.cursor.slice found
-      → IsLeastFrom (is_seen_in set (file_of s f.cursor.file) f.cursor.offset) f.cursor.slice found
+      → IsLeastFrom (slice_passes set.slices (is_fit (sums_of f.window.content) left)) f.cursor.slice found
+      → IsLeastFrom (is_slice_seen set (file_of s f.cursor.file) f.cursor.offset) f.cursor.slice found
   look_seen full left inside all found least =
       let file : List ℕ = file_of s f.cursor.file in
       let whole : length file ≡ slice_index s.lengths f.cursor.file = length-file_of s f.cursor.file shelf steady in
@@ -37,10 +37,15 @@ module _ (f : FinderState) (set : SliceSet) (s : ShelfState) (belongs : BelongsT
       (ap sums_of (window_there full)) f.cursor.slice found least
 
   -- the windows that are passed
-  pub none_there : (n : ℕ) → HasNoCrc set (file_of s f.track.file) f.track.held n → HasNoCrc set (file_of s f.cursor.file) f.cursor.offset n
-  none_there n none = rw (← stands.file_is, ← stands.held_is) none
+  pub none_there : (n : ℕ) → HasNoCrc set (file_of s f.track.file) f.track.window_offset n → HasNoCrc set (file_of s f.cursor.file) f.cursor.offset n
+  none_there n none = rw (← stands.file_is, ← stands.offset_is) none
 
 -- within what is left, where that is above all numbers if there is no budget
 pub within_left : (left : Option ℕ) (n most : ℕ) → n ≤ unwrap_or left most → IsWithin n left
 within_left None n most less = tt
 within_left (Some m) n most less = less
+
+pub one_within : (left : Option ℕ) → left ≢ Some 0 → IsWithin 1 left
+one_within None some = tt
+one_within (Some zero) some = absurd (some refl)
+one_within (Some (suc n)) some = omega arith

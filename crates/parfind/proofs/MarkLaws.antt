@@ -1,4 +1,4 @@
--- How many places may have been hashed: as a search goes on there are no fewer, and one more behind one with a slice's CRC-32.
+-- How many places may have been hashed: as a search goes on there are no fewer, and one more after one with a slice's CRC-32.
 use Rattle.std.proofs.Common.{◌≡◌, ℕ, ◌+◌, ◌<◌, ◌≤◌, Bool, true, false, cond, List, [], ◌∷◌, ◌++◌, filter, length, refl, sym, ap, ◌∙◌, subst, arith, slice_index, Option, None, Some, inl, inr, length-append}
 use Rattle.std.proofs.lemmas.Bool.{cases_eq, cases_Bool}
 use Rattle.parfield.specs.declared.hash16.Hash16.{Hash16}
@@ -8,8 +8,8 @@ use Rattle.parfind.specs.Fetched.{Place}
 use Rattle.parfind.specs.Finders.{hashed_of}
 use Rattle.std.proofs.lemmas.List.Elements.{filter-append}
 use Rattle.parfind.specs.declared.cursors.cursor.Cursor.{Cursor}
-use Rattle.parfind.specs.Looking.{IsAtPlace}
-use Rattle.parfind.specs.Marks.{is_marked, marked_between}
+use Rattle.parfind.specs.NextPlace.{IsAtPlace}
+use Rattle.parfind.specs.Marks.{has_slice_crc, marked_between}
 use Rattle.parfind.specs.Order.{is_before, is_from}
 use Rattle.parfind.specs.Places.{cursor_at, cursor_past, place_at, start_of, places_of, places_ahead, places_between}
 use Rattle.parfind.specs.Sightings.{Scan}
@@ -66,12 +66,12 @@ module _ (test : Place → Bool) (lengths : List ℕ) where
       )
 
 pub marked_rises : (scan : Scan) (c d e : Cursor) → From (start_of c) d → From d e → marked_between scan c d ≤ marked_between scan c e
-marked_rises scan c d e on next = counted_rises (is_marked scan) (lengths_of scan) c d e on next
+marked_rises scan c d e on next = counted_rises (has_slice_crc scan) (lengths_of scan) c d e on next
 
 pub marked_more : (scan : Scan) (c d : Cursor) → From (start_of c) d → d.slice ≡ 0 → d.file < length (lengths_of scan)
-    → IsAtPlace (lengths_of scan) d → is_marked scan (place_at d) ≡ true
+    → IsAtPlace (lengths_of scan) d → has_slice_crc scan (place_at d) ≡ true
     → marked_between scan c d + 1 ≡ marked_between scan c (cursor_past (place_at d))
-marked_more scan c d on first counted there marked = counted_more (is_marked scan) (lengths_of scan) c d on first counted there marked
+marked_more scan c d on first counted there marked = counted_more (has_slice_crc scan) (lengths_of scan) c d on first counted there marked
 
 -- a track that stands where it stood, or further on
 
@@ -79,14 +79,14 @@ pub remembered-most : (digest : Option Hash16) → remembered digest ≤ 1
 remembered-most None = omega arith
 remembered-most (Some d) = omega arith
 
-pub From-further : (a b : Track) → a.file ≡ b.file → a.held + remembered a.digest ≤ b.held + remembered b.digest → From (hashed_of a) (hashed_of b)
+pub From-further : (a b : Track) → a.file ≡ b.file → a.window_offset + remembered a.digest ≤ b.window_offset + remembered b.digest → From (hashed_of a) (hashed_of b)
 From-further a b same more = record { by_file = omega arith; by_offset = λ _. more; by_slice = λ _ _. omega arith }
 
 -- one digest more, of a window with a slice's CRC-32, or none
 pub counted_look : (scan : Scan) (opening : Cursor) (a b : Track) (m n : ℕ) → From (start_of opening) (hashed_of a)
-    → b.file ≡ a.file → b.held ≡ a.held → n + remembered a.digest ≡ m + remembered b.digest → remembered a.digest ≤ remembered b.digest
-    → a.file < length (lengths_of scan) → a.held < slice_index (lengths_of scan) a.file
-    → (remembered a.digest < remembered b.digest → is_marked scan (record { file = a.file; offset = a.held }) ≡ true)
+    → b.file ≡ a.file → b.window_offset ≡ a.window_offset → n + remembered a.digest ≡ m + remembered b.digest → remembered a.digest ≤ remembered b.digest
+    → a.file < length (lengths_of scan) → a.window_offset < slice_index (lengths_of scan) a.file
+    → (remembered a.digest < remembered b.digest → has_slice_crc scan (record { file = a.file; offset = a.window_offset }) ≡ true)
     → m ≤ marked_between scan opening (hashed_of a) → n ≤ marked_between scan opening (hashed_of b)
 counted_look scan opening a b m n on file held counts kept counted there marked most = elim (cases_eq (remembered a.digest) (remembered b.digest)) [
   | inl same ↦
@@ -95,13 +95,13 @@ counted_look scan opening a b m n on file held counts kept counted there marked 
   | inr other ↦
       let none : remembered a.digest ≡ 0 = omega (arith, remembered-most b.digest) in
       let one : remembered b.digest ≡ 1 = omega (arith, remembered-most b.digest) in
-      let d : Cursor = record { file = a.file; offset = a.held; slice = 0 } in
-      let offset : a.held + remembered a.digest ≡ a.held = omega arith in
+      let d : Cursor = record { file = a.file; offset = a.window_offset; slice = 0 } in
+      let offset : a.window_offset + remembered a.digest ≡ a.window_offset = omega arith in
       let before : hashed_of a ≡ d = ap (λ (o : ℕ). record { file = a.file; offset = o; slice = 0 }) offset in
-      let behind : b.held + remembered b.digest ≡ a.held + 1 = omega arith in
+      let next_is : b.window_offset + remembered b.digest ≡ a.window_offset + 1 = omega arith in
       let after : cursor_past (place_at d) ≡ hashed_of b =
-      ap (λ (o : ℕ). record { file = a.file; offset = o; slice = 0 }) (sym behind)
-      ∙ ap (λ (f : ℕ). record { file = f; offset = b.held + remembered b.digest; slice = 0 }) (sym file) in
+      ap (λ (o : ℕ). record { file = a.file; offset = o; slice = 0 }) (sym next_is)
+      ∙ ap (λ (f : ℕ). record { file = f; offset = b.window_offset + remembered b.digest; slice = 0 }) (sym file) in
       let from : From (start_of opening) d = rw before at on in
       let more : marked_between scan opening d + 1 ≡ marked_between scan opening (cursor_past (place_at d)) =
       marked_more scan opening d from refl counted there (marked (omega arith)) in

@@ -8,11 +8,10 @@ use Rattle.parfind.proofs.FittingLaws.{fit_passes}
 use Rattle.parfind.proofs.ListLaws.{Has, Has-range}
 use Rattle.parfind.proofs.SeenLaws.{passes_there, fits_on}
 use Rattle.parwindow.specs.Index.{SliceSet, slice_passes}
-use Rattle.parwindow.specs.Missing.{has_fit_crc_of, is_missing_in}
+use Rattle.parwindow.specs.Missing.{has_fit_crc_of, set_has_missing, mark_of}
 use Rattle.parwindow.specs.Least.{IsLeastFrom}
 use Rattle.parfield.specs.declared.hash16.Hash16.{Hash16}
-use Rattle.parfind.specs.Marking.{MarksMore, IsSettled}
-use Rattle.parfind.specs.Surveys.{mark_of}
+use Rattle.parfind.specs.Marking.{MarksMore, IsExhausted}
 
 -- two tests that pass alike
 pub same_truth : (a b : Bool) → (a ≡ true → b ≡ true) → (b ≡ true → a ≡ true) → a ≡ b
@@ -42,27 +41,27 @@ none_range p n f = false_from_ne_true _ (λ h. let some = any_has p (range_with_
 
 -- the slices with a CRC-32 that fit and have no mark
 
-missing_some : (set : SliceSet) (found : List Bool) (crc left n : ℕ) → slice_passes set (has_fit_crc_of crc left) n ≡ true
-    → mark_of found n ≡ false → is_missing_in set found crc left ≡ true
+missing_some : (set : SliceSet) (found : List Bool) (crc left n : ℕ) → slice_passes set.slices (has_fit_crc_of crc left) n ≡ true
+    → mark_of found n ≡ false → set_has_missing set found crc left ≡ true
 missing_some set found crc left n has none =
     let there : n < length set.slices = passes_there set (has_fit_crc_of crc left) n has in
-    has_any (λ k. slice_passes set (has_fit_crc_of crc left) k && not (mark_of found k)) (range_with_len 0 (length set.slices)) n
+    has_any (λ k. slice_passes set.slices (has_fit_crc_of crc left) k && not (mark_of found k)) (range_with_len 0 (length set.slices)) n
     (Has-range 0 (length set.slices) n (omega arith) (omega arith)) (and_from _ _ has (not_from_false _ none))
 
 missing_none : (set : SliceSet) (found : List Bool) (crc left : ℕ)
-    → ((k : ℕ) → slice_passes set (has_fit_crc_of crc left) k ≡ true → mark_of found k ≡ true) → is_missing_in set found crc left ≡ false
+    → ((k : ℕ) → slice_passes set.slices (has_fit_crc_of crc left) k ≡ true → mark_of found k ≡ true) → set_has_missing set found crc left ≡ false
 missing_none set found crc left all =
-    none_range (λ k. slice_passes set (has_fit_crc_of crc left) k && not (mark_of found k)) (length set.slices) (λ k h.
-    let parts = and_parts (slice_passes set (has_fit_crc_of crc left) k) (not (mark_of found k)) h in
+    none_range (λ k. slice_passes set.slices (has_fit_crc_of crc left) k && not (mark_of found k)) (length set.slices) (λ k h.
+    let parts = and_parts (slice_passes set.slices (has_fit_crc_of crc left) k) (not (mark_of found k)) h in
     let both : true ≡ false = sym (all k parts.0) ∙ not-true (mark_of found k) parts.1 in cc)
 
 -- a slice that has no mark had none before, as no mark is taken away
 pub missing_was : (set : SliceSet) (was now : List Bool) (crc left : ℕ) → ((k : ℕ) → mark_of was k ≡ true → mark_of now k ≡ true)
-    → is_missing_in set now crc left ≡ true → is_missing_in set was crc left ≡ true
-missing_was set was now crc left kept missing = elim (cases_Bool (is_missing_in set was crc left)) [
+    → set_has_missing set now crc left ≡ true → set_has_missing set was crc left ≡ true
+missing_was set was now crc left kept missing = elim (cases_Bool (set_has_missing set was crc left)) [
   | inl is ↦ is
   | inr known ↦
-      let nowhere : is_missing_in set now crc left ≡ false = missing_none set now crc left (λ k has. elim (cases_Bool (mark_of was k)) [
+      let nowhere : set_has_missing set now crc left ≡ false = missing_none set now crc left (λ k has. elim (cases_Bool (mark_of was k)) [
         | inl marked ↦ kept k marked
         | inr none ↦ let both : true ≡ false = sym (missing_some set was crc left k has none) ∙ known in cc
       ]) in
@@ -70,37 +69,37 @@ missing_was set was now crc left kept missing = elim (cases_Bool (is_missing_in 
 ]
 
 -- where each of them has its mark, none of the slices that fit is without
-pub fits_marked : (set : SliceSet) (found : List Bool) (sums : Hash16 × ℕ) (left : ℕ) → is_missing_in set found sums.1 left ≡ false
-    → MarksMore (slice_passes set (is_fit sums left)) found found
+pub fits_marked : (set : SliceSet) (found : List Bool) (sums : Hash16 × ℕ) (left : ℕ) → set_has_missing set found sums.1 left ≡ false
+    → MarksMore (slice_passes set.slices (is_fit sums left)) found found
 fits_marked set found sums left known n =
-    let fit : Bool = slice_passes set (is_fit sums left) n in
+    let fit : Bool = slice_passes set.slices (is_fit sums left) n in
     same_truth (mark_of found n) (mark_of found n || fit) (λ h. or_left (mark_of found n) fit h) (λ h.
     elim (or_cases (mark_of found n) fit h) [
       | inl marked ↦ marked
       | inr fits ↦ elim (cases_Bool (mark_of found n)) [
         | inl marked ↦ marked
         | inr none ↦
-            let missing : is_missing_in set found sums.1 left ≡ true =
+            let missing : set_has_missing set found sums.1 left ≡ true =
             missing_some set found sums.1 left n (fit_passes set sums left n fits) none in
             let both : true ≡ false = sym missing ∙ known in cc
       ]
     ])
 
--- what is settled stays so as marks are set
-pub settled_more : (set : SliceSet) (was now : List Bool) (left : ℕ) (test : ℕ → Bool) (settled : Option ℕ) → MarksMore test was now
-    → IfSome settled (IsSettled set was left) → IfSome settled (IsSettled set now left)
-settled_more set was now left test None marks h = tt
-settled_more set was now left test (Some crc) marks h =
-    false_from_ne_true (is_missing_in set now crc left) (λ missing.
-    let before : is_missing_in set was crc left ≡ true =
+-- what is exhausted stays so as marks are set
+pub exhausted_more : (set : SliceSet) (was now : List Bool) (left : ℕ) (test : ℕ → Bool) (exhausted_crc : Option ℕ) → MarksMore test was now
+    → IfSome exhausted_crc (IsExhausted set was left) → IfSome exhausted_crc (IsExhausted set now left)
+exhausted_more set was now left test None marks h = tt
+exhausted_more set was now left test (Some crc) marks h =
+    false_from_ne_true (set_has_missing set now crc left) (λ missing.
+    let before : set_has_missing set was crc left ≡ true =
     missing_was set was now crc left (λ k marked. marks k ∙ or_left (mark_of was k) (test k) marked) missing in
     let both : true ≡ false = sym before ∙ h in cc)
 
 -- and as less is left of the file
-pub settled_on : (set : SliceSet) (found : List Bool) (more less : ℕ) (settled : Option ℕ) → less ≤ more
-    → IfSome settled (IsSettled set found more) → IfSome settled (IsSettled set found less)
-settled_on set found more less None up h = tt
-settled_on set found more less (Some crc) up h =
+pub exhausted_on : (set : SliceSet) (found : List Bool) (more less : ℕ) (exhausted_crc : Option ℕ) → less ≤ more
+    → IfSome exhausted_crc (IsExhausted set found more) → IfSome exhausted_crc (IsExhausted set found less)
+exhausted_on set found more less None up h = tt
+exhausted_on set found more less (Some crc) up h =
     missing_none set found crc less (λ k has. elim (cases_Bool (mark_of found k)) [
       | inl marked ↦ marked
       | inr none ↦ let both : true ≡ false = sym (missing_some set found crc more k (fits_on set crc less more k up has) none) ∙ h in cc

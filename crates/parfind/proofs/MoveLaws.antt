@@ -22,7 +22,7 @@ use Rattle.parfind.proofs.RisingLaws.{Rises-part_from, between_and_from, between
 use Rattle.parfind.proofs.SightingLaws.{Rises-places_of}
 use Rattle.parfind.proofs.PlaceLaws.{place_at_place, From-start, Before-past, From-past_place}
 
--- behind all files
+-- after all files
 
 pub greater-end : (lengths : List ℕ) (c : Cursor) → c.file < length lengths → greater_of c (end_of lengths) ≡ end_of lengths
 greater-end lengths c within =
@@ -110,7 +110,7 @@ module _ (lengths : List ℕ) (n : ℕ) (c d : Cursor) (all : PassesAll lengths 
         by_offset = λ e. omega (arith, start.by_offset e);
         by_slice = λ e e'. absurd (omega (arith, start.by_offset e));
       } in
-      rw all.behind on
+      rw all.after on
 
   pub passes_front : places_between lengths c d ≡ take n (places_ahead lengths c)
   passes_front =
@@ -118,7 +118,7 @@ module _ (lengths : List ℕ) (n : ℕ) (c d : Cursor) (all : PassesAll lengths 
       before_nth cursor_at (places_ahead lengths c) (n - 1) all.last (cursor_past all.last)
       (Rises-part_from cursor_at (start_of c) (places_of lengths) (Rises-places_of lengths)) all.nth
       (Before-past all.last) (λ q after. From-past_place all.last q after) in
-      ap (places_between lengths c) all.behind ∙ first ∙ ap (λ (m : ℕ). take m (places_ahead lengths c)) counted
+      ap (places_between lengths c) all.after ∙ first ∙ ap (λ (m : ℕ). take m (places_ahead lengths c)) counted
 
   pub passed_by : PassedTo lengths c d n
   passed_by =
@@ -131,7 +131,7 @@ module _ (lengths : List ℕ) (n : ℕ) (c d : Cursor) (all : PassesAll lengths 
       record {
         onward = passes_onward;
         count = ap length passes_front ∙ length-take-le n (places_ahead lengths c) (omega (arith, counted));
-        stays = inr (rw all.behind (counted_of lengths all.last.file all.last.offset inside));
+        stays = inr (rw all.after (counted_of lengths all.last.file all.last.offset inside));
       }
 
 -- each step goes on
@@ -140,10 +140,10 @@ pub moves_onward : (lengths : List ℕ) (budget : Option ℕ) (c d : Cursor) (an
 moves_onward lengths budget c d (Ok (Hit x)) moves =
     let on : From c (cursor_after x) = From-trans c (cursor_of x) (cursor_after x) (From-by_test c (cursor_of x) moves.onward)
     (From-before (cursor_of x) (cursor_after x) (Before-after x)) in
-    rw moves.behind on
+    rw moves.after on
 moves_onward lengths (Some n) c d (Ok Spent) moves = passes_onward lengths n c d moves
 moves_onward lengths None c d (Ok Spent) moves = absurd moves
-moves_onward lengths budget c d (Ok Done) moves = rw moves.behind (From-greater c (end_of lengths))
+moves_onward lengths budget c d (Ok Done) moves = rw moves.after (From-greater c (end_of lengths))
 moves_onward lengths budget c d (Err fault) moves = From-by_test c d moves.onward
 
 -- a step from d, once k places were passed from c on
@@ -164,9 +164,9 @@ covered_more (Some n) m ps qs p within has =
     (sym (take-append-add ps qs j) ∙ ap (λ (i : ℕ). take i (ps ++ qs)) sum)
     (Contains-append_right ps (take j qs) p (contains_more (take j qs) m p here))
 
-slice_get-behind : (ps qs : List Place) (j : ℕ) → slice_get (ps ++ qs) (length ps + j) ≡ slice_get qs j
-slice_get-behind [] qs j = ap (slice_get qs) (zero-add j)
-slice_get-behind (p ∷ ps) qs j = ap (slice_get (p ∷ ps ++ qs)) (suc-add (length ps) j) ∙ slice_get-behind ps qs j
+slice_get-after : (ps qs : List Place) (j : ℕ) → slice_get (ps ++ qs) (length ps + j) ≡ slice_get qs j
+slice_get-after [] qs j = ap (slice_get qs) (zero-add j)
+slice_get-after (p ∷ ps) qs j = ap (slice_get (p ∷ ps ++ qs)) (suc-add (length ps) j) ∙ slice_get-after ps qs j
 
 below_more : (budget : Option ℕ) (k m l : ℕ) → IsWithin (k + m) budget → l < m → IsBelow (k + l) budget
 below_more None k m l within less = tt
@@ -188,7 +188,7 @@ module _ (lengths : List ℕ) (c d : Cursor) (k : ℕ) (w : PassedTo lengths c d
     onward = is_from-true c (cursor_of x) (From-trans c d (cursor_of x) w.onward (From-by_test d (cursor_of x) hit.onward));
     near = subst (λ (ps : List Place). Contains (covered budget ps) (place_of x)) (places_then_ahead lengths c d w.onward)
         (covered_more budget m (places_between lengths c d) (places_ahead lengths d) (place_of x) (rw w.count within) hit.near);
-    behind = hit.behind;
+    after = hit.after;
   }
 
   pub more_spent : (n m : ℕ) (e : Cursor) → k + m ≡ n → PassesAll lengths m d e → PassesAll lengths n c e
@@ -200,16 +200,16 @@ module _ (lengths : List ℕ) (c d : Cursor) (k : ℕ) (w : PassedTo lengths c d
         nth =
             ap (λ (ps : List Place). slice_get ps (n - 1)) (sym (places_then_ahead lengths c d w.onward))
             ∙ ap (slice_get (places_between lengths c d ++ places_ahead lengths d)) at
-            ∙ slice_get-behind (places_between lengths c d) (places_ahead lengths d) (m - 1)
+            ∙ slice_get-after (places_between lengths c d) (places_ahead lengths d) (m - 1)
             ∙ all.nth;
-        behind = all.behind;
+        after = all.after;
       }
 
   more_done : (budget : Option ℕ) (m : ℕ) (e : Cursor) → IsWithin (k + m) budget → ComesToEnd lengths (Some m) d e
       → ComesToEnd lengths budget c e
   more_done budget m e within done = record {
     few = rw split (below_more budget k m (length (places_ahead lengths d)) within done.few);
-    behind = done.behind ∙ elim w.stays [
+    after = done.after ∙ elim w.stays [
       | inl same ↦ ap (λ (b : Cursor). greater_of b (end_of lengths)) same
       | inr there ↦
           let on = w.onward in

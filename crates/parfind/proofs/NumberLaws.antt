@@ -11,7 +11,7 @@ use Rattle.std.proofs.lemmas.Fmt.{IsAscii-from_digits, decimal-digits_value, dec
 use Rattle.std.proofs.lemmas.List.{nil_from_length}
 use Rattle.std.proofs.lemmas.Str.{IsUtf8-from_ascii}
 use Rattle.std.proofs.lemmas.Str.Parse.{IsNumeralModel, numerals_by_value, parse_digits}
-use Rattle.parfind.specs.CursorText.{is_canonical, number_in}
+use Rattle.parfind.specs.CursorText.{is_canonical, number_of}
 
 own : IsNumeralModel (λ ds. list_all is_ascii_digit ds ≡ true) (digits_value 10)
 own = numerals_by_value _ (search rules)
@@ -59,7 +59,7 @@ IsUtf8-canonical s h =
 number_by : {E : Type 0} (limit : ℕ) (s : List ℕ) (r : Result ℕ E) → is_canonical s ≡ true
     → 0 < length s
     → OkIff r ((0 < length s) × (digits_value 10 s < limit)) (digits_value 10 s)
-    → result_ok r ≡ number_in limit s
+    → result_ok r ≡ number_of limit s
 number_by limit s (Ok n) canonical some told =
     rw (canonical, lt-ltb (digits_value 10 s) limit told.0.1) (ap Some told.1)
 number_by limit s (Err e) canonical some told =
@@ -69,16 +69,16 @@ number_by limit s (Err e) canonical some told =
     ]
 
 -- what is parsed of canonical decimal
-pub number_in-parsed : {E : Type 0} (k : ℕ) (s : List ℕ) (r : Result ℕ E)
-    → ParsesUnsigned k 10 s r → is_canonical s ≡ true → result_ok r ≡ number_in (2 ^ k) s
-number_in-parsed k s r h canonical =
+pub number_of-parsed : {E : Type 0} (k : ℕ) (s : List ℕ) (r : Result ℕ E)
+    → ParsesUnsigned k 10 s r → is_canonical s ≡ true → result_ok r ≡ number_of (2 ^ k) s
+number_of-parsed k s r h canonical =
     let c = canonical_parts s canonical in
     number_by (2 ^ k) s r canonical c.some (parse_digits own k s r h c.digits)
 
 -- what is read as a number is its decimal
-pub decimal-number_in : (limit n : ℕ) (s : List ℕ) → limit ≤ 2 ^ 64 → number_in limit s ≡ Some n
+pub decimal-number_of : (limit n : ℕ) (s : List ℕ) → limit ≤ 2 ^ 64 → number_of limit s ≡ Some n
     → (s ≡ decimal n) × (n < limit)
-decimal-number_in limit n s fits h =
+decimal-number_of limit n s fits h =
     elim (cases_Bool (is_canonical s)) [
       | inr other ↦ cc (rw other at h)
       | inl canonical ↦
@@ -105,9 +105,9 @@ canonical_decimal n small = record {
 }
 
 -- a number is read of its decimal
-pub number_in-decimal : (limit n : ℕ) → limit ≤ 2 ^ 64 → n < limit
-    → number_in limit (decimal n) ≡ Some n
-number_in-decimal limit n fits below =
+pub number_of-decimal : (limit n : ℕ) → limit ≤ 2 ^ 64 → n < limit
+    → number_of limit (decimal n) ≡ Some n
+number_of-decimal limit n fits below =
     let small : n < 2 ^ 64 = omega arith in
     let canonical = canonical_whole (decimal n) (canonical_decimal n small) in
     rw (canonical, digits_value-decimal own n small, lt-ltb n limit below) refl

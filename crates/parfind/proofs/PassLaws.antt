@@ -1,8 +1,7 @@
 -- Many places that are passed at once, and steps that begin at the next place.
-use Rattle.std.proofs.Common.{◌≡◌, ℕ, zero, suc, ◌+◌, ◌-◌, ◌<◌, ◌≤◌, List, [], length, refl, sym, ap, ◌∙◌, subst, arith, slice_index, IsTrue, Some, None, Result, Ok, Err, IfOk, IfErr, inl, inr}
+use Rattle.std.proofs.Common.{◌≡◌, ℕ, zero, suc, ◌+◌, ◌-◌, ◌<◌, ◌≤◌, List, [], length, sym, ap, ◌∙◌, subst, arith, slice_index, IsTrue, Some, None, Result, Ok, Err, inl, inr}
 use Rattle.std.proofs.lemmas.Bool.{cases_eq, cases_lt}
 use Rattle.parshelf.specs.Shelf.{ShelfState, IsShelf, file_of}
-use Rattle.parshelf.specs.Reads.{ReadsOnly, FaultsIn}
 use Rattle.parshelf.specs.declared.shelves.reading.ReadFault.{ReadFault}
 use Rattle.parwindow.specs.Index.{SliceSet}
 use Rattle.parwindow.specs.Least.{IsLeastFrom}
@@ -12,21 +11,20 @@ use Rattle.parfind.specs.declared.searches.finder.Step.{Step}
 use Rattle.parfind.specs.declared.searches.finder.Step.TheVariants.{Hit, Spent, Done}
 use Rattle.parfind.specs.Order.{cursor_of}
 use Rattle.parfind.specs.Places.{cursor_past, place_at}
-use Rattle.parfind.specs.Sightings.{Scan, content_of, is_seen_in, sightings_of, sightings_between}
-use Rattle.parfind.specs.Moves.{PassesAll, StepMoves, Advances}
-use Rattle.parfind.specs.Steps.{scan_of}
-use Rattle.parfind.specs.Looking.{IsAtPlace, IsNextPlace}
-use Rattle.parfind.specs.Visits.{StepSees, step_of, count_of}
+use Rattle.parfind.specs.Sightings.{Scan, content_of, is_slice_seen, sightings_of, sightings_between}
+use Rattle.parfind.specs.Moves.{PassesAll, StepMoves}
+use Rattle.parfind.specs.Steps.{scan_of, StepSees}
+use Rattle.parfind.specs.NextPlace.{IsAtPlace, IsNextPlace}
+use Rattle.parfind.specs.PlaceVisit.{answer_of, count_of}
+use Rattle.parfind.specs.declared.searches.finder.Visit.{Visit}
 use Rattle.parfind.proofs.OrderLaws.{From, is_from-true, From-by_test, From-refl}
 use Rattle.parfind.proofs.RisingLaws.{between_and_between, none_between}
 use Rattle.parfind.proofs.SightingLaws.{Rises-sightings_of}
 use Rattle.parfind.proofs.SeenLaws.{seen_has_crc}
 use Rattle.parfind.proofs.PlaceLaws.{sighting_seen, next_over}
-use Rattle.parfind.proofs.MoveLaws.{PassedTo, passed_by, more_moves, more_spent, moves_onward}
+use Rattle.parfind.proofs.MoveLaws.{PassedTo, passed_by, more_moves, more_spent}
 use Rattle.parfind.proofs.WalkLaws.{more_sees}
 use Rattle.parfind.proofs.VisitLaws.{visit_past, visit_stopped, visit_passes}
-use Rattle.parfind.proofs.StepLaws.{moves_before, sees_before, faults_before}
-use Rattle.parfind.proofs.AdvanceLaws.{no_more}
 
 -- n offsets on, before all slices
 abbrev pub cursor_on : Cursor → ℕ → Cursor
@@ -83,8 +81,8 @@ on_unseen scan d n some none =
     ])
 
 module _ (set : SliceSet) (s : ShelfState) (shelf : IsShelf s) (steady : IsTrue s.is_steady) (d : Cursor) (next : IsNextPlace s.lengths d d) where
-  -- behind n places of which no window but the first may have the CRC-32 of a slice, and there no slice is seen
-  pub many_unseen : (n : ℕ) → 0 < n → IsLeastFrom (is_seen_in set (file_of s d.file) d.offset) d.slice None
+  -- after n places of which no window but the first may have the CRC-32 of a slice, and there no slice is seen
+  pub many_unseen : (n : ℕ) → 0 < n → IsLeastFrom (is_slice_seen set (file_of s d.file) d.offset) d.slice None
       → HasNoCrc set (file_of s d.file) d.offset n → sightings_between (scan_of set s) d (cursor_on d n) ≡ []
   many_unseen n some unseen none =
       let here : sightings_between (scan_of set s) d (cursor_on d 1) ≡ [] = visit_past set s shelf steady d d next unseen in
@@ -107,42 +105,12 @@ module _ (lengths : List ℕ) (c d e : Cursor) (next : IsNextPlace lengths c d) 
   moves_next (Ok Done) n moves = more_moves lengths c d 0 passed_next (Some n) n (Ok Done) e (omega arith) (λ h. cc) moves
   moves_next (Err fault) n moves = more_moves lengths c d 0 passed_next (Some n) n (Err fault) e (omega arith) (λ h. cc) moves
 
-  pub then_look_moves : (answer : Result (Step × ℕ) ReadFault) → StepMoves lengths (Some (count_of answer)) d (step_of answer) e
-      → StepMoves lengths (Some (count_of answer)) c (step_of answer) e
-  then_look_moves answer moves = moves_next (step_of answer) (count_of answer) moves
+  pub next_place_moves : (tried : Result Visit ReadFault) → StepMoves lengths (Some (count_of tried)) d (answer_of tried) e
+      → StepMoves lengths (Some (count_of tried)) c (answer_of tried) e
+  next_place_moves tried moves = moves_next (answer_of tried) (count_of tried) moves
 
-  pub then_look_sees : (set : SliceSet) (s : ShelfState) → s.lengths ≡ lengths → IsShelf s → IsTrue s.is_steady
+  pub next_place_sees : (set : SliceSet) (s : ShelfState) → s.lengths ≡ lengths → IsShelf s → IsTrue s.is_steady
       → (answer : Result Step ReadFault) → From d e → StepSees (scan_of set s) d answer e → StepSees (scan_of set s) c answer e
-  then_look_sees set s same shelf steady answer on sees =
+  next_place_sees set s same shelf steady answer on sees =
       more_sees (scan_of set s) c d (From-by_test c d next.onward)
       (visit_stopped set s shelf steady c d (subst (λ (ns : List ℕ). IsNextPlace ns c d) (sym same) next)) answer e on sees
-
-  pub then_look_advances : (set : SliceSet) (answer : Result (Step × ℕ) ReadFault)
-      → IfOk answer (λ step. Advances set lengths (Some 1) d step.0 e) → IfOk answer (λ step. Advances set lengths (Some 1) c step.0 e)
-  then_look_advances set (Ok (Hit x, n)) h = (h.0, h.1, omega (arith, h.2, no_more set lengths c d (From-by_test c d next.onward)))
-  then_look_advances set (Ok (Spent, n)) h = omega (arith, h, no_more set lengths c d (From-by_test c d next.onward))
-  then_look_advances set (Ok (Done, n)) h = tt
-  then_look_advances set (Err fault) h = tt
-
--- the same where another call has only read in between
-module _ (set : SliceSet) (old mid new : ShelfState) (reads : ReadsOnly old mid) (c d e : Cursor) (next : IsNextPlace old.lengths c d)
-    (answer : Result (Step × ℕ) ReadFault) where
-  pub look_moves : StepMoves mid.lengths (Some (count_of answer)) d (step_of answer) e → StepMoves old.lengths (Some (count_of answer)) c (step_of answer) e
-  look_moves moves =
-      then_look_moves old.lengths c d e next answer (moves_before set old mid reads (Some (count_of answer)) d e (step_of answer) moves)
-
-  pub look_sees : IsShelf old → IsTrue old.is_steady → StepMoves mid.lengths (Some (count_of answer)) d (step_of answer) e
-      → StepSees (scan_of set mid) d (step_of answer) e → StepSees (scan_of set old) c (step_of answer) e
-  look_sees shelf steady moves sees =
-      let on : From d e = moves_onward mid.lengths (Some (count_of answer)) d e (step_of answer) moves in
-      then_look_sees old.lengths c d e next set old refl shelf steady (step_of answer) on (sees_before set old mid reads d e (step_of answer) sees)
-
-  pub look_advances : IfOk answer (λ step. Advances set mid.lengths (Some 1) d step.0 e) → IfOk answer (λ step. Advances set old.lengths (Some 1) c step.0 e)
-  look_advances advances =
-      then_look_advances old.lengths c d e next set answer
-      (subst (λ (ns : List ℕ). IfOk answer (λ step. Advances set ns (Some 1) d step.0 e)) (ap (λ (s : ShelfState). s.lengths) reads) advances)
-
-pub look_faults : {A : Type 0} (old mid new : ShelfState) (file : ℕ) (answer : Result A ReadFault) → ReadsOnly old mid
-    → IfErr answer (FaultsIn mid new file) → IfErr answer (FaultsIn old new file)
-look_faults old mid new file (Ok x) reads faults = tt
-look_faults old mid new file (Err fault) reads faults = faults_before old mid new file fault reads faults

@@ -9,10 +9,10 @@ use Rattle.parfind.specs.declared.cursors.cursor.Cursor.{Cursor}
 use Rattle.parfind.specs.declared.cursors.sighting.Sighting.{Sighting}
 use Rattle.parfind.specs.Order.{is_from, cursor_of}
 use Rattle.parfind.specs.Fetched.{Place}
-use Rattle.parfind.specs.Places.{place_at, cursor_at, cursor_past, place_of, start_of, places_in, places_of, places_ahead, places_between}
+use Rattle.parfind.specs.Places.{place_at, cursor_at, cursor_past, place_of, start_of, places_of_file, places_of, places_ahead, places_between}
 use Rattle.parfind.specs.Sightings.{Scan, content_of, is_sighting, triples_at, triples_of, sightings_of}
 use Rattle.parfind.specs.Steps.{lengths_of}
-use Rattle.parfind.specs.Looking.{IsAtPlace, IsNextPlace}
+use Rattle.parfind.specs.NextPlace.{IsAtPlace, IsNextPlace}
 use Rattle.parfind.proofs.OrderLaws.{Before, From, is_from-true, From-by_test, From-refl}
 use Rattle.parfind.proofs.ListLaws.{Each, Each-any, Each-has, Each-passes, Each-range, Each-map, Each-flat_map, Has, Has-map, Has-flat_map, Has-range, Has-filter}
 use Rattle.parfind.proofs.RisingLaws.{part_between, between_and_from, none_between, only_between}
@@ -27,8 +27,8 @@ place_at_place lengths p has =
     let Inside : Place → Type 0 = λ q. q.offset < slice_index lengths q.file in
     let files : List ℕ = range_with_len 0 (length lengths) in
     Each-has Inside (places_of lengths) p
-    (Each-flat_map Inside (places_in lengths) files
-    (Each-any (λ f. Each Inside (places_in lengths f))
+    (Each-flat_map Inside (places_of_file lengths) files
+    (Each-any (λ f. Each Inside (places_of_file lengths f))
     (λ f. Each-map Inside (λ o. record { file = f; offset = o }) (range_with_len 0 (slice_index lengths f))
     (Each-range (λ o. o < slice_index lengths f) 0 (slice_index lengths f) (λ o low high. omega arith)))
     files)) has
@@ -37,7 +37,7 @@ pub Has-places_of : (lengths : List ℕ) (f o : ℕ) → f < length lengths → 
     → Has (places_of lengths) (record { file = f; offset = o })
 unfolding places_of
 Has-places_of lengths f o counted inside =
-    Has-flat_map (places_in lengths) (range_with_len 0 (length lengths)) f (record { file = f; offset = o })
+    Has-flat_map (places_of_file lengths) (range_with_len 0 (length lengths)) f (record { file = f; offset = o })
     (Has-range 0 (length lengths) f (omega arith) (omega arith))
     (Has-map (λ o'. record { file = f; offset = o' }) (range_with_len 0 (slice_index lengths f)) o
     (Has-range 0 (slice_index lengths f) o (omega arith) (omega arith)))
@@ -108,7 +108,7 @@ later_offset a b before same slices = elim (cases_eq a.offset b.offset) [
 pub Before-past : (p : Place) → Before (cursor_at p) (cursor_past p)
 Before-past p = record { by_file = omega arith; by_offset = λ _. omega arith; by_slice = λ _ e. absurd (omega arith) }
 
--- the cursor behind a place is the next one at which a place can be
+-- the cursor after a place is the next one at which a place can be
 pub From-past_place : (p q : Place) → Before (cursor_at p) (cursor_at q) → From (cursor_past p) (cursor_at q)
 From-past_place p q after = record {
   by_file = after.by_file;
@@ -116,7 +116,7 @@ From-past_place p q after = record {
   by_slice = λ _ _. omega arith;
 }
 
--- a place lies alone between itself and the cursor behind it
+-- a place lies alone between itself and the cursor after it
 pub only_here : (lengths : List ℕ) (d : Cursor) → d.file < length lengths → IsAtPlace lengths d
     → part_between cursor_at (start_of d) (cursor_past (place_at d)) (places_of lengths) ≡ place_at d ∷ []
 only_here lengths d counted there =
@@ -125,7 +125,7 @@ only_here lengths d counted there =
     (Before-past (place_at d)) (λ q after. From-past_place (place_at d) q after)
     (λ q before. before)
 
--- the next place is ahead, and then those behind it
+-- the next place is ahead, and then those after it
 pub next_ahead : (lengths : List ℕ) (c d : Cursor) → IsNextPlace lengths c d
     → places_ahead lengths c ≡ place_at d ∷ places_ahead lengths (cursor_past (place_at d))
 next_ahead lengths c d next =

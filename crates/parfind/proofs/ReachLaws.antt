@@ -2,9 +2,10 @@
 use Rattle.std.proofs.Common.{◌≡◌, ℕ, ◌+◌, ◌-◌, ◌<◌, ◌≤◌, ◌⊎◌, true, false, List, [], ◌∷◌, nat_lt, nat_eq, sym, subst, arith, slice_index, inl, inr}
 use Rattle.std.proofs.lemmas.Bool.{cases_lt, cases_eq, lt-ltb, le-ltb, eq-eqb, ne_eqb}
 use Rattle.parfind.specs.Fetched.{Place, HandsUpTo, ReadsUpTo}
-use Rattle.parfind.proofs.FetchedLaws.{upto-before, upto-here, upto-behind, upto-most, hands_none, hands_more}
+use Rattle.parfind.proofs.FetchedLaws.{upto-before, upto-here, upto-after, upto-most, hands_none, hands_more}
 use Rattle.parfind.specs.Places.{place_at}
-use Rattle.parfind.specs.Reach.{IsNear, SearchState, CallsRead, entry_of, room_of, ReachAddsUp}
+use Rattle.parfind.specs.Points.{SearchState}
+use Rattle.parfind.specs.OnePass.{IsNear, CallsRead, entry_of, room_of, ReachAddsUp}
 
 reaches : (size : ℕ) (old new : SearchState) (calls : List SearchState) → CallsRead size old calls new
     → ReadsUpTo old.shelf new.shelf old.fetched new.fetched × ((new ≡ old) ⊎ IsNear size new.fetched new.cursor)
@@ -48,9 +49,9 @@ module _ (size : ℕ) (old new : SearchState) (start : old.fetched ≡ place_at 
       ]
 
   module _ (near : IsNear size new.fetched new.cursor) where
-    none_behind : (f : ℕ) → new.cursor.file < f → slice_index new.shelf.handed f ≤ slice_index old.shelf.handed f
-    none_behind f behind =
-        omega (arith, from_start.handed f, upto-behind old.shelf.lengths new.fetched f (omega (arith, near.file_is)))
+    none_after : (f : ℕ) → new.cursor.file < f → slice_index new.shelf.handed f ≤ slice_index old.shelf.handed f
+    none_after f later =
+        omega (arith, from_start.handed f, upto-after old.shelf.lengths new.fetched f (omega (arith, near.file_is)))
 
     near_cursor : slice_index new.shelf.handed new.cursor.file ≤ slice_index old.shelf.handed new.cursor.file
         + (new.cursor.offset - entry_of old.cursor new.cursor.file + size + 4096)
@@ -73,7 +74,7 @@ module _ (size : ℕ) (old new : SearchState) (start : old.fetched ≡ place_at 
                     rw k (omega (arith, most, here, at))
               ]
           | inr other ↦
-              let none = upto-behind lengths q f (omega (arith, near.file_is)) in
+              let none = upto-after lengths q f (omega (arith, near.file_is)) in
               omega (arith, most, none)
         ]
 
@@ -83,12 +84,12 @@ reach_adds_up size opened now calls start called =
     elim all.1 [
       | inl same ↦ record {
         room = within_room size opened now start all.0;
-        none = λ f behind. rw same (omega arith);
+        none = λ f later. rw same (omega arith);
         near = rw same (omega arith);
       }
       | inr near ↦ record {
         room = within_room size opened now start all.0;
-        none = none_behind size opened now start all.0 near;
+        none = none_after size opened now start all.0 near;
         near = near_cursor size opened now start all.0 near;
       }
     ]

@@ -63,7 +63,7 @@ module _ {A : Type 0} (key : A → Cursor) where
       ∙ sym (filter-append (λ x. is_before (key x) c) (part_between a b xs) (part_from b xs))
       ∙ ap (λ ys. part_before c ys) (between_and_from a b on xs rises)
 
-  -- behind the first from a on come those from b on, where b is the next cursor behind it
+  -- after the first from a on come those from b on, where b is the next cursor after it
   pub from_head : (a b : Cursor) (x : A) (xs ys : List A) → Rises xs → part_from a xs ≡ x ∷ ys
       → From a b → Before (key x) b → ((y : A) → Before (key x) (key y) → From b (key y)) → ys ≡ part_from b xs
   from_head a b x xs ys rises begins on here later =
@@ -78,11 +78,11 @@ module _ {A : Type 0} (key : A → Cursor) where
   only_head : (a b : Cursor) (x : A) (xs : List A) → Rises (x ∷ xs) → From a (key x) → Before (key x) b
       → ((y : A) → Before (key x) (key y) → From b (key y)) → part_between a b (x ∷ xs) ≡ x ∷ []
   only_head a b x xs rises there here later =
-      let behind : Each (λ y. is_before (key y) b ≡ false) xs =
+      let not_before : Each (λ y. is_before (key y) b ≡ false) xs =
       Each-weaker (λ y. Before (key x) (key y)) (λ y. is_before (key y) b ≡ false)
       (λ y k. is_before-false (key y) b (later y k)) xs rises.0 in
       let kept : Each (λ y. is_before (key y) b ≡ false) (part_from a xs) =
-      Each-filter (λ y. is_before (key y) b ≡ false) (λ y. is_from a (key y)) xs behind in
+      Each-filter (λ y. is_before (key y) b ≡ false) (λ y. is_from a (key y)) xs not_before in
       rw (is_from-true a (key x) there, is_before-true (key x) b here)
       (ap (λ ys. x ∷ ys) (filter_none (λ y. is_before (key y) b) (part_from a xs) kept))
 
@@ -111,17 +111,17 @@ module _ {A : Type 0} (key : A → Cursor) where
     | inr e ↦ rw e (none_between a b xs (λ y h. f y (inr h)))
   ]
 
-  -- what lies before the cursor just behind the element at place m are the first m + 1
+  -- what lies before the cursor just after the element at place m are the first m + 1
   pub before_nth : (xs : List A) (m : ℕ) (x : A) (b : Cursor) → Rises xs → slice_get xs m ≡ Some x → Before (key x) b
       → ((y : A) → Before (key x) (key y) → From b (key y)) → part_before b xs ≡ take (suc m) xs
   before_nth [] m x b rises at here later = cc
   before_nth (z ∷ xs) zero x b rises at here later =
       let same : z ≡ x = cc in
-      let behind : Each (λ y. is_before (key y) b ≡ false) xs =
+      let not_before : Each (λ y. is_before (key y) b ≡ false) xs =
       Each-weaker (λ y. Before (key z) (key y)) (λ y. is_before (key y) b ≡ false)
       (λ y k. is_before-false (key y) b (later y (subst (λ v. Before (key v) (key y)) same k))) xs rises.0 in
       let first : is_before (key z) b ≡ true = is_before-true (key z) b (subst (λ v. Before (key v) b) (sym same) here) in
-      rw (first, filter_none (λ y. is_before (key y) b) xs behind) refl
+      rw (first, filter_none (λ y. is_before (key y) b) xs not_before) refl
   before_nth (z ∷ xs) (suc m) x b rises at here later =
       let early : Before (key z) (key x) = Each-slice_get (λ y. Before (key z) (key y)) xs m x rises.0 at in
       let first : is_before (key z) b ≡ true = is_before-true (key z) b (Before-From (key z) (key x) b early (From-before (key x) b here)) in

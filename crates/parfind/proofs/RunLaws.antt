@@ -13,8 +13,8 @@ use Rattle.parfind.specs.declared.cursors.sighting.Sighting.{Sighting}
 use Rattle.parfind.specs.Order.{is_from}
 use Rattle.parfind.proofs.OrderLaws.{From-by_test, is_from-true, From-refl, From-trans}
 use Rattle.parfind.specs.declared.searches.finder.Step.{Step}
-use Rattle.parfind.specs.declared.searches.finder.Step.TheVariants.{Hit, Spent, Done}
 use Rattle.parfind.specs.Sightings.{Scan, sightings_between}
+use Rattle.parfind.specs.Points.{SearchPoint}
 use Rattle.parfind.specs.Steps.{StepGives, scan_of}
 use Rattle.parfind.proofs.SightingLaws.{between_joins}
 use Rattle.parfind.proofs.HandingLaws.{step_hands_out}
@@ -22,7 +22,7 @@ use Rattle.parfind.specs.declared.drives.calls.Call.{Call}
 use Rattle.parfind.specs.declared.drives.calls.Call.TheVariants as call
 use Rattle.parfind.specs.declared.drives.calls.Answer.{Answer}
 use Rattle.parfind.specs.declared.drives.calls.Answer.TheVariants as answer
-use Rattle.parfind.specs.Runs.{left_after, CallGives, CallsGive, hit_in, hits_of, failures_in, CallsHandOut, CallsTellFailures}
+use Rattle.parfind.specs.Runs.{left_after, CallGives, CallsGive, answer_hit, hits_of, told_failures, CallsHandOut, CallsTellFailures}
 
 -- what a call leaves of a shelf, where so many reads failed
 pub record Leaves (old new : ShelfState) (failed : ℕ) : Type 0 where
@@ -53,14 +53,11 @@ leaves_failed old new file there same = record {
   told = λ each. ap failure_count same ∙ sum-added_at old.failures file 1 (omega (arith, each, there));
 }
 
-pub step_leaves : (set : SliceSet) (old new : ShelfState) (budget : Option ℕ) (c d : Cursor) (r : Result Step ReadFault)
-    → StepGives set old new budget c r d → Leaves old new (failures_in (answer.Step r))
-step_leaves set old new budget c d (Ok (Hit x)) h = leaves_read old new h.1
-step_leaves set old new (Some n) c d (Ok Spent) h = leaves_read old new h.1
-step_leaves set old new None c d (Ok Spent) h = absurd h
-step_leaves set old new budget c d (Ok Done) h = leaves_read old new h.1
-step_leaves set old new budget c d (Err Failed) h = leaves_failed old new d.file h.1.0 h.1.1
-step_leaves set old new budget c d (Err Ended) h = absurd h
+pub step_leaves : (set : SliceSet) (budget : Option ℕ) (old new : SearchPoint) (r : Result Step ReadFault)
+    → StepGives set budget old r new → Leaves old.shelf new.shelf (told_failures (answer.Step r))
+step_leaves set budget old new (Ok step) h = leaves_read old.shelf new.shelf h.counts
+step_leaves set budget old new (Err Failed) h = leaves_failed old.shelf new.shelf new.cursor.file h.counts.0 h.counts.1
+step_leaves set budget old new (Err Ended) h = absurd h.counts
 
 -- a call goes on over exactly the sighting of its answer
 abbrev HandsOut : Scan → Cursor → Cursor → List Sighting → Type 0
@@ -83,61 +80,60 @@ hands_join scan c e d xs ys first next = (
       ∙ (ap (λ zs. zs ++ sightings_between scan e d) first.1 ∙ ap (λ zs. xs ++ zs) next.1),
 )
 
-call_leaves : (set : SliceSet) (old new : ShelfState) (c d : Cursor) (k : Call) (a : Answer) → CallGives set old c k a new d
-    → Leaves old new (failures_in a)
-call_leaves set old new c d (call.Step n) (answer.Step r) h = step_leaves set old new (Some n) c d r h
-call_leaves set old new c d (call.Step n) answer.Reopened h = absurd h
-call_leaves set old new c d (call.Step n) answer.NoMemory h = absurd h
-call_leaves set old new c d call.Next (answer.Step r) h = step_leaves set old new None c d r h
-call_leaves set old new c d call.Next answer.Reopened h = absurd h
-call_leaves set old new c d call.Next answer.NoMemory h = absurd h
-call_leaves set old new c d call.Reopen (answer.Step r) h = absurd h
-call_leaves set old new c d call.Reopen answer.Reopened h = rw h.0 (leaves_same old)
-call_leaves set old new c d call.Reopen answer.NoMemory h = rw h.0 (leaves_same old)
+call_leaves : (set : SliceSet) (old new : SearchPoint) (k : Call) (a : Answer) → CallGives set old k a new
+    → Leaves old.shelf new.shelf (told_failures a)
+call_leaves set old new (call.Step n) (answer.Step r) h = step_leaves set (Some n) old new r h
+call_leaves set old new (call.Step n) answer.Reopened h = absurd h
+call_leaves set old new (call.Step n) answer.NoMemory h = absurd h
+call_leaves set old new call.Next (answer.Step r) h = step_leaves set None old new r h
+call_leaves set old new call.Next answer.Reopened h = absurd h
+call_leaves set old new call.Next answer.NoMemory h = absurd h
+call_leaves set old new call.Reopen (answer.Step r) h = absurd h
+call_leaves set old new call.Reopen answer.Reopened h = rw h (leaves_same old.shelf)
+call_leaves set old new call.Reopen answer.NoMemory h = rw h (leaves_same old.shelf)
 
-call_hands : (set : SliceSet) (old new : ShelfState) (c d : Cursor) (k : Call) (a : Answer) → CallGives set old c k a new d
-    → HandsOut (scan_of set old) c d (hit_in a)
-call_hands set old new c d (call.Step n) (answer.Step r) h = step_hands_out set old new (Some n) c d r h
-call_hands set old new c d (call.Step n) answer.Reopened h = absurd h
-call_hands set old new c d (call.Step n) answer.NoMemory h = absurd h
-call_hands set old new c d call.Next (answer.Step r) h = step_hands_out set old new None c d r h
-call_hands set old new c d call.Next answer.Reopened h = absurd h
-call_hands set old new c d call.Next answer.NoMemory h = absurd h
-call_hands set old new c d call.Reopen (answer.Step r) h = absurd h
-call_hands set old new c d call.Reopen answer.Reopened h = rw h.1 (hands_none (scan_of set old) c)
-call_hands set old new c d call.Reopen answer.NoMemory h = rw h.1 (hands_none (scan_of set old) c)
+call_hands : (set : SliceSet) (old new : SearchPoint) (k : Call) (a : Answer) → CallGives set old k a new
+    → HandsOut (scan_of set old.shelf) old.cursor new.cursor (answer_hit a)
+call_hands set old new (call.Step n) (answer.Step r) h = step_hands_out set (Some n) old new r h
+call_hands set old new (call.Step n) answer.Reopened h = absurd h
+call_hands set old new (call.Step n) answer.NoMemory h = absurd h
+call_hands set old new call.Next (answer.Step r) h = step_hands_out set None old new r h
+call_hands set old new call.Next answer.Reopened h = absurd h
+call_hands set old new call.Next answer.NoMemory h = absurd h
+call_hands set old new call.Reopen (answer.Step r) h = absurd h
+call_hands set old new call.Reopen answer.Reopened h = rw h (hands_none (scan_of set old.shelf) old.cursor)
+call_hands set old new call.Reopen answer.NoMemory h = rw h (hands_none (scan_of set old.shelf) old.cursor)
 
 pub calls_hand_out : CallsHandOut
-calls_hand_out set old new c d [] [] h = rw h.1 (hands_none (scan_of set old) c)
-calls_hand_out set old new c d [] (a ∷ answers) h = absurd h
-calls_hand_out set old new c d (k ∷ calls) [] h = absurd h
-calls_hand_out set old new c d (k ∷ calls) (a ∷ answers) h =
-    let mid : ShelfState = h.0 in
-    let e : Cursor = h.1.0 in
-    let leaves = call_leaves set old mid c e k a h.1.1.0 in
-    let same : scan_of set mid ≡ scan_of set old = ap (λ (files : List (List ℕ)). record { set = set; contents = files }) leaves.files_are in
-    let rest : HandsOut (scan_of set mid) e d (hits_of answers) =
-    calls_hand_out set mid new e d (left_after a calls) answers h.1.1.1 in
-    hands_join (scan_of set old) c e d (hit_in a) (hits_of answers) (call_hands set old mid c e k a h.1.1.0)
-    (subst (λ (scan : Scan). HandsOut scan e d (hits_of answers)) same rest)
+calls_hand_out set old new [] [] h = rw h (hands_none (scan_of set old.shelf) old.cursor)
+calls_hand_out set old new [] (a ∷ answers) h = absurd h
+calls_hand_out set old new (k ∷ calls) [] h = absurd h
+calls_hand_out set old new (k ∷ calls) (a ∷ answers) h =
+    let mid : SearchPoint = h.0 in
+    let leaves = call_leaves set old mid k a h.1.0 in
+    let same : scan_of set mid.shelf ≡ scan_of set old.shelf =
+    ap (λ (files : List (List ℕ)). record { set = set; contents = files }) leaves.files_are in
+    let rest : HandsOut (scan_of set mid.shelf) mid.cursor new.cursor (hits_of answers) =
+    calls_hand_out set mid new (left_after a calls) answers h.1.1 in
+    hands_join (scan_of set old.shelf) old.cursor mid.cursor new.cursor (answer_hit a) (hits_of answers) (call_hands set old mid k a h.1.0)
+    (subst (λ (scan : Scan). HandsOut scan mid.cursor new.cursor (hits_of answers)) same rest)
 
-tells : (set : SliceSet) (old new : ShelfState) (c d : Cursor) (calls : List Call) (answers : List Answer)
-    → length old.failures ≡ length old.lengths → CallsGive set old c calls answers new d
-    → failure_count new ≡ failure_count old + sum (map failures_in answers)
-tells set old new c d [] [] each h = omega (arith, ap failure_count h.0)
-tells set old new c d [] (a ∷ answers) each h = absurd h
-tells set old new c d (k ∷ calls) [] each h = absurd h
-tells set old new c d (k ∷ calls) (a ∷ answers) each h =
-    let mid : ShelfState = h.0 in
-    let leaves = call_leaves set old mid c h.1.0 k a h.1.1.0 in
-    let still : length mid.failures ≡ length mid.lengths = rw leaves.lengths_are (leaves.each ∙ each) in
+tells : (set : SliceSet) (old new : SearchPoint) (calls : List Call) (answers : List Answer)
+    → length old.shelf.failures ≡ length old.shelf.lengths → CallsGive set old calls answers new
+    → failure_count new.shelf ≡ failure_count old.shelf + sum (map told_failures answers)
+tells set old new [] [] each h = omega (arith, ap (λ (p : SearchPoint). failure_count p.shelf) h)
+tells set old new [] (a ∷ answers) each h = absurd h
+tells set old new (k ∷ calls) [] each h = absurd h
+tells set old new (k ∷ calls) (a ∷ answers) each h =
+    let mid : SearchPoint = h.0 in
+    let leaves = call_leaves set old mid k a h.1.0 in
+    let still : length mid.shelf.failures ≡ length mid.shelf.lengths = rw leaves.lengths_are (leaves.each ∙ each) in
     omega (
       arith,
       leaves.told each,
-      tells set mid new h.1.0 d (left_after a calls) answers still h.1.1.1,
-      sum_by-cons (λ (n : ℕ). n) (failures_in a) (map failures_in answers),
+      tells set mid new (left_after a calls) answers still h.1.1,
+      sum_by-cons (λ (n : ℕ). n) (told_failures a) (map told_failures answers),
     )
 
 pub calls_tell_failures : CallsTellFailures
-calls_tell_failures set old new c d calls answers is_shelf h =
-    tells set old new c d calls answers (is_shelf.failures_each) h
+calls_tell_failures set old new calls answers is_shelf h = tells set old new calls answers (is_shelf.failures_each) h

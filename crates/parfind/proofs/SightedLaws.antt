@@ -6,9 +6,10 @@ use Rattle.parfind.specs.declared.cursors.sighting.Sighting.{Sighting}
 use Rattle.parfind.specs.Order.{is_before, cursor_of, origin}
 use Rattle.parfind.specs.Fetched.{Place}
 use Rattle.parfind.specs.Places.{cursor_past, place_at}
-use Rattle.parfind.specs.Sightings.{Scan, content_of, is_seen_in, sightings_of, sightings_between}
+use Rattle.parfind.specs.Sightings.{Scan, content_of, is_slice_seen, sightings_of, sightings_between}
 use Rattle.parfind.specs.Steps.{lengths_of}
-use Rattle.parfind.specs.Surveys.{is_sighted, is_sighted_before, mark_of, AllSightedBy}
+use Rattle.parfind.specs.Surveys.{is_sighted, is_sighted_before, AllSightedBy}
+use Rattle.parwindow.specs.Missing.{mark_of}
 use Rattle.parfind.proofs.OrderLaws.{Before, From, Before-by_test, From-by_not_before, is_before-true, is_from-true, Before-From, not_both}
 use Rattle.parfind.proofs.ListLaws.{Has, Has-filter}
 use Rattle.parfind.proofs.MarkingLaws.{same_truth, any_has, has_any}
@@ -54,10 +55,10 @@ module _ (scan : Scan) where
         (λ h. let one = sighted_one d n h in
         one_sighted c n one.0 (record { has = one.1.has; slice_is = one.1.slice_is; before = late one.0 one.1.has one.1.before }))
 
-  -- behind a place there are those that are seen there too
+  -- after a place there are those that are seen there too
   module _ (c : Cursor) (first : c.slice ≡ 0) (counted : c.file < length scan.contents) where
     abbrev pub seen_here : ℕ → Bool
-    seen_here n = is_seen_in scan.set (content_of scan c.file) c.offset n
+    seen_here n = is_slice_seen scan.set (content_of scan c.file) c.offset n
 
     here_or_before : (x : Sighting) → From c (cursor_of x) → Before (cursor_of x) (cursor_past (place_at c))
         → (x.file ≡ c.file) × (x.offset ≡ c.offset)
@@ -72,7 +73,7 @@ module _ (scan : Scan) where
         )
 
     same_seen : (x : Sighting) (n : ℕ) → x.file ≡ c.file → x.offset ≡ c.offset → x.slice ≡ n
-        → is_seen_in scan.set (content_of scan x.file) x.offset x.slice ≡ true → seen_here n ≡ true
+        → is_slice_seen scan.set (content_of scan x.file) x.offset x.slice ≡ true → seen_here n ≡ true
     same_seen x n file offset slice seen = rw (file, offset, slice) at seen
 
     pub here_more : (n : ℕ) → (is_sighted_before scan c n || seen_here n)
@@ -103,11 +104,11 @@ module _ (scan : Scan) where
           }))
           | inr later ↦
               let here = here_or_before one.0 (From-by_not_before (cursor_of one.0) c later) one.1.before in
-              let seen : is_seen_in scan.set (content_of scan one.0.file) one.0.offset one.0.slice ≡ true = sighting_seen scan one.0 one.1.has in
+              let seen : is_slice_seen scan.set (content_of scan one.0.file) one.0.offset one.0.slice ≡ true = sighting_seen scan one.0 one.1.has in
               or_right (is_sighted_before scan c n) (seen_here n) (same_seen one.0 n here.0 here.1 one.1.slice_is seen)
         ])
 
-  -- none is before the first cursor, and all are before those behind the files
+  -- none is before the first cursor, and all are before those after the files
   pub none_first : (n : ℕ) → is_sighted_before scan origin n ≡ false
   none_first n = elim (cases_Bool (is_sighted_before scan origin n)) [
     | inl h ↦

@@ -5,7 +5,7 @@ use Rattle.parwindow.specs.Index.{SliceSet}
 use Rattle.parfind.specs.declared.cursors.sighting.Sighting.{Sighting}
 use Rattle.parfind.specs.Order.{is_before, is_from, origin, cursor_of, cursor_after}
 use Rattle.parfind.specs.Fetched.{Place}
-use Rattle.parfind.specs.Places.{cursor_at, places_in, places_of}
+use Rattle.parfind.specs.Places.{cursor_at, places_of_file, places_of}
 use Rattle.parfind.specs.Sightings.{Scan, is_sighting, triples_at, triples_of, sightings_of, SightingsRise, AllFromOrigin, RestFollows, BetweenJoins}
 use Rattle.parfind.proofs.OrderLaws.{Before, is_before-true, is_from-true, From-by_test, From-trans, From-before, From-after, Before-after}
 use Rattle.parfind.proofs.ListLaws.{Each, Each-any, Each-passes, Each-map, Pairs, Pairs-weaker, Pairs-filter, Pairs-map, Pairs-flat_map, Pairs-range, AllPairs-from, filter_all}
@@ -18,12 +18,12 @@ Rises-places_of lengths =
     let S : Place → Place → Type 0 = λ p q. Before (cursor_at p) (cursor_at q) in
     let at : ℕ → ℕ → Place = λ f o. record { file = f; offset = o } in
     let offsets : ℕ → List ℕ = λ f. range_with_len 0 (slice_index lengths f) in
-    Pairs-flat_map (λ (f g : ℕ). f < g) S (places_in lengths)
+    Pairs-flat_map (λ (f g : ℕ). f < g) S (places_of_file lengths)
     (λ f. Pairs-map (λ (o o' : ℕ). o < o') S (at f)
     (λ o o' h. record { by_file = omega arith; by_offset = λ _. omega arith; by_slice = λ _ e. omega arith })
     (offsets f) (Pairs-range 0 (slice_index lengths f)))
-    (λ f g h. Each-map (λ p. Each (S p) (places_in lengths g)) (at f) (offsets f)
-    (Each-any (λ o. Each (S (at f o)) (places_in lengths g))
+    (λ f g h. Each-map (λ p. Each (S p) (places_of_file lengths g)) (at f) (offsets f)
+    (Each-any (λ o. Each (S (at f o)) (places_of_file lengths g))
     (λ o. Each-map (S (at f o)) (at g) (offsets g)
     (Each-any (λ o'. S (at f o) (at g o'))
     (λ o'. record { by_file = omega arith; by_offset = λ e. omega arith; by_slice = λ e _. omega arith }) (offsets g)))

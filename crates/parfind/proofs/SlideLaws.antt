@@ -23,7 +23,7 @@ kept_window u v w bytes before next =
 
 module _ (size : ℕ) (steady : Bool) (file : List ℕ) (w : WindowState) (t : Track) (follows : Follows size steady file w t)
     (ends : IsTrue steady → length file ≡ size) (piece : List ℕ) (is_piece : IsPieceOf w t size piece)
-    (hand : next_offset w t < size → next_offset w t + length piece ≤ t.base + t.end) where
+    (hand : next_offset w t < size → next_offset w t + length piece ≤ t.buffer_offset + t.buffer_len) where
   comes_next : IsTrue steady → HasBytes file (next_offset w t) piece
   comes_next is_steady = is_piece file (ends is_steady) (follows.ahead is_steady)
 
@@ -35,30 +35,30 @@ module _ (size : ℕ) (steady : Bool) (file : List ℕ) (w : WindowState) (t : T
       record {
         within = omega arith;
         few = follows.few;
-        end_fits = follows.end_fits;
+        buffer_fits = follows.buffer_fits;
         small = follows.small;
-        behind = omega (arith, follows.behind);
+        not_ahead = omega (arith, follows.not_ahead);
         reached = λ before. omega (arith, hand (omega arith));
         remembers = nothing_there t.digest _ _ (λ d has. absurd (omega (arith, has.0))) follows.remembers;
-        content = λ is_steady. more_bytes file t.held w.content piece (follows.content is_steady) (comes_next is_steady);
+        content = λ is_steady. more_bytes file t.window_offset w.content piece (follows.content is_steady) (comes_next is_steady);
         ahead = follows.ahead;
       }
 
   -- a full window moves on by k bytes
   module _ (k : ℕ) (fits : k ≤ length piece) where
-    pub slid_has : IsTrue steady → HasBytes file (t.held + k) (slid_content w.content piece k)
-    slid_has is_steady = slid_bytes file t.held k w.content piece fits (follows.content is_steady) (comes_next is_steady)
+    pub slid_has : IsTrue steady → HasBytes file (t.window_offset + k) (slid_content w.content piece k)
+    slid_has is_steady = slid_bytes file t.window_offset k w.content piece fits (follows.content is_steady) (comes_next is_steady)
 
     pub follows_on : Follows size steady file (record w { content = slid_content w.content piece k })
-        (record t { held = t.held + k; digest = None })
+        (record t { window_offset = t.window_offset + k; digest = None })
     follows_on =
         let same : length (slid_content w.content piece k) ≡ length w.content = length-slid_content w.content piece k fits in
         record {
           within = omega (arith, follows.within);
           few = follows.few;
-          end_fits = follows.end_fits;
+          buffer_fits = follows.buffer_fits;
           small = follows.small;
-          behind = omega (arith, follows.behind);
+          not_ahead = omega (arith, follows.not_ahead);
           reached = λ before. omega (arith, hand (omega arith));
           remembers = tt;
           content = slid_has;
@@ -67,10 +67,10 @@ module _ (size : ℕ) (steady : Bool) (file : List ℕ) (w : WindowState) (t : T
 
   -- the windows on the way
   pub none_on : (set : SliceSet) (n : ℕ) → w.capacity ≡ set.slice_size → length w.content ≡ w.capacity → PushesUntil set w.content piece n
-      → IsTrue steady → HasNoCrc set file t.held n
+      → IsTrue steady → HasNoCrc set file t.window_offset n
   none_on set n sized full until is_steady k some less has =
       let fits : k ≤ length piece = omega (arith, until.within) in
-      let whole : slid_content w.content piece k ≡ window_at set.slice_size file (t.held + k) =
-      whole_window file set.slice_size (t.held + k) (slid_content w.content piece k)
+      let whole : slid_content w.content piece k ≡ window_at set.slice_size file (t.window_offset + k) =
+      whole_window file set.slice_size (t.window_offset + k) (slid_content w.content piece k)
       (length-slid_content w.content piece k fits ∙ full ∙ sized) (slid_has k fits is_steady) in
       until.before k some less (rw whole has)

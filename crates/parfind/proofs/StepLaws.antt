@@ -4,9 +4,8 @@ use Rattle.std.specs.List.{All, Contains}
 use Rattle.std.specs.Option.{option_eq}
 use Rattle.std.proofs.lemmas.Bool.{eqb-true}
 use Rattle.std.proofs.lemmas.List.Elements.{All-contains}
-use Rattle.parfield.specs.Added.{added_at}
 use Rattle.parshelf.specs.Shelf.{ShelfState, IsShelf}
-use Rattle.parshelf.specs.Reads.{ReadsOnly, FaultsIn}
+use Rattle.parshelf.specs.Reads.{ReadsOnly, ReadsFile}
 use Rattle.parshelf.specs.declared.shelves.reading.ReadFault.{ReadFault}
 use Rattle.parshelf.specs.declared.shelves.reading.ReadFault.TheVariants.{Failed, Ended}
 use Rattle.parshelf.proofs.ReadLaws.{ReadsOnly_more}
@@ -19,30 +18,29 @@ use Rattle.parfind.specs.declared.searches.finder.Step.TheVariants.{Hit, Spent, 
 use Rattle.parfind.specs.Order.{is_before, is_from, cursor_of}
 use Rattle.parfind.specs.Places.{cursor_at, place_of, start_of, places_ahead, places_between}
 use Rattle.parfind.specs.Sightings.{Scan, sightings_of, sightings_from, sightings_between}
-use Rattle.parfind.specs.Moves.{IsWithin, PassesAll, StepMoves, steps_left, Advances}
-use Rattle.parfind.specs.Steps.{scan_of, lengths_of, HitsNext, SpendsAll, IsDone, GoesOn, StepGives}
-use Rattle.parfind.specs.Visits.{StepSees}
+use Rattle.parfind.specs.Moves.{IsWithin, StepMoves, steps_left, Advances}
+use Rattle.parfind.specs.Points.{SearchPoint, search_at}
+use Rattle.parfind.specs.Steps.{scan_of, lengths_of, StepGives, StepSees, StepCounts, SpentSeesNone}
+use Rattle.parfind.proofs.AlongLaws.{faults_before}
 use Rattle.parfind.proofs.OrderLaws.{From, Before-by_test, From-by_test, not_both}
 use Rattle.parfind.proofs.ListLaws.{Each-weaker, Each-passes, All-from}
 use Rattle.parfind.proofs.MoveLaws.{PassedTo, passes_onward, passes_front, moves_onward, passed_by, passed_more, more_moves, more_spent}
 use Rattle.parfind.proofs.WalkLaws.{same_left, more_sees}
 use Rattle.parfind.proofs.VisitLaws.{same_lengths}
 
--- what was counted in a step
-abbrev pub StepCounts : ShelfState → ShelfState → Result Step ReadFault → Cursor → Type 0
-StepCounts old new (Ok step) d = ReadsOnly old new
-StepCounts old new (Err fault) d = FaultsIn old new d.file fault
-
 From-start_at : (e : Cursor) (x : Sighting) → From e (cursor_of x) → From (start_of e) (cursor_at (place_of x))
 From-start_at e x on = record { by_file = on.by_file; by_offset = on.by_offset; by_slice = λ _ _. omega arith }
 
 -- a budget that is spent over no sighting
-spends_all : (scan : Scan) (n : ℕ) (c d : Cursor) → PassesAll (lengths_of scan) n c d → sightings_between scan c d ≡ [] → SpendsAll scan n c d
-spends_all scan n c d all none =
+pub spent_sees_none : SpentSeesNone
+spent_sees_none set n old new gives =
+    let scan : Scan = scan_of set old.shelf in
+    let c : Cursor = old.cursor in
+    let d : Cursor = new.cursor in
     let front : List Place = take n (places_ahead (lengths_of scan) c) in
     let Early : Place → Type 0 = λ p. is_before (cursor_at p) (start_of d) ≡ true in
     let early : All Early front =
-    subst (All Early) (passes_front (lengths_of scan) n c d all)
+    subst (All Early) (passes_front (lengths_of scan) n c d gives.moves)
     (All-from Early (places_between (lengths_of scan) c d)
     (Each-passes (λ p. is_before (cursor_at p) (start_of d)) (places_ahead (lengths_of scan) c))) in
     let Late : Sighting → Type 0 = λ x. is_from d (cursor_of x) ≡ true in
@@ -51,37 +49,27 @@ spends_all scan n c d all none =
     not_both (cursor_at (place_of x)) (start_of d)
     (Before-by_test (cursor_at (place_of x)) (start_of d) (All-contains Early front (place_of x) early has))
     (From-start_at d x (From-by_test d (cursor_of x) from)) in
-    record {
-      some = all.some;
-      last = all.last;
-      nth = all.nth;
-      none =
-          subst (All Elsewhere) (sym (same_left scan c d (passes_onward (lengths_of scan) n c d all) none))
-          (All-from Elsewhere (sightings_from scan d)
-          (Each-weaker Late Elsewhere late (sightings_from scan d) (Each-passes (λ x. is_from d (cursor_of x)) (sightings_of scan))));
-      behind = all.behind;
-    }
+    subst (All Elsewhere) (sym (same_left scan c d (passes_onward (lengths_of scan) n c d gives.moves) gives.sees))
+    (All-from Elsewhere (sightings_from scan d)
+    (Each-weaker Late Elsewhere late (sightings_from scan d) (Each-passes (λ x. is_from d (cursor_of x)) (sightings_of scan))))
 
-gives_in : (set : SliceSet) (old new : ShelfState) → IsTrue old.is_steady → (budget : Option ℕ) (c d : Cursor) (answer : Result Step ReadFault)
-    → StepMoves (lengths_of (scan_of set old)) budget c answer d → StepSees (scan_of set old) c answer d → StepCounts old new answer d
-    → StepGives set old new budget c answer d
-gives_in set old new steady budget c d (Ok (Hit x)) moves sees counts =
-    (record { first = sees; near = moves.near; behind = moves.behind }, counts)
-gives_in set old new steady (Some n) c d (Ok Spent) moves sees counts = (spends_all (scan_of set old) n c d moves sees, counts)
-gives_in set old new steady None c d (Ok Spent) moves sees counts = moves
-gives_in set old new steady budget c d (Ok Done) moves sees counts =
-    (record { few = moves.few; none = sees; behind = moves.behind }, counts)
-gives_in set old new steady budget c d (Err Failed) moves sees counts =
-    (record { onward = moves.onward; none = sees; near = moves.near }, counts)
-gives_in set old new steady budget c d (Err Ended) moves sees counts = counts.2 steady
+-- what is counted, by what is read
+counts_of : (old new : SearchPoint) → IsTrue old.shelf.is_steady → (answer : Result Step ReadFault)
+    → ReadsFile new.cursor.file old.shelf new.shelf answer → StepCounts old answer new
+counts_of old new steady (Ok step) reads = reads
+counts_of old new steady (Err Failed) reads = reads
+counts_of old new steady (Err Ended) reads = reads.2 steady
 
 -- where it goes is said by the shelf's lengths, which are those of its files
-pub gives_by : (set : SliceSet) (old new : ShelfState) → IsShelf old → IsTrue old.is_steady → (budget : Option ℕ) (c d : Cursor)
-    (answer : Result Step ReadFault) → StepMoves old.lengths budget c answer d → StepSees (scan_of set old) c answer d
-    → StepCounts old new answer d → StepGives set old new budget c answer d
-gives_by set old new shelf steady budget c d answer moves sees counts =
-    gives_in set old new steady budget c d answer
-    (subst (λ (ns : List ℕ). StepMoves ns budget c answer d) (sym (same_lengths set old shelf steady)) moves) sees counts
+pub gives_by : (set : SliceSet) (budget : Option ℕ) (old new : SearchPoint) → IsShelf old.shelf → IsTrue old.shelf.is_steady
+    → (answer : Result Step ReadFault) → StepMoves old.shelf.lengths budget old.cursor answer new.cursor
+    → StepSees (scan_of set old.shelf) old.cursor answer new.cursor
+    → ReadsFile new.cursor.file old.shelf new.shelf answer → StepGives set budget old answer new
+gives_by set budget old new shelf steady answer moves sees reads = record {
+  moves = subst (λ (ns : List ℕ). StepMoves ns budget old.cursor answer new.cursor) (sym (same_lengths set old.shelf shelf steady)) moves;
+  sees = sees;
+  counts = counts_of old new steady answer reads;
+}
 
 -- over a shelf of which nothing changed meanwhile but how much was handed over
 
@@ -102,14 +90,14 @@ module _ (set : SliceSet) (old mid : ShelfState) (reads : ReadsOnly old mid) whe
 
   -- the search comes nearer to its end
   module _ (c d e : Cursor) (near : steps_left set old.lengths d ≤ steps_left set old.lengths c) where
-    pub nearer : Advances set mid.lengths (Some 1) d Spent e → steps_left set old.lengths e < steps_left set old.lengths c
+    pub nearer : Advances set (Some 1) (search_at mid d) Spent e → steps_left set old.lengths e < steps_left set old.lengths c
     nearer next =
         let same : mid.lengths ≡ old.lengths = ap (λ (s : ShelfState). s.lengths) reads in
         let now : steps_left set old.lengths e < steps_left set old.lengths d = rw same at next in
         omega arith
 
-    pub advances : (budget : Option ℕ) (step : Step) → (step ≡ Spent → ⊥) → Advances set mid.lengths (Some 1) d step e
-        → Advances set old.lengths budget c step e
+    pub advances : (budget : Option ℕ) (step : Step) → (step ≡ Spent → ⊥) → Advances set (Some 1) (search_at mid d) step e
+        → Advances set budget (search_at old c) step e
     advances budget (Hit x) other next =
         (rw (ap (λ (s : ShelfState). length s.lengths) reads) at next.0, next.1, nearer next.2)
     advances budget Spent other next = absurd (other refl)
@@ -122,9 +110,9 @@ Leaves None (Some left) k = ⊥
 Leaves (Some n) None k = ⊥
 Leaves (Some n) (Some left) k = (k + left ≡ n) × (0 < left)
 
--- so many places fewer
-abbrev pub fewer : Option ℕ → ℕ → Option ℕ
-fewer left m = option_map (λ places. places - m) left
+-- what is left of a budget after so many places
+abbrev pub budget_left : Option ℕ → ℕ → Option ℕ
+budget_left left m = option_map (λ places. places - m) left
 
 pub none_left : (left : Option ℕ) → option_eq nat_eq left (Some 0) ≡ true → left ≡ Some 0
 none_left None h = cc
@@ -151,8 +139,8 @@ leaves_within None left k m leaves within = tt
 leaves_within (Some n) None k m leaves within = absurd leaves
 leaves_within (Some n) (Some left) k m leaves within = omega (arith, leaves.0)
 
-pub leaves_more : (budget left : Option ℕ) (k m : ℕ) → Leaves budget left k → IsWithin m left → fewer left m ≢ Some 0
-    → Leaves budget (fewer left m) (k + m)
+pub leaves_more : (budget left : Option ℕ) (k m : ℕ) → Leaves budget left k → IsWithin m left → budget_left left m ≢ Some 0
+    → Leaves budget (budget_left left m) (k + m)
 leaves_more None None k m leaves within some = tt
 leaves_more None (Some left) k m leaves within some = leaves
 leaves_more (Some n) None k m leaves within some = leaves
@@ -160,7 +148,7 @@ leaves_more (Some n) (Some left) k m leaves within some =
     let more : left - m ≢ 0 = λ e. some (ap (λ (j : ℕ). Some j) e) in
     (omega (arith, leaves.0), omega arith)
 
-leaves_none : (budget left : Option ℕ) (k m : ℕ) → Leaves budget left k → IsWithin m left → fewer left m ≡ Some 0 → budget ≡ Some (k + m)
+leaves_none : (budget left : Option ℕ) (k m : ℕ) → Leaves budget left k → IsWithin m left → budget_left left m ≡ Some 0 → budget ≡ Some (k + m)
 leaves_none None None k m leaves within none = cc
 leaves_none None (Some left) k m leaves within none = absurd leaves
 leaves_none (Some n) None k m leaves within none = absurd leaves
@@ -168,38 +156,21 @@ leaves_none (Some n) (Some left) k m leaves within none =
     let last : left - m ≡ 0 = cc in
     ap (λ (j : ℕ). Some j) (omega (arith, leaves.0))
 
--- what a fault leaves, after other calls that only read
-pub faults_before : (old mid new : ShelfState) (file : ℕ) (fault : ReadFault) → ReadsOnly old mid → FaultsIn mid new file fault
-    → FaultsIn old new file fault
-faults_before old mid new file Failed reads counts = (
-  rw (ap (λ (s : ShelfState). length s.lengths) reads) at counts.0,
-  counts.1 ∙ ap (λ (s : ShelfState). record s { failures = added_at s.failures file 1; handed = new.handed }) reads,
-)
-faults_before old mid new file Ended reads counts = (
-  rw (ap (λ (s : ShelfState). length s.lengths) reads) at counts.0,
-  counts.1 ∙ ap (λ (s : ShelfState). record s { early_ends = added_at s.early_ends file 1; handed = new.handed }) reads,
-  λ steady. counts.2 (ap (λ (s : ShelfState). s.is_steady) reads ∙ steady),
-)
-
 -- what was counted in a step, after other calls that only read
-counts_before : (old mid new : ShelfState) (answer : Result Step ReadFault) (e : Cursor) → ReadsOnly old mid → StepCounts mid new answer e
-    → StepCounts old new answer e
-counts_before old mid new (Ok step) e reads counts = ReadsOnly_more old mid new reads counts
-counts_before old mid new (Err fault) e reads counts = faults_before old mid new e.file fault reads counts
+counts_before : (old mid : ShelfState) (c : Cursor) (new : SearchPoint) (answer : Result Step ReadFault) → ReadsOnly old mid
+    → StepCounts (search_at mid c) answer new → StepCounts (search_at old c) answer new
+counts_before old mid c new (Ok step) reads counts = ReadsOnly_more old mid new.shelf reads counts
+counts_before old mid c new (Err Failed) reads counts = faults_before old mid new.shelf new.cursor.file Failed reads counts
+counts_before old mid c new (Err Ended) reads counts = counts
 
 -- a step over a shelf of which only bytes had been handed over before
-pub gives_before : (set : SliceSet) (old mid new : ShelfState) → ReadsOnly old mid → (budget : Option ℕ) (c d : Cursor)
-    (answer : Result Step ReadFault) → StepGives set mid new budget c answer d → StepGives set old new budget c answer d
-gives_before set old mid new reads budget c d (Ok (Hit x)) gives =
-    (subst (λ scan. HitsNext scan budget c x d) (same_scan set old mid reads) gives.0, ReadsOnly_more old mid new reads gives.1)
-gives_before set old mid new reads (Some n) c d (Ok Spent) gives =
-    (subst (λ scan. SpendsAll scan n c d) (same_scan set old mid reads) gives.0, ReadsOnly_more old mid new reads gives.1)
-gives_before set old mid new reads None c d (Ok Spent) gives = gives
-gives_before set old mid new reads budget c d (Ok Done) gives =
-    (subst (λ scan. IsDone scan budget c d) (same_scan set old mid reads) gives.0, ReadsOnly_more old mid new reads gives.1)
-gives_before set old mid new reads budget c d (Err Failed) gives =
-    (subst (λ scan. GoesOn scan budget c d) (same_scan set old mid reads) gives.0, counts_before old mid new (Err Failed) d reads gives.1)
-gives_before set old mid new reads budget c d (Err Ended) gives = gives
+pub gives_before : (set : SliceSet) (budget : Option ℕ) (old mid : ShelfState) → ReadsOnly old mid → (c : Cursor) (new : SearchPoint)
+    (answer : Result Step ReadFault) → StepGives set budget (search_at mid c) answer new → StepGives set budget (search_at old c) answer new
+gives_before set budget old mid reads c new answer gives = record {
+  moves = subst (λ scan. StepMoves (lengths_of scan) budget c answer new.cursor) (same_scan set old mid reads) gives.moves;
+  sees = sees_before set old mid reads c new.cursor answer gives.sees;
+  counts = counts_before old mid c new answer reads gives.counts;
+}
 
 -- a step of m places, once k places were passed of a budget
 module _ (set : SliceSet) (old mid : ShelfState) (reads : ReadsOnly old mid) (budget left : Option ℕ) (c d : Cursor) (k : ℕ)
@@ -210,13 +181,13 @@ module _ (set : SliceSet) (old mid : ShelfState) (reads : ReadsOnly old mid) (bu
       more_moves old.lengths c d k w budget m answer e (leaves_within budget left k m leaves within) other
       (moves_before set old mid reads (Some m) d e answer moves)
 
-  pub then_spent : fewer left m ≡ Some 0 → StepMoves mid.lengths (Some m) d (Ok Spent) e → StepMoves old.lengths budget c (Ok Spent) e
+  pub then_spent : budget_left left m ≡ Some 0 → StepMoves mid.lengths (Some m) d (Ok Spent) e → StepMoves old.lengths budget c (Ok Spent) e
   then_spent none moves =
       rw (leaves_none budget left k m leaves within none)
       (more_spent old.lengths c d k w (k + m) m e refl (moves_before set old mid reads (Some m) d e (Ok Spent) moves))
 
-  pub then_advances : fewer left m ≡ Some 0 → steps_left set old.lengths d ≤ steps_left set old.lengths c
-      → Advances set mid.lengths (Some 1) d Spent e → Advances set old.lengths budget c Spent e
+  pub then_advances : budget_left left m ≡ Some 0 → steps_left set old.lengths d ≤ steps_left set old.lengths c
+      → Advances set (Some 1) (search_at mid d) Spent e → Advances set budget (search_at old c) Spent e
   then_advances none near next = rw (leaves_none budget left k m leaves within none) (nearer set old mid reads c d e near next)
 
   pub then_passed : StepMoves mid.lengths (Some m) d (Ok Spent) e → PassedTo old.lengths c e (k + m)
@@ -232,6 +203,6 @@ module _ (set : SliceSet) (old mid : ShelfState) (reads : ReadsOnly old mid) (bu
         more_sees (scan_of set old) c d w.onward unseen answer e on (sees_before set old mid reads d e answer sees)
 
     pub then_gives : (new : ShelfState) → IsShelf old → IsTrue old.is_steady → StepMoves old.lengths budget c answer e
-        → StepCounts mid new answer e → StepGives set old new budget c answer e
-    then_gives new shelf steady all counts =
-        gives_by set old new shelf steady budget c e answer all then_sees (counts_before old mid new answer e reads counts)
+        → ReadsFile e.file old new answer → StepGives set budget (search_at old c) answer (search_at new e)
+    then_gives new shelf steady all more =
+        gives_by set budget (search_at old c) (search_at new e) shelf steady answer all then_sees more

@@ -4,24 +4,26 @@ use Rattle.std.proofs.lemmas.Bool.{cases_eq, cases_lt, or_cases, or_left, or_rig
 use Rattle.std.proofs.lemmas.List.{length-map}
 use Rattle.std.proofs.Math.Bool.{or-false, or_assoc}
 use Rattle.parshelf.specs.Shelf.{ShelfState, IsShelf, file_of}
-use Rattle.parwindow.specs.Index.{SliceSet, has_fit_in}
+use Rattle.parwindow.specs.Index.{SliceSet, set_has_fit}
 use Rattle.parwindow.specs.Window.{WindowState}
 use Rattle.parfind.specs.declared.cursors.cursor.Cursor.{Cursor}
 use Rattle.parfind.specs.declared.tracks.track.Track.{Track}
 use Rattle.parfind.specs.Fetched.{Place, upto, HandsUpTo}
 use Rattle.parfind.specs.Tracks.{IsTied, IsUnread, fetched_of}
-use Rattle.parfind.proofs.FetchedLaws.{upto-before, upto-here, upto-behind, upto-most, upto-rises, hands_none, hands_more}
-use Rattle.parfind.specs.Looking.{IsAtPlace}
+use Rattle.parfind.proofs.FetchedLaws.{upto-before, upto-here, upto-after, upto-most, upto-rises, hands_none, hands_more}
+use Rattle.parfind.specs.NextPlace.{IsAtPlace}
 use Rattle.parfind.specs.Marking.{MarksMore, TakesDigest}
 use Rattle.parfind.specs.Marks.{is_missing_at, missing_places}
 use Rattle.parfind.specs.Order.{origin}
 use Rattle.parfind.specs.Places.{cursor_at, cursor_past, place_at}
-use Rattle.parfind.specs.Reach.{IsNear}
-use Rattle.parfind.specs.Sightings.{Scan, is_seen_in, sightings_between}
+use Rattle.parfind.specs.OnePass.{IsNear}
+use Rattle.parfind.specs.Sightings.{Scan, is_slice_seen, sightings_between}
 use Rattle.parfind.specs.Steps.{scan_of, lengths_of}
-use Rattle.parfind.specs.Handed.{HandsEachOnce, HandsAround}
-use Rattle.parfind.specs.Surveys.{is_sighted, is_sighted_before, mark_of, IsAllMarked, MarksSighted, MarksNoOther, MarksUpToFault, KeepsMarks, StopsOnceFound}
-use Rattle.parfind.specs.Surveying.{SurveyState, Surveyed, cursor_to, missing_to}
+use Rattle.parfind.specs.Handover.{HandsEachOnce, HandsAround}
+use Rattle.parfind.specs.Surveys.{is_sighted, is_sighted_before, IsAllMarked, MarksSighted, MarksNoOther, MarksUpToFault, KeepsMarks, StopsOnceFound, marked_at}
+use Rattle.parwindow.specs.Missing.{mark_of}
+use Rattle.parfind.specs.Surveying.{SurveyState, Surveyed, missing_between}
+use Rattle.parfind.specs.Tracks.{cursor_of_track}
 use Rattle.parfind.proofs.FitLaws.{fits_more}
 use Rattle.parfind.proofs.MarkLaws.{counted_rises, counted_more, counted_most}
 use Rattle.parfind.proofs.OrderLaws.{From}
@@ -35,28 +37,28 @@ start = record { file = 0; offset = 0 }
 
 -- a window that goes along a file has read little further than its place
 pub tied_near : (u : ShelfState) (w : WindowState) (t : Track) (size : ℕ) (c : Cursor) → IsTied u w t → w.capacity ≡ size
-    → t.file ≡ c.file → t.held ≤ c.offset → IsNear size (fetched_of t) c
+    → t.file ≡ c.file → t.window_offset ≤ c.offset → IsNear size (fetched_of t) c
 tied_near u w t size c tied sized file held = record {
   file_is = omega arith;
-  offset_is = λ _. omega (arith, tied.behind, tied.within, tied.end_fits);
+  offset_is = λ _. omega (arith, tied.not_ahead, tied.within, tied.buffer_fits);
 }
 
 -- of files without room for a slice nothing is read while another one is
 pub others_unread : (set : SliceSet) (lengths a b : List ℕ) (p q : Place) (left : ℕ) → p.file ≡ q.file → HandsUpTo lengths a b p q
-    → has_fit_in set left ≡ true → left ≤ slice_index lengths p.file
-    → (f : ℕ) → has_fit_in set (slice_index lengths f) ≡ false → slice_index b f ≤ slice_index a f
+    → set_has_fit set left ≡ true → left ≤ slice_index lengths p.file
+    → (f : ℕ) → set_has_fit set (slice_index lengths f) ≡ false → slice_index b f ≤ slice_index a f
 others_unread set lengths a b p q left same hands fits room f none = elim (cases_eq f p.file) [
   | inl here ↦
-      let file : has_fit_in set (slice_index lengths f) ≡ true = fits_more set left (slice_index lengths f) (omega (arith, ap (λ (k : ℕ). slice_index lengths k) here)) fits in
+      let file : set_has_fit set (slice_index lengths f) ≡ true = fits_more set left (slice_index lengths f) (omega (arith, ap (λ (k : ℕ). slice_index lengths k) here)) fits in
       let both : true ≡ false = sym file ∙ none in cc
   | inr other ↦ elim (cases_lt f p.file) [
     | inl before ↦ omega (arith, hands.handed f, upto-before lengths p f before, upto-before lengths q f (omega arith))
-    | inr past ↦ omega (arith, hands.handed f, upto-behind lengths p f (omega arith), upto-behind lengths q f (omega arith))
+    | inr past ↦ omega (arith, hands.handed f, upto-after lengths p f (omega arith), upto-after lengths q f (omega arith))
   ]
 ]
 
-near_behind : (size : ℕ) (q : Place) (c d : Cursor) → c.file ≤ d.file → (c.file ≡ d.file → c.offset ≤ d.offset) → IsNear size q c → IsNear size q d
-near_behind size q c d file offset near = record {
+near_further : (size : ℕ) (q : Place) (c d : Cursor) → c.file ≤ d.file → (c.file ≡ d.file → c.offset ≤ d.offset) → IsNear size q c → IsNear size q d
+near_further size q c d file offset near = record {
   file_is = omega (arith, near.file_is);
   offset_is = λ same.
       let files : c.file ≡ d.file = omega (arith, near.file_is) in
@@ -83,14 +85,14 @@ surveyed_first set now fetched = record {
   capacity = refl;
 }
 
-pub surveyed_none : (set : SliceSet) (now : SurveyState) → IsUnread 0 0 now.track → Surveyed set now now (cursor_to now.track)
+pub surveyed_none : (set : SliceSet) (now : SurveyState) → IsUnread 0 0 now.track → Surveyed set now now (cursor_of_track now.track)
 surveyed_none set now unread =
     let fetched : fetched_of now.track ≡ start =
-    ap (λ (f : ℕ). record { file = f; offset = now.track.base + now.track.end }) unread.file_is
-    ∙ ap (λ (o : ℕ). record { file = 0; offset = o }) (omega (arith, unread.base_is, unread.end_is)) in
-    let at : cursor_to now.track ≡ origin =
-    ap (λ (f : ℕ). record { file = f; offset = now.track.held; slice = 0 }) unread.file_is
-    ∙ ap (λ (o : ℕ). record { file = 0; offset = o; slice = 0 }) unread.held_is in
+    ap (λ (f : ℕ). record { file = f; offset = now.track.buffer_offset + now.track.buffer_len }) unread.file_is
+    ∙ ap (λ (o : ℕ). record { file = 0; offset = o }) (omega (arith, unread.buffer_offset_is, unread.buffer_len_is)) in
+    let at : cursor_of_track now.track ≡ origin =
+    ap (λ (f : ℕ). record { file = f; offset = now.track.window_offset; slice = 0 }) unread.file_is
+    ∙ ap (λ (o : ℕ). record { file = 0; offset = o; slice = 0 }) unread.offset_is in
     subst (Surveyed set now now) (sym at) (surveyed_first set now fetched)
 
 from_origin : (c : Cursor) → From origin c
@@ -115,7 +117,7 @@ module _ (set : SliceSet) (old now : SurveyState) (c : Cursor) (so_far : Surveye
 
     pub surveyed_on : (m : ℕ) → m < length old.found → mark_of now.found m ≡ false
         → HandsUpTo old.shelf.lengths now.shelf.handed next.shelf.handed (fetched_of now.track) (fetched_of next.track)
-        → ((f : ℕ) → has_fit_in set (slice_index old.shelf.lengths f) ≡ false → slice_index next.shelf.handed f ≤ slice_index now.shelf.handed f)
+        → ((f : ℕ) → set_has_fit set (slice_index old.shelf.lengths f) ≡ false → slice_index next.shelf.handed f ≤ slice_index now.shelf.handed f)
         → IsNear set.slice_size (fetched_of next.track) d → next.window.digests ≡ now.window.digests
         → next.window.capacity ≡ now.window.capacity → Surveyed set old next d
     surveyed_on m there unmarked hands unfit near digests capacity = record {
@@ -128,7 +130,7 @@ module _ (set : SliceSet) (old now : SurveyState) (c : Cursor) (so_far : Surveye
       stops = λ steady p all.
           let open_ = sym (moved_marks steady m) ∙ (ap (λ marks. mark_of marks m) same ∙ unmarked) in
           let before = still_missing (scan_of set old.shelf) old.found d m p there open_ all in
-          near_behind set.slice_size (fetched_of next.track) d (cursor_at p) before.0 before.1 near;
+          near_further set.slice_size (fetched_of next.track) d (cursor_at p) before.0 before.1 near;
       digests = λ steady. omega (
         arith,
         so_far.digests steady,
@@ -140,11 +142,11 @@ module _ (set : SliceSet) (old now : SurveyState) (c : Cursor) (so_far : Surveye
   -- past its place, once the slices that are seen there are marked
   module _ (first : c.slice ≡ 0) (shelf : IsShelf old.shelf) (counted : c.file < length old.shelf.lengths) (there : IsAtPlace old.shelf.lengths c)
       (next : SurveyState) (same : next.shelf ≡ now.shelf) (track : next.track ≡ now.track) (test : ℕ → Bool) (wanted : Bool)
-      (seen : IsTrue old.shelf.is_steady → (n : ℕ) → test n ≡ is_seen_in set (file_of old.shelf c.file) c.offset n)
+      (seen : IsTrue old.shelf.is_steady → (n : ℕ) → test n ≡ is_slice_seen set (file_of old.shelf c.file) c.offset n)
       (want : IsTrue old.shelf.is_steady → wanted ≡ true → is_missing_at (scan_of set old.shelf) old.found (place_at c) ≡ true)
       (marks : MarksMore test now.found next.found) (takes : TakesDigest wanted now.window next.window) where
     digests_more : IsTrue old.shelf.is_steady → (b : Bool) → wanted ≡ b
-        → next.window.digests ≤ old.window.digests + missing_to (scan_of set old.shelf) old.found (cursor_past (place_at c))
+        → next.window.digests ≤ old.window.digests + missing_between (scan_of set old.shelf) old.found origin (cursor_past (place_at c))
     digests_more steady true is =
         let lengths : lengths_of (scan_of set old.shelf) ≡ old.shelf.lengths = same_lengths set old.shelf shelf steady in
         let counts = counted_more (is_missing_at (scan_of set old.shelf) old.found) (lengths_of (scan_of set old.shelf)) origin c (from_origin c)
@@ -173,7 +175,7 @@ module _ (set : SliceSet) (old now : SurveyState) (c : Cursor) (so_far : Surveye
       kept = λ n had. marks n ∙ or_left (mark_of now.found n) (test n) (so_far.kept n had);
       hands = rw (same, track) so_far.hands;
       unfit = rw same so_far.unfit;
-      near = rw track (near_behind set.slice_size (fetched_of now.track) c (cursor_past (place_at c)) (omega arith) (λ _. omega arith) so_far.near);
+      near = rw track (near_further set.slice_size (fetched_of now.track) c (cursor_past (place_at c)) (omega arith) (λ _. omega arith) so_far.near);
       stops = rw track so_far.stops;
       digests = λ steady. digests_more steady wanted refl;
       capacity = ap (λ (x : WindowState). x.capacity) takes ∙ so_far.capacity;
@@ -215,7 +217,7 @@ module _ (set : SliceSet) (old now : SurveyState) (c : Cursor) (so_far : Surveye
           | inl here ↦ omega (arith, near.offset_is same, upto-here old.shelf.lengths q f (here ∙ sym same), upto-here old.shelf.lengths r f here)
           | inr other ↦ elim (cases_lt f p.file) [
             | inl before ↦ omega (arith, upto-before old.shelf.lengths r f before, upto-most old.shelf.lengths q f)
-            | inr past ↦ omega (arith, upto-behind old.shelf.lengths q f (omega arith))
+            | inr past ↦ omega (arith, upto-after old.shelf.lengths q f (omega arith))
           ]
         ]
         | inr other ↦ upto-rises old.shelf.lengths q r f (omega (arith, near.file_is))
@@ -225,10 +227,10 @@ module _ (set : SliceSet) (old now : SurveyState) (c : Cursor) (so_far : Surveye
   pub surveyed_stops : IsTrue old.shelf.is_steady → StopsOnceFound set old.shelf now.shelf old.found
   surveyed_stops steady p all = around p (so_far.stops steady p all)
 
-  pub surveyed_fault : IsTrue old.shelf.is_steady → c.slice ≡ 0 → (file : ℕ) → c.file ≡ file → MarksUpToFault set old.shelf now.shelf old.found now.found file
+  pub surveyed_fault : IsTrue old.shelf.is_steady → c.slice ≡ 0 → (file : ℕ) → c.file ≡ file → MarksUpToFault set (marked_at old.shelf old.found) (marked_at now.shelf now.found) file
   surveyed_fault steady first file is = record {
     place = place_at c;
     file_is = is;
-    marks = λ n there. so_far.marks steady n ∙ ap (λ (k : ℕ). mark_of old.found n || is_sighted_before (scan_of set old.shelf) (record { file = c.file; offset = c.offset; slice = k }) n) first;
+    sighted = λ n there. so_far.marks steady n ∙ ap (λ (k : ℕ). mark_of old.found n || is_sighted_before (scan_of set old.shelf) (record { file = c.file; offset = c.offset; slice = k }) n) first;
     around = around (place_at c) (record { file_is = so_far.near.file_is; offset_is = so_far.near.offset_is });
   }

@@ -1,22 +1,22 @@
 -- What one more answer tells of a shelf.
-use Rattle.std.proofs.Common.{◌≡◌, ℕ, ◌+◌, List, [], ◌∷◌, ◌++◌, map, sum, refl, ap, ◌∙◌, arith, Result, Ok, Err, OnOk, IfErr}
+use Rattle.std.proofs.Common.{◌≡◌, ℕ, ◌+◌, List, [], ◌∷◌, ◌++◌, map, sum, refl, ap, ◌∙◌, arith, Result, Ok, Err}
 use Rattle.std.proofs.lemmas.List.Sums.{sum_by-cons}
 use Rattle.parfield.specs.Added.{sum-added_at}
 use Rattle.parshelf.specs.Shelf.{ShelfState, IsShelf, failure_count, early_end_count}
-use Rattle.parshelf.specs.Reads.{ReadsOnly, FaultsIn, FailsOnce, EndsOnce}
+use Rattle.parshelf.specs.Reads.{ReadsOnly, FailsOnce, EndsOnce, ReadsFile}
 use Rattle.parshelf.specs.declared.shelves.reading.ReadFault.{ReadFault}
 use Rattle.parshelf.specs.declared.shelves.reading.ReadFault.TheVariants.{Failed, Ended}
 use Rattle.parfind.specs.declared.searches.finder.Step.{Step}
 use Rattle.parfind.specs.declared.drives.calls.Answer.{Answer}
 use Rattle.parfind.specs.declared.drives.calls.Answer.TheVariants as answer
-use Rattle.parfind.specs.Runs.{failures_in}
-use Rattle.parfind.specs.Told.{early_ends_in, TellsOf}
+use Rattle.parfind.specs.Runs.{told_failures}
+use Rattle.parfind.specs.AnswersToldOf.{told_early_ends, TellsOf}
 
-sum_behind : (f : Answer → ℕ) (xs : List Answer) (a : Answer) → sum (map f (xs ++ a ∷ [])) ≡ sum (map f xs) + f a
-sum_behind f [] a = omega (arith, sum_by-cons (λ (n : ℕ). n) (f a) [])
-sum_behind f (x ∷ xs) a = omega (
+sum_after : (f : Answer → ℕ) (xs : List Answer) (a : Answer) → sum (map f (xs ++ a ∷ [])) ≡ sum (map f xs) + f a
+sum_after f [] a = omega (arith, sum_by-cons (λ (n : ℕ). n) (f a) [])
+sum_after f (x ∷ xs) a = omega (
   arith,
-  sum_behind f xs a,
+  sum_after f xs a,
   sum_by-cons (λ (n : ℕ). n) (f x) (map f (xs ++ a ∷ [])),
   sum_by-cons (λ (n : ℕ). n) (f x) (map f xs),
 )
@@ -25,36 +25,36 @@ pub tells_none : (s : ShelfState) → TellsOf s s []
 tells_none s = record { lengths_are = refl; steady_is = refl; files_are = refl; failed = omega arith; ended = omega arith }
 
 tells_more : (old s t : ShelfState) (xs : List Answer) (a : Answer) → TellsOf old s xs → t.lengths ≡ s.lengths
-    → t.is_steady ≡ s.is_steady → t.files ≡ s.files → failure_count t ≡ failure_count s + failures_in a
-    → early_end_count t ≡ early_end_count s + early_ends_in a → TellsOf old t (xs ++ a ∷ [])
+    → t.is_steady ≡ s.is_steady → t.files ≡ s.files → failure_count t ≡ failure_count s + told_failures a
+    → early_end_count t ≡ early_end_count s + told_early_ends a → TellsOf old t (xs ++ a ∷ [])
 tells_more old s t xs a so_far lengths steady files failed ended = record {
   lengths_are = lengths ∙ so_far.lengths_are;
   steady_is = steady ∙ so_far.steady_is;
   files_are = files ∙ so_far.files_are;
-  failed = omega (arith, so_far.failed, failed, sum_behind failures_in xs a);
-  ended = omega (arith, so_far.ended, ended, sum_behind early_ends_in xs a);
+  failed = omega (arith, so_far.failed, failed, sum_after told_failures xs a);
+  ended = omega (arith, so_far.ended, ended, sum_after told_early_ends xs a);
 }
 
 -- an answer that tells of no read, where none was made
-pub tells_same : (old s : ShelfState) (xs : List Answer) (a : Answer) → TellsOf old s xs → failures_in a ≡ 0
-    → early_ends_in a ≡ 0 → TellsOf old s (xs ++ a ∷ [])
+pub tells_same : (old s : ShelfState) (xs : List Answer) (a : Answer) → TellsOf old s xs → told_failures a ≡ 0
+    → told_early_ends a ≡ 0 → TellsOf old s (xs ++ a ∷ [])
 tells_same old s xs a so_far failed ended =
     tells_more old s s xs a so_far refl refl refl (omega (arith, failed)) (omega (arith, ended))
 
 pub tells_step : (old s t : ShelfState) (xs : List Answer) (r : Result Step ReadFault) (file : ℕ) → IsShelf s → TellsOf old s xs
-    → OnOk r (ReadsOnly s t) → IfErr r (FaultsIn s t file) → TellsOf old t (xs ++ answer.Step r ∷ [])
-tells_step old s t xs (Ok step) file shelf so_far reads faults =
+    → ReadsFile file s t r → TellsOf old t (xs ++ answer.Step r ∷ [])
+tells_step old s t xs (Ok step) file shelf so_far reads =
     let same : ReadsOnly s t = reads in
     tells_more old s t xs (answer.Step (Ok step)) so_far (ap (λ (u : ShelfState). u.lengths) same)
     (ap (λ (u : ShelfState). u.is_steady) same) (ap (λ (u : ShelfState). u.files) same) (omega (arith, ap failure_count same))
     (omega (arith, ap early_end_count same))
-tells_step old s t xs (Err Failed) file shelf so_far reads faults =
+tells_step old s t xs (Err Failed) file shelf so_far faults =
     let same : FailsOnce s t file = faults.1 in
     let more = sum-added_at s.failures file 1 (omega (arith, shelf.failures_each, faults.0)) in
     tells_more old s t xs (answer.Step (Err Failed)) so_far (ap (λ (u : ShelfState). u.lengths) same)
     (ap (λ (u : ShelfState). u.is_steady) same) (ap (λ (u : ShelfState). u.files) same)
     (omega (arith, ap failure_count same, more)) (omega (arith, ap early_end_count same))
-tells_step old s t xs (Err Ended) file shelf so_far reads faults =
+tells_step old s t xs (Err Ended) file shelf so_far faults =
     let same : EndsOnce s t file = faults.1 in
     let more = sum-added_at s.early_ends file 1 (omega (arith, shelf.early_ends_each, faults.0)) in
     tells_more old s t xs (answer.Step (Err Ended)) so_far (ap (λ (u : ShelfState). u.lengths) same)

@@ -45,10 +45,10 @@ module _ (file : List ℕ) where
   more_bytes offset xs ys first next = record {
     each = λ i less. elim (cases_lt i (length xs)) [
       | inl front ↦ get_or_append_left xs ys 0 i front ∙ first.each i front
-      | inr behind ↦
+      | inr over ↦
           let within : i - length xs < length ys = omega (arith, length-append xs ys) in
           let place : offset + length xs + (i - length xs) ≡ offset + i = omega arith in
-          get_or-append_right xs ys (length xs) i 0 refl behind ∙ next.each (i - length xs) within
+          get_or-append_right xs ys (length xs) i 0 refl over ∙ next.each (i - length xs) within
           ∙ ap (λ (k : ℕ). slice_index file k) place
     ];
   }
@@ -92,7 +92,7 @@ pub length-slid_content : (content bytes : List ℕ) (k : ℕ) → k ≤ length 
 length-slid_content content bytes k fits =
     omega (arith, length-drop k (content ++ take k bytes), length-append content (take k bytes), length-take-le k bytes fits)
 
--- bytes that are at hand, from an offset behind their first one on
+-- bytes that are at hand, from an offset after their first one on
 pub hand_bytes : (file : List ℕ) (base end at : ℕ) (bytes : List ℕ) → base ≤ at → at ≤ base + end → HasBytes file base (take end bytes)
     → HasBytes file at (take (end - (at - base)) (drop (at - base) bytes))
 hand_bytes file base end at bytes from within has =

@@ -8,9 +8,9 @@ use Rattle.parfind.specs.declared.cursors.sighting.Sighting.{Sighting}
 use Rattle.parfind.specs.Order.{is_from, cursor_of, cursor_after}
 use Rattle.parfind.specs.Places.{cursor_at, cursor_past, start_of, places_of, places_ahead, place_at}
 use Rattle.parfind.specs.Moves.{end_of, greater_of, HitsWithin, PassesAll, ComesToEnd, StaysWithin}
-use Rattle.parfind.specs.Sightings.{is_seen_in, sightings_from, sightings_between}
+use Rattle.parfind.specs.Sightings.{is_slice_seen, sightings_from, sightings_between}
 use Rattle.parfind.specs.Steps.{scan_of, lengths_of}
-use Rattle.parfind.specs.Looking.{IsNextPlace, NoPlaceFrom}
+use Rattle.parfind.specs.NextPlace.{IsNextPlace, NoPlaceFrom}
 use Rattle.std.proofs.lemmas.Bool.{false_from_ne_true}
 use Rattle.parfind.proofs.OrderLaws.{From, From-by_test, is_from-true, From-trans}
 use Rattle.parfind.proofs.ListLaws.{Each-from_has, filter_none}
@@ -31,12 +31,12 @@ module _ (set : SliceSet) (s : ShelfState) (shelf : IsShelf s) (steady : IsTrue 
       next_of_scan : IsNextPlace (lengths_of (scan_of set s)) c d
       next_of_scan = subst (λ (ns : List ℕ). IsNextPlace ns c d) (sym same_lengths) next
 
-      pub visit_hit : (n : ℕ) → IsLeastFrom (is_seen_in set (file_of s d.file) d.offset) d.slice (Some n)
+      pub visit_hit : (n : ℕ) → IsLeastFrom (is_slice_seen set (file_of s d.file) d.offset) d.slice (Some n)
           → let x : Sighting = record { file = d.file; offset = d.offset; slice = n } in
           sightings_from (scan_of set s) c ≡ x ∷ sightings_from (scan_of set s) (cursor_after x)
       visit_hit n first = hit_seen (scan_of set s) c d n next_of_scan first
 
-      pub visit_past : IsLeastFrom (is_seen_in set (file_of s d.file) d.offset) d.slice None
+      pub visit_past : IsLeastFrom (is_slice_seen set (file_of s d.file) d.offset) d.slice None
           → sightings_between (scan_of set s) c (cursor_past (place_at d)) ≡ []
       visit_past none = past_unseen (scan_of set s) c d next_of_scan none
 
@@ -55,7 +55,7 @@ module _ (lengths : List ℕ) (c d : Cursor) (next : IsNextPlace lengths c d) wh
       record {
         onward = is_from-true c (cursor_of x) (From-trans c d (cursor_of x) (From-by_test c d next.onward) to);
         near = rw (next_ahead lengths c d next) (0, omega arith, refl);
-        behind = refl;
+        after = refl;
       }
 
   pub visit_passes : PassesAll lengths 1 c (cursor_past (place_at d))
@@ -63,7 +63,7 @@ module _ (lengths : List ℕ) (c d : Cursor) (next : IsNextPlace lengths c d) wh
     some = omega arith;
     last = place_at d;
     nth = rw (next_ahead lengths c d next) refl;
-    behind = refl;
+    after = refl;
   }
 
   pub visit_stays : StaysWithin lengths (Some 1) c d
@@ -79,4 +79,4 @@ visit_ends lengths c d none is =
     let at : Cursor = record { file = p.file; offset = p.offset; slice = c.slice } in
     let on : From c at = ahead_of_start c p (From-by_test (start_of c) (cursor_at p) after) in
     none at (is_from-true c at on) (place_at_place lengths p has)))) in
-    record { few = rw nothing (omega arith); behind = is }
+    record { few = rw nothing (omega arith); after = is }

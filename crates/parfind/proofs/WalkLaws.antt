@@ -10,10 +10,9 @@ use Rattle.parfind.specs.declared.searches.finder.Step.{Step}
 use Rattle.parfind.specs.declared.searches.finder.Step.TheVariants.{Hit, Spent, Done}
 use Rattle.parfind.specs.Order.{is_from, cursor_of, cursor_after}
 use Rattle.parfind.specs.Places.{cursor_past, place_at}
-use Rattle.parfind.specs.Sightings.{Scan, content_of, is_seen_in, is_sighting, sightings_of, sightings_from, sightings_between}
-use Rattle.parfind.specs.Steps.{lengths_of}
-use Rattle.parfind.specs.Looking.{IsNextPlace, NoPlaceFrom}
-use Rattle.parfind.specs.Visits.{StepSees}
+use Rattle.parfind.specs.Sightings.{Scan, content_of, is_slice_seen, is_sighting, sightings_of, sightings_from, sightings_between}
+use Rattle.parfind.specs.Steps.{lengths_of, StepSees}
+use Rattle.parfind.specs.NextPlace.{IsNextPlace, NoPlaceFrom}
 use Rattle.parfind.proofs.OrderLaws.{From, From-by_test, is_from-true, From-refl, From-before, From-after, Before-after}
 use Rattle.parfind.proofs.ListLaws.{Each-from_has, filter_none}
 use Rattle.parfind.proofs.RisingLaws.{part_between, between_and_from, between_and_between, none_between, only_between}
@@ -53,8 +52,8 @@ end_unseen scan c none =
     (Each-from_has (λ x. is_from c (cursor_of x) ≡ false) (sightings_of scan)
     (λ x has. false_from_ne_true _ (λ after. none (cursor_of x) after (sighting_at_place scan x has))))
 
--- where no slice is seen at d, a sighting from d on is behind the place
-past_from : (scan : Scan) (d : Cursor) (y : Sighting) → IsLeastFrom (is_seen_in scan.set (content_of scan d.file) d.offset) d.slice None
+-- where no slice is seen at d, a sighting from d on is after the place
+past_from : (scan : Scan) (d : Cursor) (y : Sighting) → IsLeastFrom (is_slice_seen scan.set (content_of scan d.file) d.offset) d.slice None
     → is_sighting scan y ≡ true → From d (cursor_of y) → From (cursor_past (place_at d)) (cursor_of y)
 past_from scan d y unseen seen after = elim (cases_eq d.file y.file) [
   | inl f ↦ elim (cases_eq d.offset y.offset) [
@@ -68,9 +67,9 @@ past_from scan d y unseen seen after = elim (cases_eq d.file y.file) [
   | inr ne ↦ record { by_file = after.by_file; by_offset = λ e. absurd (ne e); by_slice = λ _ _. omega arith }
 ]
 
--- behind a place at which no slice is seen
+-- after a place at which no slice is seen
 pub past_unseen : (scan : Scan) (c d : Cursor) → IsNextPlace (lengths_of scan) c d
-    → IsLeastFrom (is_seen_in scan.set (content_of scan d.file) d.offset) d.slice None
+    → IsLeastFrom (is_slice_seen scan.set (content_of scan d.file) d.offset) d.slice None
     → sightings_between scan c (cursor_past (place_at d)) ≡ []
 past_unseen scan c d next unseen =
     let past : Cursor = cursor_past (place_at d) in
@@ -79,7 +78,7 @@ past_unseen scan c d next unseen =
     same_between scan c d (From-by_test c d next.onward) (next_unseen scan c d next) past (From-past d) ∙ here
 
 -- where n is the first slice that is seen at d, no sighting from d on is before it
-first_at : (scan : Scan) (d : Cursor) (n : ℕ) (y : Sighting) → IsLeastFrom (is_seen_in scan.set (content_of scan d.file) d.offset) d.slice (Some n)
+first_at : (scan : Scan) (d : Cursor) (n : ℕ) (y : Sighting) → IsLeastFrom (is_slice_seen scan.set (content_of scan d.file) d.offset) d.slice (Some n)
     → is_sighting scan y ≡ true → From d (cursor_of y) → From (record { file = d.file; offset = d.offset; slice = n }) (cursor_of y)
 first_at scan d n y first seen after = record {
   by_file = after.by_file;
@@ -92,7 +91,7 @@ first_at scan d n y first seen after = record {
 
 -- the first slice that is seen at the next place is the first sighting
 pub hit_seen : (scan : Scan) (c d : Cursor) (n : ℕ) → IsNextPlace (lengths_of scan) c d
-    → IsLeastFrom (is_seen_in scan.set (content_of scan d.file) d.offset) d.slice (Some n)
+    → IsLeastFrom (is_slice_seen scan.set (content_of scan d.file) d.offset) d.slice (Some n)
     → let x : Sighting = record { file = d.file; offset = d.offset; slice = n } in
     sightings_from scan c ≡ x ∷ sightings_from scan (cursor_after x)
 hit_seen scan c d n next first =

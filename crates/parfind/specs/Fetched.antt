@@ -2,6 +2,10 @@
 use Rattle.std.specs.Prelude.{◌≡◌, ℕ, ◌+◌, ◌≤◌, ◌==◌, nat_lt, min, List, slice_index, if◌then◌else◌}
 use Rattle.parshelf.specs.Shelf.{ShelfState}
 
+-- how many bytes are read ahead at most
+abbrev pub ahead_limit : ℕ
+ahead_limit = 4096
+
 -- an offset of a file
 pub record Place : Type 0 where
   pub file : ℕ

@@ -1,9 +1,8 @@
 -- What a survey does at one place: the marks that it sets, and the digest that it takes.
 use Rattle.std.specs.Prelude.{◌≡◌, ℕ, ◌+◌, ◌||◌, Bool, false, List, if◌then◌else◌}
 use Rattle.parwindow.specs.Index.{SliceSet}
-use Rattle.parwindow.specs.Missing.{is_missing_in}
+use Rattle.parwindow.specs.Missing.{set_has_missing, mark_of}
 use Rattle.parwindow.specs.Window.{WindowState}
-use Rattle.parfind.specs.Surveys.{mark_of}
 
 -- those slices are marked too whose numbers pass a test, and no other
 abbrev pub MarksMore : (ℕ → Bool) → List Bool → List Bool → Type 0
@@ -15,5 +14,5 @@ TakesDigest wanted old new =
     new ≡ record old { digests = old.digests + (if wanted then 1 else 0) }
 
 -- each slice with this CRC-32 that fits into what is left of the file has its mark
-abbrev pub IsSettled : SliceSet → List Bool → ℕ → ℕ → Type 0
-IsSettled set found left crc = is_missing_in set found crc left ≡ false
+abbrev pub IsExhausted : SliceSet → List Bool → ℕ → ℕ → Type 0
+IsExhausted set found left crc = set_has_missing set found crc left ≡ false

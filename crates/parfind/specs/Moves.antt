@@ -9,6 +9,7 @@ use Rattle.parfind.specs.declared.searches.finder.Step.{Step}
 use Rattle.parfind.specs.declared.searches.finder.Step.TheVariants.{Hit, Spent, Done}
 use Rattle.parfind.specs.Order.{is_before, is_from, cursor_of, cursor_after}
 use Rattle.parfind.specs.Places.{cursor_past, place_of, places_ahead, places_between}
+use Rattle.parfind.specs.Points.{SearchPoint}
 use Rattle.parfind.specs.Sightings.{triples_of}
 
 -- the first places that a budget covers: all where there is none
@@ -26,7 +27,7 @@ abbrev pub IsBelow : ℕ → Option ℕ → Type 0
 IsBelow k None = Unit {0}
 IsBelow k (Some n) = k < n
 
--- the cursor behind all files
+-- the cursor after all files
 abbrev pub end_of : List ℕ → Cursor
 end_of lengths = record { file = length lengths; offset = 0; slice = 0 }
 
@@ -38,26 +39,26 @@ pub record HitsWithin
     (lengths : List ℕ) (budget : Option ℕ) (c : Cursor) (x : Sighting) (d : Cursor) : Type 0 where
   pub onward : IsTrue (is_from c (cursor_of x))
   pub near : Contains (covered budget (places_ahead lengths c)) (place_of x)
-  pub behind : d ≡ cursor_after x
+  pub after : d ≡ cursor_after x
 
--- n places are ahead of c, and d is behind the last of them
+-- n places are ahead of c, and d is after the last of them
 pub record PassesAll (lengths : List ℕ) (n : ℕ) (c d : Cursor) : Type 0 where
   pub some : 0 < n
   pub last : Place
   pub nth : slice_get (places_ahead lengths c) (n - 1) ≡ Some last
-  pub behind : d ≡ cursor_past last
+  pub after : d ≡ cursor_past last
 
--- fewer places are ahead of c than the budget has, and d is behind all files
+-- fewer places are ahead of c than the budget has, and d is the greater of c and the end
 pub record ComesToEnd (lengths : List ℕ) (budget : Option ℕ) (c d : Cursor) : Type 0 where
   pub few : IsBelow (length (places_ahead lengths c)) budget
-  pub behind : d ≡ greater_of c (end_of lengths)
+  pub after : d ≡ greater_of c (end_of lengths)
 
 -- d is not before c, and no more places lie between them than the budget has
 pub record StaysWithin (lengths : List ℕ) (budget : Option ℕ) (c d : Cursor) : Type 0 where
   pub onward : IsTrue (is_from c d)
   pub near : IsWithin (length (places_between lengths c d)) budget
 
--- where a step from c goes, with a budget of places or with none, and the cursor d behind it
+-- where a step from c goes, with a budget of places or with none, and the cursor d after it
 abbrev pub StepMoves : List ℕ → Option ℕ → Cursor → Result Step ReadFault → Cursor → Type 0
 StepMoves lengths budget c (Ok (Hit x)) d = HitsWithin lengths budget c x d
 StepMoves lengths (Some n) c (Ok Spent) d = PassesAll lengths n c d
@@ -73,10 +74,11 @@ steps_left set lengths c =
 
 -- a hit names a file and a slice that are there; after it, and once a budget is spent, fewer steps
 -- are left
-abbrev pub Advances : SliceSet → List ℕ → Option ℕ → Cursor → Step → Cursor → Type 0
-Advances set lengths budget c (Hit x) d =
-    (x.file < length lengths) × (x.slice < length set.slices)
-    × (steps_left set lengths d < steps_left set lengths c)
-Advances set lengths (Some n) c Spent d = steps_left set lengths d < steps_left set lengths c
-Advances set lengths None c Spent d = ⊥
-Advances set lengths budget c Done d = Unit {0}
+abbrev pub Advances : SliceSet → Option ℕ → SearchPoint → Step → Cursor → Type 0
+Advances set budget old (Hit x) d =
+    (x.file < length old.shelf.lengths) × (x.slice < length set.slices)
+    × (steps_left set old.shelf.lengths d < steps_left set old.shelf.lengths old.cursor)
+Advances set (Some n) old Spent d =
+    steps_left set old.shelf.lengths d < steps_left set old.shelf.lengths old.cursor
+Advances set None old Spent d = ⊥
+Advances set budget old Done d = Unit {0}

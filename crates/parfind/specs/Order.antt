@@ -21,6 +21,6 @@ origin = record { file = 0; offset = 0; slice = 0 }
 abbrev pub cursor_of : Sighting → Cursor
 cursor_of x = record { file = x.file; offset = x.offset; slice = x.slice }
 
--- the cursor just behind a sighting
+-- the cursor just after a sighting
 abbrev pub cursor_after : Sighting → Cursor
 cursor_after x = record { file = x.file; offset = x.offset; slice = x.slice + 1 }

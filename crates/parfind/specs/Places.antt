@@ -10,7 +10,7 @@ use Rattle.parfind.specs.Fetched.{Place}
 abbrev pub cursor_at : Place → Cursor
 cursor_at p = record { file = p.file; offset = p.offset; slice = 0 }
 
--- the cursor just behind a place
+-- the cursor just after a place
 abbrev pub cursor_past : Place → Cursor
 cursor_past p = record { file = p.file; offset = p.offset + 1; slice = 0 }
 
@@ -27,14 +27,14 @@ abbrev pub start_of : Cursor → Cursor
 start_of c = record c { slice = 0 }
 
 -- the places of one file, where the files have these lengths
-abbrev pub places_in : List ℕ → ℕ → List Place
-places_in lengths file =
+abbrev pub places_of_file : List ℕ → ℕ → List Place
+places_of_file lengths file =
     map (λ offset. record { file = file; offset = offset })
     (range_with_len 0 (slice_index lengths file))
 
 -- all places, in order
 unfoldable pub places_of : List ℕ → List Place
-places_of lengths = flat_map (places_in lengths) (range_with_len 0 (length lengths))
+places_of lengths = flat_map (places_of_file lengths) (range_with_len 0 (length lengths))
 
 -- the places that are not before the file and offset of a cursor
 abbrev pub places_ahead : List ℕ → Cursor → List Place

@@ -1,4 +1,4 @@
--- Sightings: a slice of the set at an offset of a scanned file (PAR2 2.0, Input File Slice Checksum).
+-- Sightings: slices of the set at offsets of scanned files (PAR2 2.0, Input File Slice Checksum).
 use Rattle.std.specs.Prelude.{◌≡◌, ℕ, ◌+◌, ◌&&◌, nat_lt, nat_le, Bool, List, [], ◌∷◌, ◌++◌, length, map, filter, slice_index_or, AllPairs, IsTrue}
 use Rattle.std.specs.List.{flat_map, range_with_len}
 use Rattle.parset.specs.declared.recovery_set.SetSlice.{SetSlice}
@@ -27,11 +27,11 @@ is_seen size file offset slice =
     && has_sums (sums_of (window_at size file offset)) slice)
 
 -- the same of slice n of a set, which is there
-abbrev pub is_seen_in : SliceSet → List ℕ → ℕ → ℕ → Bool
-is_seen_in set file offset n = slice_passes set (is_seen set.slice_size file offset) n
+abbrev pub is_slice_seen : SliceSet → List ℕ → ℕ → ℕ → Bool
+is_slice_seen set file offset n = slice_passes set.slices (is_seen set.slice_size file offset) n
 
 abbrev pub is_sighting : Scan → Sighting → Bool
-is_sighting scan x = is_seen_in scan.set (content_of scan x.file) x.offset x.slice
+is_sighting scan x = is_slice_seen scan.set (content_of scan x.file) x.offset x.slice
 
 -- a place with each slice of the set
 abbrev pub triples_at : SliceSet → Place → List Sighting
@@ -65,7 +65,7 @@ SightingsRise =
 abbrev pub AllFromOrigin : Type 0
 AllFromOrigin = (scan : Scan) → sightings_from scan origin ≡ sightings_of scan
 
--- behind the first one from a cursor on come those from the cursor after it
+-- after the first one from a cursor on come those from the cursor after it
 abbrev pub RestFollows : Type 0
 RestFollows =
     (scan : Scan) (c : Cursor) (x : Sighting) (xs : List Sighting)

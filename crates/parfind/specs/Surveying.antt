@@ -8,14 +8,15 @@ use Rattle.parfind.specs.declared.cursors.cursor.Cursor.{Cursor}
 use Rattle.parfind.specs.declared.tracks.track.Track.{Track}
 use Rattle.parfind.specs.Fetched.{Place, ReadsUpTo}
 use Rattle.parfind.specs.Tracks.{fetched_of}
-use Rattle.parfind.specs.Handed.{SkipsUnfit}
+use Rattle.parfind.specs.Handover.{SkipsUnfit}
 use Rattle.parfind.specs.Marks.{is_missing_at}
 use Rattle.parfind.specs.Order.{origin}
 use Rattle.parfind.specs.Places.{cursor_at, places_between}
-use Rattle.parfind.specs.Reach.{IsNear}
+use Rattle.parfind.specs.OnePass.{IsNear}
 use Rattle.parfind.specs.Sightings.{Scan}
 use Rattle.parfind.specs.Steps.{scan_of}
-use Rattle.parfind.specs.Surveys.{is_sighted_before, mark_of, IsAllMarked, AllSightedBy}
+use Rattle.parfind.specs.Surveys.{is_sighted_before, IsAllMarked, AllSightedBy}
+use Rattle.parwindow.specs.Missing.{mark_of}
 
 -- where a survey is: its shelf and its window, the marks, and how the window goes along a file
 pub record SurveyState : Type 0 where
@@ -28,14 +29,11 @@ abbrev pub survey_at : ShelfState → WindowState → List Bool → Track → Su
 survey_at shelf window found track =
     record { shelf = shelf; window = window; found = found; track = track }
 
--- the cursor at a window
-abbrev pub cursor_to : Track → Cursor
-cursor_to t = record { file = t.file; offset = t.held; slice = 0 }
-
--- how many places before a cursor have the CRC-32 of a slice that fits there and has no mark
-abbrev pub missing_to : Scan → List Bool → Cursor → ℕ
-missing_to scan found c =
-    length (filter (is_missing_at scan found) (places_between (map length scan.contents) origin c))
+-- how many places from one cursor to another have the CRC-32 of a slice that fits there and has no
+-- mark
+abbrev pub missing_between : Scan → List Bool → Cursor → Cursor → ℕ
+missing_between scan found c d =
+    length (filter (is_missing_at scan found) (places_between (map length scan.contents) c d))
 
 -- from the beginning of all files it has come to a cursor
 pub record Surveyed (set : SliceSet) (old now : SurveyState) (c : Cursor) : Type 0 where
@@ -50,7 +48,7 @@ pub record Surveyed (set : SliceSet) (old now : SurveyState) (c : Cursor) : Type
       → AllSightedBy (scan_of set old.shelf) old.found p
       → IsNear set.slice_size (fetched_of now.track) (cursor_at p)
   pub digests : IsTrue old.shelf.is_steady → now.window.digests
-      ≤ old.window.digests + missing_to (scan_of set old.shelf) old.found c
+      ≤ old.window.digests + missing_between (scan_of set old.shelf) old.found origin c
   pub capacity : now.window.capacity ≡ old.window.capacity
 
 -- it ends at a cursor: each slice has its mark there, or all files are before it, or a file could

@@ -1,16 +1,18 @@
 -- Which slices of a set have a sighting, as marks by slice number.
-use Rattle.std.specs.Prelude.{◌≡◌, ℕ, ◌==◌, ◌&&◌, ◌||◌, Bool, false, List, EachIndex, IsTrue, slice_index_or}
+use Rattle.std.specs.Prelude.{◌≡◌, ℕ, ◌==◌, ◌&&◌, ◌||◌, Bool, false, List, Result, Ok, Err, EachIndex, IsTrue}
 use Rattle.std.specs.List.{list_any}
 use Rattle.parshelf.specs.Shelf.{ShelfState}
-use Rattle.parshelf.specs.Reads.{FaultsIn}
+use Rattle.parshelf.specs.Reads.{ReadsOnly, FaultsIn}
+use Rattle.parshelf.specs.declared.shelves.reading.ReadFault.{ReadFault}
 use Rattle.parwindow.specs.Index.{SliceSet}
+use Rattle.parwindow.specs.Missing.{mark_of}
 use Rattle.parfind.specs.declared.cursors.cursor.Cursor.{Cursor}
 use Rattle.parfind.specs.Fetched.{Place}
 use Rattle.parfind.specs.declared.surveys.surveying.SurveyFault.{SurveyFault}
 use Rattle.parfind.specs.declared.surveys.surveying.SurveyFault.TheVariants.{Read, Memory}
 use Rattle.parfind.specs.Order.{is_before, cursor_of}
 use Rattle.parfind.specs.Places.{cursor_at, cursor_past}
-use Rattle.parfind.specs.Handed.{HandsAround}
+use Rattle.parfind.specs.Handover.{HandsAround}
 use Rattle.parfind.specs.Sightings.{Scan, sightings_of}
 use Rattle.parfind.specs.Steps.{scan_of}
 
@@ -22,10 +24,6 @@ is_sighted scan n = list_any (λ x. x.slice == n) (sightings_of scan)
 abbrev pub is_sighted_before : Scan → Cursor → ℕ → Bool
 is_sighted_before scan c n =
     list_any (λ x. x.slice == n && is_before (cursor_of x) c) (sightings_of scan)
-
--- the mark of slice n
-abbrev pub mark_of : List Bool → ℕ → Bool
-mark_of marks n = slice_index_or marks n false
 
 -- each slice is marked
 abbrev pub IsAllMarked : List Bool → Type 0
@@ -46,6 +44,11 @@ abbrev pub MarksNoOther : Scan → List Bool → List Bool → Type 0
 MarksNoOther scan was now =
     EachIndex now (λ n. IsTrue (mark_of now n) → IsTrue (mark_of was n || is_sighted scan n))
 
+-- a survey that answers has marked all sightings, and after a fault there is no other mark
+abbrev pub SurveyMarks : {A E : Type 0} → Scan → List Bool → List Bool → Result A E → Type 0
+SurveyMarks scan was now (Ok answer) = MarksSighted scan was now
+SurveyMarks scan was now (Err fault) = MarksNoOther scan was now
+
 -- no mark is taken away
 abbrev pub KeepsMarks : List Bool → List Bool → Type 0
 KeepsMarks was now = EachIndex was (λ n. IsTrue (mark_of was n) → IsTrue (mark_of now n))
@@ -60,16 +63,30 @@ abbrev pub StopsOnceFound : SliceSet → ShelfState → ShelfState → List Bool
 StopsOnceFound set old new was =
     (p : Place) → AllSightedBy (scan_of set old) was p → HandsAround set.slice_size old new p
 
+-- a shelf, and the marks of a survey of its files
+pub record SurveyPoint : Type 0 where
+  pub shelf : ShelfState
+  pub marks : List Bool
+
+abbrev pub marked_at : ShelfState → List Bool → SurveyPoint
+marked_at shelf marks = record { shelf = shelf; marks = marks }
+
 -- what a fault of a file leaves: the marks of all sightings before a place of that file, and no
 -- more was handed over than around it
-pub record MarksUpToFault
-    (set : SliceSet) (old new : ShelfState) (was now : List Bool) (file : ℕ) : Type 0 where
+pub record MarksUpToFault (set : SliceSet) (old new : SurveyPoint) (file : ℕ) : Type 0 where
   pub place : Place
   pub file_is : place.file ≡ file
-  pub marks : MarksBefore (scan_of set old) (cursor_at place) was now
-  pub around : HandsAround set.slice_size old new place
+  pub sighted : MarksBefore (scan_of set old.shelf) (cursor_at place) old.marks new.marks
+  pub around : HandsAround set.slice_size old.shelf new.shelf place
 
--- a read fault is one of the file that it names; where memory is refused, nothing was read
-abbrev pub SurveyLeaves : ShelfState → ShelfState → SurveyFault → Type 0
-SurveyLeaves old new (Read file fault) = FaultsIn old new file fault
-SurveyLeaves old new Memory = new ≡ old
+-- an answer only reads, and a fault is one of the file that it names
+abbrev pub ReadsNamed : {A : Type 0} → ShelfState → ShelfState → Result A (ℕ × ReadFault) → Type 0
+ReadsNamed old new (Ok answer) = ReadsOnly old new
+ReadsNamed old new (Err named) = FaultsIn old new named.0 named.1
+
+-- an answer only reads, a read fault is one of the file that it names, and where memory is refused,
+-- nothing was read
+abbrev pub SurveyLeaves : {A : Type 0} → ShelfState → ShelfState → Result A SurveyFault → Type 0
+SurveyLeaves old new (Ok answer) = ReadsOnly old new
+SurveyLeaves old new (Err (Read file fault)) = FaultsIn old new file fault
+SurveyLeaves old new (Err Memory) = new ≡ old

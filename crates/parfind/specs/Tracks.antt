@@ -2,12 +2,14 @@
 use Rattle.std.specs.Prelude.{◌≡◌, ℕ, ◌+◌, ◌<◌, ◌≤◌, ◌^◌, Bool, List, length, take, slice_index, Option, None, Some, IfSome, IsTrue}
 use Rattle.parfield.specs.Md5.{md5}
 use Rattle.parshelf.specs.Shelf.{ShelfState, file_of}
+use Rattle.parset.specs.Limits.{slice_size_limit}
 use Rattle.parwindow.specs.Crc32.{crc_of}
-use Rattle.parwindow.specs.Index.{SliceSet, has_crc_in}
+use Rattle.parwindow.specs.Index.{SliceSet, set_has_crc}
 use Rattle.parwindow.specs.Window.{WindowState, window_at}
 use Rattle.parfield.specs.declared.hash16.Hash16.{Hash16}
+use Rattle.parfind.specs.declared.cursors.cursor.Cursor.{Cursor}
 use Rattle.parfind.specs.declared.tracks.track.Track.{Track}
-use Rattle.parfind.specs.Fetched.{Place}
+use Rattle.parfind.specs.Fetched.{Place, ahead_limit}
 
 -- these are the bytes of a file from an offset on, with zeros past its end
 pub record HasBytes (file : List ℕ) (offset : ℕ) (bytes : List ℕ) : Type 0 where
@@ -15,11 +17,15 @@ pub record HasBytes (file : List ℕ) (offset : ℕ) (bytes : List ℕ) : Type 0
 
 -- the offset of the byte that the window takes next
 abbrev pub next_offset : WindowState → Track → ℕ
-next_offset w t = t.held + length w.content
+next_offset w t = t.window_offset + length w.content
 
 -- the place up to which files were read
 abbrev pub fetched_of : Track → Place
-fetched_of t = record { file = t.file; offset = t.base + t.end }
+fetched_of t = record { file = t.file; offset = t.buffer_offset + t.buffer_len }
+
+-- the cursor at the window's place
+abbrev pub cursor_of_track : Track → Cursor
+cursor_of_track t = record { file = t.file; offset = t.window_offset; slice = 0 }
 
 -- a digest that is remembered is that of the full window
 abbrev pub Remembers : WindowState → Track → Type 0
@@ -30,14 +36,16 @@ Remembers w t = IfSome t.digest (λ d. (length w.content ≡ w.capacity) × (d.0
 pub record Follows
     (size : ℕ) (steady : Bool) (file : List ℕ) (w : WindowState) (t : Track) : Type 0 where
   pub within : length w.content ≤ w.capacity
-  pub few : w.capacity ≤ 268435456
-  pub end_fits : t.end ≤ 4096
-  pub small : t.base + t.end < 2 ^ 64
-  pub behind : t.base ≤ t.held + length w.content
-  pub reached : t.held + length w.content < size → t.held + length w.content ≤ t.base + t.end
+  pub few : w.capacity ≤ slice_size_limit
+  pub buffer_fits : t.buffer_len ≤ ahead_limit
+  pub small : t.buffer_offset + t.buffer_len < 2 ^ 64
+  pub not_ahead : t.buffer_offset ≤ t.window_offset + length w.content
+  pub reached :
+      t.window_offset + length w.content < size
+      → t.window_offset + length w.content ≤ t.buffer_offset + t.buffer_len
   pub remembers : Remembers w t
-  pub content : IsTrue steady → HasBytes file t.held w.content
-  pub ahead : IsTrue steady → HasBytes file t.base (take t.end t.bytes)
+  pub content : IsTrue steady → HasBytes file t.window_offset w.content
+  pub ahead : IsTrue steady → HasBytes file t.buffer_offset (take t.buffer_len t.bytes)
 
 -- the window goes along a file of a shelf
 abbrev pub IsTied : ShelfState → WindowState → Track → Type 0
@@ -51,30 +59,30 @@ remembered (Some digest) = 1
 -- nothing is read yet of the window of an offset
 pub record IsUnread (file offset : ℕ) (t : Track) : Type 0 where
   pub file_is : t.file ≡ file
-  pub held_is : t.held ≡ offset
+  pub offset_is : t.window_offset ≡ offset
   pub digest_is : t.digest ≡ None
-  pub base_is : t.base ≡ offset
-  pub end_is : t.end ≡ 0
+  pub buffer_offset_is : t.buffer_offset ≡ offset
+  pub buffer_len_is : t.buffer_len ≡ 0
 
 -- the window stands where it stood
 pub record SameTrack (a b : Track) : Type 0 where
   pub file_is : b.file ≡ a.file
-  pub held_is : b.held ≡ a.held
+  pub offset_is : b.window_offset ≡ a.window_offset
   pub digest_is : b.digest ≡ a.digest
 
 -- what was read last now begins where it ended before
 pub record IsReadOn (a b : Track) : Type 0 where
   pub same : SameTrack a b
-  pub base_is : b.base ≡ a.base + a.end
-  pub end_fits : b.end ≤ 4096
-  pub small : b.base + b.end < 2 ^ 64
+  pub buffer_offset_is : b.buffer_offset ≡ a.buffer_offset + a.buffer_len
+  pub buffer_fits : b.buffer_len ≤ ahead_limit
+  pub small : b.buffer_offset + b.buffer_len < 2 ^ 64
 
 -- of a file of this length whose bytes were read ahead, the piece has the bytes that the window
 -- takes next
 abbrev pub IsPieceOf : WindowState → Track → ℕ → List ℕ → Type 0
 IsPieceOf w t size piece =
-    (file : List ℕ) → length file ≡ size → HasBytes file t.base (take t.end t.bytes)
-    → HasBytes file (t.held + length w.content) piece
+    (file : List ℕ) → length file ≡ size → HasBytes file t.buffer_offset (take t.buffer_len t.bytes)
+    → HasBytes file (t.window_offset + length w.content) piece
 
 -- the window and what was read stay, but that a digest may be taken
 pub record Looks (v : WindowState) (a : Track) (w : WindowState) (b : Track) : Type 0 where
@@ -87,11 +95,11 @@ pub record Looks (v : WindowState) (a : Track) (w : WindowState) (b : Track) : T
 abbrev pub HasNoCrc : SliceSet → List ℕ → ℕ → ℕ → Type 0
 HasNoCrc set file offset n =
     (k : ℕ) → 0 < k → k < n
-    → ¬ IsTrue (has_crc_in set (crc_of (window_at set.slice_size file (offset + k))))
+    → ¬ IsTrue (set_has_crc set (crc_of (window_at set.slice_size file (offset + k))))
 
 -- what a call that passes n places does: the window stands so many bytes on
 pub record Passes (size : ℕ) (a b : Track) (most n : ℕ) : Type 0 where
   pub some : 0 < n
   pub within : n ≤ most
-  pub inside : a.held + n ≤ size
-  pub held_is : b.held ≡ a.held + n
+  pub inside : a.window_offset + n ≤ size
+  pub offset_is : b.window_offset ≡ a.window_offset + n

@@ -1,5 +1,5 @@
-//! A list of calls of a search, made in order through pauses, faults and reopenings: `calls` are the
-//! calls and their answers, `driver` makes them, and `laws` say what they hand out.
+//! A list of calls of a search, made in order through pauses, faults and reopenings: `calls` are
+//! the calls and their answers, `driver` makes them, and `laws` say what they hand out.
 
 mod calls;
 mod driver;

@@ -1,13 +1,13 @@
 //! The search for a set's slices at every place of the scanned files.
 //!
 //! From below: `cursors` says where a search stands and what it sees, and has the texts of cursors;
-//! `tracks` brings a window along a file. `searches` hands out sighting after sighting from a cursor
-//! on, and `surveys` marks the slices that have one; both go by a track. `drives` makes a list of
-//! calls of a search.
+//! `tracks` brings a window along a file. `searches` hands out sighting after sighting from a
+//! cursor on, and `surveys` marks the slices that have one; both go by a track. `drives` makes a
+//! list of calls of a search.
 //!
-//! A search may be given up and opened again at its cursor, and then reads its window anew. A survey
-//! begins at the first file, and ends once each slice has its mark. Once it has its window, neither
-//! takes memory, nor is either handed more bytes of a file than the file has.
+//! A search may be given up and opened again at its cursor, and then reads its window anew. A
+//! survey begins at the first file, and ends once each slice has its mark. Once it has its window,
+//! neither takes memory, nor is either handed more bytes of a file than the file has.
 #![tactic(auto)]
 
 mod cursors;
@@ -17,8 +17,9 @@ mod surveys;
 mod tracks;
 
 pub use crate::cursors::{
-    Cursor, CursorFault, Sighting, cursor_order_law, cursor_text_law, read_cursor, split_cursor,
+    Cursor, CursorFault, Sighting, cursor_order_law, cursor_text_law, read_cursor, sighting_laws,
+    split_cursor,
 };
 pub use crate::drives::{Answer, Call, Drive, calls_law, drive};
-pub use crate::searches::{Finder, Step, reach_law, sighting_laws, step_law};
+pub use crate::searches::{Finder, Step, reach_law, step_law};
 pub use crate::surveys::{SurveyFault, survey, survey_in};

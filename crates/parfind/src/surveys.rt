@@ -1,5 +1,5 @@
-//! The survey of all files: `marking` marks the slices that are seen at a place, and `surveying` goes
-//! over the places.
+//! The survey of all files: `marking` marks the slices that are seen at a place, and `surveying`
+//! goes over the places.
 
 mod marking;
 mod surveying;

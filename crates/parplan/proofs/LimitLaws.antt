@@ -9,7 +9,7 @@ use Rattle.std.proofs.lemmas.Bool.Decides.{Decides-and, Decides-ltb}
 use Rattle.std.proofs.lemmas.Fmt.{decimal-digits_value, decimal_digit, decimal_is_IsNumeral, decimal_nonempty, first_decimal}
 use Rattle.std.proofs.lemmas.Slice.Eq.{bytes_eq-Decides}
 use Rattle.std.proofs.lemmas.Str.Parse.{IsNumeralModel, digit_at, numerals_by_value, parse_plain, tells_digits}
-use Rattle.parplan.specs.Limit.{limit_in, writes_limit}
+use Rattle.parplan.specs.Limit.{limit_of, writes_limit}
 
 own : IsNumeralModel (AllDigits 10) (digits_value 10)
 own = numerals_by_value _ tells_digits
@@ -36,17 +36,17 @@ above_zero text zero e first =
     absurd (omega arith)
 above_zero text (suc n) e first = omega arith
 
-pub none-limit_in : (text : List ℕ) → (IsInRange 49 57 (get_or text 0 0) → ⊥) → None ≡ limit_in text
-unfolding limit_in
-none-limit_in text h =
+pub none-limit_of : (text : List ℕ) → (IsInRange 49 57 (get_or text 0 0) → ⊥) → None ≡ limit_of text
+unfolding limit_of
+none-limit_of text h =
     let no_limit : writes_limit text (digits_value 10 text) ≡ false = not_true _ (λ e.
     let is : (decimal (digits_value 10 text) ≡ text) × ((0 < digits_value 10 text) × (digits_value 10 text < 2 ^ 64)) = (writes_limit-Decides text (digits_value 10 text)).0 e in
     h (first_in_range text (digits_value 10 text) is.0 is.1.0 is.1.1)) in
     rw no_limit refl
 
 by_value : {E : Type 0} (text : List ℕ) (r : Result ℕ E) → 49 ≤ get_or text 0 0
-    → OkIff r (AllDigits 10 text × (0 < length text) × (digits_value 10 text < 2 ^ 64)) (digits_value 10 text) → result_ok r ≡ limit_in text
-unfolding limit_in
+    → OkIff r (AllDigits 10 text × (0 < length text) × (digits_value 10 text < 2 ^ 64)) (digits_value 10 text) → result_ok r ≡ limit_of text
+unfolding limit_of
 by_value text (Ok n) first h =
     let whole : decimal (digits_value 10 text) ≡ text = decimal-digits_value own text h.0.0 h.0.1 (λ e. absurd (omega arith)) h.0.2 in
     let limit : writes_limit text (digits_value 10 text) ≡ true = (writes_limit-Decides text (digits_value 10 text)).1
@@ -60,17 +60,17 @@ by_value text (Err fault) first h =
     rw no_limit refl
 
 -- where a digit from 1 to 9 stands first, the limit is what `parse` reads
-pub parsed-limit_in : {E : Type 0} (text : List ℕ) (r : Result ℕ E) → ParsesUnsigned 64 10 text r → IsInRange 49 57 (get_or text 0 0)
-    → result_ok r ≡ limit_in text
-parsed-limit_in text r h first = by_value text r first.0 (parse_plain own 64 text r h (λ e. omega arith))
+pub parsed-limit_of : {E : Type 0} (text : List ℕ) (r : Result ℕ E) → ParsesUnsigned 64 10 text r → IsInRange 49 57 (get_or text 0 0)
+    → result_ok r ≡ limit_of text
+parsed-limit_of text r h first = by_value text r first.0 (parse_plain own 64 text r h (λ e. omega arith))
 
 if_some : (b : Bool) (n : ℕ) → (b ≡ true → 0 < n) → IfSome (if b then Some n else None) (λ limit. 0 < limit)
 if_some true n h = h refl
 if_some false n h = tt
 
 -- a limit is not 0
-pub limit_in-positive : (text : List ℕ) (o : Option ℕ) → o ≡ limit_in text → IfSome o (λ limit. 0 < limit)
-unfolding limit_in
-limit_in-positive text o e =
+pub limit_of-positive : (text : List ℕ) (o : Option ℕ) → o ≡ limit_of text → IfSome o (λ limit. 0 < limit)
+unfolding limit_of
+limit_of-positive text o e =
     let P : Option ℕ → Type 0 = λ o. IfSome o (λ limit. 0 < limit) in
     subst P (sym e) (if_some _ _ (λ h. ((writes_limit-Decides text (digits_value 10 text)).0 h).1.0))

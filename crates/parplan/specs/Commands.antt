@@ -3,6 +3,7 @@ use Rattle.std.specs.Prelude.{◌≢◌, ℕ, Bool, true, false, List, [], map, 
 use Rattle.parplan.specs.declared.command.Command.{Command}
 use Rattle.parplan.specs.declared.command.Command.TheVariants as command
 use Rattle.parplan.specs.declared.command.Plan.{Plan}
+use Rattle.parplan.specs.declared.command.Scanned.{Scanned}
 
 -- the scanned files are asked for
 abbrev pub reads_scanned : Command → Bool
@@ -13,19 +14,18 @@ reads_scanned (command.Verify quiet) = true
 
 -- a limit is not 0
 abbrev pub HasLimit : Command → Type 0
-HasLimit command.Packets = ⊤
-HasLimit command.Set = ⊤
 HasLimit (command.Find limit cursor) = limit ≢ Some 0
-HasLimit (command.Verify quiet) = ⊤
+HasLimit _ = ⊤
 
 -- the command is `find`, which writes while it searches
 abbrev pub is_find : Command → Bool
-is_find command.Packets = false
-is_find command.Set = false
 is_find (command.Find limit cursor) = true
-is_find (command.Verify quiet) = false
+is_find _ = false
 
--- the paths of the files that are scanned
+-- the files that are scanned
+abbrev pub files_to_scan_of : Plan → List Scanned
+files_to_scan_of plan = if reads_scanned plan.command then plan.scanned else []
+
+-- their paths
 abbrev pub scanned_paths_of : Plan → List (List ℕ)
-scanned_paths_of plan =
-    if reads_scanned plan.command then map (λ file. file.path) plan.scanned else []
+scanned_paths_of plan = map (λ file. file.path) (files_to_scan_of plan)

@@ -18,15 +18,15 @@ is_scanned_file word = not (is_packet_file word)
 unfoldable pub folder_of : List ℕ → List ℕ
 folder_of dir = if ends_with nat_eq dir (codes "/") then dir else dir ++ codes "/"
 
--- the front that names lose, which is empty without DIR
-abbrev pub front_under : Option (List ℕ) → List ℕ
-front_under None = []
-front_under (Some dir) = folder_of dir
+-- the prefix that names lose, which is empty without DIR
+abbrev pub base_prefix : Option (List ℕ) → List ℕ
+base_prefix None = []
+base_prefix (Some dir) = folder_of dir
 
--- the word without the front, where it begins so
-unfoldable pub without_front : List ℕ → List ℕ → List ℕ
-without_front front word = if starts_with nat_eq word front then drop (length front) word else word
+-- the word without the prefix, where it begins so
+unfoldable pub without_prefix : List ℕ → List ℕ → List ℕ
+without_prefix prefix word = if starts_with nat_eq word prefix then drop (length prefix) word else word
 
--- a scanned file, whose name is its word without the front
+-- a scanned file, whose name is its word without the prefix
 abbrev pub scanned_as : List ℕ → List ℕ → Scanned
-scanned_as front word = record { path = word; name = without_front front word }
+scanned_as prefix word = record { path = word; name = without_prefix prefix word }

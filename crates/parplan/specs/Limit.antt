@@ -9,6 +9,6 @@ abbrev pub writes_limit : List ℕ → ℕ → Bool
 writes_limit text n = bytes_eq (decimal n) text && (nat_lt 0 n && nat_lt n (2 ^ 64))
 
 -- the limit that a text is
-unfoldable pub limit_in : List ℕ → Option ℕ
-limit_in text =
+unfoldable pub limit_of : List ℕ → Option ℕ
+limit_of text =
     if writes_limit text (digits_value 10 text) then Some (digits_value 10 text) else None

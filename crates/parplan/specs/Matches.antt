@@ -20,15 +20,15 @@ unfoldable pub rows_given : Verb → List Text → List Row
 rows_given verb words = matches_of (grammar_of verb) words
 
 -- the matches, where there is no fault
-abbrev pub rows_by : Kinds → List Row → Result (List Row) PlanFault
-rows_by [] rows = Ok rows
-rows_by (fault ∷ faults) rows = Err Usage
+abbrev pub taken_rows : Kinds → List Row → Result (List Row) PlanFault
+taken_rows [] rows = Ok rows
+taken_rows (fault ∷ faults) rows = Err Usage
 
 -- the matches of the words, where clap's definition takes them
-abbrev pub rows_in : Verb → List Text → Result (List Row) PlanFault
-rows_in verb words = rows_by (faults_given verb words) (rows_given verb words)
+abbrev pub verb_rows_of : Verb → List Text → Result (List Row) PlanFault
+verb_rows_of verb words = taken_rows (faults_given verb words) (rows_given verb words)
 
 -- what an error of clap comes to
-abbrev pub fault_by : ErrorKind → PlanFault
-fault_by OutOfMemory = Memory
-fault_by _ = Usage
+abbrev pub plan_fault_of : ErrorKind → PlanFault
+plan_fault_of OutOfMemory = Memory
+plan_fault_of _ = Usage

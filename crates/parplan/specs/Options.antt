@@ -2,11 +2,11 @@
 use Rattle.std.specs.Prelude.{ℕ, ◌==◌, min, List, length, Option, Some, None, Result, Ok, Err, if◌then◌else◌, codes}
 use Rattle.clap.specs.Walk.{Row, first_of, count_of}
 use Rattle.parfield.specs.Chain.{◌>>=◌}
-use Rattle.parfield.specs.Hash16.{hash_in}
+use Rattle.parfield.specs.Hash16.{hex_hash_of}
 use Rattle.parfield.specs.declared.hash16.Hash16.{Hash16}
 use Rattle.parfind.specs.declared.cursors.cursor.Cursor.{Cursor}
-use Rattle.parfind.specs.CursorText.{cursor_in}
-use Rattle.parplan.specs.Limit.{limit_in}
+use Rattle.parfind.specs.CursorText.{cursor_pair_of}
+use Rattle.parplan.specs.Limit.{limit_of}
 use Rattle.parplan.specs.declared.command.Command.{Command}
 use Rattle.parplan.specs.declared.command.Command.TheVariants as command
 use Rattle.parplan.specs.declared.command.PlanFault.{PlanFault}
@@ -20,30 +20,30 @@ value_needed None = Err Value
 value_needed (Some value) = Ok (Some value)
 
 -- the value of an option that may be missing
-abbrev pub value_by :
+abbrev pub option_value_of :
     {A : Type 0} → (List ℕ → Option A) → Option (List ℕ) → Result (Option A) PlanFault
-value_by read None = Ok None
-value_by read (Some text) = value_needed (read text)
+option_value_of read None = Ok None
+option_value_of read (Some text) = value_needed (read text)
 
 -- DIR, a text that is not empty
-abbrev pub dir_in : List ℕ → Option (List ℕ)
-dir_in text = if length text == 0 then None else Some text
+abbrev pub dir_of : List ℕ → Option (List ℕ)
+dir_of text = if length text == 0 then None else Some text
 
 -- `--set HEX`
 abbrev pub set_option_of : List Row → Result (Option Hash16) PlanFault
-set_option_of rows = value_by hash_in (first_of (codes "set") rows)
+set_option_of rows = option_value_of hex_hash_of (first_of (codes "set") rows)
 
 -- `-B DIR`
 abbrev pub base_option_of : List Row → Result (Option (List ℕ)) PlanFault
-base_option_of rows = value_by dir_in (first_of (codes "base") rows)
+base_option_of rows = option_value_of dir_of (first_of (codes "base") rows)
 
 -- `--limit N`
 abbrev pub limit_option_of : List Row → Result (Option ℕ) PlanFault
-limit_option_of rows = value_by limit_in (first_of (codes "limit") rows)
+limit_option_of rows = option_value_of limit_of (first_of (codes "limit") rows)
 
 -- `--cursor TEXT`
 abbrev pub cursor_option_of : List Row → Result (Option (Hash16 × Cursor)) PlanFault
-cursor_option_of rows = value_by cursor_in (first_of (codes "cursor") rows)
+cursor_option_of rows = option_value_of cursor_pair_of (first_of (codes "cursor") rows)
 
 -- how often `-q` stands, at most 2
 abbrev pub quiet_of : List Row → ℕ

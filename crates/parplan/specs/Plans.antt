@@ -3,8 +3,9 @@ use Rattle.std.specs.Prelude.{◌≡◌, ◌⊎◌, ℕ, ◌==◌, List, [], ◌
 use Rattle.std.specs.Str.{bytes_eq}
 use Rattle.clap.specs.Walk.{Row, all_of}
 use Rattle.parfield.specs.Chain.{◌>>=◌}
-use Rattle.parplan.specs.FileWords.{is_packet_file, is_scanned_file, scanned_as, front_under}
-use Rattle.parplan.specs.Matches.{faults_given, rows_in}
+use Rattle.parshelf.specs.Disk.{open_file_limit}
+use Rattle.parplan.specs.FileWords.{is_packet_file, is_scanned_file, scanned_as, base_prefix}
+use Rattle.parplan.specs.Matches.{faults_given, verb_rows_of}
 use Rattle.parplan.specs.Options.{command_of, set_option_of, base_option_of}
 use Rattle.parplan.specs.declared.command.Plan.{Plan}
 use Rattle.parplan.specs.declared.command.PlanFault.{PlanFault}
@@ -22,18 +23,18 @@ verb_of word =
     else Err Usage
 
 -- the verb that the first word names
-abbrev pub verb_in : List (List ℕ) → Result Verb PlanFault
-verb_in [] = Err Usage
-verb_in (word ∷ words) = verb_of word
+abbrev pub first_verb_of : List (List ℕ) → Result Verb PlanFault
+first_verb_of [] = Err Usage
+first_verb_of (word ∷ words) = verb_of word
 
--- some files, at most 65,535
-abbrev pub files_by : Option (List (List ℕ)) → Result (List (List ℕ)) PlanFault
-files_by None = Err NoPacketFile
-files_by (Some files) = if nat_lt 65535 (length files) then Err Value else Ok files
+-- some files, no more than may be opened
+abbrev pub some_files_of : Option (List (List ℕ)) → Result (List (List ℕ)) PlanFault
+some_files_of None = Err NoPacketFile
+some_files_of (Some files) = if nat_lt open_file_limit (length files) then Err Value else Ok files
 
 -- FILES
 abbrev pub files_of : List Row → Result (List (List ℕ)) PlanFault
-files_of rows = files_by (all_of (codes "files") rows)
+files_of rows = some_files_of (all_of (codes "files") rows)
 
 -- the packet files, of which there is one at least
 abbrev pub packet_files_of : List (List ℕ) → Result (List (List ℕ)) PlanFault
@@ -42,8 +43,8 @@ packet_files_of files =
     else Ok (filter is_packet_file files)
 
 -- the plan of what the words give a verb
-abbrev pub plan_in : Verb → List Row → Result Plan PlanFault
-plan_in verb rows = do
+abbrev pub plan_of_rows : Verb → List Row → Result Plan PlanFault
+plan_of_rows verb rows = do
   command ← command_of verb rows
   set ← set_option_of rows
   base ← base_option_of rows
@@ -53,15 +54,15 @@ plan_in verb rows = do
     command = command;
     set = set;
     packets = packets;
-    scanned = map (scanned_as (front_under base)) (filter is_scanned_file files);
+    scanned = map (scanned_as (base_prefix base)) (filter is_scanned_file files);
   })
 
 -- the plan of the words after the program's name
 abbrev pub plan_of : List (List ℕ) → Result Plan PlanFault
 plan_of words = do
-  verb ← verb_in words
-  rows ← rows_in verb words
-  plan_in verb rows
+  verb ← first_verb_of words
+  rows ← verb_rows_of verb words
+  plan_of_rows verb rows
 
 -- the answer is this plan or this fault, or want of memory
 abbrev pub AnswersPlan : Result Plan PlanFault → Result Plan PlanFault → Type 0
@@ -71,7 +72,7 @@ AnswersPlan planned result =
 
 -- the first word is a verb's, and clap's definition takes the words
 abbrev pub IsTaken : List (List ℕ) → Type 0
-IsTaken words = (verb : Verb) × (verb_in words ≡ Ok verb) × (faults_given verb words ≡ [])
+IsTaken words = (verb : Verb) × (first_verb_of words ≡ Ok verb) × (faults_given verb words ≡ [])
 
 -- the answer tells whether the words are taken, unless memory is wanting
 abbrev pub TellsTaken : List (List ℕ) → Result Plan PlanFault → Type 0

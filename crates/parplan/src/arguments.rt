@@ -1,4 +1,5 @@
 ghost use Rattle.std.specs.Prelude.{◌≡◌, ◌≤◌, ◌↔◌, drop, IsTrue};
+ghost use Rattle.parshelf.specs.Disk.{open_file_limit};
 
 /// The words behind the program's name, which is the first of its arguments.
 pub fn words_after_program(args: &[String]) -> &[String]
@@ -15,7 +16,7 @@ const MOST_FILES: usize = 65_535;
 
 /// Whether a command line may give so many files.
 pub fn is_within_file_limit(files: usize) -> bool
-    ensures { IsTrue result ↔ files ≤ 65535 }
+    ensures { IsTrue result ↔ files ≤ open_file_limit }
 {
     files <= MOST_FILES
 }

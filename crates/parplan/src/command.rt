@@ -1,10 +1,11 @@
-ghost use Rattle.std.specs.Prelude.{◌≡◌};
-ghost use Rattle.parplan.specs.Commands.{reads_scanned};
+ghost use Rattle.std.specs.Prelude.{◌≡◌, ◌≤◌, length};
+ghost use Rattle.parplan.specs.Commands.{reads_scanned, files_to_scan_of};
 ghost use Rattle.parplan.specs.declared.command.PlanFault.TheVariants.{Memory};
 
 use parfield::{Hash16, Sequence, Text};
 use parfind::Cursor;
 use std::alloc::AllocError;
+use std::convert::AsStr;
 use thiserror::Error;
 
 /// What the program is asked for.
@@ -56,6 +57,27 @@ pub struct Scanned {
     pub path: Text,
     /// The name that is compared with those of the set.
     pub name: Text,
+}
+
+/// As a text it is its path, so that files to be scanned are opened as they are.
+impl AsStr for Scanned {
+    ghost text = { λ file. file.path };
+
+    fn as_str(&self) -> &str {
+        self.path.as_str()
+    }
+}
+
+/// The files that are scanned; none, where the command scans no file.
+pub fn files_to_scan(plan: &Plan) -> &[Scanned]
+    ensures files { result.now ≡ files_to_scan_of plan.now }
+    ensures few { length result.now ≤ length plan.now.scanned }
+{
+    if reads_scanned(plan.command) {
+        plan.scanned.as_slice()
+    } else {
+        &[]
+    }
 }
 
 /// Why words are no plan, in the order in which it is tested; want of memory may come before any.

@@ -7,16 +7,16 @@ use Rattle.parshelf.specs.Shelf.{ShelfState, IsShelf}
 use Rattle.parshelf.specs.Reads.{FaultsWithin, ReadsOnly}
 use Rattle.parshelf.specs.declared.shelves.reading.ReadFault.{ReadFault}
 use Rattle.parshelf.specs.declared.shelves.reading.ReadFault.TheVariants.{Failed, Ended}
-use Rattle.parreport.specs.Contents.{HandsOnce, HandsAsked, bytes_asked}
+use Rattle.parreport.specs.Contents.{HandsOnce, ReadsCandidates, checked_length_of}
 use Rattle.parreport.specs.States.{has_length}
 
 -- of a file whose length some file of the set has, all bytes are asked for
-pub asked_whole : (files : List SetFile) (n : ℕ) → has_length files n ≡ true → bytes_asked files n ≡ n
+pub asked_whole : (files : List SetFile) (n : ℕ) → has_length files n ≡ true → checked_length_of files n ≡ n
 asked_whole files n there = ap (λ b. cond b n 0) there
 
 -- n bytes of a file, at most those that are asked for
 pub HandsOnce-added : (files : List SetFile) (old new : ShelfState) (file n : ℕ) → IsShelf old → file < length old.lengths
-    → n ≤ bytes_asked files (slice_index old.lengths file) → new.handed ≡ added_at old.handed file n → HandsOnce files old new file
+    → n ≤ checked_length_of files (slice_index old.lengths file) → new.handed ≡ added_at old.handed file n → HandsOnce files old new file
 HandsOnce-added files old new file n shelf there few after =
     let within : file < length old.handed = omega (arith, shelf.handed_each) in
     let own : slice_index new.handed file ≡ slice_index old.handed file + n
@@ -49,11 +49,11 @@ HandsOnce-none files old new file same =
 
 -- at most what is asked for of each file before this one, and nothing of the others
 pub record HandsBefore (files : List SetFile) (old new : ShelfState) (file : ℕ) : Type 0 where
-  pub read : (k : ℕ) → k < file → slice_index new.handed k ≤ slice_index old.handed k + bytes_asked files (slice_index old.lengths k)
+  pub read : (k : ℕ) → k < file → slice_index new.handed k ≤ slice_index old.handed k + checked_length_of files (slice_index old.lengths k)
   pub unread : (k : ℕ) → file ≤ k → slice_index new.handed k ≡ slice_index old.handed k
 
-pub HandsAsked-before : (files : List SetFile) (old new : ShelfState) (file : ℕ) → HandsBefore files old new file → HandsAsked files old new
-HandsAsked-before files old new file before = λ k. elim (cases_lt k file) [
+pub ReadsCandidates-before : (files : List SetFile) (old new : ShelfState) (file : ℕ) → HandsBefore files old new file → ReadsCandidates files old new
+ReadsCandidates-before files old new file before = λ k. elim (cases_lt k file) [
   | inl less ↦ before.read k less
   | inr more ↦ omega (arith, before.unread k more)
 ]
@@ -62,8 +62,8 @@ pub HandsBefore-suc : (files : List SetFile) (old now new : ShelfState) (file : 
     → HandsOnce files now new file → HandsBefore files old new (file + 1)
 HandsBefore-suc files old now new file reads before one =
     let same : now.lengths ≡ old.lengths = ap (λ (s : ShelfState). s.lengths) reads in
-    let size : bytes_asked files (slice_index now.lengths file) ≡ bytes_asked files (slice_index old.lengths file)
-    = ap (λ xs. bytes_asked files (slice_index xs file)) same in record {
+    let size : checked_length_of files (slice_index now.lengths file) ≡ checked_length_of files (slice_index old.lengths file)
+    = ap (λ xs. checked_length_of files (slice_index xs file)) same in record {
       read = λ k less. elim (cases_lt k file) [
         | inl early ↦
             let other : k ≢ file = λ e. absurd (omega (arith, e)) in
@@ -79,7 +79,7 @@ HandsBefore-suc files old now new file reads before one =
           one.others k other ∙ before.unread k far;
     }
 
-pub HandsAsked-more : (files : List SetFile) (old now new : ShelfState) (file : ℕ) → ReadsOnly old now → HandsBefore files old now file
-    → HandsOnce files now new file → HandsAsked files old new
-HandsAsked-more files old now new file reads before one =
-    HandsAsked-before files old new (file + 1) (HandsBefore-suc files old now new file reads before one)
+pub ReadsCandidates-more : (files : List SetFile) (old now new : ShelfState) (file : ℕ) → ReadsOnly old now → HandsBefore files old now file
+    → HandsOnce files now new file → ReadsCandidates files old new
+ReadsCandidates-more files old now new file reads before one =
+    ReadsCandidates-before files old new (file + 1) (HandsBefore-suc files old now new file reads before one)

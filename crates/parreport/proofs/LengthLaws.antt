@@ -7,7 +7,7 @@ use Rattle.std.proofs.lemmas.List.Folds.{list_any_at}
 use Rattle.std.specs.Ordering.{is_eq}
 use Rattle.std.specs.declared.cmp.Ordering.TheVariants.{Less, Equal, Greater}
 use Rattle.parset.specs.declared.recovery_set.SetFile.{SetFile}
-use Rattle.parreport.specs.States.{has_length, asked_of, shows_content_of, has_content_of, length_and_md5}
+use Rattle.parreport.specs.States.{has_length, checked_of, shows_content_of, has_content_of, length_and_md5}
 use Rattle.parreport.specs.declared.states.contents.LengthAndMd5.{LengthAndMd5}
 
 by_tests : (less same rest : Bool) → (less ≡ true → same ≡ false)
@@ -41,7 +41,7 @@ shown_if file content false h = none_shown (content.length == file.length) (byte
 
 -- what is asked of bytes shows the content of a file of the set exactly where they have it
 pub shown_asked : (files : List SetFile) (k : ℕ) (d : SetFile) → k < length files → (bytes : List ℕ)
-    → shows_content_of (get_or files k d) (asked_of files bytes) ≡ has_content_of (get_or files k d) (length_and_md5 bytes)
+    → shows_content_of (get_or files k d) (checked_of files bytes) ≡ has_content_of (get_or files k d) (length_and_md5 bytes)
 shown_asked files k d within bytes =
     shown_if (get_or files k d) (length_and_md5 bytes) (has_length files (length bytes)) (λ same.
     list_any_at (λ file. file.length == length bytes) files k d within

@@ -7,3 +7,7 @@ pub mod LengthLaws
 pub mod StateLaws
 pub mod SumLaws
 pub mod SalvageLaws
+pub mod BlockLaws
+pub mod WriterLaws
+pub mod LineLaws
+pub mod LimitLaws

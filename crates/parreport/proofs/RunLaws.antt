@@ -3,11 +3,11 @@ use Rattle.std.proofs.Common.{ℕ, List, [], Err, ap, refl, sym, append-nil}
 use Rattle.parreport.specs.Outcomes.{Answers}
 use Rattle.parreport.specs.Report.{Report}
 use Rattle.parreport.specs.Faults.{scanned_fault_of}
-use Rattle.parshelf.specs.SinkState.{SinkState, WritesFront}
-use Rattle.parreport.specs.declared.states.faults.FilesFault.{FilesFault}
-use Rattle.parreport.specs.declared.states.faults.FilesFault.TheVariants as files_fault
+use Rattle.parshelf.specs.SinkState.{SinkState, WritesPrefix}
+use Rattle.parfind.specs.declared.surveys.surveying.SurveyFault.{SurveyFault}
+use Rattle.parfind.specs.declared.surveys.surveying.SurveyFault.TheVariants as survey_fault
 
-front_nil : (text : List ℕ) (s : SinkState) → WritesFront s s text
+front_nil : (text : List ℕ) (s : SinkState) → WritesPrefix s s text
 front_nil text s = record {
   front = [];
   rest = text;
@@ -16,6 +16,6 @@ front_nil text s = record {
 }
 
 -- where they were not all read before the first line, nothing is written
-pub answers_before_text : (report : Report) (why : FilesFault) (s : SinkState) → Answers report (Err (scanned_fault_of why)) s s
-answers_before_text report (files_fault.Read file why) s = front_nil report.text s
-answers_before_text report files_fault.Memory s = front_nil report.text s
+pub answers_before_text : (report : Report) (why : SurveyFault) (s : SinkState) → Answers report (Err (scanned_fault_of why)) s s
+answers_before_text report (survey_fault.Read file why) s = front_nil report.text s
+answers_before_text report survey_fault.Memory s = front_nil report.text s

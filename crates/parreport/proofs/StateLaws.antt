@@ -18,8 +18,9 @@ use Rattle.parwindow.specs.Index.{slice_set_of}
 use Rattle.parfind.specs.Sightings.{Scan}
 use Rattle.parfind.specs.Steps.{scan_of}
 use Rattle.parfind.specs.Surveys.{is_sighted}
-use Rattle.parreport.specs.States.{named_files, length_and_md5, asked_of, has_content_of, shows_content_of, shows_both, is_content_of, is_name_of, state_by, state_of}
-use Rattle.parreport.specs.Findings.{is_in_whole_file, findings_of}
+use Rattle.parreport.specs.Names.{names_of}
+use Rattle.parreport.specs.States.{named_files, length_and_md5, checked_of, has_content_of, shows_content_of, shows_both, is_content_of, is_name_of, checked_state_of, state_of}
+use Rattle.parreport.specs.Findings.{is_in_intact_file, findings_of}
 use Rattle.parplan.specs.declared.command.Scanned.{Scanned}
 use Rattle.parreport.specs.declared.states.contents.LengthAndMd5.{LengthAndMd5}
 use Rattle.parreport.specs.declared.states.findings.Findings.{Findings}
@@ -41,7 +42,7 @@ map-content (file ∷ files) [] e = refl
 map-content (file ∷ files) (content ∷ contents) e = ap (λ xs. content ∷ xs) (map-content files contents (omega arith))
 
 pub map-name : (files : List Scanned) (contents : List (List ℕ)) → length contents ≡ length files
-    → map (λ one. one.name) (named_files files contents) ≡ map (λ file. file.name) files
+    → map (λ one. one.name) (named_files files contents) ≡ names_of files
 map-name [] contents e = refl
 map-name (file ∷ files) [] e = absurd (omega arith)
 map-name (file ∷ files) (content ∷ contents) e = ap (λ xs. file.name ∷ xs) (map-name files contents (omega arith))
@@ -49,15 +50,15 @@ map-name (file ∷ files) (content ∷ contents) e = ap (λ xs. file.name ∷ xs
 -- ---- the state of a file
 -- what is asked of bytes shows the file's content exactly where they have it
 abbrev Shows : List SetFile → SetFile → Type 0
-Shows own file = (bytes : List ℕ) → shows_content_of file (asked_of own bytes) ≡ has_content_of file (length_and_md5 bytes)
+Shows own file = (bytes : List ℕ) → shows_content_of file (checked_of own bytes) ≡ has_content_of file (length_and_md5 bytes)
 
 complete_same : (own : List SetFile) (file : SetFile) (files : List Scanned) (contents : List (List ℕ)) → Shows own file
-    → list_any (shows_both file) (zip files (map (asked_of own) contents))
+    → list_any (shows_both file) (zip files (map (checked_of own) contents))
     ≡ list_any (λ one. is_content_of file one && is_name_of file one.name) (named_files files contents)
 complete_same own file [] contents shows = refl
 complete_same own file (one ∷ files) [] shows = refl
 complete_same own file (one ∷ files) (content ∷ contents) shows =
-    ap (λ b. (b && is_name_of file one.name) || list_any (shows_both file) (zip files (map (asked_of own) contents))) (shows content)
+    ap (λ b. (b && is_name_of file one.name) || list_any (shows_both file) (zip files (map (checked_of own) contents))) (shows content)
     ∙ ap (λ b. (has_content_of file (length_and_md5 content) && is_name_of file one.name) || b) (complete_same own file files contents shows)
 
 named_same : (file : SetFile) (files : List Scanned) (contents : List (List ℕ)) → length contents ≡ length files
@@ -67,28 +68,28 @@ named_same file (one ∷ files) [] e = absurd (omega arith)
 named_same file (one ∷ files) (content ∷ contents) e = ap (λ b. is_name_of file one.name || b) (named_same file files contents (omega arith))
 
 places_same : (own : List SetFile) (file : SetFile) (files : List Scanned) (contents : List (List ℕ)) → Shows own file → length contents ≡ length files
-    → prefix_len (λ c. not (shows_content_of file c)) (map (asked_of own) contents)
+    → prefix_len (λ c. not (shows_content_of file c)) (map (checked_of own) contents)
     ≡ prefix_len (λ one. not (is_content_of file one)) (named_files files contents)
 places_same own file [] [] shows e = refl
 places_same own file [] (content ∷ contents) shows e = absurd (omega arith)
 places_same own file (one ∷ files) [] shows e = refl
 places_same own file (one ∷ files) (content ∷ contents) shows e =
-    ap (λ b. cond (not b) (1 + prefix_len (λ c. not (shows_content_of file c)) (map (asked_of own) contents)) 0) (shows content)
+    ap (λ b. cond (not b) (1 + prefix_len (λ c. not (shows_content_of file c)) (map (checked_of own) contents)) 0) (shows content)
     ∙ ap (λ n. cond (not (has_content_of file (length_and_md5 content))) (1 + n) 0) (places_same own file files contents shows (omega arith))
 
 position_same : (own : List SetFile) (file : SetFile) (files : List Scanned) (contents : List (List ℕ)) → Shows own file → length contents ≡ length files
-    → position (shows_content_of file) (map (asked_of own) contents) ≡ position (is_content_of file) (named_files files contents)
+    → position (shows_content_of file) (map (checked_of own) contents) ≡ position (is_content_of file) (named_files files contents)
 position_same own file files contents shows e =
-    let lengths : length (map (asked_of own) contents) ≡ length (named_files files contents)
-    = length-map contents (asked_of own) ∙ (ap length (sym (map-content files contents e)) ∙ length-map (named_files files contents) (λ one. one.content)) in
-    ap (λ n. cond (nat_lt n (length (map (asked_of own) contents))) (Some n) None) (places_same own file files contents shows e)
+    let lengths : length (map (checked_of own) contents) ≡ length (named_files files contents)
+    = length-map contents (checked_of own) ∙ (ap length (sym (map-content files contents e)) ∙ length-map (named_files files contents) (λ one. one.content)) in
+    ap (λ n. cond (nat_lt n (length (map (checked_of own) contents))) (Some n) None) (places_same own file files contents shows e)
     ∙ ap (λ n. cond (nat_lt (prefix_len (λ one. not (is_content_of file one)) (named_files files contents)) n)
     (Some (prefix_len (λ one. not (is_content_of file one)) (named_files files contents))) None) lengths
 
-state_by-state_of : (own : List SetFile) (files : List Scanned) (contents : List (List ℕ)) → length contents ≡ length files → (file : SetFile)
-    → Shows own file → state_by files (map (asked_of own) contents) file ≡ state_of (named_files files contents) file
+checked_state_of-state_of : (own : List SetFile) (files : List Scanned) (contents : List (List ℕ)) → length contents ≡ length files → (file : SetFile)
+    → Shows own file → checked_state_of files (map (checked_of own) contents) file ≡ state_of (named_files files contents) file
 unfolding state_of
-state_by-state_of own files contents e file shows =
+checked_state_of-state_of own files contents e file shows =
     let whole = complete_same own file files contents shows in
     let first = position_same own file files contents shows e in
     let named = named_same file files contents e in cc
@@ -137,23 +138,23 @@ map-same f g same (x ∷ xs) = ap (λ y. y ∷ map f xs) (same x) ∙ ap (λ ys.
 
 -- the states of the files of the set
 states_same : (files : List Scanned) (contents : List (List ℕ)) (own : List SetFile) → length contents ≡ length files
-    → map (state_by files (map (asked_of own) contents)) own ≡ map (state_of (named_files files contents)) own
+    → map (checked_state_of files (map (checked_of own) contents)) own ≡ map (state_of (named_files files contents)) own
 states_same files contents own sized =
-    let by = state_by files (map (asked_of own) contents) in let of = state_of (named_files files contents) in
+    let by = checked_state_of files (map (checked_of own) contents) in let of = state_of (named_files files contents) in
     let d : SetFile = record { id = record { 0 = [] }; length = 0; whole = record { 0 = [] }; name = []; known = false } in
     let each = length-map own by in let other = length-map own of in
     ext_get_or Missing (map by own) (map of own) (omega arith) (λ k within.
     let here : k < length own = omega arith in
     get_or-map by own k d Missing here
-    ∙ (state_by-state_of own files contents sized (get_or own k d) (shown_asked own k d here) ∙ sym (get_or-map of own k d Missing here)))
+    ∙ (checked_state_of-state_of own files contents sized (get_or own k d) (shown_asked own k d here) ∙ sym (get_or-map of own k d Missing here)))
 
 -- the states by the contents that were read
 pub states_read : (files : List Scanned) (contents : List (List ℕ)) (read : List (Option LengthAndMd5)) (asked own : List SetFile) (states : List State)
-    → length contents ≡ length files → states ≡ map (state_by files read) asked → read ≡ map (asked_of own) contents → asked ≡ own
+    → length contents ≡ length files → states ≡ map (checked_state_of files read) asked → read ≡ map (checked_of own) contents → asked ≡ own
     → states ≡ map (state_of (named_files files contents)) own
 states_read files contents read asked own states sized by_read whole same =
-    by_read ∙ (ap (λ cs. map (state_by files cs) asked) whole
-    ∙ (ap (map (state_by files (map (asked_of own) contents))) same ∙ states_same files contents own sized))
+    by_read ∙ (ap (λ cs. map (checked_state_of files cs) asked) whole
+    ∙ (ap (map (checked_state_of files (map (checked_of own) contents))) same ∙ states_same files contents own sized))
 
 -- ---- the marks of a survey
 -- a slice that is taken as it was written back
@@ -174,7 +175,7 @@ found_read set old now whole found reads e =
 pub findings_made : (set : SetView) (files : List Scanned) (s : ShelfState) (states : List State) (found : List Bool) (whole : BTreeSet Hash16)
     → length s.files ≡ length files
     → states ≡ map (state_of (named_files files s.files)) set.files
-    → ((id : Hash16) → contains id_cmp whole id ≡ is_in_whole_file set (named_files files s.files) id)
+    → ((id : Hash16) → contains id_cmp whole id ≡ is_in_intact_file set (named_files files s.files) id)
     → found ≡ map (λ slice. contains id_cmp whole slice.1.id || is_sighted (scan_of (slice_set_of set.size set.slices) s) slice.0) (enumerate_from 0 set.slices)
     → record { states = states; found = found } ≡ findings_of set (named_files files s.files)
 findings_made set files s states found whole sized by_state by_id by_mark =
@@ -182,6 +183,6 @@ findings_made set files s states found whole sized by_state by_id by_mark =
     let scan = λ (contents : List (List ℕ)). let one : Scan = record { set = slice_set_of set.size set.slices; contents = contents } in one in
     let found_are : found ≡ (findings_of set scanned).found
     = by_mark ∙ map-same _ _ (λ (slice : ℕ × SetSlice). ap (λ b. b || is_sighted (scan s.files) slice.0) (by_id slice.1.id)
-    ∙ ap (λ cs. is_in_whole_file set scanned slice.1.id || is_sighted (scan cs) slice.0) (sym (map-content files s.files sized))) (enumerate_from 0 set.slices) in
+    ∙ ap (λ cs. is_in_intact_file set scanned slice.1.id || is_sighted (scan cs) slice.0) (sym (map-content files s.files sized))) (enumerate_from 0 set.slices) in
     ap (λ (xs : List State). let r : Findings = record { states = xs; found = found } in r) by_state
     ∙ ap (λ (xs : List Bool). let r : Findings = record { states = map (state_of scanned) set.files; found = xs } in r) found_are

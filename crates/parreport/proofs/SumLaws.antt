@@ -16,8 +16,9 @@ use Rattle.parshelf.specs.Shelf.{ShelfState}
 use Rattle.parwindow.specs.Index.{slice_passes, sums_of}
 use Rattle.parwindow.specs.Window.{window_at}
 use Rattle.parfind.specs.Sightings.{Scan, content_of, is_seen, is_sighting, sightings_of, triples_of}
-use Rattle.parfind.specs.Surveys.{is_sighted, mark_of, MarksSighted, IsAllMarked}
-use Rattle.parreport.specs.Contents.{HandsAsked}
+use Rattle.parfind.specs.Surveys.{is_sighted, MarksSighted, IsAllMarked}
+use Rattle.parwindow.specs.Missing.{mark_of}
+use Rattle.parreport.specs.Contents.{ReadsCandidates}
 use Rattle.parreport.specs.Findings.{is_settled, can_be_found}
 
 -- ---- no sighting without sums
@@ -54,7 +55,7 @@ pub unknown_unseen : (scan : Scan) (n : ℕ) → option_map_or (λ slice. is_som
 unfolding sightings_of
 unknown_unseen scan n e =
     none_of (is_sighting scan) (λ x. x.slice == n) (λ x same.
-    ap (slice_passes scan.set (is_seen scan.set.slice_size (content_of scan x.file) x.offset)) (eqb-true x.slice n same)
+    ap (slice_passes scan.set.slices (is_seen scan.set.slice_size (content_of scan x.file) x.offset)) (eqb-true x.slice n same)
     ∙ no_seen scan.set.slice_size (content_of scan x.file) x.offset (slice_get scan.set.slices n) e)
     (triples_of scan.set (map length scan.contents))
 
@@ -127,8 +128,8 @@ or_true true b is = refl
 
 -- where no slice has its sums, no search adds to what was asked for
 pub unsearched : (files : List SetFile) (whole : BTreeSet Hash16) (slices : List SetSlice) (old mid new : ShelfState)
-    → HandsAsked files old mid → (All (λ slice. IsTrue (is_settled whole slice)) slices → new ≡ mid)
-    → All (λ slice. IsTrue (is_none slice.sums)) slices → HandsAsked files old new
+    → ReadsCandidates files old mid → (All (λ slice. IsTrue (is_settled whole slice)) slices → new ≡ mid)
+    → All (λ slice. IsTrue (is_none slice.sums)) slices → ReadsCandidates files old new
 unsearched files whole slices old mid new asked none all = λ file.
     let kept = none (λ k slice within. or_true (contains id_cmp whole (get_or slices k slice).id) _ (all k slice within)) in
     omega (arith, ap (λ (s : ShelfState). slice_index s.handed file) kept, asked file)

@@ -5,27 +5,27 @@ use Rattle.parset.specs.declared.recovery_set.SetFile.{SetFile}
 use Rattle.parshelf.specs.Shelf.{ShelfState}
 use Rattle.parreport.specs.States.{has_length}
 
--- how many bytes are asked for of a file of this length: none, where no file of the set has it
-abbrev pub bytes_asked : List SetFile → ℕ → ℕ
-bytes_asked files n = if has_length files n then n else 0
+-- how many bytes a file of this length is checked by: none, where no file of the set has it
+abbrev pub checked_length_of : List SetFile → ℕ → ℕ
+checked_length_of files n = if has_length files n then n else 0
 
--- at most what is asked for of one file, and nothing of any other
+-- one file hands over at most what it is checked by, and no other anything
 pub record HandsOnce (files : List SetFile) (old new : ShelfState) (file : ℕ) : Type 0 where
   pub own : slice_index new.handed file
-      ≤ slice_index old.handed file + bytes_asked files (slice_index old.lengths file)
+      ≤ slice_index old.handed file + checked_length_of files (slice_index old.lengths file)
   pub others : (k : ℕ) → k ≢ file → slice_index new.handed k ≡ slice_index old.handed k
 
--- at most what is asked for of each file
-abbrev pub HandsAsked : List SetFile → ShelfState → ShelfState → Type 0
-HandsAsked files old new =
+-- each file hands over at most what it is checked by
+abbrev pub ReadsCandidates : List SetFile → ShelfState → ShelfState → Type 0
+ReadsCandidates files old new =
     (file : ℕ)
     → slice_index new.handed file
-    ≤ slice_index old.handed file + bytes_asked files (slice_index old.lengths file)
+    ≤ slice_index old.handed file + checked_length_of files (slice_index old.lengths file)
 
--- of each file at most what is asked for of it, and its length once more
-abbrev pub HandsAskedAndOnce : List SetFile → ShelfState → ShelfState → Type 0
-HandsAskedAndOnce files old new =
+-- each file hands over at most what it is checked by, and its length once more
+abbrev pub ReadsCandidatesThenScans : List SetFile → ShelfState → ShelfState → Type 0
+ReadsCandidatesThenScans files old new =
     (file : ℕ)
     → slice_index new.handed file
-    ≤ slice_index old.handed file + bytes_asked files (slice_index old.lengths file)
+    ≤ slice_index old.handed file + checked_length_of files (slice_index old.lengths file)
     + slice_index old.lengths file

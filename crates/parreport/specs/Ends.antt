@@ -17,18 +17,15 @@ use Rattle.parreport.specs.declared.ends.End.{End}
 use Rattle.parreport.specs.declared.ends.End.TheVariants as end
 
 -- the packet file, or the scanned file, that could not be read
-abbrev pub argument_in : Plan → RunFault → Option (List ℕ)
-argument_in plan (run.Read true file why) = slice_get plan.packets file
-argument_in plan (run.Read false file why) = slice_get (map (λ file. file.path) plan.scanned) file
-argument_in plan (run.Set why) = None
-argument_in plan run.Write = None
-argument_in plan run.Memory = None
-argument_in plan run.OtherSet = None
+abbrev pub argument_of : Plan → RunFault → Option (List ℕ)
+argument_of plan (run.Read true file why) = slice_get plan.packets file
+argument_of plan (run.Read false file why) = slice_get (map (λ file. file.path) plan.scanned) file
+argument_of plan _ = None
 
 -- the end of a run, with the argument that it is about
 abbrev pub run_end_of : Plan → Result Status RunFault → End × Option (List ℕ)
 run_end_of plan (Ok status) = (end.Status status, None)
-run_end_of plan (Err fault) = (end.Run fault, argument_in plan fault)
+run_end_of plan (Err fault) = (end.Run fault, argument_of plan fault)
 
 -- the end where the files at these paths are not all opened
 abbrev pub open_end_of : List (List ℕ) → OpenFault → End × Option (List ℕ)
@@ -48,10 +45,8 @@ exit_status_of (end.Status status.Listed) = 0
 exit_status_of (end.Status status.Complete) = 0
 exit_status_of (end.Status status.Possible) = 1
 exit_status_of (end.Status status.Impossible) = 2
-exit_status_of (end.Plan plan_fault.Usage) = 3
-exit_status_of (end.Plan plan_fault.Value) = 3
-exit_status_of (end.Plan plan_fault.NoPacketFile) = 3
 exit_status_of (end.Plan plan_fault.Memory) = 8
+exit_status_of (end.Plan _) = 3
 exit_status_of end.CannotOpen = 6
 exit_status_of end.Memory = 8
 exit_status_of (end.Run (run.Set cause)) = 4

@@ -1,12 +1,10 @@
 -- The faults of a run.
-use Rattle.std.specs.Prelude.{Result, Ok, Err, true, false}
+use Rattle.std.specs.Prelude.{◌≡◌, ℕ, Result, Ok, Err, ⊤, true, false}
+use Rattle.parfind.specs.declared.surveys.surveying.SurveyFault.{SurveyFault}
+use Rattle.parfind.specs.declared.surveys.surveying.SurveyFault.TheVariants as survey_fault
 use Rattle.parset.specs.declared.recovery_set.SetFault.{SetFault}
 use Rattle.parset.specs.declared.recovery_set.SetFault.TheVariants as set_fault
 use Rattle.parreport.specs.declared.text.faults.Cause.TheVariants as cause
-use Rattle.parreport.specs.declared.states.faults.FilesFault.{FilesFault}
-use Rattle.parreport.specs.declared.states.faults.FilesFault.TheVariants as files_fault
-use Rattle.parreport.specs.declared.text.faults.FindFault.{FindFault}
-use Rattle.parreport.specs.declared.text.faults.FindFault.TheVariants as find_fault
 use Rattle.parreport.specs.declared.text.faults.RunFault.{RunFault}
 use Rattle.parreport.specs.declared.text.faults.RunFault.TheVariants as fault
 use Rattle.parreport.specs.declared.text.status.Status.{Status}
@@ -20,23 +18,30 @@ cause_of (set_fault.NameTwice id) = fault.Set (cause.NameTwice id)
 cause_of set_fault.TooManySlices = fault.Set cause.TooManySlices
 cause_of set_fault.Memory = fault.Memory
 
--- the fault that it is for a run that packet files were not all read
-abbrev pub packet_fault_of : FilesFault → RunFault
-packet_fault_of (files_fault.Read file why) = fault.Read true file why
-packet_fault_of files_fault.Memory = fault.Memory
-
 -- the fault that it is for a run that scanned files were not all read
-abbrev pub scanned_fault_of : FilesFault → RunFault
-scanned_fault_of (files_fault.Read file why) = fault.Read false file why
-scanned_fault_of files_fault.Memory = fault.Memory
+abbrev pub scanned_fault_of : SurveyFault → RunFault
+scanned_fault_of (survey_fault.Read file why) = fault.Read false file why
+scanned_fault_of survey_fault.Memory = fault.Memory
 
--- the fault that it is for a run that a search stopped
-abbrev pub search_fault_of : FindFault → RunFault
-search_fault_of (find_fault.Read file why) = fault.Read false file why
-search_fault_of find_fault.Write = fault.Write
-search_fault_of find_fault.Memory = fault.Memory
+-- it is one of reading packet files
+abbrev pub IsPacketFault : RunFault → Type 0
+IsPacketFault (fault.Read packet file why) = packet ≡ true
+IsPacketFault fault.Memory = ⊤
+IsPacketFault _ = ⊥
 
--- the answer of a search, as that of a run
-abbrev pub as_run : Result (Unit {0}) FindFault → Result Status RunFault
-as_run (Ok done) = Ok Listed
-as_run (Err why) = Err (search_fault_of why)
+-- it is one of a search: of reading scanned files, or of writing
+abbrev pub IsSearchFault : RunFault → Type 0
+IsSearchFault (fault.Read packet file why) = packet ≡ false
+IsSearchFault fault.Write = ⊤
+IsSearchFault fault.Memory = ⊤
+IsSearchFault _ = ⊥
+
+-- where a scanned file could not be read, this holds of its number
+abbrev pub OnScannedFault : (ℕ → Type 0) → RunFault → Type 0
+OnScannedFault Holds (fault.Read false file why) = Holds file
+OnScannedFault Holds _ = ⊤
+
+-- the answer of a run that lists
+abbrev pub listing_of : Result (Unit {0}) RunFault → Result Status RunFault
+listing_of (Ok done) = Ok Listed
+listing_of (Err why) = Err why

@@ -1,5 +1,5 @@
 -- The text of `find`, and how much of it stands where it stops.
-use Rattle.std.specs.Prelude.{◌≡◌, ℕ, ◌-◌, ◌≤◌, List, [], ◌++◌, length, map, take, All, Option, Some, None, Result, Ok, Err, ⊤, slice_get, slice_index_or}
+use Rattle.std.specs.Prelude.{◌≡◌, ℕ, ◌-◌, ◌≤◌, List, [], ◌++◌, length, take, All, Option, Some, None, Result, Ok, Err, slice_get, slice_index_or}
 use Rattle.std.specs.List.{flat_map}
 use Rattle.parfield.specs.declared.hash16.Hash16.{Hash16}
 use Rattle.parset.specs.RecoverySet.{SetView}
@@ -9,16 +9,36 @@ use Rattle.parfind.specs.Sightings.{sightings_from}
 use Rattle.parfind.specs.Moves.{IsBelow}
 use Rattle.parfind.specs.declared.cursors.cursor.Cursor.{Cursor}
 use Rattle.parfind.specs.declared.cursors.sighting.Sighting.{Sighting}
-use Rattle.parreport.specs.Findings.{scan_in}
+use Rattle.parreport.specs.Findings.{set_scan_of}
+use Rattle.parreport.specs.Names.{names_of}
 use Rattle.parreport.specs.Lines.{sighting_line, end_line, cursor_line}
-use Rattle.parshelf.specs.SinkState.{SinkState, appended, RefusesFront}
-use Rattle.parreport.specs.declared.text.faults.FindFault.{FindFault}
-use Rattle.parreport.specs.declared.text.faults.FindFault.TheVariants.{Read, Write, Memory}
+use Rattle.parshelf.specs.SinkState.{SinkState, appended, FailsAfterPrefix}
 use Rattle.parplan.specs.declared.command.Scanned.{Scanned}
+use Rattle.parreport.specs.declared.text.faults.RunFault.{RunFault}
+use Rattle.parreport.specs.declared.text.faults.RunFault.TheVariants as fault
 
--- the names of scanned files
-abbrev pub names_of : List Scanned → List (List ℕ)
-names_of files = map (λ file. file.name) files
+-- a search for the slices of a set, from a cursor on, in scanned files of these names and contents
+pub record Search : Type 0 where
+  pub names : List (List ℕ)
+  pub contents : List (List ℕ)
+  pub set : SetView
+  pub at : Cursor
+  -- how many lines are asked for, where that is limited
+  pub limit : Option ℕ
+
+-- the search in files that are scanned
+abbrev pub search_of : List Scanned → List (List ℕ) → SetView → Cursor → Option ℕ → Search
+search_of files contents set at limit = record {
+  names = names_of files;
+  contents = contents;
+  set = set;
+  at = at;
+  limit = limit;
+}
+
+-- the sightings from a cursor on
+abbrev pub seen_from : Search → Cursor → List Sighting
+seen_from s at = sightings_from (set_scan_of s.set s.contents) at
 
 -- the line of a slice of the set, seen in a file of this name
 abbrev pub line_of_slice : List ℕ → ℕ → Option SetSlice → List ℕ
@@ -35,48 +55,40 @@ abbrev pub limited : Option ℕ → List Sighting → List Sighting
 limited None xs = xs
 limited (Some n) xs = take n xs
 
--- the line behind the last sighting that is asked for, or `end` where there is none
-abbrev pub line_behind : Hash16 → Option Sighting → List ℕ
-line_behind id None = end_line
-line_behind id (Some x) = cursor_line id (cursor_after x)
+-- the line after the last sighting that is asked for, or `end` where there is none
+abbrev pub line_after : Hash16 → Option Sighting → List ℕ
+line_after id None = end_line
+line_after id (Some x) = cursor_line id (cursor_after x)
 
--- the last line: `end`, or the cursor behind so many sightings where there are so many
+-- the last line: `end`, or the cursor after so many sightings where there are so many
 abbrev pub last_line : Hash16 → Option ℕ → List Sighting → List ℕ
 last_line id None xs = end_line
-last_line id (Some n) xs = line_behind id (slice_get xs (n - 1))
+last_line id (Some n) xs = line_after id (slice_get xs (n - 1))
 
 -- a line for each sighting that is written, and the last line
-unfoldable pub find_text : List (List ℕ) → SetView → Option ℕ → List Sighting → List ℕ
-find_text names set limit xs =
-    flat_map (found_line names set) (limited limit xs) ++ last_line set.id limit xs
+unfoldable pub find_text : Search → List ℕ
+find_text s =
+    flat_map (found_line s.names s.set) (limited s.limit (seen_from s s.at))
+    ++ last_line s.set.id s.limit (seen_from s s.at)
 
 -- the lines of some first sightings from a cursor on were written, fewer than the limit has, among
 -- them all that lie in files before this one
-pub record WritesLinesBefore (names : List (List ℕ)) (set : SetView) (contents : List (List ℕ))
-    (limit : Option ℕ) (at : Cursor) (file : ℕ) (old new : SinkState) : Type 0 where
+pub record WritesLinesBefore (s : Search) (file : ℕ) (old new : SinkState) : Type 0 where
   pub handed : List Sighting
   pub others : List Sighting
-  pub whole : sightings_from (scan_in set contents) at ≡ handed ++ others
-  pub fewer : IsBelow (length handed) limit
+  pub whole : seen_from s s.at ≡ handed ++ others
+  pub below_limit : IsBelow (length handed) s.limit
   pub later : All (λ x. file ≤ x.file) others
-  pub after : new ≡ appended old (flat_map (found_line names set) handed)
-
--- the same after a fault that is a failed read, in the file that it names
-abbrev pub KeepsLines : List (List ℕ) → SetView → List (List ℕ) → Option ℕ → Cursor
-    → FindFault → SinkState → SinkState → Type 0
-KeepsLines names set contents limit at (Read file why) old new =
-    WritesLinesBefore names set contents limit at file old new
-KeepsLines names set contents limit at Write old new = ⊤
-KeepsLines names set contents limit at Memory old new = ⊤
+  pub after : new ≡ appended old (flat_map (found_line s.names s.set) handed)
 
 -- a line was written, or a fault came before it or after a beginning of it
-abbrev pub WritesLine : List ℕ → Result (Unit {0}) FindFault → SinkState → SinkState → Type 0
+abbrev pub WritesLine : List ℕ → Result (Unit {0}) RunFault → SinkState → SinkState → Type 0
 WritesLine line (Ok done) old new = new ≡ appended old line
-WritesLine line (Err (Read file why)) old new = ⊥
-WritesLine line (Err Write) old new = RefusesFront old new line
-WritesLine line (Err Memory) old new = new ≡ old
+WritesLine line (Err fault.Write) old new = FailsAfterPrefix old new line
+WritesLine line (Err fault.Memory) old new = new ≡ old
+WritesLine line (Err _) old new = ⊥
 
 -- a limit once one more line is written
-abbrev pub fewer_than : Option ℕ → Option ℕ
-fewer_than None = None
-fewer_than (Some n) = Some (n - 1)
+abbrev pub limit_left : Option ℕ → Option ℕ
+limit_left None = None
+limit_left (Some n) = Some (n - 1)

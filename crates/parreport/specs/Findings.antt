@@ -15,22 +15,22 @@ use Rattle.parreport.specs.States.{NamedFile, is_intact, state_of}
 use Rattle.parreport.specs.declared.states.findings.Findings.{Findings}
 
 -- the file of this ID is complete or renamed
-abbrev pub is_in_whole_file : SetView → List NamedFile → Hash16 → Bool
-is_in_whole_file set scanned id =
+abbrev pub is_in_intact_file : SetView → List NamedFile → Hash16 → Bool
+is_in_intact_file set scanned id =
     list_any (λ file. bytes_eq file.id.0 id.0 && is_intact (state_of scanned file)) set.files
 
 -- the slices of a set, looked for in these contents
-abbrev pub scan_in : SetView → List (List ℕ) → Scan
-scan_in set contents = record { set = slice_set_of set.size set.slices; contents = contents }
+abbrev pub set_scan_of : SetView → List (List ℕ) → Scan
+set_scan_of set contents = record { set = slice_set_of set.size set.slices; contents = contents }
 
 -- the search for the slices of the set
-abbrev pub scan_for : SetView → List NamedFile → Scan
-scan_for set scanned = scan_in set (map (λ one. one.content) scanned)
+abbrev pub named_scan_of : SetView → List NamedFile → Scan
+named_scan_of set scanned = set_scan_of set (map (λ one. one.content) scanned)
 
 -- a slice, by its number, is found: its file is complete or renamed, or it has a sighting
 abbrev pub is_found : SetView → List NamedFile → ℕ × SetSlice → Bool
 is_found set scanned (n, slice) =
-    is_in_whole_file set scanned slice.id || is_sighted (scan_for set scanned) n
+    is_in_intact_file set scanned slice.id || is_sighted (named_scan_of set scanned) n
 
 -- no search is needed for a slice: its file is one of these, or it has no sums to be found by
 abbrev pub is_settled : BTreeSet Hash16 → SetSlice → Bool

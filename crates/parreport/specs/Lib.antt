@@ -1,7 +1,8 @@
 pub mod Faults
 pub mod FindText
 pub mod Lines
-pub mod Listing
+pub mod Blocks
+pub mod Writers
 pub mod Outcomes
 pub mod PacketsText
 pub mod Report
@@ -12,5 +13,6 @@ pub mod Files
 pub mod Findings
 pub mod States
 pub mod Ends
+pub mod Names
 pub mod OpenedFiles
 pub mod Unchanged

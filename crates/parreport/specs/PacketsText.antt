@@ -11,11 +11,11 @@ abbrev pub chosen_of : Option Hash16 → List Kept → List Kept
 chosen_of choice packets = filter (is_chosen choice) packets
 
 -- the line of a packet among files of these names
-abbrev pub line_among : List (List ℕ) → Kept → List ℕ
-line_among names packet = packet_line (slice_index_or names packet.file []) packet
+abbrev pub kept_line : List (List ℕ) → Kept → List ℕ
+kept_line names packet = packet_line (slice_index_or names packet.file []) packet
 
 -- a line for each packet that is asked for, and their number
 unfoldable pub packets_text : List (List ℕ) → Option Hash16 → List Kept → List ℕ
 packets_text names choice packets =
-    flat_map (line_among names) (chosen_of choice packets)
+    flat_map (kept_line names) (chosen_of choice packets)
     ++ count_line (length (chosen_of choice packets))

@@ -3,12 +3,10 @@ use Rattle.std.specs.Prelude.{ℕ, List, [], Option, None, Some, Result, Ok, Err
 use Rattle.std.specs.Str.{bytes_eq}
 use Rattle.parfield.specs.declared.hash16.Hash16.{Hash16}
 use Rattle.parfind.specs.Order.{origin}
-use Rattle.parfind.specs.Sightings.{sightings_from}
 use Rattle.parfind.specs.declared.cursors.cursor.Cursor.{Cursor}
 use Rattle.parreport.specs.Faults.{cause_of}
-use Rattle.parreport.specs.Findings.{scan_in}
-use Rattle.parreport.specs.FindText.{find_text, names_of}
-use Rattle.parsalvage.specs.Kept.{kept_in_files}
+use Rattle.parreport.specs.FindText.{find_text, search_of}
+use Rattle.parsalvage.specs.Kept.{kept_of_files}
 use Rattle.parsalvage.specs.declared.kept.Kept.{Kept}
 use Rattle.parset.specs.RecoverySet.{SetView, set_of}
 use Rattle.parset.specs.declared.recovery_set.SetFault.{SetFault}
@@ -19,6 +17,7 @@ use Rattle.parreport.specs.VerifyText.{verify_text, verify_status_of}
 use Rattle.parplan.specs.declared.command.Command.{Command}
 use Rattle.parplan.specs.declared.command.Command.TheVariants as command
 use Rattle.parplan.specs.declared.command.Plan.{Plan}
+use Rattle.parreport.specs.declared.text.find.Query.{Query}
 use Rattle.parreport.specs.declared.text.faults.RunFault.{RunFault}
 use Rattle.parreport.specs.declared.text.faults.RunFault.TheVariants as fault
 use Rattle.parreport.specs.declared.text.status.Status.{Status}
@@ -47,9 +46,9 @@ abbrev pub set_report : Plan → SetView → Report
 set_report plan set = listed (set_text plan.packets set)
 
 -- where a search begins in a set: at the first cursor, or at one that is of this set
-abbrev pub start_in : SetView → Option (Hash16 × Cursor) → Option Cursor
-start_in set None = Some origin
-start_in set (Some (id, at)) = if bytes_eq id.0 set.id.0 then Some at else None
+abbrev pub start_cursor_of : SetView → Option (Hash16 × Cursor) → Option Cursor
+start_cursor_of set None = Some origin
+start_cursor_of set (Some (id, at)) = if bytes_eq id.0 set.id.0 then Some at else None
 
 -- the report of `find` from a cursor on, if it is of the set
 abbrev pub report_from : Option Cursor → (Cursor → List ℕ) → Report
@@ -57,11 +56,10 @@ report_from None text = record { text = []; answer = Err fault.OtherSet }
 report_from (Some at) text = listed (text at)
 
 -- the report of `find`
-abbrev pub find_report :
-    Plan → Option ℕ → Option (Hash16 × Cursor) → List (List ℕ) → SetView → Report
-find_report plan limit cursor scanned set =
-    report_from (start_in set cursor)
-    (λ at. find_text (names_of plan.scanned) set limit (sightings_from (scan_in set scanned) at))
+abbrev pub find_report : Plan → Query → List (List ℕ) → SetView → Report
+find_report plan query scanned set =
+    report_from (start_cursor_of set query.cursor)
+    (λ at. find_text (search_of plan.scanned scanned set at query.limit))
 
 -- the report of `verify`
 abbrev pub verify_report : Plan → ℕ → List (List ℕ) → SetView → Report
@@ -70,16 +68,19 @@ verify_report plan quiet scanned set = record {
   answer = Ok (verify_status_of set (named_files plan.scanned scanned));
 }
 
--- the report of a command over the packets and the scanned files
-abbrev pub report_by : Command → Plan → List Kept → List (List ℕ) → Report
-report_by command.Packets plan packets scanned = packets_report plan packets
-report_by command.Set plan packets scanned =
-    report_with_set (set_of packets plan.set) (set_report plan)
-report_by (command.Find limit cursor) plan packets scanned =
-    report_with_set (set_of packets plan.set) (find_report plan limit cursor scanned)
-report_by (command.Verify quiet) plan packets scanned =
-    report_with_set (set_of packets plan.set) (verify_report plan quiet scanned)
+-- the report of a command over a set
+abbrev pub command_report : Command → Plan → List (List ℕ) → SetView → Report
+command_report (command.Find limit cursor) plan scanned set =
+    find_report plan (record { limit = limit; cursor = cursor }) scanned set
+command_report (command.Verify quiet) plan scanned set = verify_report plan quiet scanned set
+command_report _ plan scanned set = set_report plan set
+
+-- the report of a command over the packets and the scanned files; `packets` needs no set
+abbrev pub kept_report : Command → Plan → List Kept → List (List ℕ) → Report
+kept_report command.Packets plan packets scanned = packets_report plan packets
+kept_report asked plan packets scanned =
+    report_with_set (set_of packets plan.set) (command_report asked plan scanned)
 
 -- the report of a plan over the contents of its packet files and its scanned files
 abbrev pub report_of : Plan → List (List ℕ) → List (List ℕ) → Report
-report_of plan packets scanned = report_by plan.command plan (kept_in_files packets) scanned
+report_of plan packets scanned = kept_report plan.command plan (kept_of_files packets) scanned

@@ -16,15 +16,13 @@ counts_lines set =
     others_line set.others ++ (have_line set.have ++ creator_lines set.creator)
 
 -- the line of a packet that is put aside, among files of these names
-abbrev pub aside_among : List (List ℕ) → SetAside → List ℕ
-aside_among names put_aside = aside_line (slice_index_or names put_aside.file []) put_aside
+abbrev pub set_aside_line : List (List ℕ) → SetAside → List ℕ
+set_aside_line names put_aside = aside_line (slice_index_or names put_aside.file []) put_aside
 
 -- the set, its files by ID, how many others, how many exponents, who made it, what is put aside
 unfoldable pub set_text : List (List ℕ) → SetView → List ℕ
 set_text names set =
     set_line set
     ++ (flat_map (file_line set.size) set.files
-    ++ (others_line set.others
-    ++ (have_line set.have
-    ++ (creator_lines set.creator
-    ++ flat_map (aside_among names) set.aside))))
+    ++ (counts_lines set
+    ++ flat_map (set_aside_line names) set.aside))

@@ -35,11 +35,12 @@ is_content_of file scanned = has_content_of file (length_and_md5 scanned.content
 abbrev pub has_length : List SetFile → ℕ → Bool
 has_length files n = list_any (λ file. file.length == n) files
 
--- what is asked of bytes: nothing, where none of the files has their length
-abbrev pub asked_of : List SetFile → List ℕ → Option LengthAndMd5
-asked_of files bytes = if has_length files (length bytes) then Some (length_and_md5 bytes) else None
+-- what bytes are checked by: nothing, where none of the files has their length
+abbrev pub checked_of : List SetFile → List ℕ → Option LengthAndMd5
+checked_of files bytes =
+    if has_length files (length bytes) then Some (length_and_md5 bytes) else None
 
--- what was asked shows the content of a file of the set
+-- what they were checked by shows the content of a file of the set
 abbrev pub shows_content_of : SetFile → Option LengthAndMd5 → Bool
 shows_content_of file None = false
 shows_content_of file (Some content) = has_content_of file content
@@ -49,28 +50,28 @@ abbrev pub is_name_of : SetFile → List ℕ → Bool
 is_name_of file name = bytes_eq name file.name
 
 -- the state where no file of the name is whole: by the first that is, and whether one has the name
-abbrev pub state_else : Option ℕ → Bool → State
-state_else (Some k) has_name = Renamed k
-state_else None true = Damaged
-state_else None false = Missing
+abbrev pub incomplete_state_of : Option ℕ → Bool → State
+incomplete_state_of (Some k) has_name = Renamed k
+incomplete_state_of None true = Damaged
+incomplete_state_of None false = Missing
 
 -- complete by a file with its name and content, else renamed from the first with its content,
 -- else damaged where a file has its name, else missing
 unfoldable pub state_of : List NamedFile → SetFile → State
 state_of scanned file =
     if list_any (λ one. is_content_of file one && is_name_of file one.name) scanned then Complete
-    else state_else (position (is_content_of file) scanned)
+    else incomplete_state_of (position (is_content_of file) scanned)
     (list_any (λ one. is_name_of file one.name) scanned)
 
--- a scanned file has the content and the name of a file of the set, by what was asked of it
+-- a scanned file has the content and the name of a file of the set, by what it was checked by
 abbrev pub shows_both : SetFile → Scanned × Option LengthAndMd5 → Bool
 shows_both file pair = shows_content_of file pair.1 && is_name_of file pair.0.name
 
--- the state of `state_of`, by what was asked of the scanned files
-abbrev pub state_by : List Scanned → List (Option LengthAndMd5) → SetFile → State
-state_by files asked file =
-    if list_any (shows_both file) (zip files asked) then Complete
-    else state_else (position (shows_content_of file) asked)
+-- the state of `state_of`, by what the scanned files were checked by
+abbrev pub checked_state_of : List Scanned → List (Option LengthAndMd5) → SetFile → State
+checked_state_of files checked file =
+    if list_any (shows_both file) (zip files checked) then Complete
+    else incomplete_state_of (position (shows_content_of file) checked)
     (list_any (λ one. is_name_of file one.name) files)
 
 -- the file is complete or renamed

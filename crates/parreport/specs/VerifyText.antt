@@ -65,16 +65,17 @@ status_word status.Impossible = codes "impossible"
 unfoldable pub result_line : Status → List ℕ
 result_line answer = codes "result " ++ (status_word answer ++ codes "\n")
 
--- complete where every file is, else possible where as many exponents are there as slices are needed
-abbrev pub status_of : List State → ℕ → ℕ → Status
-status_of states need have =
+-- complete where every file is, else possible where no more slices are needed than exponents are
+-- there
+abbrev pub status_from : List State → ℕ → ℕ → Status
+status_from states need have =
     if list_all is_complete states then status.Complete
     else if nat_le need have then status.Possible
     else status.Impossible
 
 -- the status by what was found
-abbrev pub status_by : SetView → Findings → Status
-status_by set findings = status_of findings.states (need_of findings.found) set.have
+abbrev pub status_of : SetView → Findings → Status
+status_of set findings = status_from findings.states (need_of findings.found) set.have
 
 -- the set, and each file by ID
 unfoldable pub states_text : SetView → List (List ℕ) → Findings → List ℕ
@@ -86,19 +87,19 @@ states_text set names findings =
 -- how many slices are needed and there, and the result
 unfoldable pub result_text : SetView → Findings → List ℕ
 result_text set findings =
-    need_line (need_of findings.found) set.have ++ result_line (status_by set findings)
+    need_line (need_of findings.found) set.have ++ result_line (status_of set findings)
 
 -- all lines, with quiet 1 the last two, else none
-unfoldable pub text_by : ℕ → SetView → List (List ℕ) → Findings → List ℕ
-text_by quiet set names findings =
+unfoldable pub findings_text : ℕ → SetView → List (List ℕ) → Findings → List ℕ
+findings_text quiet set names findings =
     (if quiet == 0 then states_text set names findings else [])
     ++ (if nat_lt quiet 2 then result_text set findings else [])
 
 -- the text over scanned files
 abbrev pub verify_text : ℕ → SetView → List NamedFile → List ℕ
 verify_text quiet set scanned =
-    text_by quiet set (map (λ file. file.name) scanned) (findings_of set scanned)
+    findings_text quiet set (map (λ file. file.name) scanned) (findings_of set scanned)
 
 -- the status over scanned files
 abbrev pub verify_status_of : SetView → List NamedFile → Status
-verify_status_of set scanned = status_by set (findings_of set scanned)
+verify_status_of set scanned = status_of set (findings_of set scanned)

@@ -1,10 +1,10 @@
-ghost use Rattle.std.specs.Prelude.{◌≡◌, option_map, slice_get};
-ghost use Rattle.parreport.specs.Ends.{argument_in, run_end_of, open_end_of};
+ghost use Rattle.std.specs.Prelude.{◌≡◌, map, option_map, slice_get};
+ghost use Rattle.parreport.specs.Ends.{argument_of, run_end_of, open_end_of};
 ghost use Rattle.parplan.specs.Commands.{scanned_paths_of};
 
 use crate::text::{RunFault, Status};
 use parfield::Text;
-use parplan::{Plan, PlanFault, reads_scanned};
+use parplan::{Plan, PlanFault, Scanned, files_to_scan};
 use parshelf::OpenFault;
 
 /// How the program ends.
@@ -49,14 +49,14 @@ pub fn scanned_end(plan: &Plan, why: OpenFault) -> (End, Option<&Text>)
         ≡ open_end_of (scanned_paths_of plan.now) why }
 {
     match why {
-        OpenFault::CannotOpen(file) => (End::CannotOpen, scanned_path(plan, file)),
+        OpenFault::CannotOpen(file) => (End::CannotOpen, path_at(files_to_scan(plan), file)),
         OpenFault::Memory => (End::Memory, None),
     }
 }
 
 /// The argument that a fault of a run is about.
 pub fn argument_of(plan: &Plan, fault: RunFault) -> Option<&Text>
-    ensures { option_map (λ file. file.now) result ≡ argument_in plan.now fault }
+    ensures { option_map (λ file. file.now) result ≡ argument_of plan.now fault }
 {
     let RunFault::Read { packet, file, .. } = fault else {
         return None;
@@ -64,20 +64,15 @@ pub fn argument_of(plan: &Plan, fault: RunFault) -> Option<&Text>
     if packet {
         return plan.packets.as_slice().get(file as usize);
     }
-    match plan.scanned.as_slice().get(file as usize) {
-        Some(file) => Some(&file.path),
-        None => None,
-    }
+    path_at(plan.scanned.as_slice(), file as usize)
 }
 
-// The path of a file that is scanned.
-fn scanned_path(plan: &Plan, file: usize) -> Option<&Text>
-    ensures { option_map (λ file. file.now) result ≡ slice_get (scanned_paths_of plan.now) file }
+// The path of one of these files.
+fn path_at(files: &[Scanned], file: usize) -> Option<&Text>
+    ensures { option_map (λ path. path.now) result
+        ≡ slice_get (map (λ file. file.path) files.now) file }
 {
-    if !reads_scanned(plan.command) {
-        return None;
-    }
-    match plan.scanned.as_slice().get(file) {
+    match files.get(file) {
         Some(file) => Some(&file.path),
         None => None,
     }

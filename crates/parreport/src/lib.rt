@@ -1,9 +1,9 @@
-//! The report that a plan asks for, and how a run ends. Plans, sinks and their failures are passed on,
-//! so that a caller finds all of a run here but its shelves.
+//! The report that a plan asks for, and how a run ends. Plans, sinks and their failures are passed
+//! on, so that a caller finds all of a run here but its shelves.
 //!
 //! From below: `states` says what the scanned files show of a set, `text` writes what each command
-//! tells, `salvage` collects the packets of all packet files, and `report` is the run of a plan over
-//! its files. `ends` has how a run ends, `messages` the exit status and the line of each end, and
+//! tells, `salvage` collects the packets of all packet files, and `report` is the run of a plan
+//! over its files. `ends` has how a run ends, `messages` the exit status and the line of each end, and
 //! `opened_files` what the program does once it tried to open the files.
 #![tactic(auto)]
 
@@ -20,5 +20,5 @@ pub use crate::messages::ending;
 pub use crate::opened_files::run_opened;
 pub use crate::report::run;
 pub use crate::text::{Cause, RunFault, Status};
-pub use parplan::{Command, Plan, PlanFault, Scanned, plan, reads_scanned, scanned_paths};
+pub use parplan::{Command, Plan, PlanFault, Scanned, files_to_scan, plan, reads_scanned};
 pub use parshelf::{Failed, MemSink, Sink, WriteSink};

@@ -29,14 +29,15 @@ pub fn run_opened<P: Shelf, Q: Shelf, W: Sink>(
     // Where all files are opened, they are run over, and the end of that run is told.
     ensures ran { IfOk (opened_of plan.now packets.old scanned.old) (λ files.
         IsOkAnd (opened_of plan.now packets.new scanned.new) (λ after.
-        TellsRun plan.now (P.state files.0) (P.state after.0) (Q.state files.1) (Q.state after.1)
-        (W.state out.old) (W.state out.new)
+        TellsRun plan.now
+        (record { packets = P.state files.0; scanned = Q.state files.1; out = W.state out.old })
+        (record { packets = P.state after.0; scanned = Q.state after.1; out = W.state out.new })
         (λ end. IfOk result (λ told. TellsEnd end told.0 told.1.items)))) }
 
     // Where some are not, that is told, and nothing is read or written.
     ensures unopened { IfErr (opened_of plan.now packets.old scanned.old) (λ end.
         IfOk result (λ told. TellsEnd end told.0 told.1.items)) }
-    ensures silent { IfErr (opened_of plan.now packets.old scanned.old) (λ _.
+    ensures nothing_written { IfErr (opened_of plan.now packets.old scanned.old) (λ _.
         W.state out.new ≡ W.state out.old) }
     ensures packets { IfErr (opened_of plan.now packets.old scanned.old) (λ _.
         packets.new ≡ packets.old) }
@@ -68,8 +69,17 @@ fn run_and_tell<P: Shelf, Q: Shelf, W: Sink>(
     requires scanned { IsTrue (reads_scanned plan.now.command)
         → length (Q.state scanned.old).lengths ≡ length plan.now.scanned }
     requires limit { HasLimit plan.now.command }
-    ensures { TellsRun plan.now (P.state packets.old) (P.state packets.new)
-        (Q.state scanned.old) (Q.state scanned.new) (W.state out.old) (W.state out.new)
+    ensures { TellsRun plan.now
+        (record {
+          packets = P.state packets.old;
+          scanned = Q.state scanned.old;
+          out = W.state out.old;
+        })
+        (record {
+          packets = P.state packets.new;
+          scanned = Q.state scanned.new;
+          out = W.state out.new;
+        })
         (λ end. IfOk result (λ told. TellsEnd end told.0 told.1.items)) }
 {
     let answer = run(alloc, plan, packets, scanned, out);

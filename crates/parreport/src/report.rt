@@ -1,16 +1,19 @@
-ghost use Rattle.std.specs.Prelude.{◌≡◌, length, IsTrue, false, IfErr};
-ghost use Rattle.parsalvage.specs.Kept.{kept_in_files};
+ghost use Rattle.std.specs.Prelude.{◌≡◌, length, IsTrue, false, IfErr, List, Ok};
+ghost use Rattle.parsalvage.specs.Kept.{kept_of_files};
+ghost use Rattle.parsalvage.specs.declared.kept.Kept.{Kept};
+ghost use Rattle.parset.specs.RecoverySet.{set_of};
 ghost use Rattle.parplan.specs.Commands.{reads_scanned, HasLimit};
 ghost use Rattle.parreport.specs.Unchanged.{IsSteadyFor, AreSteadyFor};
-ghost use Rattle.parreport.specs.Outcomes.{is_packet_read, written, follows_text, Answers, KeepsText, EndsPackets, EndsScanned, EndsSink};
-ghost use Rattle.parreport.specs.Report.{report_of, report_by};
+ghost use Rattle.parreport.specs.Faults.{OnScannedFault};
+ghost use Rattle.parreport.specs.Outcomes.{is_packet_read, written, may_follow_text, Answers, ReadFaultLeaves, EndsPackets, EndsScanned, EndsSink};
+ghost use Rattle.parreport.specs.Report.{report_of, command_report};
 
 use crate::salvage::salvage_files;
 use crate::text::{
-    RunFault, Status, packet_fault, write_find, write_packets, write_set, write_verify,
+    Query, RunFault, Status, asked_set, write_find, write_packets, write_set, write_verify,
 };
 use parplan::{Command, Plan};
-use parsalvage::Kept;
+use parset::RecoverySet;
 use parshelf::{Shelf, Sink};
 use std::alloc::Global;
 
@@ -33,12 +36,13 @@ pub fn run<P: Shelf, Q: Shelf, W: Sink>(
         → Answers (report_of plan.now (P.state packets.old).files (Q.state scanned.old).files)
         result (W.state out.old) (W.state out.new) }
     ensures lines { AreSteadyFor plan.now.command (P.state packets.old) (Q.state scanned.old)
-        → IfErr result (λ fault. KeepsText plan.now.command plan.now
-        (kept_in_files (P.state packets.old).files) (Q.state scanned.old).files fault
-        (W.state out.old) (W.state out.new)) }
+        → IfErr result (OnScannedFault (λ file. ReadFaultLeaves plan.now (record {
+          packets = kept_of_files (P.state packets.old).files;
+          contents = (Q.state scanned.old).files;
+        }) file (W.state out.old) (W.state out.new))) }
 
     // On any shelf: the answer tells what failed, and nothing else did.
-    ensures silent { IfErr result (λ fault. follows_text plan.now.command
+    ensures nothing_written { IfErr result (λ fault. may_follow_text plan.now.command
         (written (W.state out.old) (W.state out.new)) fault ≡ false
         → W.state out.new ≡ W.state out.old) }
     ensures packets { EndsPackets result (P.state packets.old) (P.state packets.new) }
@@ -47,17 +51,19 @@ pub fn run<P: Shelf, Q: Shelf, W: Sink>(
     ensures untouched { reads_scanned plan.now.command ≡ false
         → Q.state scanned.new ≡ Q.state scanned.old }
 {
-    match salvage_files(alloc, packets) {
-        Ok(kept) => run_over(alloc, plan, &kept, scanned, out),
-        Err(why) => Err(packet_fault(why)),
+    let kept = salvage_files(alloc, packets)?;
+    if let Command::Packets = plan.command {
+        return write_packets(alloc, plan, &kept, out);
     }
+    let set = asked_set(alloc, plan, &kept)?;
+    run_over_set(alloc, plan, &set, scanned, out)
 }
 
-// What the plan asks for, once the packets are there.
-fn run_over<Q: Shelf, W: Sink>(
+// What the plan asks for of a set.
+fn run_over_set<Q: Shelf, W: Sink>(
     alloc: Global,
     plan: &Plan,
-    kept: &[Kept],
+    set: &RecoverySet,
     scanned: &mut Q,
     out: &mut W,
 ) -> Result<Status, RunFault>
@@ -66,13 +72,15 @@ fn run_over<Q: Shelf, W: Sink>(
     requires limit { HasLimit plan.now.command }
 
     ensures text { IsSteadyFor plan.now.command (Q.state scanned.old)
-        → Answers (report_by plan.now.command plan.now kept.now (Q.state scanned.old).files) result
-        (W.state out.old) (W.state out.new) }
-    ensures lines { IsSteadyFor plan.now.command (Q.state scanned.old)
-        → IfErr result (λ fault. KeepsText plan.now.command plan.now kept.now
-        (Q.state scanned.old).files fault (W.state out.old) (W.state out.new)) }
+        → Answers (command_report plan.now.command plan.now (Q.state scanned.old).files set.now)
+        result (W.state out.old) (W.state out.new) }
+    ensures lines { (packets : List Kept) → set_of packets plan.now.set ≡ Ok set.now
+        → IsSteadyFor plan.now.command (Q.state scanned.old)
+        → IfErr result (OnScannedFault (λ file. ReadFaultLeaves plan.now
+        (record { packets = packets; contents = (Q.state scanned.old).files })
+        file (W.state out.old) (W.state out.new))) }
     ensures no_packet { IfErr result (λ fault. is_packet_read fault ≡ false) }
-    ensures silent { IfErr result (λ fault. follows_text plan.now.command
+    ensures nothing_written { IfErr result (λ fault. may_follow_text plan.now.command
         (written (W.state out.old) (W.state out.new)) fault ≡ false
         → W.state out.new ≡ W.state out.old) }
     ensures scanned { EndsScanned result (Q.state scanned.old) (Q.state scanned.new) }
@@ -81,11 +89,12 @@ fn run_over<Q: Shelf, W: Sink>(
         → Q.state scanned.new ≡ Q.state scanned.old }
 {
     match plan.command {
-        Command::Packets => write_packets(alloc, plan, kept, out),
-        Command::Set => write_set(alloc, plan, kept, out),
         Command::Find { limit, cursor } => {
-            write_find(alloc, plan, limit, cursor, kept, scanned, out)
+            let query = Query { limit, cursor };
+            write_find(alloc, plan, query, set, scanned, out)
         }
-        Command::Verify { quiet } => write_verify(alloc, plan, quiet, kept, scanned, out),
+        Command::Verify { quiet } => write_verify(alloc, plan, quiet, set, scanned, out),
+        // `packets` needs no set, and never comes here.
+        Command::Packets | Command::Set => write_set(alloc, plan, set, out),
     }
 }

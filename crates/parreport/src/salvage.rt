@@ -1,28 +1,35 @@
-ghost use Rattle.std.specs.Prelude.{◌≡◌, IsTrue, IfOk, OnOk, IfErr};
-ghost use Rattle.parsalvage.specs.Kept.{kept_in_files};
-ghost use Rattle.parshelf.specs.Reads.{ReadsOnly};
-ghost use Rattle.parreport.specs.Files.{FilesLeave};
+ghost use Rattle.std.specs.Prelude.{◌≡◌, IsTrue, IfOk, IfErr};
+ghost use Rattle.parsalvage.specs.Kept.{kept_of_files};
+ghost use Rattle.parreport.specs.Faults.{IsPacketFault};
+ghost use Rattle.parreport.specs.Outcomes.{EndsPackets};
 
-use crate::states::FilesFault;
+use crate::text::RunFault;
 use parsalvage::{Kept, SalvageFault, salvage_file};
 use parshelf::Shelf;
 use std::alloc::Global;
 
-/// The packets of all files, by file and offset.
+/// The packets of all packet files, by file and offset.
 // Inlined, its arrays would stay on the stack beside those that scanned files are read into.
 #[inline(never)]
-pub fn salvage_files<H: Shelf>(alloc: Global, shelf: &mut H) -> Result<Vec<Kept>, FilesFault>
+pub fn salvage_files<H: Shelf>(alloc: Global, shelf: &mut H) -> Result<Vec<Kept>, RunFault>
     ensures kept { IsTrue (H.state shelf.old).is_steady → IfOk result (λ kept.
-        kept.items ≡ kept_in_files (H.state shelf.old).files) }
-    ensures ok { OnOk result (ReadsOnly (H.state shelf.old) (H.state shelf.new)) }
-    ensures fault { IfErr result (FilesLeave (H.state shelf.old) (H.state shelf.new)) }
+        kept.items ≡ kept_of_files (H.state shelf.old).files) }
+    ensures fault { IfErr result IsPacketFault }
+    ensures reads { EndsPackets result (H.state shelf.old) (H.state shelf.new) }
 {
     let mut all = Vec::new(alloc);
     for file in 0..shelf.count() {
         match salvage_file(alloc, shelf, file) {
             Ok(mut kept) => all.append(&mut kept)?,
-            Err(SalvageFault::Memory) => return Err(FilesFault::Memory),
-            Err(SalvageFault::Read(fault)) => return Err(FilesFault::Read { file, fault }),
+            Err(SalvageFault::Memory) => return Err(RunFault::Memory),
+            Err(SalvageFault::Read(fault)) => {
+                let packet = true;
+                return Err(RunFault::Read {
+                    packet,
+                    file,
+                    fault,
+                });
+            }
         }
     }
     Ok(all)

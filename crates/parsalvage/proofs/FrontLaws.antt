@@ -3,12 +3,12 @@ use Rattle.std.proofs.Common.{◌≡◌, ◌<◌, ◌≤◌, ◌+◌, ◌-◌, �
 use Rattle.std.specs.List.{slice_range}
 use Rattle.std.specs.Str.{bytes_eq}
 use Rattle.std.proofs.lemmas.List.{drop-take, take-take, length-take-le}
-use Rattle.std.proofs.lemmas.Bool.{cases_Bool, le-leb, leb-true, false≢true, and_from, and_parts}
+use Rattle.std.proofs.lemmas.Bool.{cases_Bool, le-leb, leb-true, and_from, and_parts}
 use Rattle.md5.specs.Md5.{md5}
 use Rattle.parfield.specs.Packet.{has_header, header_of, length_field, begins_packet, magic_bytes}
 use Rattle.parfield.specs.Bytes.{le_value}
 use Rattle.parfield.specs.Kind.{kind_of}
-use Rattle.parfield.specs.declared.fields.Header.{Header}
+use Rattle.parfield.specs.declared.headers.Header.{Header}
 use Rattle.parsalvage.specs.MagicPlaces.{begins_framed}
 
 -- a part of the front is the same part of the whole
@@ -19,11 +19,11 @@ slice_range-take n i j xs begins ends =
     ∙ (ap (λ (ys : List ℕ). take (j - i) ys) (drop-take i (n - i) xs)
     ∙ take-take (j - i) (n - i) (drop i xs) (omega arith))
 
-header_by : ℕ → List ℕ → List ℕ → Bool
-header_by n magic field = nat_le 64 n && (bytes_eq magic magic_bytes && (nat_le 64 (le_value field) && le_value field % 4 == 0))
+is_header_of : ℕ → List ℕ → List ℕ → Bool
+is_header_of n magic field = nat_le 64 n && (bytes_eq magic magic_bytes && (nat_le 64 (le_value field) && le_value field % 4 == 0))
 
-fields_by : List ℕ → List ℕ → List ℕ → List ℕ → Header
-fields_by field hash set kind = record {
+header_from : List ℕ → List ℕ → List ℕ → List ℕ → Header
+header_from field hash set kind = record {
   length = le_value field;
   hash = record { 0 = hash };
   set = record { 0 = set };
@@ -32,7 +32,7 @@ fields_by field hash set kind = record {
 
 module _ (rest : List ℕ) (long : 64 ≤ length rest) where
   pub has_header-front : has_header (take 64 rest) ≡ has_header rest
-  unfolding header_by
+  unfolding is_header_of
   has_header-front =
       let size : length (take 64 rest) ≡ 64 = length-take-le 64 rest long in
       let enough : nat_le 64 (length (take 64 rest)) ≡ nat_le 64 (length rest)
@@ -40,23 +40,20 @@ module _ (rest : List ℕ) (long : 64 ≤ length rest) where
       let magic = slice_range-take 64 0 8 rest (omega arith) (omega arith) in
       let field = slice_range-take 64 8 16 rest (omega arith) (omega arith) in
       ap (λ (b : Bool). b && (bytes_eq (slice_range (take 64 rest) 0 8) magic_bytes && (nat_le 64 (length_field (take 64 rest)) && length_field (take 64 rest) % 4 == 0))) enough
-      ∙ (ap (λ (xs : List ℕ). header_by (length rest) xs (slice_range (take 64 rest) 8 16)) magic
-      ∙ ap (λ (xs : List ℕ). header_by (length rest) (slice_range rest 0 8) xs) field)
-
-  pub length_field-front : length_field (take 64 rest) ≡ length_field rest
-  length_field-front = ap le_value (slice_range-take 64 8 16 rest (omega arith) (omega arith))
+      ∙ (ap (λ (xs : List ℕ). is_header_of (length rest) xs (slice_range (take 64 rest) 8 16)) magic
+      ∙ ap (λ (xs : List ℕ). is_header_of (length rest) (slice_range rest 0 8) xs) field)
 
   pub header_of-front : header_of (take 64 rest) ≡ header_of rest
-  unfolding fields_by
+  unfolding header_from
   header_of-front =
       let field = slice_range-take 64 8 16 rest (omega arith) (omega arith) in
       let hash = slice_range-take 64 16 32 rest (omega arith) (omega arith) in
       let set = slice_range-take 64 32 48 rest (omega arith) (omega arith) in
       let kind = slice_range-take 64 48 64 rest (omega arith) (omega arith) in
-      ap (λ (xs : List ℕ). fields_by xs (slice_range (take 64 rest) 16 32) (slice_range (take 64 rest) 32 48) (slice_range (take 64 rest) 48 64)) field
-      ∙ (ap (λ (xs : List ℕ). fields_by (slice_range rest 8 16) xs (slice_range (take 64 rest) 32 48) (slice_range (take 64 rest) 48 64)) hash
-      ∙ (ap (λ (xs : List ℕ). fields_by (slice_range rest 8 16) (slice_range rest 16 32) xs (slice_range (take 64 rest) 48 64)) set
-      ∙ ap (λ (xs : List ℕ). fields_by (slice_range rest 8 16) (slice_range rest 16 32) (slice_range rest 32 48) xs) kind))
+      ap (λ (xs : List ℕ). header_from xs (slice_range (take 64 rest) 16 32) (slice_range (take 64 rest) 32 48) (slice_range (take 64 rest) 48 64)) field
+      ∙ (ap (λ (xs : List ℕ). header_from (slice_range rest 8 16) xs (slice_range (take 64 rest) 32 48) (slice_range (take 64 rest) 48 64)) hash
+      ∙ (ap (λ (xs : List ℕ). header_from (slice_range rest 8 16) (slice_range rest 16 32) xs (slice_range (take 64 rest) 48 64)) set
+      ∙ ap (λ (xs : List ℕ). header_from (slice_range rest 8 16) (slice_range rest 16 32) (slice_range rest 32 48) xs) kind))
 
 -- the front was read, and is this
 module _ (rest front : List ℕ) (read : front ≡ take 64 rest) (long : 64 ≤ length rest) where
@@ -93,14 +90,6 @@ packet_framed rest framed =
     let tail : Bool = bytes_eq (md5 (slice_range rest 32 (length_field rest))) (slice_range rest 16 32) in
     ap (λ (b : Bool). b && (nat_le (length_field rest) (length rest) && tail)) parts.0
     ∙ ap (λ (b : Bool). b && tail) parts.1
-
-pub packet_unframed : (rest : List ℕ) → false ≡ begins_framed rest → false ≡ begins_packet rest
-packet_unframed rest unframed =
-    sym (⊎_elim (λ yes.
-    let parts = and_parts (has_header rest) _ yes in
-    let more = and_parts (nat_le (length_field rest) (length rest)) _ parts.1 in
-    absurd (false≢true (unframed ∙ and_from _ _ parts.0 more.0)))
-    (λ no. no) (cases_Bool (begins_packet rest)))
 
 -- the hash of the packet that begins here, read from its 32nd byte on
 pub packet_hashed : (rest : List ℕ) (hash : List ℕ) (same : Bool) → true ≡ begins_framed rest

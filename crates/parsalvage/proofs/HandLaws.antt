@@ -1,22 +1,22 @@
 -- One read after another, each within a bound where the shelf is steady.
-use Rattle.std.proofs.Common.{◌≡◌, ◌≤◌, ◌+◌, ◌∙◌, ℕ, ap, refl, sym, arith, IsTrue}
-use Rattle.parshelf.specs.Shelf.{ShelfState, handed_over, failed_in, ended_in, file_of}
+use Rattle.std.proofs.Common.{◌≡◌, ◌≢◌, ◌≤◌, ◌+◌, ◌∙◌, ℕ, ap, refl, sym, arith, IsTrue, Result, Ok, Err, OnOk, IfErr}
+use Rattle.parshelf.specs.Shelf.{ShelfState, after_handing, after_failure, after_early_end, file_of}
 use Rattle.parshelf.specs.Reads.{FaultsWithin}
 use Rattle.parshelf.specs.declared.shelves.reading.ReadFault.{ReadFault}
 use Rattle.parshelf.specs.declared.shelves.reading.ReadFault.TheVariants.{Failed, Ended}
-use Rattle.parshelf.proofs.ShelfLaws.{handed_over-zero, handed_over_more, steady-handed_over}
+use Rattle.parshelf.proofs.ShelfLaws.{after_handing-zero, handed_over_more, steady-after_handing}
 use Rattle.parsalvage.specs.declared.files.SalvageFault.{SalvageFault}
 use Rattle.parsalvage.specs.declared.files.SalvageFault.TheVariants.{Read, Memory}
-use Rattle.parsalvage.specs.Hands.{Hands, FaultsAfter, FaultsEarly}
+use Rattle.parsalvage.specs.Hands.{Hands, FaultsAfter, StopsAfter, ReadsAtMost, SalvagesAtMost}
 
 pub Hands-none : (s : ShelfState) (file limit : ℕ) → Hands s s file limit
-Hands-none s file limit = record { count = 0; after = sym (handed_over-zero s file); within = λ _. omega arith }
+Hands-none s file limit = record { count = 0; after = sym (after_handing-zero s file); within = λ _. omega arith }
 
-pub Hands-by : (s t : ShelfState) (file n limit : ℕ) → t ≡ handed_over s file n → (IsTrue s.is_steady → n ≤ limit) → Hands s t file limit
+pub Hands-by : (s t : ShelfState) (file n limit : ℕ) → t ≡ after_handing s file n → (IsTrue s.is_steady → n ≤ limit) → Hands s t file limit
 Hands-by s t file n limit after within = record { count = n; after = after; within = within }
 
 pub Hands-steady : (s t : ShelfState) (file limit : ℕ) → Hands s t file limit → IsTrue s.is_steady → IsTrue t.is_steady
-Hands-steady s t file limit h steady = steady-handed_over s t file h.count h.after steady
+Hands-steady s t file limit h steady = steady-after_handing s t file h.count h.after steady
 
 pub Hands-was_steady : (s t : ShelfState) (file limit : ℕ) → Hands s t file limit → IsTrue t.is_steady → IsTrue s.is_steady
 Hands-was_steady s t file limit h steady = sym (ap (λ (v : ShelfState). v.is_steady) h.after) ∙ steady
@@ -39,12 +39,12 @@ pub FaultsAfter-more : (s t u : ShelfState) (file m n limit : ℕ) (fault : Read
     → (IsTrue s.is_steady → m + n ≤ limit) → FaultsAfter s u file limit fault
 FaultsAfter-more s t u file m n limit Failed a b fits = record {
   count = a.count + b.count;
-  after = b.after ∙ ap (λ (v : ShelfState). failed_in v file) (handed_over_more s t (handed_over t file b.count) file a.count b.count a.after refl);
+  after = b.after ∙ ap (λ (v : ShelfState). after_failure v file) (handed_over_more s t (after_handing t file b.count) file a.count b.count a.after refl);
   within = λ steady. omega (arith, fits steady, a.within steady, b.within (Hands-steady s t file m a steady));
 }
 FaultsAfter-more s t u file m n limit Ended a b fits = record {
   count = a.count + b.count;
-  after = b.after ∙ ap (λ (v : ShelfState). ended_in v file) (handed_over_more s t (handed_over t file b.count) file a.count b.count a.after refl);
+  after = b.after ∙ ap (λ (v : ShelfState). after_early_end v file) (handed_over_more s t (after_handing t file b.count) file a.count b.count a.after refl);
   unsteady = λ steady. b.unsteady (Hands-steady s t file m a steady);
 }
 
@@ -58,9 +58,25 @@ FaultsAfter-within s t file n limit Failed h fits = record {
 FaultsAfter-within s t file n limit Ended h fits =
     record { count = h.0.count; after = h.0.after; unsteady = h.1 }
 
-pub FaultsEarly-more : (s t u : ShelfState) (file m n limit : ℕ) (Grows More : Type 0) (fault : SalvageFault) → Hands s t file m
-    → FaultsEarly t u file n Grows fault → (IsTrue s.is_steady → m + n ≤ limit) → (IsTrue s.is_steady → Grows → More)
-    → FaultsEarly s u file limit More fault
-FaultsEarly-more s t u file m n limit Grows More (Read fault) a b fits grows = FaultsAfter-more s t u file m n limit fault a b fits
-FaultsEarly-more s t u file m n limit Grows More Memory a b fits grows =
-    (Hands-more s t u file m n limit a b.0 fits, λ steady. grows steady (b.1 (Hands-steady s t file m a steady)))
+pub StopsAfter-more : (s t u : ShelfState) (file m n limit : ℕ) (fault : SalvageFault) → Hands s t file m → StopsAfter t u file n fault
+    → (IsTrue s.is_steady → m + n ≤ limit) → StopsAfter s u file limit fault
+StopsAfter-more s t u file m n limit (Read why) a b fits = FaultsAfter-more s t u file m n limit why a b fits
+StopsAfter-more s t u file m n limit Memory a b fits = Hands-more s t u file m n limit a b fits
+
+-- a part of a file was asked for
+pub ReadsAtMost-by : {A : Type 0} (s t : ShelfState) (file n limit : ℕ) (result : Result A ReadFault) → OnOk result (t ≡ after_handing s file n)
+    → IfErr result (FaultsWithin s t file n) → n ≤ limit → ReadsAtMost limit file s t result
+ReadsAtMost-by s t file n limit (Ok done) ok fault fits = Hands-by s t file n limit ok (λ _. fits)
+ReadsAtMost-by s t file n limit (Err why) ok fault fits = FaultsAfter-within s t file n limit why fault (λ _. fits)
+
+-- a call that comes after others
+pub SalvagesAtMost-more : {A : Type 0} (s t u : ShelfState) (file m n limit : ℕ) (result : Result A SalvageFault) → Hands s t file m
+    → SalvagesAtMost n file t u result → (IsTrue s.is_steady → m + n ≤ limit) → SalvagesAtMost limit file s u result
+SalvagesAtMost-more s t u file m n limit (Ok done) a b fits = Hands-more s t u file m n limit a b fits
+SalvagesAtMost-more s t u file m n limit (Err why) a b fits = StopsAfter-more s t u file m n limit why a b fits
+
+-- the same fault in another result
+pub not_memory : {A B : Type 0} (why : SalvageFault) (a : Result A SalvageFault) (b : Result B SalvageFault) → a ≡ Err why → b ≡ Err why
+    → a ≢ Err Memory → b ≢ Err Memory
+not_memory why a b a_is b_is not is =
+    let wanted : why ≡ Memory = cc in not (a_is ∙ ap Err wanted)

@@ -1,5 +1,5 @@
 pub mod BodyLaws
-pub mod ExamineLaws
+pub mod ValidateLaws
 pub mod FileLaws
 pub mod FoundLaws
 pub mod FrontLaws
@@ -7,7 +7,7 @@ pub mod HandLaws
 pub mod KeptLaws
 pub mod LimitLaws
 pub mod MagicLaws
-pub mod NoteLaws
+pub mod ScanLaws
 pub mod PieceLaws
 pub mod RangeLaws
 pub mod SearchLaws

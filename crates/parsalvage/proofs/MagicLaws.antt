@@ -1,5 +1,5 @@
 -- Two occurrences of the magic never overlap, so a search without overlaps finds each.
-use Rattle.std.proofs.Common.{◌≡◌, ◌<◌, ◌≤◌, ◌+◌, ◌∙◌, ℕ, zero, suc, Bool, IsTrue, true, false, cond, List, [], ◌∷◌, ◌++◌, length, drop, map, filter, ap, refl, sym, arith, slice_index, ⊎_elim, length-drop, subst, ◌-◌, nat_le, add-one, append_assoc}
+use Rattle.std.proofs.Common.{◌≡◌, ◌<◌, ◌≤◌, ◌+◌, ◌∙◌, ℕ, zero, suc, Bool, IsTrue, true, false, cond, List, [], ◌∷◌, length, drop, map, filter, ap, refl, sym, arith, slice_index, ⊎_elim, length-drop, subst, ◌-◌, nat_le, add-one}
 use Rattle.std.specs.List.{range_with_len}
 use Rattle.std.proofs.lemmas.Bool.{cases_Bool, cond-true, cond-false, false≢true, and_parts, and_from, leb-true, le-leb}
 use Rattle.std.specs.List.{slice_range}
@@ -138,15 +138,3 @@ packets_at_matches bytes =
     ∙ (filter_narrowed p (occurs_at bytes magic_bytes) (packet_has_magic bytes) (range_with_len 0 (length bytes + 1))
     ∙ (ap (λ n. filter p (range_with_len 0 n)) more
     ∙ filter_range_last p 0 (length bytes) (no_packet_at_end bytes))))
-
--- one place that is left, and passes or not
-module _ {X : Type 0} (f : ℕ → X) (p : ℕ → Bool) (so_far all : List X) (place : ℕ) (places left : List ℕ)
-    (is : so_far ++ map f (filter p left) ≡ all) (first : left ≡ place ∷ places) where
-  at_first : so_far ++ map f (filter p (place ∷ places)) ≡ all
-  at_first = ap (λ ys. so_far ++ map f (filter p ys)) (sym first) ∙ is
-
-  pub one_passes : (x : X) → true ≡ p place → x ≡ f place → (so_far ++ x ∷ []) ++ map f (filter p places) ≡ all
-  one_passes x passes e = rw e (append_assoc so_far (f place ∷ []) _ ∙ (rw (sym passes) at at_first))
-
-  pub none_passes : false ≡ p place → so_far ++ map f (filter p places) ≡ all
-  none_passes fails = rw (sym fails) at at_first

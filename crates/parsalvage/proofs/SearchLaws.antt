@@ -1,5 +1,5 @@
 -- A search of a piece of a file, as far as it has come.
-use Rattle.std.proofs.Common.{◌≡◌, ◌≢◌, ◌≤◌, ◌+◌, ◌*◌, ◌-◌, ◌∙◌, ℕ, true, false, List, [], ◌∷◌, length, take, drop, filter, map, ap, refl, sym, subst, arith, IsTrue, ⊎_elim, length-drop}
+use Rattle.std.proofs.Common.{◌≡◌, ◌≢◌, ◌≤◌, ◌+◌, ◌*◌, ◌-◌, ◌∙◌, ℕ, true, false, List, [], ◌∷◌, length, slice_index, take, drop, filter, ap, sym, subst, arith, IsTrue, ⊎_elim, length-drop}
 use Rattle.std.specs.List.{range_with_len}
 use Rattle.std.proofs.lemmas.Bool.{cases_Bool, cases_lt, false≢true}
 use Rattle.std.proofs.lemmas.List.{drop-take, take-take, drop-drop, length-take}
@@ -12,17 +12,13 @@ use Rattle.parsalvage.specs.declared.file_scan.FileScan.{FileScan}
 use Rattle.parsalvage.specs.Packets.{is_packet_at, packet_found_at, packets_of}
 use Rattle.parsalvage.specs.Pieces.{IsPiece}
 use Rattle.parsalvage.specs.MagicPlaces.{is_magic_at, framed_size, limit_between}
-use Rattle.parsalvage.specs.Notes.{LiesIn, FoundBelow}
-use Rattle.parsalvage.specs.Hands.{Hands, FaultsEarly}
-use Rattle.parsalvage.proofs.HandLaws.{Hands-none, Hands-more, Hands-file, Hands-lengths, Hands-steady, Hands-was_steady, FaultsEarly-more}
+use Rattle.parsalvage.specs.FileScans.{LiesIn, FoundBelow, FindsBelow}
+use Rattle.parsalvage.specs.Hands.{Hands, StopsAfter}
+use Rattle.parsalvage.proofs.HandLaws.{Hands-none, Hands-more, Hands-file, Hands-lengths, Hands-steady, Hands-was_steady, StopsAfter-more}
 use Rattle.parsalvage.proofs.LimitLaws.{limit_between-split, limit_between-one}
 use Rattle.parsalvage.proofs.MagicLaws.{matches-all, packet_has_magic}
-use Rattle.parsalvage.proofs.NoteLaws.{LiesIn-later, FoundBelow-none, no_packet_late}
-use Rattle.parsalvage.proofs.RangeLaws.{PassesFirst, passes_first, passes_none}
-
-nothing_mapped : {X Y : Type 0} (f : X → Y) (xs : List X) → map f xs ≡ [] → xs ≡ []
-nothing_mapped f [] e = refl
-nothing_mapped f (x ∷ xs) e = cc
+use Rattle.parsalvage.proofs.ScanLaws.{LiesIn-later, FoundBelow-none, no_packet_late}
+use Rattle.parsalvage.proofs.RangeLaws.{nothing_mapped, PassesFirst, passes_first, passes_none}
 
 -- a packet that is somewhere is among all
 pub some_packet : (bytes : List ℕ) (at : ℕ) → IsTrue (is_packet_at bytes at) → packets_of bytes ≢ []
@@ -65,24 +61,30 @@ module _ (bytes : List ℕ) (base : ℕ) (window : List ℕ) (piece : IsPiece by
       absurd (false≢true (sym none ∙ occurs_at-true window magic_bytes (k - base) (OccursAt-from_part window magic_bytes (k - base) fits there))))
       (λ not. not) (cases_Bool (is_packet_at bytes k))
 
--- the places of the piece before `next` were searched; these are left
-pub record SearchedTo (s t : ShelfState) (file size base : ℕ) (window left : List ℕ) (found : FileScan) : Type 0 where
+-- how far a search of a piece has come: the places that are left of those at which the magic stands
+pub record Left : Type 0 where
+  pub shelf : ShelfState
+  pub places : List ℕ
+  pub found : FileScan
+
+-- the places of the piece before `next` were searched
+pub record SearchedTo (s : ShelfState) (file base : ℕ) (window : List ℕ) (left : Left) : Type 0 where
   pub next : ℕ
   pub low : base ≤ next
   pub high : next ≤ base + (length window - 7)
-  pub left_are : left ≡ filter (occurs_at window magic_bytes) (range_with_len (next - base) ((length window + 1) - (next - base)))
-  pub lies : LiesIn size next found
-  pub packets : IsTrue s.is_steady → FoundBelow file (file_of s file) next found
-  pub hands : Hands s t file (limit_between (file_of s file) base next)
+  pub places_are : left.places ≡ filter (occurs_at window magic_bytes) (range_with_len (next - base) ((length window + 1) - (next - base)))
+  pub lies : LiesIn (slice_index s.lengths file) next left.found
+  pub packets : FindsBelow s file next left.found
+  pub hands : Hands s left.shelf file (limit_between (file_of s file) base next)
 
-pub SearchedTo-start : (s : ShelfState) (file size base : ℕ) (window : List ℕ) (found : FileScan) → LiesIn size base found
-    → (IsTrue s.is_steady → FoundBelow file (file_of s file) base found)
-    → SearchedTo s s file size base window (matches window magic_bytes 0) found
-SearchedTo-start s file size base window found lies packets = record {
+pub SearchedTo-start : (s : ShelfState) (file base : ℕ) (window : List ℕ) (found : FileScan) → LiesIn (slice_index s.lengths file) base found
+    → FindsBelow s file base found
+    → SearchedTo s file base window (record { shelf = s; places = matches window magic_bytes 0; found = found })
+SearchedTo-start s file base window found lies packets = record {
   next = base;
   low = omega arith;
   high = omega arith;
-  left_are =
+  places_are =
       let zero : base - base ≡ 0 = omega arith in
       let all : length window + 1 ≡ (length window + 1) - 0 = omega arith in
       matches-all window ∙ ap (λ (n : ℕ). filter (occurs_at window magic_bytes) (range_with_len 0 n)) all ∙ sym (ap (λ (n : ℕ). filter (occurs_at window magic_bytes) (range_with_len n ((length window + 1) - n))) zero);
@@ -92,10 +94,11 @@ SearchedTo-start s file size base window found lies packets = record {
 }
 
 -- the first place that is left
-module _ (s t : ShelfState) (file size base place : ℕ) (window later : List ℕ) (found : FileScan)
-    (piece : IsTrue s.is_steady → IsPiece (file_of s file) base window) (so_far : SearchedTo s t file size base window (place ∷ later) found) where
+module _ (s t : ShelfState) (file base : ℕ) (window : List ℕ) (place : ℕ) (later : List ℕ) (found : FileScan)
+    (piece : IsTrue s.is_steady → IsPiece (file_of s file) base window)
+    (so_far : SearchedTo s file base window (record { shelf = t; places = place ∷ later; found = found })) where
   first : PassesFirst (occurs_at window magic_bytes) (so_far.next - base) ((length window + 1) - (so_far.next - base)) place later
-  first = passes_first _ _ _ place later (sym so_far.left_are)
+  first = passes_first _ _ _ place later (sym so_far.places_are)
 
   pub place_fits : place + 8 ≤ length window
   place_fits = (OccursAt-true window magic_bytes place first.passes).fits
@@ -106,26 +109,27 @@ module _ (s t : ShelfState) (file size base place : ℕ) (window later : List �
   behind : so_far.next ≤ base + place
   behind = omega (arith, first.low, so_far.low)
 
-  pub lies_before : LiesIn size (base + place) found
-  lies_before = LiesIn-later size so_far.next (base + place) found so_far.lies behind
+  same_length : slice_index t.lengths file ≡ slice_index s.lengths file
+  same_length = ap (λ (lengths : List ℕ). slice_index lengths file) (Hands-lengths s t file _ so_far.hands)
 
-  pub packets_before : IsTrue s.is_steady → FoundBelow file (file_of s file) (base + place) found
+  pub place_within : base + length window ≤ slice_index s.lengths file → base + place ≤ slice_index t.lengths file
+  place_within within = omega (arith, same_length, place_fits, within)
+
+  pub lies_before_now : LiesIn (slice_index t.lengths file) (base + place) found
+  lies_before_now =
+      subst (λ (size : ℕ). LiesIn size (base + place) found) (sym same_length)
+      (LiesIn-later (slice_index s.lengths file) so_far.next (base + place) found so_far.lies behind)
+
+  pub packets_before : FindsBelow s file (base + place) found
   packets_before steady =
       FoundBelow-none file so_far.next (base + place) (file_of s file) found (so_far.packets steady) behind
       (λ k low high. no_packet_without (file_of s file) base window (piece steady) k (omega (arith, low, so_far.low)) (omega (arith, high, place_fits))
       (first.none (k - base) (omega (arith, low, so_far.low)) (omega (arith, high, low, so_far.low))))
 
-  pub packets_before_now : IsTrue t.is_steady → FoundBelow file (file_of t file) (base + place) found
+  pub packets_before_now : FindsBelow t file (base + place) found
   packets_before_now steady =
       subst (λ (bytes : List ℕ). FoundBelow file bytes (base + place) found) (sym same)
       (packets_before (Hands-was_steady s t file _ so_far.hands steady))
-
-  pub piece_now : IsTrue t.is_steady → IsPiece (file_of t file) base window
-  piece_now steady =
-      subst (λ (bytes : List ℕ). IsPiece bytes base window) (sym same) (piece (Hands-was_steady s t file _ so_far.hands steady))
-
-  pub lengths_now : t.lengths ≡ s.lengths
-  lengths_now = Hands-lengths s t file _ so_far.hands
 
   cost : IsTrue s.is_steady → limit_between (file_of s file) base so_far.next + (64 + 2 * framed_size (drop (base + place) (file_of t file)))
       ≤ limit_between (file_of s file) base ((base + place) + 1)
@@ -137,48 +141,55 @@ module _ (s t : ShelfState) (file size base place : ℕ) (window later : List �
       let now = ap (λ (bytes : List ℕ). framed_size (drop (base + place) bytes)) same in
       omega (arith, one, whole, rest, now)
 
-  pub SearchedTo-next : (u : ShelfState) (more : FileScan) → LiesIn size ((base + place) + 1) more
-      → (IsTrue t.is_steady → FoundBelow file (file_of t file) ((base + place) + 1) more)
+  pub SearchedTo-next : (u : ShelfState) (more : FileScan) → LiesIn (slice_index t.lengths file) ((base + place) + 1) more
+      → FindsBelow t file ((base + place) + 1) more
       → Hands t u file (64 + 2 * framed_size (drop (base + place) (file_of t file)))
-      → SearchedTo s u file size base window later more
+      → SearchedTo s file base window (record { shelf = u; places = later; found = more })
   SearchedTo-next u more lies packets hands = record {
     next = (base + place) + 1;
     low = omega arith;
     high = omega (arith, place_fits);
-    left_are =
+    places_are =
         let begin : place + 1 ≡ ((base + place) + 1) - base = omega arith in
         let count : (so_far.next - base) + ((length window + 1) - (so_far.next - base)) ≡ length window + 1
         = omega (arith, so_far.low, so_far.high) in
         first.later_are
         ∙ (ap (λ (n : ℕ). filter (occurs_at window magic_bytes) (range_with_len (place + 1) (n - (place + 1)))) count
         ∙ ap (λ (n : ℕ). filter (occurs_at window magic_bytes) (range_with_len n ((length window + 1) - n))) begin);
-    lies = lies;
+    lies = subst (λ (size : ℕ). LiesIn size ((base + place) + 1) more) same_length lies;
     packets = λ steady.
         subst (λ (bytes : List ℕ). FoundBelow file bytes ((base + place) + 1) more) same (packets (Hands-steady s t file _ so_far.hands steady));
     hands = Hands-more s t u file _ _ _ so_far.hands hands cost;
   }
 
   pub SearchedTo-fault : (u : ShelfState) (fault : SalvageFault)
-      → FaultsEarly t u file (64 + 2 * framed_size (drop (base + place) (file_of t file))) (IsTrue (is_packet_at (file_of t file) (base + place))) fault
-      → FaultsEarly s u file (limit_between (file_of s file) base (base + (length window - 7))) (packets_of (file_of s file) ≢ []) fault
+      → StopsAfter t u file (64 + 2 * framed_size (drop (base + place) (file_of t file))) fault
+      → StopsAfter s u file (limit_between (file_of s file) base (base + (length window - 7))) fault
   SearchedTo-fault u fault faults =
-      FaultsEarly-more s t u file _ _ _ _ _ fault so_far.hands faults
+      StopsAfter-more s t u file _ _ _ fault so_far.hands faults
       (λ steady.
       let all = limit_between-split (file_of s file) base ((base + place) + 1) (base + (length window - 7)) (omega arith) (omega (arith, place_fits)) in
       omega (arith, cost steady, all))
-      (λ _ is. some_packet (file_of s file) (base + place) (ap (λ (bytes : List ℕ). is_packet_at bytes (base + place)) (sym same) ∙ is))
+
+  -- what comes only with a packet at this place comes only with a packet
+  pub SearchedTo-empty : (Wants : Type 0) → (IsTrue t.is_steady → Wants → IsTrue (is_packet_at (file_of t file) (base + place)))
+      → IsTrue s.is_steady → packets_of (file_of s file) ≡ [] → ¬ Wants
+  SearchedTo-empty Wants packet steady none wants =
+      some_packet (file_of s file) (base + place)
+      (ap (λ (bytes : List ℕ). is_packet_at bytes (base + place)) (sym same) ∙ packet (Hands-steady s t file _ so_far.hands steady) wants) none
 
 -- no place is left
-module _ (s t : ShelfState) (file size base : ℕ) (window : List ℕ) (found : FileScan)
-    (piece : IsTrue s.is_steady → IsPiece (file_of s file) base window) (all : SearchedTo s t file size base window [] found) where
-  pub lies_after : LiesIn size (base + (length window - 7)) found
-  lies_after = LiesIn-later size all.next (base + (length window - 7)) found all.lies all.high
+module _ (s t : ShelfState) (file base : ℕ) (window : List ℕ) (found : FileScan)
+    (piece : IsTrue s.is_steady → IsPiece (file_of s file) base window)
+    (all : SearchedTo s file base window (record { shelf = t; places = []; found = found })) where
+  pub lies_after : LiesIn (slice_index s.lengths file) (base + (length window - 7)) found
+  lies_after = LiesIn-later (slice_index s.lengths file) all.next (base + (length window - 7)) found all.lies all.high
 
-  pub packets_after : IsTrue s.is_steady → FoundBelow file (file_of s file) (base + (length window - 7)) found
+  pub packets_after : FindsBelow s file (base + (length window - 7)) found
   packets_after steady =
       FoundBelow-none file all.next (base + (length window - 7)) (file_of s file) found (all.packets steady) all.high
       (λ k low high. no_packet_without (file_of s file) base window (piece steady) k (omega (arith, low, all.low)) (omega (arith, high, low, all.low))
-      (passes_none (occurs_at window magic_bytes) (all.next - base) ((length window + 1) - (all.next - base)) (sym all.left_are) (k - base)
+      (passes_none (occurs_at window magic_bytes) (all.next - base) ((length window + 1) - (all.next - base)) (sym all.places_are) (k - base)
       (omega (arith, low, all.low)) (omega (arith, high, low, all.low))))
 
   pub hands_after : Hands s t file (limit_between (file_of s file) base (base + (length window - 7)))

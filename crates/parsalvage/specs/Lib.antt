@@ -1,9 +1,9 @@
 pub mod Hands
-pub mod HeldBodies
+pub mod BodyStores
 pub mod Kept
 pub mod Leaves
 pub mod MagicPlaces
-pub mod Notes
+pub mod FileScans
 pub mod Packets
 pub mod Pieces
 pub use Rattle.parfield.specs.Packet

@@ -13,7 +13,8 @@ is_magic_at bytes at =
 -- two occurrences of the magic never overlap
 abbrev pub MagicsNeverOverlap : Type 0
 MagicsNeverOverlap =
-    (bytes : List ℕ) (a b : ℕ) → IsTrue (is_magic_at bytes a) → IsTrue (is_magic_at bytes b) → a < b → a + 8 ≤ b
+    (bytes : List ℕ) (a b : ℕ) → IsTrue (is_magic_at bytes a) → IsTrue (is_magic_at bytes b)
+    → a < b → a + 8 ≤ b
 
 -- the bytes begin with all that makes a packet but the right hash
 abbrev pub begins_framed : List ℕ → Bool
@@ -31,7 +32,7 @@ is_framed_at bytes at = begins_framed (drop at bytes)
 abbrev pub magic_places_between : List ℕ → ℕ → ℕ → List ℕ
 magic_places_between bytes a b = filter (is_magic_at bytes) (range_with_len a (b - a))
 
--- a search that goes on behind each occurrence finds the magic at every offset at which it stands
+-- a search that goes on after each occurrence finds the magic at every offset at which it stands
 abbrev pub EachMagicIsFound : Type 0
 EachMagicIsFound =
     (bytes : List ℕ) → matches bytes magic_bytes 0 ≡ magic_places_between bytes 0 (length bytes)
@@ -49,7 +50,7 @@ places_limit bytes places = 64 * length places + 2 * framed_length bytes places
 unfoldable pub limit_between : List ℕ → ℕ → ℕ → ℕ
 limit_between bytes a b = places_limit bytes (magic_places_between bytes a b)
 
--- how many bytes a salvage may be handed: each once for the search, a header for each magic, and twice
--- what lacks at most the right hash
+-- how many bytes a salvage may be handed: each once for the search, a header for each magic, and
+-- twice what lacks at most the right hash
 abbrev pub salvage_limit : List ℕ → ℕ
 salvage_limit bytes = length bytes + limit_between bytes 0 (length bytes)

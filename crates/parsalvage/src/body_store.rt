@@ -1,14 +1,14 @@
-ghost use Rattle.std.specs.Prelude.{◌≡◌, ◌+◌, ◌-◌, ◌<◌, ◌≤◌, ℕ, List, length, take, drop, slice_index, IsTrue, IfOk, IfErr, OnOk};
-ghost use Rattle.parshelf.specs.Shelf.{file_of, bytes_at};
-ghost use Rattle.parsalvage.specs.Hands.{Hands, FaultsEarly};
-ghost use Rattle.parsalvage.specs.Pieces.{IsPiece};
-ghost use Rattle.parsalvage.specs.HeldBodies.{IsStore, HoldsRun};
+ghost use Rattle.std.specs.Prelude.{◌≡◌, ◌+◌, ◌-◌, ◌<◌, ◌≤◌, ℕ, List, length, take, drop, slice_index, IsTrue, IfOk, OnOk};
+ghost use Rattle.parshelf.specs.Shelf.{bytes_at};
+ghost use Rattle.parsalvage.specs.Hands.{SalvagesAtMost};
+ghost use Rattle.parsalvage.specs.Pieces.{IsPieceOf};
+ghost use Rattle.parsalvage.specs.BodyStores.{IsStore, HoldsRun, HoldsRunOf};
 
 use crate::files::SalvageFault;
 use crate::piece::{Piece, read};
 use parshelf::Shelf;
 
-/// BodyStore of a file. Those that overlap make a run, in which each byte stands once; the last run,
+/// Bodies of a file. Those that overlap make a run, in which each byte stands once; the last run,
 /// from `start` up to `end` of the file, stands at the end of the bytes.
 #[derive(Drop)]
 pub struct BodyStore {
@@ -31,10 +31,8 @@ pub fn hold<H: Shelf>(
     requires within { from + size ≤ slice_index (H.state shelf.old).lengths file }
     requires later { bodies.old.start ≤ from }
     requires store { IsStore (slice_index (H.state shelf.old).lengths file) bodies.old }
-    requires piece { IsTrue (H.state shelf.old).is_steady
-        → IsPiece (file_of (H.state shelf.old) file) piece.now.base piece.now.bytes.now }
-    requires run { IsTrue (H.state shelf.old).is_steady
-        → HoldsRun (file_of (H.state shelf.old) file) bodies.old }
+    requires piece { IsPieceOf (H.state shelf.old) file piece.now }
+    requires run { HoldsRunOf (H.state shelf.old) file bodies.old }
 
     ensures store { OnOk result
         (IsStore (slice_index (H.state shelf.old).lengths file) bodies.new) }
@@ -42,15 +40,12 @@ pub fn hold<H: Shelf>(
     ensures fits { IfOk result (λ place. place + size ≤ length bodies.new.bytes.items) }
     ensures keeps { OnOk result
         (take (length bodies.old.bytes.items) bodies.new.bytes.items ≡ bodies.old.bytes.items) }
-    ensures run { IsTrue (H.state shelf.old).is_steady
-        → OnOk result (HoldsRun (file_of (H.state shelf.old) file) bodies.new) }
+    ensures run { OnOk result (HoldsRunOf (H.state shelf.old) file bodies.new) }
     ensures part { IsTrue (H.state shelf.old).is_steady → IfOk result (λ place.
         take size (drop place bodies.new.bytes.items)
         ≡ bytes_at (H.state shelf.old) file from size) }
 
-    ensures ok { OnOk result (Hands (H.state shelf.old) (H.state shelf.new) file size) }
-    ensures fault { IfErr result
-        (FaultsEarly (H.state shelf.old) (H.state shelf.new) file size (Unit {0})) }
+    ensures leaves { SalvagesAtMost size file (H.state shelf.old) (H.state shelf.new) result }
 {
     reach(bodies, from);
     let last = bodies.end.max(from + size);
@@ -58,7 +53,7 @@ pub fn hold<H: Shelf>(
     Ok(bodies.bytes.len() - (bodies.end - from) as usize)
 }
 
-// Begins a run at this place of the file, if it lies behind the last run.
+// Begins a run at this place of the file, if that lies after the last run.
 fn reach(bodies: &mut BodyStore, from: u64)
     requires later { bodies.old.start ≤ from }
     ensures bytes { bodies.new.bytes.items ≡ bodies.old.bytes.items }
@@ -85,8 +80,7 @@ fn extend<H: Shelf>(
     requires more { bodies.old.end ≤ last }
     requires within { last ≤ slice_index (H.state shelf.old).lengths file }
     requires short { length bodies.old.bytes.items ≤ bodies.old.end }
-    requires piece { IsTrue (H.state shelf.old).is_steady
-        → IsPiece (file_of (H.state shelf.old) file) piece.now.base piece.now.bytes.now }
+    requires piece { IsPieceOf (H.state shelf.old) file piece.now }
 
     ensures start { OnOk result (bodies.new.start ≡ bodies.old.start) }
     ensures end { OnOk result (bodies.new.end ≡ last) }
@@ -98,10 +92,8 @@ fn extend<H: Shelf>(
         (drop (length bodies.old.bytes.items) bodies.new.bytes.items
         ≡ bytes_at (H.state shelf.old) file bodies.old.end (last - bodies.old.end)) }
 
-    ensures ok { OnOk result
-        (Hands (H.state shelf.old) (H.state shelf.new) file (last - bodies.old.end)) }
-    ensures fault { IfErr result (FaultsEarly (H.state shelf.old) (H.state shelf.new) file
-        (last - bodies.old.end) (Unit {0})) }
+    ensures leaves { SalvagesAtMost (last - bodies.old.end)
+        file (H.state shelf.old) (H.state shelf.new) result }
 {
     let held = bodies.bytes.len();
     bodies.bytes.resize(held + (last - bodies.end) as usize, 0)?;

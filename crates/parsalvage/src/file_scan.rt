@@ -1,17 +1,17 @@
-ghost use Rattle.std.specs.Prelude.{◌≡◌, ◌+◌, ◌*◌, ◌<◌, ◌≤◌, length, drop, slice_index, IsTrue, IfErr, OnOk};
+ghost use Rattle.std.specs.Prelude.{◌≡◌, ◌+◌, ◌*◌, ◌<◌, ◌≤◌, length, drop, slice_index, IsTrue, OnOk};
 ghost use Rattle.parfield.specs.Packet.{header_of};
 ghost use Rattle.parshelf.specs.Shelf.{file_of};
-ghost use Rattle.parsalvage.specs.Hands.{Hands, FaultsEarly};
-ghost use Rattle.parsalvage.specs.Notes.{LiesIn, FoundBelow};
+ghost use Rattle.parsalvage.specs.Hands.{SalvagesAtMost};
+ghost use Rattle.parsalvage.specs.FileScans.{LiesIn, FindsBelow};
 ghost use Rattle.parsalvage.specs.Packets.{is_packet_at};
-ghost use Rattle.parsalvage.specs.Pieces.{IsPiece};
+ghost use Rattle.parsalvage.specs.Pieces.{IsPieceOf};
 ghost use Rattle.parsalvage.specs.MagicPlaces.{framed_size};
 
 use crate::body_store::BodyStore;
 use crate::files::SalvageFault;
 use crate::piece::Piece;
 use crate::stored_body::{StoredBody, hold_body};
-use crate::validating::examine;
+use crate::validating::validate;
 use parfield::{Hash16, Header, Kind};
 use parshelf::Shelf;
 
@@ -33,12 +33,12 @@ pub struct StoredPacket {
 /// The packets of a file that were found so far, by offset, and their bodies.
 #[derive(Drop)]
 pub struct FileScan {
-    pub notes: Vec<StoredPacket>,
+    pub packets: Vec<StoredPacket>,
     pub bodies: BodyStore,
 }
 
-/// Notes the packet at this offset, if there is one. Packets are noted by rising offset.
-pub fn note_at<H: Shelf>(
+/// Stores the packet at this offset, if there is one. Packets are stored by rising offset.
+pub fn scan_at<H: Shelf>(
     shelf: &mut H,
     file: u32,
     piece: &Piece<'_>,
@@ -49,35 +49,32 @@ pub fn note_at<H: Shelf>(
     requires file { file < length (H.state shelf.old).lengths }
     requires within { at ≤ slice_index (H.state shelf.old).lengths file }
     requires buffer { 0 < length buffer.old }
-    requires piece { IsTrue (H.state shelf.old).is_steady
-        → IsPiece (file_of (H.state shelf.old) file) piece.now.base piece.now.bytes.now }
+    requires piece { IsPieceOf (H.state shelf.old) file piece.now }
     requires lies { LiesIn (slice_index (H.state shelf.old).lengths file) at found.old }
-    requires found { IsTrue (H.state shelf.old).is_steady
-        → FoundBelow file (file_of (H.state shelf.old) file) at found.old }
+    requires found { FindsBelow (H.state shelf.old) file at found.old }
 
     ensures lies { OnOk result
         (LiesIn (slice_index (H.state shelf.old).lengths file) (at + 1) found.new) }
-    ensures found { IsTrue (H.state shelf.old).is_steady
-        → OnOk result (FoundBelow file (file_of (H.state shelf.old) file) (at + 1) found.new) }
+    ensures found { OnOk result (FindsBelow (H.state shelf.old) file (at + 1) found.new) }
 
-    ensures ok { OnOk result (Hands (H.state shelf.old) (H.state shelf.new) file
-        (64 + 2 * framed_size (drop at (file_of (H.state shelf.old) file)))) }
-    ensures fault { IfErr result (FaultsEarly (H.state shelf.old) (H.state shelf.new) file
+    ensures leaves { SalvagesAtMost
         (64 + 2 * framed_size (drop at (file_of (H.state shelf.old) file)))
-        (IsTrue (is_packet_at (file_of (H.state shelf.old) file) at))) }
+        file (H.state shelf.old) (H.state shelf.new) result }
+    ensures memory { IsTrue (H.state shelf.old).is_steady → result ≡ Err SalvageFault.Memory
+        → IsTrue (is_packet_at (file_of (H.state shelf.old) file) at) }
 {
     // No packet is shorter than its header.
     if shelf.length(file) - at < 64 {
         return Ok(());
     }
-    match examine(shelf, file, piece, at, buffer)? {
-        Some(head) => note_packet(shelf, file, piece, at, head, found),
+    match validate(shelf, file, piece, at, buffer)? {
+        Some(head) => store_packet(shelf, file, piece, at, head, found),
         None => Ok(()),
     }
 }
 
-// Notes the packet at this offset, which has this header.
-fn note_packet<H: Shelf>(
+// Stores the packet at this offset, which has this header.
+fn store_packet<H: Shelf>(
     shelf: &mut H,
     file: u32,
     piece: &Piece<'_>,
@@ -88,24 +85,20 @@ fn note_packet<H: Shelf>(
     requires file { file < length (H.state shelf.old).lengths }
     requires within { at + head.length ≤ slice_index (H.state shelf.old).lengths file }
     requires long { 64 ≤ head.length }
-    requires piece { IsTrue (H.state shelf.old).is_steady
-        → IsPiece (file_of (H.state shelf.old) file) piece.now.base piece.now.bytes.now }
+    requires piece { IsPieceOf (H.state shelf.old) file piece.now }
     requires packet { IsTrue (H.state shelf.old).is_steady
         → IsTrue (is_packet_at (file_of (H.state shelf.old) file) at) }
     requires fields { IsTrue (H.state shelf.old).is_steady
         → head ≡ header_of (drop at (file_of (H.state shelf.old) file)) }
     requires lies { LiesIn (slice_index (H.state shelf.old).lengths file) at found.old }
-    requires found { IsTrue (H.state shelf.old).is_steady
-        → FoundBelow file (file_of (H.state shelf.old) file) at found.old }
+    requires found { FindsBelow (H.state shelf.old) file at found.old }
 
     ensures lies { OnOk result
         (LiesIn (slice_index (H.state shelf.old).lengths file) (at + 1) found.new) }
-    ensures found { IsTrue (H.state shelf.old).is_steady
-        → OnOk result (FoundBelow file (file_of (H.state shelf.old) file) (at + 1) found.new) }
+    ensures found { OnOk result (FindsBelow (H.state shelf.old) file (at + 1) found.new) }
 
-    ensures ok { OnOk result (Hands (H.state shelf.old) (H.state shelf.new) file head.length) }
-    ensures fault { IfErr result
-        (FaultsEarly (H.state shelf.old) (H.state shelf.new) file head.length (Unit {0})) }
+    ensures leaves { SalvagesAtMost head.length
+        file (H.state shelf.old) (H.state shelf.new) result }
 {
     let size = head.length - 64;
     let body = hold_body(
@@ -117,14 +110,14 @@ fn note_packet<H: Shelf>(
         at + 64,
         size,
     )?;
-    let note = StoredPacket {
+    let packet = StoredPacket {
         at,
         length: head.length,
         set: head.set,
         kind: head.kind,
         body,
     };
-    if found.notes.push(note).is_err() {
+    if found.packets.push(packet).is_err() {
         return Err(SalvageFault::Memory);
     }
     Ok(())

@@ -1,10 +1,10 @@
 //! The packets of bytes and of files, as they are found and as they are kept.
 //!
 //! `bytes` salvages bytes, and `files` a file: `searching` goes over it for the magic by pieces
-//! (`piece`), `validating` tests what looks like a packet there, and `file_scan` notes each that is
-//! one, with what is held of its body (`stored_body`) in one store for all of the file (`body_store`).
-//! `kept` and `part` are how packets are kept; `keeping` keeps those of bytes, `files` those of a file.
-//! `laws` has the law of the magic.
+//! (`piece`), `validating` tests what looks like a packet there, and `file_scan` stores each that
+//! is one, with what is held of its body (`stored_body`) in one store for all of the file
+//! (`body_store`). `kept` and `part` are how packets are kept; `keeping` keeps those of bytes,
+//! `files` those of a file. `laws` has the law of the magic.
 #![tactic(auto)]
 
 mod body_store;
@@ -22,7 +22,7 @@ mod validating;
 
 pub use crate::bytes::salvage;
 pub use crate::files::{SalvageFault, salvage_file};
-pub use crate::keeping::kept_of;
+pub use crate::keeping::{BODY_LIMIT, kept_of};
 pub use crate::kept::{Kept, KeptBody};
 pub use crate::laws::magic_law;
 pub use crate::part::Part;

@@ -1,8 +1,7 @@
-ghost use Rattle.std.specs.Prelude.{◌≡◌, ℕ, List, ◌+◌, ◌≤◌, ◌<◌, length, take, drop, slice_index, IsTrue, IfSome, IfNone, IfErr, OnOk};
-ghost use Rattle.parshelf.specs.Shelf.{file_of, bytes_at};
-ghost use Rattle.parshelf.specs.Reads.{FaultsWithin};
-ghost use Rattle.parsalvage.specs.Hands.{Hands};
-ghost use Rattle.parsalvage.specs.Pieces.{IsPiece};
+ghost use Rattle.std.specs.Prelude.{◌≡◌, ℕ, List, ◌+◌, ◌≤◌, ◌<◌, length, take, drop, slice_index, IsTrue, IfSome, IfNone, OnOk};
+ghost use Rattle.parshelf.specs.Shelf.{bytes_at};
+ghost use Rattle.parsalvage.specs.Hands.{ReadsAtMost};
+ghost use Rattle.parsalvage.specs.Pieces.{IsPiece, IsPieceOf};
 
 use parshelf::{ReadFault, Shelf, fill};
 
@@ -43,14 +42,12 @@ pub fn read<H: Shelf>(
 ) -> Result<(), ReadFault>
     requires file { file < length (H.state shelf.old).lengths }
     requires within { offset + length buf.old ≤ slice_index (H.state shelf.old).lengths file }
-    requires piece { IsTrue (H.state shelf.old).is_steady
-        → IsPiece (file_of (H.state shelf.old) file) piece.now.base piece.now.bytes.now }
+    requires piece { IsPieceOf (H.state shelf.old) file piece.now }
 
     ensures bytes { IsTrue (H.state shelf.old).is_steady →
         OnOk result (buf.new ≡ bytes_at (H.state shelf.old) file offset (length buf.old)) }
-    ensures ok { OnOk result (Hands (H.state shelf.old) (H.state shelf.new) file (length buf.old)) }
-    ensures fault { IfErr result
-        (FaultsWithin (H.state shelf.old) (H.state shelf.new) file (length buf.old)) }
+    ensures leaves { ReadsAtMost (length buf.old)
+        file (H.state shelf.old) (H.state shelf.new) result }
 {
     match piece.part(offset, buf.len() as u64) {
         Some(part) => {

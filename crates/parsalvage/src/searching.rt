@@ -1,24 +1,24 @@
-ghost use Rattle.std.specs.Prelude.{◌≡◌, ◌≢◌, ◌+◌, ◌-◌, ◌<◌, ◌≤◌, [], length, slice_index, IsTrue, IfOk, IfErr, OnOk};
+ghost use Rattle.std.specs.Prelude.{◌≡◌, ◌≢◌, ◌+◌, ◌-◌, ◌<◌, ◌≤◌, [], length, slice_index, IsTrue, IfOk, OnOk};
 ghost use Rattle.parshelf.specs.Shelf.{file_of};
-ghost use Rattle.parsalvage.specs.Hands.{Hands, FaultsEarly};
-ghost use Rattle.parsalvage.specs.Notes.{LiesIn, FoundBelow};
+ghost use Rattle.parsalvage.specs.Hands.{SalvagesAtMost};
+ghost use Rattle.parsalvage.specs.FileScans.{LiesIn, FindsBelow};
 ghost use Rattle.parsalvage.specs.Packets.{packets_of};
-ghost use Rattle.parsalvage.specs.Pieces.{IsPiece};
+ghost use Rattle.parsalvage.specs.Pieces.{IsPieceOf};
 ghost use Rattle.parsalvage.specs.MagicPlaces.{limit_between, salvage_limit};
 
 use crate::body_store::BodyStore;
-use crate::bytes::MAGIC;
-use crate::file_scan::{FileScan, note_at};
+use crate::file_scan::{FileScan, scan_at};
 use crate::files::SalvageFault;
 use crate::piece::Piece;
 use memchr::memmem;
+use parfield::MAGIC;
 use parshelf::{Shelf, fill};
 use std::alloc::Global;
 
 // How many bytes of a file are searched at a time.
 const PIECE: usize = 65_536;
 
-// Notes the packets that begin in a piece of a file, but for its last seven places.
+// Stores the packets that begin in a piece of a file, but for its last seven places.
 fn search_piece<H: Shelf>(
     shelf: &mut H,
     file: u32,
@@ -31,29 +31,24 @@ fn search_piece<H: Shelf>(
         ≤ slice_index (H.state shelf.old).lengths file }
     requires long { 7 ≤ length piece.now.bytes.now }
     requires buffer { 0 < length buffer.old }
-    requires piece { IsTrue (H.state shelf.old).is_steady
-        → IsPiece (file_of (H.state shelf.old) file) piece.now.base piece.now.bytes.now }
+    requires piece { IsPieceOf (H.state shelf.old) file piece.now }
     requires lies { LiesIn (slice_index (H.state shelf.old).lengths file) piece.now.base found.old }
-    requires found { IsTrue (H.state shelf.old).is_steady
-        → FoundBelow file (file_of (H.state shelf.old) file) piece.now.base found.old }
+    requires found { FindsBelow (H.state shelf.old) file piece.now.base found.old }
 
     ensures lies { OnOk result (LiesIn (slice_index (H.state shelf.old).lengths file)
         (piece.now.base + (length piece.now.bytes.now - 7)) found.new) }
-    ensures found { IsTrue (H.state shelf.old).is_steady → OnOk result
-        (FoundBelow file (file_of (H.state shelf.old) file)
+    ensures found { OnOk result (FindsBelow (H.state shelf.old) file
         (piece.now.base + (length piece.now.bytes.now - 7)) found.new) }
 
-    ensures ok { OnOk result (Hands (H.state shelf.old) (H.state shelf.new) file
-        (limit_between (file_of (H.state shelf.old) file) piece.now.base
-        (piece.now.base + (length piece.now.bytes.now - 7)))) }
-    ensures fault { IfErr result (FaultsEarly (H.state shelf.old) (H.state shelf.new) file
-        (limit_between (file_of (H.state shelf.old) file) piece.now.base
-        (piece.now.base + (length piece.now.bytes.now - 7)))
-        (packets_of (file_of (H.state shelf.old) file) ≢ [])) }
+    ensures leaves { SalvagesAtMost (limit_between (file_of (H.state shelf.old) file)
+        piece.now.base (piece.now.base + (length piece.now.bytes.now - 7)))
+        file (H.state shelf.old) (H.state shelf.new) result }
+    ensures empty { IsTrue (H.state shelf.old).is_steady
+        → packets_of (file_of (H.state shelf.old) file) ≡ [] → result ≢ Err SalvageFault.Memory }
 {
     // Two occurrences of the magic never overlap.
     for place in memmem::find_iter(piece.bytes, &MAGIC) {
-        note_at(shelf, file, piece, piece.base + place as u64, buffer, found)?;
+        scan_at(shelf, file, piece, piece.base + place as u64, buffer, found)?;
     }
     Ok(())
 }
@@ -71,19 +66,17 @@ pub fn search_file<H: Shelf>(
 
     ensures lies { IfOk result (λ found. LiesIn (slice_index (H.state shelf.old).lengths file)
         (slice_index (H.state shelf.old).lengths file) found) }
-    ensures found { IsTrue (H.state shelf.old).is_steady → IfOk result (λ found.
-        FoundBelow file (file_of (H.state shelf.old) file)
+    ensures found { IfOk result (λ found. FindsBelow (H.state shelf.old) file
         (slice_index (H.state shelf.old).lengths file) found) }
 
-    ensures ok { OnOk result (Hands (H.state shelf.old) (H.state shelf.new) file
-        (salvage_limit (file_of (H.state shelf.old) file))) }
-    ensures fault { IfErr result (FaultsEarly (H.state shelf.old) (H.state shelf.new) file
-        (salvage_limit (file_of (H.state shelf.old) file))
-        (packets_of (file_of (H.state shelf.old) file) ≢ [])) }
+    ensures leaves { SalvagesAtMost (salvage_limit (file_of (H.state shelf.old) file))
+        file (H.state shelf.old) (H.state shelf.new) result }
+    ensures empty { IsTrue (H.state shelf.old).is_steady
+        → packets_of (file_of (H.state shelf.old) file) ≡ [] → result ≢ Err SalvageFault.Memory }
 {
     let end = shelf.length(file);
     let mut found = FileScan {
-        notes: Vec::new(alloc),
+        packets: Vec::new(alloc),
         bodies: BodyStore {
             bytes: Vec::new(alloc),
             start: 0,

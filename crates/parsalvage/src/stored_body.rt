@@ -1,11 +1,10 @@
-ghost use Rattle.std.specs.Prelude.{◌≡◌, ◌+◌, ◌<◌, ◌≤◌, length, take, slice_index, IsTrue, IfOk, IfErr, OnOk};
-ghost use Rattle.parshelf.specs.Shelf.{file_of, bytes_at};
-ghost use Rattle.parshelf.specs.Reads.{FaultsWithin};
-ghost use Rattle.parsalvage.specs.HeldBodies.{IsStore, HoldsRun};
-ghost use Rattle.parsalvage.specs.Hands.{Hands, FaultsEarly};
-ghost use Rattle.parsalvage.specs.Kept.{body_kept, front_of};
-ghost use Rattle.parsalvage.specs.Notes.{body_in, FitsStore};
-ghost use Rattle.parsalvage.specs.Pieces.{IsPiece};
+ghost use Rattle.std.specs.Prelude.{◌≡◌, ◌+◌, ◌<◌, ◌≤◌, length, take, slice_index, IsTrue, IfOk, OnOk};
+ghost use Rattle.parshelf.specs.Shelf.{bytes_at};
+ghost use Rattle.parsalvage.specs.BodyStores.{IsStore, HoldsRunOf};
+ghost use Rattle.parsalvage.specs.Hands.{ReadsAtMost, SalvagesAtMost};
+ghost use Rattle.parsalvage.specs.Kept.{kept_body, front_of};
+ghost use Rattle.parsalvage.specs.FileScans.{kept_body_from, FitsStore};
+ghost use Rattle.parsalvage.specs.Pieces.{IsPieceOf};
 
 use crate::body_store::{BodyStore, hold};
 use crate::files::SalvageFault;
@@ -38,10 +37,8 @@ pub fn hold_body<H: Shelf>(
     requires within { from + size ≤ slice_index (H.state shelf.old).lengths file }
     requires later { bodies.old.start ≤ from }
     requires store { IsStore (slice_index (H.state shelf.old).lengths file) bodies.old }
-    requires piece { IsTrue (H.state shelf.old).is_steady
-        → IsPiece (file_of (H.state shelf.old) file) piece.now.base piece.now.bytes.now }
-    requires run { IsTrue (H.state shelf.old).is_steady
-        → HoldsRun (file_of (H.state shelf.old) file) bodies.old }
+    requires piece { IsPieceOf (H.state shelf.old) file piece.now }
+    requires run { HoldsRunOf (H.state shelf.old) file bodies.old }
 
     ensures store { OnOk result
         (IsStore (slice_index (H.state shelf.old).lengths file) bodies.new) }
@@ -49,15 +46,12 @@ pub fn hold_body<H: Shelf>(
     ensures fits { IfOk result (λ held. FitsStore (length bodies.new.bytes.items) held) }
     ensures keeps { OnOk result
         (take (length bodies.old.bytes.items) bodies.new.bytes.items ≡ bodies.old.bytes.items) }
-    ensures run { IsTrue (H.state shelf.old).is_steady
-        → OnOk result (HoldsRun (file_of (H.state shelf.old) file) bodies.new) }
+    ensures run { OnOk result (HoldsRunOf (H.state shelf.old) file bodies.new) }
     ensures body { IsTrue (H.state shelf.old).is_steady → IfOk result (λ held.
-        body_in bodies.new.bytes.items held
-        ≡ body_kept kind (bytes_at (H.state shelf.old) file from size)) }
+        kept_body_from bodies.new.bytes.items held
+        ≡ kept_body kind (bytes_at (H.state shelf.old) file from size)) }
 
-    ensures ok { OnOk result (Hands (H.state shelf.old) (H.state shelf.new) file size) }
-    ensures fault { IfErr result
-        (FaultsEarly (H.state shelf.old) (H.state shelf.new) file size (Unit {0})) }
+    ensures leaves { SalvagesAtMost size file (H.state shelf.old) (H.state shelf.new) result }
 {
     if is_whole(kind, size) {
         let place = hold(shelf, file, piece, bodies, from, size)?;
@@ -80,13 +74,11 @@ fn front_at<H: Shelf>(
 ) -> Result<[u8; 4], ReadFault>
     requires file { file < length (H.state shelf.old).lengths }
     requires within { from + size ≤ slice_index (H.state shelf.old).lengths file }
-    requires piece { IsTrue (H.state shelf.old).is_steady
-        → IsPiece (file_of (H.state shelf.old) file) piece.now.base piece.now.bytes.now }
+    requires piece { IsPieceOf (H.state shelf.old) file piece.now }
 
     ensures front { IsTrue (H.state shelf.old).is_steady → IfOk result (λ first.
         first ≡ front_of (bytes_at (H.state shelf.old) file from size)) }
-    ensures ok { OnOk result (Hands (H.state shelf.old) (H.state shelf.new) file size) }
-    ensures fault { IfErr result (FaultsWithin (H.state shelf.old) (H.state shelf.new) file size) }
+    ensures leaves { ReadsAtMost size file (H.state shelf.old) (H.state shelf.new) result }
 {
     let mut first = [0; 4];
     let count = size.min(4) as usize;

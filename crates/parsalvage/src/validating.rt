@@ -1,11 +1,10 @@
-ghost use Rattle.std.specs.Prelude.{◌≡◌, ◌+◌, ◌<◌, ◌≤◌, length, drop, slice_index, is_some, IsTrue, IfOk, IfErr, IfSome, OnOk};
+ghost use Rattle.std.specs.Prelude.{◌≡◌, ◌+◌, ◌<◌, ◌≤◌, length, drop, slice_index, is_some, IsTrue, IfOk, IfSome};
 ghost use Rattle.md5.specs.Md5.{md5};
 ghost use Rattle.parfield.specs.Packet.{begins_packet, header_of};
 ghost use Rattle.parshelf.specs.Shelf.{file_of, bytes_at};
-ghost use Rattle.parshelf.specs.Reads.{FaultsWithin};
 ghost use Rattle.parsalvage.specs.MagicPlaces.{begins_framed, framed_size};
-ghost use Rattle.parsalvage.specs.Hands.{Hands, FaultsAfter};
-ghost use Rattle.parsalvage.specs.Pieces.{IsPiece};
+ghost use Rattle.parsalvage.specs.Hands.{ReadsAtMost};
+ghost use Rattle.parsalvage.specs.Pieces.{IsPieceOf};
 
 use crate::piece::{Piece, read};
 use md5::{Digest, Md5};
@@ -14,7 +13,7 @@ use parshelf::{ReadFault, Shelf, digest_of_part};
 
 /// The header at this offset of a file, if a packet begins there. What doesn't stand in the piece
 /// is hashed through `buffer`.
-pub fn examine<H: Shelf>(
+pub fn validate<H: Shelf>(
     shelf: &mut H,
     file: u32,
     piece: &Piece<'_>,
@@ -24,8 +23,7 @@ pub fn examine<H: Shelf>(
     requires file { file < length (H.state shelf.old).lengths }
     requires within { at + 64 ≤ slice_index (H.state shelf.old).lengths file }
     requires buffer { 0 < length buffer.old }
-    requires piece { IsTrue (H.state shelf.old).is_steady
-        → IsPiece (file_of (H.state shelf.old) file) piece.now.base piece.now.bytes.now }
+    requires piece { IsPieceOf (H.state shelf.old) file piece.now }
 
     ensures fits { IfOk result (λ head. IfSome head
         (λ head. at + head.length ≤ slice_index (H.state shelf.old).lengths file)) }
@@ -35,10 +33,8 @@ pub fn examine<H: Shelf>(
     ensures fields { IsTrue (H.state shelf.old).is_steady → IfOk result (λ head. IfSome head
         (λ head. head ≡ header_of (drop at (file_of (H.state shelf.old) file)))) }
 
-    ensures ok { OnOk result (Hands (H.state shelf.old) (H.state shelf.new) file
-        (64 + framed_size (drop at (file_of (H.state shelf.old) file)))) }
-    ensures fault { IfErr result (FaultsAfter (H.state shelf.old) (H.state shelf.new) file
-        (64 + framed_size (drop at (file_of (H.state shelf.old) file)))) }
+    ensures leaves { ReadsAtMost (64 + framed_size (drop at (file_of (H.state shelf.old) file)))
+        file (H.state shelf.old) (H.state shelf.new) result }
 {
     match header_at(shelf, file, piece, at)? {
         Some(head) => {
@@ -58,8 +54,7 @@ fn header_at<H: Shelf>(
 ) -> Result<Option<Header>, ReadFault>
     requires file { file < length (H.state shelf.old).lengths }
     requires within { at + 64 ≤ slice_index (H.state shelf.old).lengths file }
-    requires piece { IsTrue (H.state shelf.old).is_steady
-        → IsPiece (file_of (H.state shelf.old) file) piece.now.base piece.now.bytes.now }
+    requires piece { IsPieceOf (H.state shelf.old) file piece.now }
 
     ensures fits { IfOk result (λ head. IfSome head
         (λ head. at + head.length ≤ slice_index (H.state shelf.old).lengths file)) }
@@ -69,8 +64,7 @@ fn header_at<H: Shelf>(
     ensures fields { IsTrue (H.state shelf.old).is_steady → IfOk result (λ head. IfSome head
         (λ head. head ≡ header_of (drop at (file_of (H.state shelf.old) file)))) }
 
-    ensures ok { OnOk result (Hands (H.state shelf.old) (H.state shelf.new) file 64) }
-    ensures fault { IfErr result (FaultsWithin (H.state shelf.old) (H.state shelf.new) file 64) }
+    ensures leaves { ReadsAtMost 64 file (H.state shelf.old) (H.state shelf.new) result }
 {
     let room = shelf.length(file) - at;
     let mut bytes = [0; 64];
@@ -97,13 +91,11 @@ fn hash_at<H: Shelf>(
     requires file { file < length (H.state shelf.old).lengths }
     requires within { from + size ≤ slice_index (H.state shelf.old).lengths file }
     requires buffer { 0 < length buffer.old }
-    requires piece { IsTrue (H.state shelf.old).is_steady
-        → IsPiece (file_of (H.state shelf.old) file) piece.now.base piece.now.bytes.now }
+    requires piece { IsPieceOf (H.state shelf.old) file piece.now }
 
     ensures digest { IsTrue (H.state shelf.old).is_steady →
         IfOk result (λ hash. hash.0 ≡ md5 (bytes_at (H.state shelf.old) file from size)) }
-    ensures ok { OnOk result (Hands (H.state shelf.old) (H.state shelf.new) file size) }
-    ensures fault { IfErr result (FaultsWithin (H.state shelf.old) (H.state shelf.new) file size) }
+    ensures leaves { ReadsAtMost size file (H.state shelf.old) (H.state shelf.new) result }
 {
     match piece.part(from, size) {
         Some(part) => Ok(Hash16(Md5::digest(part))),

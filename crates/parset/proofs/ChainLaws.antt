@@ -3,15 +3,12 @@ use Rattle.std.proofs.Common.{◌≡◌, ◌∙◌, Err, Ok, Result, ap, subst, 
 use Rattle.parfield.specs.Chain.{◌>>=◌}
 use Rattle.parset.specs.RecoverySet.{AnswersSet}
 use Rattle.parset.specs.declared.recovery_set.SetFault.{SetFault}
-use Rattle.parset.specs.declared.recovery_set.SetFault.TheVariants.{Memory, NameTwice, NoDesc, NoMain, TooManySlices}
+use Rattle.parset.specs.declared.recovery_set.SetFault.TheVariants.{Memory}
 
 pub fault_stays : {A B : Type 0} (made : Result A SetFault) (f : A → Result B SetFault) (e : SetFault)
     → AnswersSet made (Err e) → AnswersSet (made >>= f) (Err e)
-fault_stays made f NoMain h = ap (λ m. m >>= f) h
-fault_stays made f (NoDesc id) h = ap (λ m. m >>= f) h
-fault_stays made f (NameTwice id) h = ap (λ m. m >>= f) h
-fault_stays made f TooManySlices h = ap (λ m. m >>= f) h
 fault_stays made f Memory h = tt
+fault_stays made f _ h = ap (λ m. m >>= f) h
 
 -- a fault that `?` returns
 pub fault_returned : {A B : Type 0} (made : Result A SetFault) (f : A → Result B SetFault) (r : Result B SetFault) (e : SetFault)
@@ -19,7 +16,7 @@ pub fault_returned : {A B : Type 0} (made : Result A SetFault) (f : A → Result
 fault_returned made f r e y h =
     subst (AnswersSet (made >>= f)) (sym (y.1 ∙ ap Err y.2)) (fault_stays made f e h)
 
--- what comes behind an answer
+-- what comes after an answer
 pub answer_goes_on : {A B : Type 0} (made : Result A SetFault) (f : A → Result B SetFault) (x : A) (r : Result B SetFault)
     → made ≡ Ok x → AnswersSet (f x) r → AnswersSet (made >>= f) r
 answer_goes_on made f x r is h = subst (λ m. AnswersSet (m >>= f) r) (sym is) h

@@ -1,7 +1,6 @@
 -- The descriptions of files one after another, and their names.
 use Rattle.std.proofs.Common.{◌≡◌, ℕ, ◌+◌, ◌<◌, ◌≤◌, ◌∙◌, ap, sym, refl, Bool, true, false, List, [], ◌∷◌, ◌++◌, length, drop, get_or, append_assoc, map, Some, None, Ok, Err, Result, Option, cond, nat_lt, suc, ⊎_elim}
-use Rattle.std.specs.Option.{option_or}
-use Rattle.std.specs.List.{All}
+use Rattle.std.specs.Option.{ok_or, option_or}
 use Rattle.std.proofs.lemmas.Bool.{cases_Bool}
 use Rattle.std.proofs.lemmas.List.Elements.{All-cons, All-nil, All-same}
 use Rattle.parfield.specs.Chain.{◌>>=◌}
@@ -12,49 +11,50 @@ use Rattle.parfield.specs.declared.hash16.Hash16.{Hash16}
 use Rattle.parsalvage.specs.declared.kept.Kept.{Kept}
 use Rattle.std.specs.Prelude.{option_map}
 use Rattle.parset.specs.BodyAnswers.{answer_of}
-use Rattle.parset.specs.Choosing.{file_description_of, first_found, only_if}
-use Rattle.parset.specs.PacketFields.{description_in}
-use Rattle.parset.specs.RecoverySet.{descriptions_of, names_checked, needed, slices_checked}
+use Rattle.parset.specs.Limits.{slice_limit}
+use Rattle.parset.specs.Choosing.{AreDescribed, file_description_of, first_found, only_if}
+use Rattle.parset.specs.PacketFields.{usable_description}
+use Rattle.parset.specs.RecoverySet.{descriptions_of, names_checked, slices_checked}
 use Rattle.parset.specs.SharedNames.{repeated_name}
 use Rattle.parset.specs.Slices.{slice_total}
 use Rattle.parset.specs.declared.bodies.description.Desc.{Desc}
 use Rattle.parset.specs.declared.recovery_set.SetFault.{SetFault}
 use Rattle.parset.specs.declared.recovery_set.SetFault.TheVariants.{NameTwice, NoDesc, TooManySlices}
 
--- these files stand before those
-abbrev pub behind : List Desc → Result (List Desc) SetFault → Result (List Desc) SetFault
-behind files others = others >>= λ more. Ok (files ++ more)
+-- the others, with these files before them
+abbrev pub appended : List Desc → Result (List Desc) SetFault → Result (List Desc) SetFault
+appended files others = others >>= λ more. Ok (files ++ more)
 
--- a file stands behind the others
+-- one more file before the others
 regrouped : (files : List Desc) (file : Desc) (others : Result (List Desc) SetFault)
-    → behind files (others >>= λ more. Ok (file ∷ more)) ≡ behind (files ++ file ∷ []) others
+    → appended files (others >>= λ more. Ok (file ∷ more)) ≡ appended (files ++ file ∷ []) others
 regrouped files file (Ok more) = ap Ok (sym (append_assoc files (file ∷ []) more))
 regrouped files file (Err fault) = refl
 
 pub described_more : (own : List Kept) (ids : List Hash16) (i : ℕ) (d : Hash16) (files : List Desc) (file : Desc) → i < length ids
     → file_description_of (get_or ids i d) own ≡ Some file
-    → behind files (descriptions_of own (drop i ids)) ≡ behind (files ++ file ∷ []) (descriptions_of own (drop (i + 1) ids))
+    → appended files (descriptions_of own (drop i ids)) ≡ appended (files ++ file ∷ []) (descriptions_of own (drop (i + 1) ids))
 unfolding descriptions_of
 described_more own ids i d files file h found =
     let id = get_or ids i d in let rest = descriptions_of own (drop (i + 1) ids) in
-    ap (λ xs. behind files (descriptions_of own xs)) (drop_more ids i d h)
-    ∙ (ap (λ o. behind files (needed o (NoDesc id) >>= λ first. rest >>= λ more. Ok (first ∷ more))) found
+    ap (λ xs. appended files (descriptions_of own xs)) (drop_more ids i d h)
+    ∙ (ap (λ o. appended files (ok_or o (NoDesc id) >>= λ first. rest >>= λ more. Ok (first ∷ more))) found
     ∙ regrouped files file rest)
 
 pub described_none : (own : List Kept) (ids : List Hash16) (i : ℕ) (d : Hash16) (files : List Desc) → i < length ids
     → file_description_of (get_or ids i d) own ≡ None
-    → behind files (descriptions_of own (drop i ids)) ≡ Err (NoDesc (get_or ids i d))
+    → appended files (descriptions_of own (drop i ids)) ≡ Err (NoDesc (get_or ids i d))
 unfolding descriptions_of
 described_none own ids i d files h found =
     let id = get_or ids i d in let rest = descriptions_of own (drop (i + 1) ids) in
-    ap (λ xs. behind files (descriptions_of own xs)) (drop_more ids i d h)
-    ∙ ap (λ o. behind files (needed o (NoDesc id) >>= λ first. rest >>= λ more. Ok (first ∷ more))) found
+    ap (λ xs. appended files (descriptions_of own xs)) (drop_more ids i d h)
+    ∙ ap (λ o. appended files (ok_or o (NoDesc id) >>= λ first. rest >>= λ more. Ok (first ∷ more))) found
 
 pub described_all : (own : List Kept) (ids : List Hash16) (i : ℕ) (files : List Desc) → length ids ≤ i
-    → behind files (descriptions_of own (drop i ids)) ≡ Ok files
+    → appended files (descriptions_of own (drop i ids)) ≡ Ok files
 unfolding descriptions_of
 described_all own ids i files h =
-    ap (λ xs. behind files (descriptions_of own xs)) (drop_all i ids h) ∙ ap Ok (append-nil files)
+    ap (λ xs. appended files (descriptions_of own xs)) (drop_all i ids h) ∙ ap Ok (append-nil files)
 
 -- ---- what is described first
 -- the first that passes does pass
@@ -75,7 +75,7 @@ first_found_satisfies p find (x ∷ xs) t e =
     or_passes p (find x) (first_found (λ y. only_if p (find y)) xs) t e (first_found_satisfies p find xs t)
 
 described_id : (own : List Kept) (id : Hash16) (file : Desc) → file_description_of id own ≡ Some file → file.id ≡ id
-described_id own id file e = same_id file.id id (first_found_satisfies (λ d. bytes_eq d.id.0 id.0) (λ k. description_in k.kind k.body) own file e)
+described_id own id file e = same_id file.id id (first_found_satisfies (λ d. bytes_eq d.id.0 id.0) (λ k. usable_description k.kind k.body) own file e)
 
 described_itself : (own : List Kept) (id : Hash16) (file : Desc) → file_description_of id own ≡ Some file
     → file_description_of file.id own ≡ Some file
@@ -91,19 +91,20 @@ record Step (o : Option Desc) (r : Result (List Desc) SetFault) (files : List De
   all : files ≡ file ∷ more
 
 step_of : (id : Hash16) (o : Option Desc) (r : Result (List Desc) SetFault) (files : List Desc)
-    → (needed o (NoDesc id) >>= λ file. r >>= λ more. Ok (file ∷ more)) ≡ Ok files → Step o r files
+    → (ok_or o (NoDesc id) >>= λ file. r >>= λ more. Ok (file ∷ more)) ≡ Ok files → Step o r files
 step_of id None r files e = absurd (cc)
 step_of id (Some file) (Err fault) files e = absurd (cc)
 step_of id (Some file) (Ok more) files e = record { file = file; more = more; found = refl; others = refl; all = cc }
 
 pub all_described : (own : List Kept) (ids : List Hash16) (files : List Desc) → descriptions_of own ids ≡ Ok files
-    → All (λ file. file_description_of file.id own ≡ Some file) files
+    → AreDescribed own files
 unfolding descriptions_of
 all_described own [] files e =
-    let none : files ≡ [] = cc in All-same (λ file. file_description_of file.id own ≡ Some file) files [] none (All-nil (λ file. file_description_of file.id own ≡ Some file))
-all_described own (id ∷ ids) files e =
-    let s = step_of id (file_description_of id own) (descriptions_of own ids) files e in
     let P : Desc → Type 0 = λ file. file_description_of file.id own ≡ Some file in
+    let none : files ≡ [] = cc in All-same P files [] none (All-nil P)
+all_described own (id ∷ ids) files e =
+    let P : Desc → Type 0 = λ file. file_description_of file.id own ≡ Some file in
+    let s = step_of id (file_description_of id own) (descriptions_of own ids) files e in
     All-same P files (s.file ∷ s.more) s.all (All-cons P s.file s.more (described_itself own id s.file s.found) (all_described own ids s.more s.others))
 
 -- as many as there are IDs
@@ -137,4 +138,4 @@ pub names_checked_same : (files named : List Desc) → names_checked files ≡ O
 names_checked_same files named e = names_same (option_map (λ file. NameTwice file.id) (repeated_name files)) files named e
 
 pub slices_checked_same : (size : ℕ) (files few : List Desc) → slices_checked size files ≡ Ok few → few ≡ files
-slices_checked_same size files few e = checked_same (nat_lt 32768 (slice_total size files)) files few e
+slices_checked_same size files few e = checked_same (nat_lt slice_limit (slice_total size files)) files few e

@@ -1,5 +1,5 @@
 -- The exponents that are seen, as flags.
-use Rattle.std.proofs.Common.{◌≡◌, ℕ, ◌+◌, ◌<◌, ◌≤◌, ◌∙◌, ◌||◌, ◌==◌, ⊎_elim, Bool, true, false, List, [], ◌∷◌, length, get_or, set, map, take, Some, None, not, ◌-◌, is_some, nat_lt, count_by, ap, refl, sym, get_or-set_other, if◌then◌else◌, arith}
+use Rattle.std.proofs.Common.{subst, ◌≡◌, ℕ, ◌+◌, ◌<◌, ◌≤◌, ◌∙◌, ◌||◌, ◌==◌, ⊎_elim, Bool, true, false, List, [], ◌∷◌, length, get_or, set, map, take, Some, None, not, ◌-◌, is_some, nat_lt, count_by, ap, refl, sym, get_or-set_other, if◌then◌else◌, arith}
 use Rattle.std.specs.List.{list_any, range_with_len}
 use Rattle.std.proofs.lemmas.Bool.{cases_eq, eq-eqb, ltb-false, ne_eqb, or_right}
 use Rattle.std.proofs.lemmas.List.FromFn.{length-range_with_len}
@@ -12,28 +12,29 @@ use Rattle.parfield.specs.declared.kind.Kind.TheVariants as kind
 use Rattle.parsalvage.specs.declared.kept.Kept.{Kept}
 use Rattle.parsalvage.specs.declared.kept.KeptBody.{KeptBody}
 use Rattle.parsalvage.specs.Kept.{held_front_of, held_length_of}
+use Rattle.parset.specs.Limits.{exponent_limit}
 use Rattle.parset.specs.Bodies.{exponent_of}
-use Rattle.parset.specs.Choosing.{all_exponents, has_exponent, only_if}
-use Rattle.parset.specs.PacketFields.{exponent_in, usable}
+use Rattle.parset.specs.Choosing.{all_exponents, exponent_count_of, has_exponent, only_if}
+use Rattle.parset.specs.PacketFields.{usable_exponent, usable_fields}
 use Rattle.parset.specs.Reasons.{first_reason, slice_reason}
 use Rattle.parset.specs.declared.bodies.aside.Aside.TheVariants.{OverLimit, WrongLength}
 use Rattle.parset.proofs.ChoosingLaws.{map_take_at}
 
 -- ---- an exponent is below the limit
-usable_below : (wrong over : Bool) (n e : ℕ) → nat_lt 65534 n ≡ over
-    → usable (first_reason ((wrong, WrongLength) ∷ (over, OverLimit) ∷ [])) n ≡ Some e → e < 65535
+usable_below : (wrong over : Bool) (n e : ℕ) → nat_lt exponent_limit n ≡ over
+    → usable_fields (first_reason ((wrong, WrongLength) ∷ (over, OverLimit) ∷ [])) n ≡ Some e → e < exponent_limit + 1
 usable_below true over n e test h = cc
 usable_below false true n e test h = cc
-usable_below false false n e test h = let low = ltb-false 65534 n test in let same : n ≡ e = cc in omega arith
+usable_below false false n e test h = let low = ltb-false exponent_limit n test in let same : n ≡ e = cc in omega arith
 
-exponent_in_below : (size : ℕ) (kind : Kind) (body : KeptBody) (e : ℕ) → exponent_in size kind body ≡ Some e → e < 65535
+usable_exponent_below : (size : ℕ) (kind : Kind) (body : KeptBody) (e : ℕ) → usable_exponent size kind body ≡ Some e → e < exponent_limit + 1
 unfolding slice_reason
-exponent_in_below size kind.RecvSlic body e h =
+usable_exponent_below size kind.RecvSlic body e h =
     usable_below (nat_lt (held_length_of body) 4 || not (held_length_of body - 4 == size)) _ (exponent_of (held_front_of body)) e refl h
-exponent_in_below size _ _ e h = cc
+usable_exponent_below size _ _ e h = cc
 
-pub exponent_below : (size : ℕ) (k : Kept) (e : ℕ) → Some e ≡ exponent_in size k.kind k.body → e < 65535
-exponent_below size k e h = exponent_in_below size k.kind k.body e (sym h)
+pub exponent_below : (size : ℕ) (k : Kept) (e : ℕ) → Some e ≡ usable_exponent size k.kind k.body → e < exponent_limit + 1
+exponent_below size k e h = usable_exponent_below size k.kind k.body e (sym h)
 
 -- ---- one packet more
 any_more : {X Y : Type 0} (p : X → Bool) (g : Y → X) (ys : List Y) (i : ℕ) (y : Y) → i < length ys → y ≡ get_or ys i y
@@ -53,7 +54,7 @@ flag_set flags e q before below so_far =
     (cases_eq q e)
 
 pub seen_more : {Y : Type 0} (size : ℕ) (g : Y → Kept) (ys : List Y) (i : ℕ) (y : Y) (flags : List Bool) (e q : ℕ)
-    → i < length ys → y ≡ get_or ys i y → e < length flags → Some e ≡ exponent_in size (g y).kind (g y).body
+    → i < length ys → y ≡ get_or ys i y → e < length flags → Some e ≡ usable_exponent size (g y).kind (g y).body
     → get_or flags q false ≡ list_any (has_exponent size q) (map g (take i ys))
     → get_or (set flags e true) q false ≡ list_any (has_exponent size q) (map g (take (i + 1) ys))
 seen_more size g ys i y flags e q below item fits some so_far =
@@ -63,7 +64,7 @@ seen_more size g ys i y flags e q below item fits some so_far =
     ∙ sym (any_more (has_exponent size q) g ys i y below item)
 
 pub seen_same : {Y : Type 0} (size : ℕ) (g : Y → Kept) (ys : List Y) (i : ℕ) (y : Y) (q : ℕ) (before : Bool)
-    → i < length ys → y ≡ get_or ys i y → None ≡ exponent_in size (g y).kind (g y).body
+    → i < length ys → y ≡ get_or ys i y → None ≡ usable_exponent size (g y).kind (g y).body
     → before ≡ list_any (has_exponent size q) (map g (take i ys))
     → before ≡ list_any (has_exponent size q) (map g (take (i + 1) ys))
 seen_same size g ys i y q before below item none so_far =
@@ -78,9 +79,15 @@ count_by-map p (x ∷ xs) =
     sum_by-cons (λ b. if b then 1 else 0) (p x) (map p xs) ∙ ap (λ n. (if p x then 1 else 0) + n) (count_by-map p xs)
     ∙ sym (sum_by-cons (λ y. if p y then 1 else 0) x xs)
 
-set_flags-le : (p : ℕ → Bool) (n : ℕ) → count_by (λ b. b) (map p (range_with_len 0 n)) ≤ n
-set_flags-le p n = rw count_by-map (omega (arith, count_by-le-length p (range_with_len 0 n), length-range_with_len 0 n))
+count_below : (p : ℕ → Bool) (n : ℕ) → count_by p (range_with_len 0 n) ≤ n
+count_below p n = omega (arith, count_by-le-length p (range_with_len 0 n), length-range_with_len 0 n)
 
-pub seen-le : (p : ℕ → Bool) → count_by (λ b. b) (map p all_exponents) ≤ 65535
+exponents-le : (p : ℕ → Bool) → count_by p all_exponents ≤ exponent_limit + 1
 unfolding all_exponents
-seen-le p = set_flags-le p 65535
+exponents-le p = count_below p (exponent_limit + 1)
+
+pub seen-le : (p : ℕ → Bool) → count_by (λ b. b) (map p all_exponents) ≤ exponent_limit + 1
+seen-le p = subst (λ n. n ≤ exponent_limit + 1) (sym (count_by-map p all_exponents)) (exponents-le p)
+
+pub exponents_within : (size : ℕ) (own : List Kept) → exponent_count_of size own ≤ exponent_limit + 1
+exponents_within size own = exponents-le (λ e. list_any (has_exponent size e) own)

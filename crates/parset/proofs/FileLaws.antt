@@ -8,14 +8,14 @@ use Rattle.std.specs.Option.{option_map_or}
 use Rattle.std.specs.Ordering.{is_eq}
 use Rattle.std.proofs.lemmas.List.Elements.{All-get_or, All-head, All-more, All-tail, All-take, All-weaker}
 use Rattle.parsalvage.specs.declared.kept.Kept.{Kept}
-use Rattle.parset.specs.Choosing.{asides_of, exponent_count_of, file_description_of, file_sums_of, first_creator_of}
+use Rattle.parset.specs.Choosing.{AreDescribed, asides_of, exponent_count_of, file_description_of, file_sums_of, first_creator_of}
 use Rattle.std.specs.BTreeMap.{BTreeMap, get}
 use Rattle.std.specs.List.{flat_map}
 use Rattle.std.proofs.lemmas.List.{flat_map_more, get_or-take, length-take, map-append, map_more, take-take}
 use Rattle.parfield.specs.HashOrder.{id_cmp}
 use Rattle.parfield.specs.declared.hash16.Hash16.{Hash16}
-use Rattle.parset.specs.RecoverySet.{SetView, set_over}
-use Rattle.parset.specs.Slices.{FileView, HasCounts, set_file_of, slices_of_file, file_view, file_views, slice_count, with_sums}
+use Rattle.parset.specs.RecoverySet.{SetView, set_of_files}
+use Rattle.parset.specs.Slices.{FileView, HasCounts, set_file_of, slices_of_file, file_view, file_views, slice_count, file_view_from}
 use Rattle.parset.specs.declared.bodies.checksums.Ifsc.{Ifsc}
 use Rattle.parset.specs.declared.bodies.description.Desc.{Desc}
 use Rattle.parset.specs.declared.bodies.main_packet.Main.{Main}
@@ -76,28 +76,28 @@ counts_more size counts new files i file h is new-is old = λ lengths same.
 pub views_are : (size : ℕ) (own : List Kept) (counts : BTreeMap Hash16 ℕ) (found : BTreeMap Hash16 Ifsc) (files : List Desc)
     → ((id : Hash16) (count : ℕ) → get id_cmp counts id ≡ Some count → get id_cmp found id ≡ file_sums_of id count own)
     → All (λ file. get id_cmp counts file.id ≡ Some (slice_count size file.length)) files
-    → file_views found files ≡ map (with_sums size own) files
+    → file_views found files ≡ map (file_view_from size own) files
 views_are size own counts found [] sums all = refl
 views_are size own counts found (x ∷ xs) sums all =
     let P : Desc → Type 0 = λ file. get id_cmp counts file.id ≡ Some (slice_count size file.length) in
     ap (λ o. file_view x o ∷ file_views found xs) (sums x.id (slice_count size x.length) (All-head P x xs all))
-    ∙ ap (λ vs. with_sums size own x ∷ vs) (views_are size own counts found xs sums (All-tail P x xs all))
+    ∙ ap (λ vs. file_view_from size own x ∷ vs) (views_are size own counts found xs sums (All-tail P x xs all))
 
 -- the length that the packets tell of a file
 abbrev pub told_length : List Kept → Hash16 → ℕ
 told_length own id = option_map_or (λ d. d.length) (file_description_of id own) 0
 
-pub all_told : (own : List Kept) (files : List Desc) → All (λ file. file_description_of file.id own ≡ Some file) files
+pub all_told : (own : List Kept) (files : List Desc) → AreDescribed own files
     → All (λ file. file.length ≡ told_length own file.id) files
 all_told own files all =
     All-weaker (λ file. file_description_of file.id own ≡ Some file) (λ file. file.length ≡ told_length own file.id)
     (λ file e. sym (ap (λ o. option_map_or (λ (d : Desc). d.length) o 0) e)) files all
 
 -- the parts of a recovery set
-pub set_over_is : (id : Hash16) (main : Main) (own : List Kept) (views : List FileView)
+pub set_of_files_is : (id : Hash16) (main : Main) (own : List Kept) (views : List FileView)
     → (files : List SetFile) (slices : List SetSlice) (others have : ℕ) (creator : Option (List ℕ)) (aside : List SetAside)
     → files ≡ map set_file_of views → slices ≡ flat_map (slices_of_file main.size) views → others ≡ length main.others
     → have ≡ exponent_count_of main.size own → creator ≡ first_creator_of own → aside ≡ asides_of main.size own
     → (let set : SetView = record { id = id; size = main.size; files = files; slices = slices; others = others; have = have; creator = creator; aside = aside } in set)
-    ≡ set_over id main own views
-set_over_is id main own views files slices others have creator aside a b c d e f = cc
+    ≡ set_of_files id main own views
+set_of_files_is id main own views files slices others have creator aside a b c d e f = cc

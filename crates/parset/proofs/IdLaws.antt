@@ -12,7 +12,7 @@ use Rattle.std.proofs.lemmas.List.Sums.{sum_by-cons}
 use Rattle.std.proofs.lemmas.Slice.Eq.{bytes_eq-Decides}
 use Rattle.parfield.specs.HashOrder.{id_cmp, bytes_eq-reversed}
 use Rattle.parfield.specs.declared.hash16.Hash16.{Hash16}
-use Rattle.parset.specs.RecoverySet.{ids_in_order, put_in_order}
+use Rattle.parset.specs.RecoverySet.{ids_in_order, insertion_of}
 
 pub id_cmp_total : IsTotalOrder id_cmp
 id_cmp_total = on_total (λ (id : Hash16). reverse id.0) nat_list_cmp_total
@@ -65,22 +65,22 @@ in_order_from_sorted (x ∷ xs) up = (
 )
 
 -- ---- an ID put in its place
-put_moves : (id : Hash16) (ids : List Hash16) → IsPermutation (id ∷ ids) (put_in_order id ids)
-unfolding put_in_order
+put_moves : (id : Hash16) (ids : List Hash16) → IsPermutation (id ∷ ids) (insertion_of id ids)
+unfolding insertion_of
 put_moves id [] = IsPermutation-refl (id ∷ [])
 put_moves id (x ∷ xs) =
-    elim (is_lt (id_cmp x id)) as (λ b. IsPermutation (id ∷ x ∷ xs) (cond b (x ∷ put_in_order id xs) (id ∷ x ∷ xs))) [
+    elim (is_lt (id_cmp x id)) as (λ b. IsPermutation (id ∷ x ∷ xs) (cond b (x ∷ insertion_of id xs) (id ∷ x ∷ xs))) [
       | true ↦ IsPermutation-trans _ _ _ (IsPermutation-sym _ _ (IsPermutation-middle (x ∷ []) id xs)) (IsPermutation-cons x _ _ (put_moves id xs))
       | false ↦ IsPermutation-refl (id ∷ x ∷ xs)
     ]
 
-put_orders : (id : Hash16) (ids : List Hash16) → InOrder ids → InOrder (put_in_order id ids)
-unfolding put_in_order
+put_orders : (id : Hash16) (ids : List Hash16) → InOrder ids → InOrder (insertion_of id ids)
+unfolding insertion_of
 put_orders id [] h = (All-nil (IsAtMost id), tt)
 put_orders id (x ∷ xs) h =
     ⊎_elim
     (λ below. rw below (
-      All-permutation (IsAtMost x) (id ∷ xs) (put_in_order id xs) (put_moves id xs) (All-cons (IsAtMost x) id xs (not_gt_from_lt _ below) h.0),
+      All-permutation (IsAtMost x) (id ∷ xs) (insertion_of id xs) (put_moves id xs) (All-cons (IsAtMost x) id xs (not_gt_from_lt _ below) h.0),
       put_orders id xs h.1,
     ))
     (λ above. let first : IsAtMost id x = gt_back id x ∙ above in

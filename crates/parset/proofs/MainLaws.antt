@@ -8,11 +8,12 @@ use Rattle.parfield.specs.declared.kind.Kind.{Kind}
 use Rattle.parfield.specs.declared.kind.Kind.TheVariants as kind
 use Rattle.parsalvage.specs.declared.kept.Kept.{Kept}
 use Rattle.parsalvage.specs.declared.kept.KeptBody.{KeptBody}
-use Rattle.parsalvage.specs.declared.kept.KeptBody.TheVariants.{Whole, Front}
+use Rattle.parsalvage.specs.declared.kept.KeptBody.TheVariants.{Whole}
+use Rattle.parset.specs.Limits.{file_limit, slice_size_limit}
 use Rattle.parset.specs.Bodies.{file_count_field, file_ids_of, main_of, slice_size_field}
 use Rattle.parsalvage.specs.Kept.{is_chosen}
-use Rattle.parset.specs.Choosing.{chosen_main_in, first_main_of}
-use Rattle.parset.specs.PacketFields.{main_in, usable}
+use Rattle.parset.specs.Choosing.{chosen_main_of, first_main_of}
+use Rattle.parset.specs.PacketFields.{usable_main, usable_fields}
 use Rattle.parset.specs.Reasons.{first_reason, has_repeat, has_wrong_main_length, has_wrong_size, is_large_main, is_over_limit, main_reason}
 use Rattle.parfield.specs.Md5.{md5}
 use Rattle.parset.specs.declared.bodies.aside.Aside.TheVariants.{IdTwice, OverLimit, SetId, SliceSize, WrongLength}
@@ -38,18 +39,18 @@ fifth a b c d g rest e =
     let two = (line_of a.0 a.1 (first_reason (b ∷ c ∷ d ∷ g ∷ rest)) e).1 in
     (third_and_fourth b c d g rest two).1
 
-size_bounds : (size ids : ℕ) → (size == 0 || not (size % 4 == 0)) ≡ false → (nat_lt 268435456 size || nat_lt 32768 ids) ≡ false
-    → (4 ≤ size) × (size ≤ 268435456) × (ids ≤ 32768) × (size % 4 ≡ 0)
+size_bounds : (size ids : ℕ) → (size == 0 || not (size % 4 == 0)) ≡ false → (nat_lt slice_size_limit size || nat_lt file_limit ids) ≡ false
+    → (4 ≤ size) × (size ≤ slice_size_limit) × (ids ≤ file_limit) × (size % 4 ≡ 0)
 size_bounds size ids h k =
-    let a = or_parts (size == 0) (not (size % 4 == 0)) h in let b = or_parts (nat_lt 268435456 size) (nat_lt 32768 ids) k in
+    let a = or_parts (size == 0) (not (size % 4 == 0)) h in let b = or_parts (nat_lt slice_size_limit size) (nat_lt file_limit ids) k in
     let least : 4 ≤ size = grind (arith, nat_tests) in
-    let small : size ≤ 268435456 = grind (arith, nat_tests) in
-    let few : ids ≤ 32768 = grind (arith, nat_tests) in
+    let small : size ≤ slice_size_limit = grind (arith, nat_tests) in
+    let few : ids ≤ file_limit = grind (arith, nat_tests) in
     let multiple : size % 4 ≡ 0 = grind (arith, nat_tests) in
     (least, small, few, multiple)
 
 body_bounds : (body : List ℕ) (set : Hash16) → main_reason body set ≡ None
-    → (4 ≤ slice_size_field body) × (slice_size_field body ≤ 268435456) × (length (file_ids_of body) ≤ 32768) × (slice_size_field body % 4 ≡ 0)
+    → (4 ≤ slice_size_field body) × (slice_size_field body ≤ slice_size_limit) × (length (file_ids_of body) ≤ file_limit) × (slice_size_field body % 4 ≡ 0)
 unfolding main_reason
 body_bounds body set e =
     let both = third_and_fourth (is_over_limit body, OverLimit) (has_wrong_main_length body, WrongLength) (has_wrong_size body, SliceSize) (is_large_main body, OverLimit)
@@ -66,23 +67,24 @@ body_repeats body set e =
     fifth (is_over_limit body, OverLimit) (has_wrong_main_length body, WrongLength) (has_wrong_size body, SliceSize) (is_large_main body, OverLimit)
     (has_repeat (file_ids_of body), IdTwice) ((not (bytes_eq (md5 body) set.0), SetId) ∷ []) e
 
-usable_bounds : (body : List ℕ) (set : Hash16) (o : Option Aside) (main : Main) → main_reason body set ≡ o → usable o (main_of body) ≡ Some main → IsWithinLimits main
+usable_bounds : (body : List ℕ) (set : Hash16) (o : Option Aside) (main : Main) → main_reason body set ≡ o → usable_fields o (main_of body) ≡ Some main → IsWithinLimits main
 usable_bounds body set (Some why) main r e = absurd (cc)
 usable_bounds body set None main r e =
     let b = body_bounds body set r in
     let is : main_of body ≡ main = cc in
-    subst IsWithinLimits is (b.0, b.1, omega (arith, parts (file_count_field body) (file_ids_of body), b.2), b.3, front_has_no_repeat (file_count_field body) (file_ids_of body) (body_repeats body set r))
+    subst IsWithinLimits is (record {
+      least = b.0;
+      greatest = b.1;
+      multiple = b.3;
+      few = omega (arith, parts (file_count_field body) (file_ids_of body), b.2);
+      once = front_has_no_repeat (file_count_field body) (file_ids_of body) (body_repeats body set r);
+    })
 
-main_bounds : (k : Kind) (b : KeptBody) (set : Hash16) (main : Main) → main_in k b set ≡ Some main → IsWithinLimits main
+main_bounds : (k : Kind) (b : KeptBody) (set : Hash16) (main : Main) → usable_main k b set ≡ Some main → IsWithinLimits main
 main_bounds kind.Main (Whole body) set main e = usable_bounds body set (main_reason body set) main refl e
-main_bounds kind.Main (Front first len) set main e = absurd (cc)
-main_bounds kind.FileDesc b set main e = absurd (cc)
-main_bounds kind.Ifsc b set main e = absurd (cc)
-main_bounds kind.RecvSlic b set main e = absurd (cc)
-main_bounds kind.Creator b set main e = absurd (cc)
-main_bounds (kind.Other field) b set main e = absurd (cc)
+main_bounds _ _ set main e = absurd (cc)
 
-chosen_bounds : (k : Kept) (chosen : Bool) (o : Option Main) (id : Hash16) (main : Main) → main_in k.kind k.body k.set ≡ o
+chosen_bounds : (k : Kept) (chosen : Bool) (o : Option Main) (id : Hash16) (main : Main) → usable_main k.kind k.body k.set ≡ o
     → cond chosen (option_map {U = Hash16 × Main} (λ fields. (k.set, fields)) o) None ≡ Some (id, main) → IsWithinLimits main
 chosen_bounds k false o id main is e = absurd (cc)
 chosen_bounds k true None id main is e = absurd (cc)
@@ -99,6 +101,6 @@ pub first_main_bounds : (choice : Option Hash16) (packets : List Kept) (id : Has
 first_main_bounds choice [] id main e = absurd (cc)
 first_main_bounds choice (k ∷ packets) id main e =
     ⊎_elim
-    (λ here. chosen_bounds k (is_chosen choice k) (main_in k.kind k.body k.set) id main refl here)
+    (λ here. chosen_bounds k (is_chosen choice k) (usable_main k.kind k.body k.set) id main refl here)
     (λ later. first_main_bounds choice packets id main later)
-    (first_is (chosen_main_in choice k) (first_main_of choice packets) (id, main) e)
+    (first_is (chosen_main_of choice k) (first_main_of choice packets) (id, main) e)

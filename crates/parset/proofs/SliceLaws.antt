@@ -1,17 +1,15 @@
 -- The slices of files: how many there are, how long each is, and its number.
-use Rattle.std.proofs.Common.{◌≡◌, ℕ, ◌+◌, ◌-◌, ◌*◌, ◌<◌, ◌≤◌, ◌∙◌, Bool, List, [], ◌∷◌, ◌++◌, arith, length, length-append, map, min, refl, ap, subst, sym, zero-add}
+use Rattle.std.proofs.Common.{◌≡◌, ℕ, ◌+◌, ◌-◌, ◌*◌, ◌<◌, ◌≤◌, ◌∙◌, List, [], ◌∷◌, ◌++◌, arith, length, length-append, map, min, refl, ap, subst, sym, zero-add}
 use Rattle.std.specs.BTreeMap.{BTreeMap}
-use Rattle.std.specs.List.{All, count_by, list_any, flat_map, range_with_len}
+use Rattle.std.specs.List.{All, flat_map, range_with_len}
 use Rattle.std.proofs.lemmas.List.{length-map, map-append}
 use Rattle.std.proofs.lemmas.List.Elements.{All-append, All-nil}
-use Rattle.std.proofs.lemmas.List.FromFn.{get_or-map-range_with_len, length-map-range_with_len, length-range_with_len}
-use Rattle.std.proofs.lemmas.List.Sums.{count_by-le-length, sum_by-cons}
+use Rattle.std.proofs.lemmas.List.FromFn.{get_or-map-range_with_len, length-map-range_with_len}
+use Rattle.std.proofs.lemmas.List.Sums.{sum_by-cons}
 use Rattle.std.proofs.lemmas.Nat.{div-add-mod'}
 use Rattle.std.proofs.lemmas.Simd.{map-map}
 use Rattle.std.proofs.Math.Nat.{mul-le-mul_right}
 use Rattle.parfield.specs.declared.hash16.Hash16.{Hash16}
-use Rattle.parsalvage.specs.declared.kept.Kept.{Kept}
-use Rattle.parset.specs.Choosing.{exponent_count_of, has_exponent, all_exponents}
 use Rattle.parset.specs.Slices.{AreNumbered, FileView, file_views, numbers_of_file, set_file_of, slice_count, slice_of, slice_total, slices_of_file}
 use Rattle.parset.specs.declared.bodies.checksums.Ifsc.{Ifsc}
 use Rattle.parset.specs.declared.bodies.description.Desc.{Desc}
@@ -61,14 +59,6 @@ slices_within size h found [] = All-nil (HasLength size)
 slices_within size h found (file ∷ files) =
     All-append (HasLength size) (slices_of_file size (viewed found file)) (flat_map (slices_of_file size) (file_views found files))
     (slices_of_file_within size h (viewed found file)) (slices_within size h found files)
-
--- ---- how many exponents there are
-count_below : (p : ℕ → Bool) (n : ℕ) → count_by p (range_with_len 0 n) ≤ n
-count_below p n = omega (arith, count_by-le-length p (range_with_len 0 n), length-range_with_len 0 n)
-
-pub exponents_within : (size : ℕ) (own : List Kept) → exponent_count_of size own ≤ 65535
-unfolding all_exponents
-exponents_within size own = count_below (λ e. list_any (has_exponent size e) own) 65535
 
 -- ---- slices are numbered file by file
 abbrev number_of : SetSlice → Hash16 × ℕ

@@ -1,14 +1,15 @@
 -- What the packets of a recovery set give, each thing by its first usable packet.
-use Rattle.std.specs.Prelude.{ℕ, ◌==◌, ◌&&◌, Bool, not, List, [], ◌∷◌, length, filter, count_by}
-use Rattle.std.specs.Prelude.{Option, Some, None, is_some, option_map, if◌then◌else◌}
-use Rattle.std.specs.List.{filter_map, list_any, range_with_len}
+use Rattle.std.specs.Prelude.{ℕ, ◌+◌, ◌==◌, ◌&&◌, Bool, not, List, [], ◌∷◌, length, filter}
+use Rattle.std.specs.Prelude.{◌≡◌, count_by, Option, Some, None, is_some, option_map, if◌then◌else◌}
+use Rattle.std.specs.List.{All, filter_map, list_any, range_with_len}
 use Rattle.std.specs.Option.{option_or}
 use Rattle.std.specs.Str.{bytes_eq}
 use Rattle.parfield.specs.declared.hash16.Hash16.{Hash16}
 use Rattle.parsalvage.specs.Kept.{is_chosen}
 use Rattle.parsalvage.specs.declared.kept.Kept.{Kept}
-use Rattle.parset.specs.PacketFields.{main_in, description_in, checksums_in, exponent_in}
-use Rattle.parset.specs.PacketFields.{creator_text_in, reason_in}
+use Rattle.parset.specs.Limits.{exponent_limit}
+use Rattle.parset.specs.PacketFields.{usable_main, usable_description, usable_checksums}
+use Rattle.parset.specs.PacketFields.{usable_exponent, usable_creator_text, reason_of}
 use Rattle.parset.specs.declared.bodies.checksums.Ifsc.{Ifsc}
 use Rattle.parset.specs.declared.bodies.description.Desc.{Desc}
 use Rattle.parset.specs.declared.bodies.main_packet.Main.{Main}
@@ -29,34 +30,40 @@ abbrev pub set_packets_of : Hash16 → List Kept → List Kept
 set_packets_of set packets = filter (λ k. bytes_eq k.set.0 set.0) packets
 
 -- the set ID and the fields of the Main packet, where it is asked for
-abbrev pub chosen_main_in : Option Hash16 → Kept → Option (Hash16 × Main)
-chosen_main_in choice k =
-    if is_chosen choice k then option_map (λ fields. (k.set, fields)) (main_in k.kind k.body k.set)
+abbrev pub chosen_main_of : Option Hash16 → Kept → Option (Hash16 × Main)
+chosen_main_of choice k =
+    if is_chosen choice k
+    then option_map (λ fields. (k.set, fields)) (usable_main k.kind k.body k.set)
     else None
 
 -- the set ID and the fields of the first Main packet that is asked for and usable
 abbrev pub first_main_of : Option Hash16 → List Kept → Option (Hash16 × Main)
-first_main_of choice packets = first_found (chosen_main_in choice) packets
+first_main_of choice packets = first_found (chosen_main_of choice) packets
 
 -- the first description of a file
 abbrev pub file_description_of : Hash16 → List Kept → Option Desc
 file_description_of id packets =
-    first_found (λ k. only_if (λ d. bytes_eq d.id.0 id.0) (description_in k.kind k.body)) packets
+    first_found
+    (λ k. only_if (λ d. bytes_eq d.id.0 id.0) (usable_description k.kind k.body)) packets
+
+-- each of these files is what the packets describe first at its ID
+abbrev pub AreDescribed : List Kept → List Desc → Type 0
+AreDescribed packets files = All (λ file. file_description_of file.id packets ≡ Some file) files
 
 -- the first sums of a file that are as many as its slices
 abbrev pub file_sums_of : Hash16 → ℕ → List Kept → Option Ifsc
 file_sums_of id count packets =
     first_found (λ k. only_if (λ c. bytes_eq c.id.0 id.0 && length c.sums == count)
-    (checksums_in k.kind k.body)) packets
+    (usable_checksums k.kind k.body)) packets
 
 -- a RecvSlic packet has this exponent
 abbrev pub has_exponent : ℕ → ℕ → Kept → Bool
 has_exponent size exponent k =
-    is_some (only_if (λ e. e == exponent) (exponent_in size k.kind k.body))
+    is_some (only_if (λ e. e == exponent) (usable_exponent size k.kind k.body))
 
--- the exponents that there can be: 0 to 65,534
+-- the exponents that there can be, from 0 on
 unfoldable pub all_exponents : List ℕ
-all_exponents = range_with_len 0 65535
+all_exponents = range_with_len 0 (exponent_limit + 1)
 
 -- how many distinct exponents the usable RecvSlic packets have
 abbrev pub exponent_count_of : ℕ → List Kept → ℕ
@@ -64,19 +71,19 @@ exponent_count_of size packets =
     count_by (λ e. list_any (has_exponent size e) packets) all_exponents
 
 -- the text, where it is not empty
-abbrev pub creator_in : Kept → Option (List ℕ)
-creator_in k = only_if (λ text. not (length text == 0)) (creator_text_in k.kind k.body)
+abbrev pub creator_of : Kept → Option (List ℕ)
+creator_of k = only_if (λ text. not (length text == 0)) (usable_creator_text k.kind k.body)
 
 -- the first text that is not empty
 abbrev pub first_creator_of : List Kept → Option (List ℕ)
-first_creator_of packets = first_found creator_in packets
+first_creator_of packets = first_found creator_of packets
 
 -- the packet with the reason why it is put aside
-abbrev pub aside_in : ℕ → Kept → Option SetAside
-aside_in size k =
+abbrev pub aside_of : ℕ → Kept → Option SetAside
+aside_of size k =
     option_map (λ why. record { file = k.file; at = k.at; reason = why })
-    (reason_in size k.kind k.body k.set)
+    (reason_of size k.kind k.body k.set)
 
 -- the packets that are put aside
 abbrev pub asides_of : ℕ → List Kept → List SetAside
-asides_of size packets = filter_map (aside_in size) packets
+asides_of size packets = filter_map (aside_of size) packets

@@ -1,5 +1,6 @@
 pub mod Bodies
 pub mod BodyAnswers
+pub mod Limits
 pub mod Reasons
 pub mod Choosing
 pub mod PacketFields

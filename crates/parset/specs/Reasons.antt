@@ -1,6 +1,6 @@
 -- Why a packet body is not usable: the limits of this implementation, and what PAR2 2.0 says of
 -- each body.
-use Rattle.std.specs.Prelude.{ℕ, ◌-◌, ◌%◌, ◌^◌, ◌==◌, ◌||◌, not, nat_lt, nat_le, Bool, false}
+use Rattle.std.specs.Prelude.{ℕ, ◌-◌, ◌%◌, ◌==◌, ◌||◌, not, nat_lt, nat_le, Bool, false}
 use Rattle.std.specs.Prelude.{Option, Some, None, List, [], ◌∷◌, ◌++◌, length, if◌then◌else◌}
 use Rattle.std.specs.List.{list_any}
 use Rattle.std.specs.Str.{bytes_eq}
@@ -8,9 +8,12 @@ use Rattle.md5.specs.Md5.{md5}
 use Rattle.parfield.specs.declared.hash16.Hash16.{Hash16}
 use Rattle.parset.specs.Bodies.{slice_size_field, file_count_field, file_ids_of, file_length_field}
 use Rattle.parset.specs.Bodies.{name_of, pairs_of, exponent_of}
+use Rattle.parsalvage.specs.Kept.{body_limit}
+use Rattle.parset.specs.Limits.{slice_size_limit, file_limit, slice_limit, name_limit}
+use Rattle.parset.specs.Limits.{file_length_limit, exponent_limit}
 use Rattle.parset.specs.declared.bodies.aside.Aside.{Aside}
-use Rattle.parset.specs.declared.bodies.aside.Aside.TheVariants.{WrongLength, SliceSize, IdTwice, SetId}
-use Rattle.parset.specs.declared.bodies.aside.Aside.TheVariants.{Name, OverLimit}
+use Rattle.parset.specs.declared.bodies.aside.Aside.TheVariants.{WrongLength, SliceSize}
+use Rattle.parset.specs.declared.bodies.aside.Aside.TheVariants.{IdTwice, SetId, Name, OverLimit}
 
 -- the number of a reason; 6 is none
 abbrev pub reason_number : Aside → ℕ
@@ -28,7 +31,7 @@ first_reason (line ∷ lines) = if line.0 then Some line.1 else first_reason lin
 
 -- a body of more bytes than are kept
 abbrev pub is_over_limit : List ℕ → Bool
-is_over_limit body = nat_lt 1048576 (length body)
+is_over_limit body = nat_lt body_limit (length body)
 
 -- the bytes are too few for the fields and the IDs, or do not end with an ID
 abbrev pub has_wrong_main_length : List ℕ → Bool
@@ -43,9 +46,10 @@ has_wrong_size body = slice_size_field body == 0 || not (slice_size_field body %
 -- the slices are too large, or the IDs too many
 abbrev pub is_large_main : List ℕ → Bool
 is_large_main body =
-    nat_lt 268435456 (slice_size_field body) || nat_lt 32768 (length (file_ids_of body))
+    nat_lt slice_size_limit (slice_size_field body)
+    || nat_lt file_limit (length (file_ids_of body))
 
--- some ID stands again behind itself
+-- some ID stands again after itself
 unfoldable pub has_repeat : List Hash16 → Bool
 has_repeat [] = false
 has_repeat (x ∷ xs) = list_any (λ y. bytes_eq x.0 y.0) xs || has_repeat xs
@@ -70,10 +74,10 @@ main_reason body set = first_reason (early_main_lines body ++ (
     ∷ (not (bytes_eq (md5 body) set.0), SetId)
     ∷ []))
 
--- the name is empty, has more than 4,096 bytes, or has a zero byte inside
+-- the name is empty, has more bytes than a name may have, or has a zero byte inside
 unfoldable pub is_wrong_name : List ℕ → Bool
 is_wrong_name name =
-    length name == 0 || (nat_lt 4096 (length name) || list_any (λ b. b == 0) name)
+    length name == 0 || (nat_lt name_limit (length name) || list_any (λ b. b == 0) name)
 
 -- why a File Description body is not usable
 unfoldable pub description_reason : List ℕ → Option Aside
@@ -81,7 +85,7 @@ description_reason body = first_reason (
     (is_over_limit body, OverLimit)
     ∷ (nat_lt (length body) 56 || not (length body % 4 == 0), WrongLength)
     ∷ (is_wrong_name (name_of body), Name)
-    ∷ (nat_le (2 ^ 63) (file_length_field body), OverLimit)
+    ∷ (nat_le file_length_limit (file_length_field body), OverLimit)
     ∷ [])
 
 -- why an Input File Slice Checksum body is not usable
@@ -89,14 +93,14 @@ unfoldable pub checksums_reason : List ℕ → Option Aside
 checksums_reason body = first_reason (
     (is_over_limit body, OverLimit)
     ∷ (nat_lt (length body) 16 || not ((length body - 16) % 20 == 0), WrongLength)
-    ∷ (nat_lt 32768 (length (pairs_of body)), OverLimit)
+    ∷ (nat_lt slice_limit (length (pairs_of body)), OverLimit)
     ∷ [])
 
 -- why a Recovery Slice body is not usable, by its first four bytes, its length and the slice size
 unfoldable pub slice_reason : List ℕ → ℕ → ℕ → Option Aside
 slice_reason first len size = first_reason (
     (nat_lt len 4 || not (len - 4 == size), WrongLength)
-    ∷ (nat_lt 65534 (exponent_of first), OverLimit)
+    ∷ (nat_lt exponent_limit (exponent_of first), OverLimit)
     ∷ [])
 
 -- why a Creator body is not usable

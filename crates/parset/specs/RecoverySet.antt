@@ -1,18 +1,22 @@
 -- The recovery set of kept packets (PAR2 2.0: Main, File Description and Input File Slice Checksum
 -- packet).
-use Rattle.std.specs.Prelude.{option_map, ℕ, List, [], ◌∷◌, length, Option, Some, None}
-use Rattle.std.specs.Prelude.{if◌then◌else◌, ◌≡◌, map, Result, Ok, Err, ⊤, nat_lt}
-use Rattle.std.specs.List.{flat_map}
+use Rattle.std.specs.Prelude.{option_map, ℕ, List, [], ◌∷◌, length, Option}
+use Rattle.std.specs.Prelude.{if◌then◌else◌, ◌≡◌, ◌+◌, ◌≤◌, map, Result, Ok, Err, ⊤, nat_lt}
+use Rattle.std.specs.List.{IsDistinct, flat_map}
+use Rattle.std.specs.List.Sorted.{IsStrictlySortedBy}
+use Rattle.std.specs.Option.{ok_or}
 use Rattle.std.specs.Ordering.{is_lt}
+use Rattle.std.specs.Str.{bytes_eq}
 use Rattle.parfield.specs.Chain.{◌>>=◌}
 use Rattle.parfield.specs.HashOrder.{id_cmp}
 use Rattle.parfield.specs.declared.hash16.Hash16.{Hash16}
 use Rattle.parsalvage.specs.declared.kept.Kept.{Kept}
-use Rattle.parset.specs.Choosing.{set_packets_of, first_main_of, file_description_of}
+use Rattle.parset.specs.Choosing.{set_packets_of, first_main_of, file_description_of, AreDescribed}
 use Rattle.parset.specs.Choosing.{exponent_count_of, first_creator_of, asides_of}
 use Rattle.parset.specs.BodyAnswers.{answer_of}
+use Rattle.parset.specs.Limits.{file_limit, slice_limit}
 use Rattle.parset.specs.SharedNames.{repeated_name}
-use Rattle.parset.specs.Slices.{slice_total, FileView, with_sums, set_file_of, slices_of_file}
+use Rattle.parset.specs.Slices.{slice_total, FileView, file_view_from, set_file_of, slices_of_file}
 use Rattle.parset.specs.declared.bodies.description.Desc.{Desc}
 use Rattle.parset.specs.declared.bodies.main_packet.Main.{Main}
 use Rattle.parset.specs.declared.recovery_set.SetAside.{SetAside}
@@ -22,26 +26,21 @@ use Rattle.parset.specs.declared.recovery_set.SetFault.TheVariants.{TooManySlice
 use Rattle.parset.specs.declared.recovery_set.SetFile.{SetFile}
 use Rattle.parset.specs.declared.recovery_set.SetSlice.{SetSlice}
 
--- what is there, or else this fault
-abbrev pub needed : {T : Type 0} → Option T → SetFault → Result T SetFault
-needed (Some x) fault = Ok x
-needed None fault = Err fault
-
 -- an ID put where it belongs among IDs in order
-unfoldable pub put_in_order : Hash16 → List Hash16 → List Hash16
-put_in_order id [] = id ∷ []
-put_in_order id (x ∷ xs) = if is_lt (id_cmp x id) then x ∷ put_in_order id xs else id ∷ x ∷ xs
+unfoldable pub insertion_of : Hash16 → List Hash16 → List Hash16
+insertion_of id [] = id ∷ []
+insertion_of id (x ∷ xs) = if is_lt (id_cmp x id) then x ∷ insertion_of id xs else id ∷ x ∷ xs
 
 -- the IDs in their order
 unfoldable pub ids_in_order : List Hash16 → List Hash16
 ids_in_order [] = []
-ids_in_order (id ∷ ids) = put_in_order id (ids_in_order ids)
+ids_in_order (id ∷ ids) = insertion_of id (ids_in_order ids)
 
 -- the descriptions of the files, or the first ID that has none
 unfoldable pub descriptions_of : List Kept → List Hash16 → Result (List Desc) SetFault
 descriptions_of packets [] = Ok []
 descriptions_of packets (id ∷ ids) = do
-  found ← needed (file_description_of id packets) (NoDesc id)
+  found ← ok_or (file_description_of id packets) (NoDesc id)
   others ← descriptions_of packets ids
   Ok (found ∷ others)
 
@@ -61,14 +60,22 @@ abbrev pub names_checked : List Desc → Result (List Desc) SetFault
 names_checked files =
     answer_of (option_map (λ file. NameTwice file.id) (repeated_name files)) files
 
--- there are at most 32,768 slices
+-- the files, where they have no more slices than a recovery set may have
 abbrev pub slices_checked : ℕ → List Desc → Result (List Desc) SetFault
 slices_checked size files =
-    if nat_lt 32768 (slice_total size files) then Err TooManySlices else Ok files
+    if nat_lt slice_limit (slice_total size files) then Err TooManySlices else Ok files
 
--- the set of its files and its packets
-abbrev pub set_over : Hash16 → Main → List Kept → List FileView → SetView
-set_over id main packets files = record {
+-- the files of a set of this Main packet, as the packets of the set describe them
+pub record AreSetFiles (main : Main) (packets : List Kept) (files : List Desc) : Type 0 where
+  pub few : length files + length main.others ≤ file_limit
+  pub few_slices : slice_total main.size files ≤ slice_limit
+  pub described : AreDescribed packets files
+  pub names : IsDistinct bytes_eq (map (λ file. file.name) files)
+  pub rising : IsStrictlySortedBy id_cmp (map (λ file. file.id) files)
+
+-- the set of these files and of the packets of the set
+abbrev pub set_of_files : Hash16 → Main → List Kept → List FileView → SetView
+set_of_files id main packets files = record {
   id = id;
   size = main.size;
   files = map set_file_of files;
@@ -80,24 +87,20 @@ set_over id main packets files = record {
 }
 
 -- the set of this Main packet among the packets of the set
-unfoldable pub set_by : Hash16 → Main → List Kept → Result SetView SetFault
-set_by id main packets = do
+unfoldable pub set_of_main : Hash16 → Main → List Kept → Result SetView SetFault
+set_of_main id main packets = do
   described ← descriptions_of packets (ids_in_order main.recovery)
   named ← names_checked described
   files ← slices_checked main.size named
-  Ok (set_over id main packets (map (with_sums main.size packets) files))
+  Ok (set_of_files id main packets (map (file_view_from main.size packets) files))
 
 -- the recovery set of packets, or the first cause why there is none
 unfoldable pub set_of : List Kept → Option Hash16 → Result SetView SetFault
 set_of packets choice = do
-  main ← needed (first_main_of choice packets) NoMain
-  set_by main.0 main.1 (set_packets_of main.0 packets)
+  main ← ok_or (first_main_of choice packets) NoMain
+  set_of_main main.0 main.1 (set_packets_of main.0 packets)
 
 -- the answer is this set or this cause, or want of memory
 abbrev pub AnswersSet : {T : Type 0} → Result T SetFault → Result T SetFault → Type 0
-AnswersSet made (Ok set) = made ≡ Ok set
 AnswersSet made (Err Memory) = ⊤
-AnswersSet made (Err NoMain) = made ≡ Err NoMain
-AnswersSet made (Err (NoDesc id)) = made ≡ Err (NoDesc id)
-AnswersSet made (Err (NameTwice id)) = made ≡ Err (NameTwice id)
-AnswersSet made (Err TooManySlices) = made ≡ Err TooManySlices
+AnswersSet made answer = made ≡ answer

@@ -1,22 +1,29 @@
 -- The limits that the parts of a recovery set keep.
-use Rattle.std.specs.Prelude.{ℕ, List, length, ◌≡◌, ◌<◌, ◌≤◌, ◌+◌, ◌%◌, ◌^◌, false}
+use Rattle.std.specs.Prelude.{ℕ, List, length, ◌≡◌, ◌<◌, ◌≤◌, ◌+◌, ◌%◌, false}
 use Rattle.std.specs.List.{All}
+use Rattle.parsalvage.specs.Kept.{body_limit}
+use Rattle.parset.specs.Limits.{slice_size_limit, file_limit, name_limit}
+use Rattle.parset.specs.Limits.{file_length_limit}
 use Rattle.parset.specs.Reasons.{has_repeat}
 use Rattle.parset.specs.declared.bodies.main_packet.Main.{Main}
 
--- the slice size and the files of a usable Main packet are within the limits, and no file is there
--- twice
-abbrev pub IsWithinLimits : Main → Type 0
-IsWithinLimits main =
-    (4 ≤ main.size) × (main.size ≤ 268435456)
-    × (length main.recovery + length main.others ≤ 32768) × (main.size % 4 ≡ 0)
-    × (has_repeat main.recovery ≡ false)
+-- the slice size and the files of a usable Main packet are within the limits
+pub record IsWithinLimits (main : Main) : Type 0 where
+  pub least : 4 ≤ main.size
+  pub greatest : main.size ≤ slice_size_limit
+  pub multiple : main.size % 4 ≡ 0
+  pub few : length main.recovery + length main.others ≤ file_limit
+  -- no file is there twice
+  pub once : has_repeat main.recovery ≡ false
 
--- a file has less than 2⁶³ bytes, and a name of 1 to 4,096 bytes that are not 0
-abbrev pub HasFileLimits : ℕ → List ℕ → Type 0
-HasFileLimits len name =
-    (len < 2 ^ 63) × (0 < length name) × (length name ≤ 4096) × All (λ b. 0 < b) name
+-- a file is short enough, and has a name of few bytes that are not 0
+pub record HasFileLimits (len : ℕ) (name : List ℕ) : Type 0 where
+  pub short : len < file_length_limit
+  pub named : 0 < length name
+  pub name_fits : length name ≤ name_limit
+  pub no_zero : All (λ b. 0 < b) name
 
--- a text is not empty, and has at most 1,048,576 bytes
-abbrev pub HasTextLimits : List ℕ → Type 0
-HasTextLimits text = (0 < length text) × (length text ≤ 1048576)
+-- a text is not empty, and has no more bytes than a body that is kept whole
+pub record HasTextLimits (text : List ℕ) : Type 0 where
+  pub some : 0 < length text
+  pub fits : length text ≤ body_limit

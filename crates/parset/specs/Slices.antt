@@ -42,8 +42,8 @@ abbrev pub file_views : BTreeMap Hash16 Ifsc → List Desc → List FileView
 file_views found files = map (λ file. file_view file (get id_cmp found file.id)) files
 
 -- a file with the sums that packets give it
-abbrev pub with_sums : ℕ → List Kept → Desc → FileView
-with_sums size packets file =
+abbrev pub file_view_from : ℕ → List Kept → Desc → FileView
+file_view_from size packets file =
     file_view file (file_sums_of file.id (slice_count size file.length) packets)
 
 -- a file as a recovery set shows it

@@ -1,18 +1,20 @@
 //! Bodies of PAR2 packets: the fields of each, or the first reason why it is not usable.
 //!
-//! From below: `aside` has the reasons, `fields` reads the numbers and hashes of a body. Above them
-//! stands a module for each kind of body, with its reader and the reason that comes first:
-//! `main_packet`, `description`, `checksums`, `recovery_slice` and `creator`.
+//! From below: `aside` has the reasons, and `body_bytes` tests the length of a body, reads numbers
+//! and hashes from it, copies bytes and trims zero bytes at their end. Above them stands a module
+//! for each kind of body, with its reader and the reason that comes first: `main_packet`,
+//! `description`, `checksums`, `recovery_slice` and `creator`.
 
 mod aside;
+mod body_bytes;
 mod checksums;
 mod creator;
 mod description;
-mod fields;
 mod main_packet;
 mod recovery_slice;
 
 pub use crate::bodies::aside::{Aside, BodyFault};
+pub(crate) use crate::bodies::body_bytes::copied;
 pub(crate) use crate::bodies::checksums::{SLICES_LIMIT, checksums_reason};
 pub use crate::bodies::checksums::{Ifsc, ifsc_body};
 pub use crate::bodies::creator::creator_body;

@@ -1,12 +1,9 @@
-ghost use Rattle.std.specs.Prelude.{◌≡◌, ◌+◌, ◌<◌, ◌≤◌, length, map, IfOk, Some};
-ghost use Rattle.std.specs.List.{All, IsDistinct};
-ghost use Rattle.std.specs.List.Sorted.{IsStrictlySortedBy};
-ghost use Rattle.std.specs.Str.{bytes_eq};
-ghost use Rattle.parfield.specs.HashOrder.{id_cmp};
-ghost use Rattle.parset.specs.Choosing.{file_description_of};
-ghost use Rattle.parset.specs.RecoverySet.{AnswersSet, set_by, set_of, set_over};
+ghost use Rattle.std.specs.Prelude.{◌≡◌, ◌<◌, map, IfOk};
+ghost use Rattle.parset.specs.Choosing.{AreDescribed};
+ghost use Rattle.parset.specs.RecoverySet.{AnswersSet, AreSetFiles};
+ghost use Rattle.parset.specs.RecoverySet.{set_of, set_of_files, set_of_main};
 ghost use Rattle.parset.specs.SetLimits.{IsWithinLimits};
-ghost use Rattle.parset.specs.Slices.{file_views, slice_total, with_sums};
+ghost use Rattle.parset.specs.Slices.{file_view_from, file_views};
 
 use crate::bodies::{Desc, Ifsc, Main};
 use crate::choosing::{asides, checksums, creator, exponent_count, first_main, set_packets};
@@ -31,26 +28,31 @@ pub fn build(
     match first_main(alloc, packets, choice)? {
         Some((set, main)) => {
             let own = set_packets(alloc, packets, set)?;
-            set_by(alloc, set, &main, own.as_slice())
+            set_of_main(alloc, set, &main, own.as_slice())
         }
         None => Err(SetFault::NoMain),
     }
 }
 
 // The set of this Main packet among the packets of the set.
-fn set_by(alloc: Global, id: Hash16, main: &Main, own: &[&Kept]) -> Result<RecoverySet, SetFault>
+fn set_of_main(
+    alloc: Global,
+    id: Hash16,
+    main: &Main,
+    own: &[&Kept],
+) -> Result<RecoverySet, SetFault>
     requires { IsWithinLimits main.now }
-    ensures { AnswersSet (set_by id main.now (map (λ k. k.now) own.now)) result }
+    ensures { AnswersSet (set_of_main id main.now (map (λ k. k.now) own.now)) result }
 {
     let ids = in_order(alloc, main.recovery.as_slice())?;
     let described = described(alloc, own, ids.as_slice())?;
     let named = names_checked(alloc, described)?;
     let files = slices_checked(main.size, named)?;
-    Ok(set_over(alloc, id, main, own, files.as_slice())?)
+    Ok(set_of_files(alloc, id, main, own, files.as_slice())?)
 }
 
-// The set of these files, which are described as the packets of the set describe them first.
-fn set_over(
+// The set of these files.
+fn set_of_files(
     alloc: Global,
     id: Hash16,
     main: &Main,
@@ -58,14 +60,9 @@ fn set_over(
     files: &[Desc],
 ) -> Result<RecoverySet, AllocError>
     requires limits { IsWithinLimits main.now }
-    requires few { length files.now + length main.now.others ≤ 32768 }
-    requires few_slices { slice_total main.now.size files.now ≤ 32768 }
-    requires first { All (λ file. file_description_of file.id (map (λ k. k.now) own.now)
-        ≡ Some file) files.now }
-    requires names { IsDistinct bytes_eq (map (λ file. file.name) files.now) }
-    requires rising { IsStrictlySortedBy id_cmp (map (λ file. file.id) files.now) }
-    ensures { IfOk result (λ set. set ≡ set_over id main.now (map (λ k. k.now) own.now)
-        (map (with_sums main.now.size (map (λ k. k.now) own.now)) files.now)) }
+    requires files { AreSetFiles main.now (map (λ k. k.now) own.now) files.now }
+    ensures { IfOk result (λ set. set ≡ set_of_files id main.now (map (λ k. k.now) own.now)
+        (map (file_view_from main.now.size (map (λ k. k.now) own.now)) files.now)) }
 {
     let sums = sums_of(alloc, main.size, own, files)?;
     Ok(RecoverySet {
@@ -88,10 +85,9 @@ fn sums_of(
     files: &[Desc],
 ) -> Result<BTreeMap<Hash16, Ifsc>, AllocError>
     requires size { 0 < size }
-    requires first { All (λ file. file_description_of file.id (map (λ k. k.now) own.now)
-        ≡ Some file) files.now }
+    requires described { AreDescribed (map (λ k. k.now) own.now) files.now }
     ensures { IfOk result (λ sums. file_views sums files.now
-        ≡ map (with_sums size (map (λ k. k.now) own.now)) files.now) }
+        ≡ map (file_view_from size (map (λ k. k.now) own.now)) files.now) }
 {
     let counts = slice_counts(alloc, size, files)?;
     checksums(alloc, own, &counts)

@@ -5,7 +5,7 @@ ghost use Rattle.std.specs.Option.{option_or};
 ghost use Rattle.std.specs.Str.{bytes_eq};
 ghost use Rattle.std.specs.BTreeMap.{get};
 ghost use Rattle.parfield.specs.HashOrder.{id_cmp};
-ghost use Rattle.parset.specs.Choosing.{all_exponents, chosen_main_in, has_exponent, only_if};
+ghost use Rattle.parset.specs.Choosing.{all_exponents, chosen_main_of, has_exponent, only_if};
 ghost use Rattle.parset.specs.Choosing.{first_main_of, set_packets_of, file_description_of};
 ghost use Rattle.parset.specs.Choosing.{file_sums_of, exponent_count_of, first_creator_of};
 ghost use Rattle.parset.specs.Choosing.{asides_of};
@@ -125,7 +125,7 @@ fn read_chosen_main(
     kept: &Kept,
     choice: Option<Hash16>,
 ) -> Result<Option<(Hash16, Main)>, AllocError>
-    ensures { IfOk result (λ found. found ≡ chosen_main_in choice kept.now) }
+    ensures { IfOk result (λ found. found ≡ chosen_main_of choice kept.now) }
 {
     if !kept.is_chosen(choice) {
         return Ok(None);

@@ -2,7 +2,7 @@ ghost use Rattle.std.specs.Prelude.{◌≡◌, [], ◌∷◌, ◌++◌, map, IfO
 ghost use Rattle.parset.specs.RecoverySet.{AnswersSet, descriptions_of, names_checked};
 ghost use Rattle.parset.specs.SharedNames.{repeated_name};
 
-use crate::bodies::Desc;
+use crate::bodies::{Desc, copied};
 use crate::choosing::descriptions;
 use crate::recovery_set::SetFault;
 use parfield::{Hash16, Sequence};
@@ -42,7 +42,7 @@ fn description_copy(alloc: Global, file: &Desc) -> Result<Desc, AllocError>
         whole: file.whole,
         front: file.front,
         length: file.length,
-        name: Sequence::from_vec(Vec::from_slice(alloc, file.name.as_slice())?),
+        name: copied(alloc, file.name.as_slice())?,
     })
 }
 

@@ -1,8 +1,9 @@
 ghost use Rattle.std.specs.Prelude.{◌≡◌, true, Option, None, is_some, IfErr, IfOk};
 ghost use Rattle.parfield.specs.declared.kind.Kind.TheVariants as kind;
-ghost use Rattle.parset.specs.Choosing.{aside_in, creator_in};
-ghost use Rattle.parset.specs.PacketFields.{checksums_in, creator_text_in, description_in};
-ghost use Rattle.parset.specs.PacketFields.{exponent_in, main_in, reason_in, usable};
+ghost use Rattle.parset.specs.Choosing.{aside_of, creator_of};
+ghost use Rattle.parset.specs.PacketFields.{usable_checksums, usable_creator_text};
+ghost use Rattle.parset.specs.PacketFields.{usable_description};
+ghost use Rattle.parset.specs.PacketFields.{usable_exponent, usable_main, reason_of, usable_fields};
 ghost use Rattle.parset.specs.BodyAnswers.{AnswersBodyAfter};
 ghost use Rattle.parset.specs.declared.bodies.aside.Aside.{Aside};
 
@@ -17,47 +18,51 @@ use std::alloc::{AllocError, Global};
 
 /// The fields of a usable Main packet.
 pub fn read_main(alloc: Global, kept: &Kept) -> Result<Option<Main>, AllocError>
-    ensures { IfOk result (λ found. found ≡ main_in kept.now.kind kept.now.body kept.now.set) }
+    ensures { IfOk result (λ found. found ≡ usable_main kept.now.kind kept.now.body kept.now.set) }
 {
     match (kept.kind, &kept.body) {
-        (Kind::Main, KeptBody::Whole(body)) => usable(main_body(alloc, body.as_slice(), kept.set)),
+        (Kind::Main, KeptBody::Whole(body)) => usable_fields(main_body(
+            alloc,
+            body.as_slice(),
+            kept.set,
+        )),
         _ => Ok(None),
     }
 }
 
 /// The fields of a usable FileDesc packet.
 pub fn read_description(alloc: Global, kept: &Kept) -> Result<Option<Desc>, AllocError>
-    ensures found { IfOk result (λ found. found ≡ description_in kept.now.kind kept.now.body) }
+    ensures found { IfOk result (λ found. found ≡ usable_description kept.now.kind kept.now.body) }
     ensures memory { IfErr result (λ _.
-        is_some (description_in kept.now.kind kept.now.body) ≡ true) }
+        is_some (usable_description kept.now.kind kept.now.body) ≡ true) }
 {
     match (kept.kind, &kept.body) {
-        (Kind::FileDesc, KeptBody::Whole(body)) => usable(desc_body(alloc, body.as_slice())),
+        (Kind::FileDesc, KeptBody::Whole(body)) => usable_fields(desc_body(alloc, body.as_slice())),
         _ => Ok(None),
     }
 }
 
 /// The fields of a usable IFSC packet.
 pub fn read_checksums(alloc: Global, kept: &Kept) -> Result<Option<Ifsc>, AllocError>
-    ensures found { IfOk result (λ found. found ≡ checksums_in kept.now.kind kept.now.body) }
+    ensures found { IfOk result (λ found. found ≡ usable_checksums kept.now.kind kept.now.body) }
     ensures memory { IfErr result (λ _.
-        is_some (checksums_in kept.now.kind kept.now.body) ≡ true) }
+        is_some (usable_checksums kept.now.kind kept.now.body) ≡ true) }
 {
     match (kept.kind, &kept.body) {
-        (Kind::Ifsc, KeptBody::Whole(body)) => usable(ifsc_body(alloc, body.as_slice())),
+        (Kind::Ifsc, KeptBody::Whole(body)) => usable_fields(ifsc_body(alloc, body.as_slice())),
         _ => Ok(None),
     }
 }
 
 /// The text of a usable Creator packet, where it is not empty.
 pub fn read_creator(alloc: Global, kept: &Kept) -> Result<Option<Sequence<u8>>, AllocError>
-    ensures text { IfOk result (λ text. text ≡ creator_in kept.now) }
+    ensures text { IfOk result (λ text. text ≡ creator_of kept.now) }
     ensures memory { IfErr result (λ _.
-        is_some (creator_text_in kept.now.kind kept.now.body) ≡ true) }
+        is_some (usable_creator_text kept.now.kind kept.now.body) ≡ true) }
 {
     match (kept.kind, &kept.body) {
         (Kind::Creator, KeptBody::Whole(body)) => {
-            let text = usable(creator_body(alloc, body.as_slice()))?;
+            let text = usable_fields(creator_body(alloc, body.as_slice()))?;
             Ok(text.filter(|text| !text.is_empty()))
         }
         _ => Ok(None),
@@ -66,7 +71,7 @@ pub fn read_creator(alloc: Global, kept: &Kept) -> Result<Option<Sequence<u8>>, 
 
 /// The exponent of a RecvSlic packet that is usable in a set of this slice size.
 pub fn read_exponent(kept: &Kept, size: u64) -> Option<u32>
-    ensures { result ≡ exponent_in size kept.now.kind kept.now.body }
+    ensures { result ≡ usable_exponent size kept.now.kind kept.now.body }
 {
     match kept.kind {
         Kind::RecvSlic => slice_body(kept.body.front(), kept.body.len(), size).ok(),
@@ -76,7 +81,7 @@ pub fn read_exponent(kept: &Kept, size: u64) -> Option<u32>
 
 /// The packet with the reason why it is put aside, in a set of this slice size.
 pub fn read_aside(alloc: Global, kept: &Kept, size: u64) -> Result<Option<SetAside>, AllocError>
-    ensures aside { IfOk result (λ found. found ≡ aside_in size kept.now) }
+    ensures aside { IfOk result (λ found. found ≡ aside_of size kept.now) }
     ensures memory { IfErr result (λ _. kept.now.kind ≡ kind.Main) }
 {
     let reason = reason_of(alloc, kept, size)?;
@@ -90,7 +95,7 @@ pub fn read_aside(alloc: Global, kept: &Kept, size: u64) -> Result<Option<SetAsi
 // Why the body is not usable in a set of this slice size.
 fn reason_of(alloc: Global, kept: &Kept, size: u64) -> Result<Option<Aside>, AllocError>
     ensures reason { IfOk result (λ found. found
-        ≡ reason_in size kept.now.kind kept.now.body kept.now.set) }
+        ≡ reason_of size kept.now.kind kept.now.body kept.now.set) }
     ensures memory { IfErr result (λ _. kept.now.kind ≡ kind.Main) }
 {
     match (kept.kind, &kept.body) {
@@ -105,13 +110,13 @@ fn reason_of(alloc: Global, kept: &Kept, size: u64) -> Result<Option<Aside>, All
 }
 
 // The fields, where there is no reason against them.
-fn usable<T: Drop>(answer: Result<T, BodyFault>) -> Result<Option<T>, AllocError>
+fn usable_fields<T: Drop>(answer: Result<T, BodyFault>) -> Result<Option<T>, AllocError>
     ensures found { (early reason : Option Aside) (fields : T)
         → AnswersBodyAfter early reason fields answer
-        → IfOk result (λ found. found ≡ usable reason fields) }
+        → IfOk result (λ found. found ≡ usable_fields reason fields) }
     ensures memory { (early reason : Option Aside) (fields : T)
         → AnswersBodyAfter early reason fields answer
-        → IfErr result (λ _. is_some (usable early fields) ≡ true) }
+        → IfErr result (λ _. is_some (usable_fields early fields) ≡ true) }
 {
     match answer {
         Ok(fields) => Ok(Some(fields)),

@@ -3,6 +3,7 @@ ghost use Rattle.std.specs.List.{All, IsDistinct, flat_map};
 ghost use Rattle.std.specs.List.Sorted.{IsStrictlySortedBy};
 ghost use Rattle.std.specs.Str.{bytes_eq};
 ghost use Rattle.parfield.specs.HashOrder.{id_cmp};
+ghost use Rattle.parset.specs.Limits.{exponent_limit, file_limit, slice_limit, slice_size_limit};
 ghost use Rattle.parset.specs.SetLimits.{HasFileLimits, HasTextLimits};
 ghost use Rattle.parset.specs.Slices.{numbers_of_file};
 
@@ -95,6 +96,8 @@ impl Model for RecoverySet {
     ghost use Rattle.std.specs.List.Sorted.{IsStrictlySortedBy};
     ghost use Rattle.std.specs.Str.{bytes_eq};
     ghost use Rattle.parfield.specs.HashOrder.{id_cmp};
+    ghost use Rattle.parset.specs.Limits.{exponent_limit, file_limit, slice_limit};
+    ghost use Rattle.parset.specs.Limits.{slice_size_limit};
     ghost use Rattle.parset.specs.RecoverySet.{SetView};
     ghost use Rattle.parset.specs.SetLimits.{HasFileLimits, HasTextLimits};
     ghost use Rattle.parset.specs.Slices.{AreNumbered};
@@ -113,18 +116,18 @@ impl Model for RecoverySet {
     } };
 
     ghost invariant = { λ s. record {
-      size : (4 ≤ s.size) × (s.size ≤ 268435456);
+      size : (4 ≤ s.size) × (s.size ≤ slice_size_limit);
       multiple : s.size % 4 ≡ 0;
-      files : length s.files.items ≤ 32768;
+      files : length s.files.items ≤ file_limit;
       limits : All (λ f. HasFileLimits f.length f.name) s.files.items;
       names : IsDistinct bytes_eq (map (λ f. f.name) s.files.items);
       rising : IsStrictlySortedBy id_cmp (map (λ f. f.id) s.files.items);
-      slices : length s.slices.items ≤ 32768;
+      slices : length s.slices.items ≤ slice_limit;
       lengths : All (λ x. (0 < x.length) × (x.length ≤ s.size)) s.slices.items;
       numbered : AreNumbered s.size s.files.items s.slices.items;
-      others : s.others ≤ 32768;
-      all_ids : length s.files.items + s.others ≤ 32768;
-      have : s.have ≤ 65535;
+      others : s.others ≤ file_limit;
+      all_ids : length s.files.items + s.others ≤ file_limit;
+      have : s.have ≤ exponent_limit + 1;
       creator : IfSome s.creator HasTextLimits;
     } };
 }
@@ -140,7 +143,7 @@ impl RecoverySet {
     /// The slice size in bytes.
     pub fn size(&self) -> u64
         ensures field { result ≡ self.now.size }
-        ensures bounds { (4 ≤ result) × (result ≤ 268435456) }
+        ensures bounds { (4 ≤ result) × (result ≤ slice_size_limit) }
         ensures multiple { result % 4 ≡ 0 }
     {
         self.size
@@ -149,7 +152,7 @@ impl RecoverySet {
     /// The files of the recovery set, by ID.
     pub fn files(&self) -> &[SetFile]
         ensures field { result.now ≡ self.now.files }
-        ensures few { length result.now ≤ 32768 }
+        ensures few { length result.now ≤ file_limit }
         ensures limits { All (λ f. HasFileLimits f.length f.name) result.now }
         ensures names { IsDistinct bytes_eq (map (λ f. f.name) result.now) }
         ensures rising { IsStrictlySortedBy id_cmp (map (λ f. f.id) result.now) }
@@ -161,7 +164,7 @@ impl RecoverySet {
     #[tactic(auto, unfolding(crate::specs::Slices::AreNumbered))]
     pub fn slices(&self) -> &[SetSlice]
         ensures field { result.now ≡ self.now.slices }
-        ensures few { length result.now ≤ 32768 }
+        ensures few { length result.now ≤ slice_limit }
         ensures lengths { All (λ s. (0 < s.length) × (s.length ≤ self.now.size)) result.now }
         ensures numbered { map (λ s. (s.id, s.number)) result.now
             ≡ flat_map (numbers_of_file self.now.size) self.now.files }
@@ -172,8 +175,8 @@ impl RecoverySet {
     /// How many non-recovery files there are.
     pub fn others(&self) -> u32
         ensures field { result ≡ self.now.others }
-        ensures few { result ≤ 32768 }
-        ensures all_ids { length self.now.files + result ≤ 32768 }
+        ensures few { result ≤ file_limit }
+        ensures all_ids { length self.now.files + result ≤ file_limit }
     {
         self.others
     }
@@ -181,7 +184,7 @@ impl RecoverySet {
     /// How many distinct exponents the usable recovery slices have.
     pub fn have(&self) -> u32
         ensures field { result ≡ self.now.have }
-        ensures few { result ≤ 65535 }
+        ensures few { result ≤ exponent_limit + 1 }
     {
         self.have
     }

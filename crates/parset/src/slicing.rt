@@ -2,11 +2,12 @@ ghost use Rattle.std.specs.Prelude.{◌≡◌, ◌<◌, ◌≤◌, ◌++◌, map
 ghost use Rattle.std.specs.Prelude.{option_map};
 ghost use Rattle.std.specs.List.{flat_map};
 ghost use Rattle.parset.specs.declared.bodies.checksums.Ifsc.{Ifsc};
+ghost use Rattle.parset.specs.Limits.{slice_limit};
 ghost use Rattle.parset.specs.RecoverySet.{AnswersSet, slices_checked};
 ghost use Rattle.parset.specs.Slices.{HasCounts, file_view, file_views, set_file_of, slice_count};
 ghost use Rattle.parset.specs.Slices.{slice_of, slice_total, slices_of_file};
 
-use crate::bodies::{Desc, Ifsc, SLICES_LIMIT};
+use crate::bodies::{Desc, Ifsc, SLICES_LIMIT, copied};
 use crate::recovery_set::{SetFault, SetFile, SetSlice};
 use parfield::{Hash16, Sequence};
 use std::alloc::{AllocError, Global};
@@ -34,7 +35,7 @@ pub fn slices_checked(size: u64, files: Sequence<Desc>) -> Result<Sequence<Desc>
 // Whether the files have more slices than a recovery set may have.
 fn exceeds_slice_limit(size: u64, files: &[Desc]) -> bool
     requires { 0 < size }
-    ensures { result ≡ nat_lt 32768 (slice_total size files.now) }
+    ensures { result ≡ nat_lt slice_limit (slice_total size files.now) }
 {
     let mut left = SLICES_LIMIT as u64;
     for file in files {
@@ -85,7 +86,7 @@ fn set_file(alloc: Global, file: &Desc, known: bool) -> Result<SetFile, AllocErr
 {
     Ok(SetFile {
         id: file.id,
-        name: Sequence::from_vec(Vec::from_slice(alloc, file.name.as_slice())?),
+        name: copied(alloc, file.name.as_slice())?,
         length: file.length,
         whole: file.whole,
         known,
@@ -100,7 +101,7 @@ pub fn set_slices(
     sums: &BTreeMap<Hash16, Ifsc>,
 ) -> Result<Vec<SetSlice>, AllocError>
     requires size { 0 < size }
-    requires few { slice_total size files.now ≤ 32768 }
+    requires few { slice_total size files.now ≤ slice_limit }
     ensures { IfOk result (λ slices. slices.items
         ≡ flat_map (slices_of_file size) (file_views sums.now files.now)) }
 {
@@ -119,7 +120,7 @@ fn add_slices(
     slices: &mut Vec<SetSlice>,
 ) -> Result<(), AllocError>
     requires size { 0 < size }
-    requires few { slice_count size file.now.length ≤ 32768 }
+    requires few { slice_count size file.now.length ≤ slice_limit }
     ensures { IfOk result (λ _. slices.new.items ≡ slices.old.items
         ++ slices_of_file size (file_view file.now (option_map (λ c. c.now) sums.entry))) }
 {

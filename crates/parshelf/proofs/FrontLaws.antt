@@ -2,7 +2,7 @@
 use Rattle.std.proofs.Common.{◌≡◌, ℕ, ◌+◌, List, ◌++◌, take, drop, ap, sym, ◌∙◌, append_assoc}
 use Rattle.std.proofs.lemmas.List.{take-append-drop}
 use Rattle.std.proofs.Math.Seq.{take-add}
-use Rattle.parshelf.specs.SinkState.{SinkState, appended, refused, RefusesFront}
+use Rattle.parshelf.specs.SinkState.{SinkState, appended, refused, FailsAfterPrefix}
 
 -- some first bytes were written before, and then some of the rest
 pub appended_more : (s t u : SinkState) (text : List ℕ) (m n : ℕ) → t ≡ appended s (take m text) → u ≡ appended t (take n (drop m text))
@@ -14,7 +14,7 @@ appended_more s t u text m n before next =
 
 -- the first n bytes were written, and then the sink failed
 pub RefusesFront_after : (old now new : SinkState) (text : List ℕ) (n : ℕ) → now ≡ appended old (take n text) → new ≡ refused now
-    → RefusesFront old new text
+    → FailsAfterPrefix old new text
 RefusesFront_after old now new text n before next = record {
   front = take n text;
   rest = drop n text;

@@ -21,14 +21,14 @@ abbrev pub empty_sink : SinkState
 empty_sink = record { bytes = []; failures = 0 }
 
 -- a sink took a beginning of a text
-pub record WritesFront (old new : SinkState) (text : List ℕ) : Type 0 where
+pub record WritesPrefix (old new : SinkState) (text : List ℕ) : Type 0 where
   pub front : List ℕ
   pub rest : List ℕ
   pub whole : text ≡ front ++ rest
   pub after : new ≡ appended old front
 
 -- a sink took a beginning of a text, and then it failed once
-pub record RefusesFront (old new : SinkState) (text : List ℕ) : Type 0 where
+pub record FailsAfterPrefix (old new : SinkState) (text : List ℕ) : Type 0 where
   pub front : List ℕ
   pub rest : List ℕ
   pub whole : text ≡ front ++ rest

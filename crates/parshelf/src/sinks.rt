@@ -9,4 +9,4 @@ mod writing;
 pub use crate::sinks::memory::MemSink;
 pub use crate::sinks::sink::{Failed, Sink};
 pub use crate::sinks::writer::WriteSink;
-pub use crate::sinks::writing::{write_block, write_text};
+pub use crate::sinks::writing::write_text;

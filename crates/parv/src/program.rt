@@ -1,5 +1,5 @@
 use parplan::{plan, words_after_program};
-use parreport::{End, PlanFault, WriteSink, ending, run_opened, scanned_paths};
+use parreport::{End, PlanFault, WriteSink, ending, files_to_scan, run_opened};
 use parshelf::DiskShelf;
 use std::alloc::AllocError;
 use std::{env, io};
@@ -22,9 +22,12 @@ fn perform_words(rt: &HostRuntime, words: &[String]) -> Result<(u8, Vec<u8>), Al
         Ok(plan) => plan,
         Err(fault) => return ending(alloc, &End::Plan(fault), ""),
     };
-    let paths = scanned_paths(alloc, &plan)?;
     let mut packets = DiskShelf::open(rt, alloc, plan.packets.as_slice());
-    let mut scanned = DiskShelf::open(rt, alloc, &paths);
+    // Where the packet files can't all be opened, no other file is.
+    let mut scanned = match &packets {
+        Ok(_) => DiskShelf::open(rt, alloc, files_to_scan(&plan)),
+        Err(why) => Err(*why),
+    };
     let mut out = WriteSink::new(rt.stdout());
     run_opened(alloc, &plan, &mut packets, &mut scanned, &mut out)
 }

@@ -32,22 +32,46 @@ crc_step-xor a b =
     elim (even_or_odd a) [
       | inl p ↦ elim (even_or_odd b) [
         | inl q ↦
-            rw (crc_step-even a p, crc_step-even b q, crc_step-even (bit_xor a b) (rw (xor_odd, p, q))) (xor_half a b)
+            rw (
+              crc_step-even a p,
+              crc_step-even b q,
+              crc_step-even (bit_xor a b)
+                  (rw (xor_odd, p, q)),
+            ) (xor_half a b)
         | inr q ↦
-            rw (crc_step-even a p, crc_step-odd b q, crc_step-odd (bit_xor a b) (rw (xor_odd, p, q)), xor_half)
+            rw (
+              crc_step-even a p,
+              crc_step-odd b q,
+              crc_step-odd (bit_xor a b)
+                  (rw (xor_odd, p, q)),
+              xor_half,
+            )
             (in_second (a / 2) (b / 2) 0xEDB88320)
       ]
       | inr p ↦ elim (even_or_odd b) [
         | inl q ↦
-            rw (crc_step-odd a p, crc_step-even b q, crc_step-odd (bit_xor a b) (rw (xor_odd, p, q)), xor_half)
+            rw (
+              crc_step-odd a p,
+              crc_step-even b q,
+              crc_step-odd (bit_xor a b)
+                  (rw (xor_odd, p, q)),
+              xor_half,
+            )
             (in_first (a / 2) (b / 2) 0xEDB88320)
         | inr q ↦
-            rw (crc_step-odd a p, crc_step-odd b q, crc_step-even (bit_xor a b) (rw (xor_odd, p, q)), xor_half)
+            rw (
+              crc_step-odd a p,
+              crc_step-odd b q,
+              crc_step-even (bit_xor a b)
+                  (rw (xor_odd, p, q)),
+              xor_half,
+            )
             (in_both (a / 2) (b / 2) 0xEDB88320)
       ]
     ]
 
-pub crc_steps-xor : (n a b : ℕ) → crc_steps n (bit_xor a b) ≡ bit_xor (crc_steps n a) (crc_steps n b)
+pub crc_steps-xor : (n a b : ℕ) → crc_steps n (bit_xor a b)
+    ≡ bit_xor (crc_steps n a) (crc_steps n b)
 unfolding crc_steps
 crc_steps-xor zero a b = refl
 crc_steps-xor (suc n) a b = rw crc_step-xor (crc_steps-xor n (crc_step a) (crc_step b))
@@ -69,7 +93,8 @@ one_byte_first n d =
 
 -- two registers that take the same bytes differ by what is left of their first difference
 pub fold-register_after-xor : (bytes : List ℕ) (a d : ℕ)
-    → fold register_after (bit_xor a d) bytes ≡ bit_xor (fold register_after a bytes) (crc_steps (8 * length bytes) d)
+    → fold register_after (bit_xor a d) bytes
+    ≡ bit_xor (fold register_after a bytes) (crc_steps (8 * length bytes) d)
 unfolding crc_steps
 fold-register_after-xor [] a d = refl
 fold-register_after-xor (x ∷ xs) a d =
@@ -89,7 +114,8 @@ pub register_of-removal_of : (bytes : List ℕ) (first : ℕ)
     → register_of bytes ≡ bit_xor (register_of (first ∷ bytes)) (removal_of first (length bytes))
 unfolding register_of removal_of
 register_of-removal_of bytes first =
-    ap (λ r. fold register_after r bytes) (sym (two_changes 0xFFFFFFFF (register_after 0xFFFFFFFF first)))
+    ap (λ r. fold register_after r bytes) (sym (two_changes 0xFFFFFFFF
+    (register_after 0xFFFFFFFF first)))
     ∙ fold-register_after-xor bytes (register_after 0xFFFFFFFF first)
     (bit_xor 0xFFFFFFFF (register_after 0xFFFFFFFF first))
 

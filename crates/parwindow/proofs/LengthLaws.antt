@@ -15,16 +15,19 @@ use Rattle.parwindow.specs.OwnLengths.{length_cmp, is_within}
 use Rattle.parwindow.proofs.SumLaws.{same_bools}
 
 length_cmp_total : IsTotalOrder length_cmp
-length_cmp_total = then_total (on_total (λ (f : OwnLength). f.crc) nat_cmp_total) (on_total (λ (f : OwnLength). f.length) nat_cmp_total)
+length_cmp_total = then_total (on_total (λ (f : OwnLength). f.crc) nat_cmp_total)
+    (on_total (λ (f : OwnLength). f.length) nat_cmp_total)
 
-not_less : (a b : OwnLength) → is_lt (length_cmp a b) ≡ false → (b.crc ≤ a.crc) × (a.crc ≡ b.crc → b.length ≤ a.length)
+not_less : (a b : OwnLength) → is_lt (length_cmp a b) ≡ false → (b.crc ≤ a.crc)
+    × (a.crc ≡ b.crc → b.length ≤ a.length)
 not_less a b far = elim (cases_lt a.crc b.crc) [
   | inl less ↦ let wrong : true ≡ false = rw (lt-ltb a.crc b.crc less) at far in cc
   | inr up ↦ (
     up,
     λ same. elim (cases_lt a.length b.length) [
       | inl less ↦
-          let wrong : true ≡ false = rw (same, tied_itself nat_cmp_total b.crc, lt-ltb a.length b.length less) at far in cc
+          let wrong : true ≡ false =
+          rw (same, tied_itself nat_cmp_total b.crc, lt-ltb a.length b.length less) at far in cc
       | inr more ↦ more
     ],
   )
@@ -33,10 +36,12 @@ not_less a b far = elim (cases_lt a.crc b.crc) [
 module _ (own : List OwnLength) (rises : IsSorted length_cmp own) where
   far : (i j : ℕ) (d : OwnLength) → i ≤ j → j < length own
       → ((get_or own i d).crc ≤ (get_or own j d).crc)
-      × ((get_or own j d).crc ≡ (get_or own i d).crc → (get_or own i d).length ≤ (get_or own j d).length)
+      × ((get_or own j d).crc ≡ (get_or own i d).crc
+      → (get_or own i d).length ≤ (get_or own j d).length)
   far i j d up within =
       not_less (get_or own j d) (get_or own i d)
-      (sorted_far (λ x y. is_lt (length_cmp x y)) (ranks_by length_cmp_total (λ (f : OwnLength). f)) own rises i j d up within)
+      (sorted_far (λ x y. is_lt (length_cmp x y)) (ranks_by length_cmp_total (λ (f : OwnLength). f))
+      own rises i j d up within)
 
   pub parted_lengths : (c : ℕ) → IsPartitionedBy (λ (f : OwnLength). nat_lt f.crc c) own
   parted_lengths c i j d up within lower =
@@ -44,7 +49,8 @@ module _ (own : List OwnLength) (rises : IsSorted length_cmp own) where
       lt-ltb (get_or own i d).crc c (omega (arith, less, (far i j d up within).0))
 
   module _ (c left start : ℕ)
-      (first : IsPartitionPoint (λ (y : OwnLength). nat_lt y.crc c ≡ true) (λ (y : OwnLength). nat_lt y.crc c ≡ false) own start) where
+      (first : IsPartitionPoint (λ (y : OwnLength). nat_lt y.crc c ≡ true)
+      (λ (y : OwnLength). nat_lt y.crc c ≡ false) own start) where
     -- where one is within, the first one is
     some_within : list_any (is_within c left) own ≡ true → (d : OwnLength)
         → (start < length own) × (is_within c left (get_or own start d) ≡ true)
@@ -68,11 +74,15 @@ module _ (own : List OwnLength) (rises : IsSorted length_cmp own) where
               let high : nat_lt s.crc c ≡ false = first.1 start d (omega arith) there in
               let up : c ≤ s.crc = grind (arith, nat_tests) in
               let is : s.crc ≡ c = omega (arith, up, ranks.0, same) in
-              let least : s.length ≤ x.length = ranks.1 (same ∙ sym is) in
-              (there, and_from (eqb s.crc c) (nat_le s.length left) (eq-eqb s.crc c is) (le-leb s.length left (omega (arith, least, short))))
+              let least : s.length ≤ x.length = ranks.1 (same ∙ sym is) in (
+                there,
+                and_from (eqb s.crc c) (nat_le s.length left) (eq-eqb s.crc c is)
+                    (le-leb s.length left (omega (arith, least, short))),
+              )
         ]
 
-    pub first_within : (f : OwnLength) → start < length own → get_or own start f ≡ f → is_within c left f ≡ list_any (is_within c left) own
+    pub first_within : (f : OwnLength) → start < length own → get_or own start f ≡ f
+        → is_within c left f ≡ list_any (is_within c left) own
     first_within f there is =
         same_bools (is_within c left f) (list_any (is_within c left) own) (
           λ h. list_any_at (is_within c left) own start f there (rw is h),

@@ -1,3 +1,4 @@
+pub mod ListLaws
 pub mod XorLaws
 pub mod CrcLaws
 pub mod TableLaws

@@ -28,8 +28,10 @@ slice_cmp-equal (x ∷ xs) (y ∷ ys) h =
     let parts = then_equal (nat_cmp x y) (slice_cmp nat_cmp xs ys) h in
     ap₂ (λ (a : ℕ) (l : List ℕ). a ∷ l) (nat_cmp-equal x y parts.0) (slice_cmp-equal xs ys parts.1)
 
-module _ {K : Type 0} (R S : K → K → Ordering) (o : IsTotalOrder R) (e t x : K) (tied : R x t ≡ Equal) where
-  middle : (r : Ordering) → R e t ≡ r → (ordering_then r (S e t) ≡ Less → ⊥) → (then_cmp R S x e ≡ Less → ⊥)
+module _ {K : Type 0} (R S : K → K → Ordering) (o : IsTotalOrder R) (e t x : K)
+    (tied : R x t ≡ Equal) where
+  middle : (r : Ordering) → R e t ≡ r → (ordering_then r (S e t) ≡ Less → ⊥)
+      → (then_cmp R S x e ≡ Less → ⊥)
       → (R e t ≡ Equal) × (S e t ≡ Less → ⊥) × (S x e ≡ Less → ⊥)
   middle Less is above below = absurd (above refl)
   middle Equal is above below =

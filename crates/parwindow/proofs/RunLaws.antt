@@ -52,14 +52,16 @@ apply_all n r out small is = is ∙ ap (crc_steps n) (mod-eq_of_lt small)
 pub bit_more : (i : ℕ) → i < 32 → 1 * 2 ^ i % 2 ^ 32 ≡ 2 ^ i
 bit_more i below = one_shl i 32 below
 
-pub fill_more : (f : ℕ → ℕ) (xs : List ℕ) (i v : ℕ) → i < length xs → v ≡ f i → ((k : ℕ) → k < i → get_or xs k 0 ≡ f k)
+pub fill_more : (f : ℕ → ℕ) (xs : List ℕ) (i v : ℕ) → i < length xs → v ≡ f i
+    → ((k : ℕ) → k < i → get_or xs k 0 ≡ f k)
     → (k : ℕ) → k < i + 1 → get_or (set xs i v) k 0 ≡ f k
 fill_more f xs i v within is below =
     below_more (λ k. get_or (set xs i v) k 0 ≡ f k) i
     (λ k h. let ne : k ≢ i = omega arith in rw get_or-set_other (below k h))
     (rw get_or-set_same is)
 
-pub apply_more_zero : (len r i out : ℕ) → out ≡ crc_steps (8 * len) (r % 2 ^ i) → (bit_and (r / 2 ^ i) 1 ≡ 1 → ⊥)
+pub apply_more_zero : (len r i out : ℕ) → out ≡ crc_steps (8 * len) (r % 2 ^ i)
+    → (bit_and (r / 2 ^ i) 1 ≡ 1 → ⊥)
     → out ≡ crc_steps (8 * len) (r % 2 ^ (i + 1))
 apply_more_zero len r i out so_far clear =
     let bit : bit_at r i ≡ 0 = omega (arith, shr_and_one r i, bit_at-lt r i) in
@@ -80,7 +82,9 @@ with_one_column len i c out column is =
     is ∙ ap (crc_steps 8) (xor_zero_r c ∙ column)
     ∙ sym (ap (λ n. crc_steps n (2 ^ i)) e ∙ crc_steps-add (8 * len) 8 (2 ^ i))
 
-pub fills_more : (f : ℕ → ℕ) (size : ℕ) (xs : List ℕ) (i v : ℕ) → length xs ≡ size → i < size → v ≡ f i
+pub fills_more : (f : ℕ → ℕ) (size : ℕ) (xs : List ℕ) (i v : ℕ) → length xs ≡ size → i < size
+    → v ≡ f i
     → ((k : ℕ) → k < i → get_or xs k 0 ≡ f k)
     → (length (set xs i v) ≡ size) × ((k : ℕ) → k < i + 1 → get_or (set xs i v) k 0 ≡ f k)
-fills_more f size xs i v len within is below = (simp length-set len, fill_more f xs i v (omega arith) is below)
+fills_more f size xs i v len within is below =
+    (simp length-set len, fill_more f xs i v (omega arith) is below)

@@ -14,11 +14,10 @@ use Rattle.std.specs.Prelude.{IsTrue, is_ok, ◌↔◌}
 use Rattle.std.proofs.lemmas.List.Sorted.{searchable_from_sorted, sorted_far, ranks_by}
 use Rattle.parset.specs.declared.recovery_set.SetSlice.{SetSlice}
 use Rattle.parwindow.specs.declared.entry.Entry.{Entry}
-use Rattle.parwindow.specs.Index.{has_sums, has_crc_of}
+use Rattle.parwindow.specs.Index.{slice_passes, has_sums, has_crc_of}
 use Rattle.parwindow.specs.Least.{IsLeast}
 use Rattle.parwindow.specs.Entries.{entry_cmp, HasSums, IsIndexOf, IsFloor}
-use Rattle.std.specs.List.{slice_get, list_any}
-use Rattle.std.specs.Option.{option_map_or}
+use Rattle.std.specs.List.{list_any}
 use Rattle.parwindow.proofs.SumLaws.{any_from_sums, sums_from_any, same_bools}
 use Rattle.parwindow.proofs.OrderLaws.{entry_cmp_total, nat_cmp-equal, slice_cmp-equal, squeezed}
 
@@ -44,7 +43,8 @@ module _ (entries : List Entry) (rises : IsSorted entry_cmp entries) (t : Entry)
   pub floor_from_err : (at : ℕ) → IsSearchInRange (Err at) (length entries)
       → IsBinarySearchResult (λ y. entry_cmp y t) entries (Err at) → IsFloor entries t at
   floor_from_err at range parted =
-      let halves = parted (searchable_from_sorted entry_cmp_total (λ (e : Entry). e) entries t rises) in
+      let halves = parted (searchable_from_sorted entry_cmp_total (λ (e : Entry). e)
+      entries t rises) in
       record {
         not_below = λ e below less. let q = halves.1 at e (omega arith) below in cc;
         first = λ x e there above.
@@ -56,15 +56,19 @@ module _ (entries : List Entry) (rises : IsSorted entry_cmp entries) (t : Entry)
                     omega arith,
                     λ less.
                         let far = sorted_far (λ x y. is_lt (entry_cmp x y))
-                        (ranks_by entry_cmp_total (λ (e : Entry). e)) entries rises at j e after inside in
-                        let here : get_or entries j e ≡ x = get_or_default entries j e x inside ∙ there.2 in
-                        is_lt-false (entry_cmp (get_or entries j e) (get_or entries at e)) far (rw here less),
+                        (ranks_by entry_cmp_total (λ (e : Entry). e))
+                        entries rises at j e after inside in
+                        let here : get_or entries j e ≡ x = get_or_default entries j e x inside
+                        ∙ there.2 in
+                        is_lt-false (entry_cmp (get_or entries j e) (get_or entries at e)) far
+                        (rw here less),
                   )
             ];
       }
 
 -- two entries with the same sums are ordered by their numbers
-pub entry_cmp-same : (c : ℕ) (d : List ℕ) (m n : ℕ) → entry_cmp (entry_of c d m) (entry_of c d n) ≡ nat_cmp m n
+pub entry_cmp-same : (c : ℕ) (d : List ℕ) (m n : ℕ)
+    → entry_cmp (entry_of c d m) (entry_of c d n) ≡ nat_cmp m n
 entry_cmp-same c d m n = rw (tied_itself nat_cmp_total c, tied_itself nat_list_cmp_total d) refl
 
 nat_cmp-less : (m n : ℕ) → m < n → nat_cmp m n ≡ Less
@@ -73,7 +77,8 @@ nat_cmp-less m n h = rw (lt-ltb m n h) refl
 nat_cmp-not_less : (m n : ℕ) → n ≤ m → nat_cmp m n ≡ Less → ⊥
 nat_cmp-not_less m n h e = let p : m < n = ranked m n Less (sym e) in omega arith
 
-module _ (slices : List SetSlice) (entries : List Entry) (ix : IsIndexOf slices entries) (c : ℕ) (d : List ℕ)
+module _ (slices : List SetSlice) (entries : List Entry) (ix : IsIndexOf slices entries) (c : ℕ)
+    (d : List ℕ)
     (from at : ℕ)
     (lowest : IsFloor entries (entry_of c d from) at) where
   -- a slice at or above `from` with these sums has its entry at `at` or after it
@@ -83,8 +88,9 @@ module _ (slices : List SetSlice) (entries : List Entry) (ix : IsIndexOf slices 
       lowest.first (entry_of c d n) e (ix.complete n c d has)
       (λ less. nat_cmp-not_less n from above (sym (entry_cmp-same c d n from) ∙ less))
 
-  pub next_found : (e : Entry) → at < length entries → get_or entries at e ≡ e → e.crc ≡ c → e.digest ≡ d
-      → IsLeast (λ n. option_map_or (has_sums (record { 0 = d }, c)) (slice_get slices n) false) from e.slice
+  pub next_found : (e : Entry) → at < length entries → get_or entries at e ≡ e → e.crc ≡ c
+      → e.digest ≡ d
+      → IsLeast (slice_passes slices (has_sums (record { 0 = d }, c))) from e.slice
   next_found e inside here same_crc same_digest =
       let is : e ≡ entry_of c d e.slice = rw (← same_crc, ← same_digest) refl in
       record {
@@ -102,7 +108,8 @@ module _ (slices : List SetSlice) (entries : List Entry) (ix : IsIndexOf slices 
   pub none_past : length entries ≤ at → (n : ℕ) → from ≤ n → HasSums slices n c d → ⊥
   none_past past n above has = let inside = (reaches n (entry_of c d n) above has).0 in omega arith
 
-  pub none_other : (e : Entry) → at < length entries → get_or entries at e ≡ e → (e.crc ≡ c → e.digest ≡ d → ⊥)
+  pub none_other : (e : Entry) → at < length entries → get_or entries at e ≡ e
+      → (e.crc ≡ c → e.digest ≡ d → ⊥)
       → (n : ℕ) → from ≤ n → HasSums slices n c d → ⊥
   none_other e inside here other n above has =
       let x = entry_of c d n in
@@ -111,8 +118,10 @@ module _ (slices : List SetSlice) (entries : List Entry) (ix : IsIndexOf slices 
       let by_slice = on (λ (e : Entry). e.slice) nat_cmp in
       let first = squeezed (on (λ (e : Entry). e.crc) nat_cmp) (then_cmp by_digest by_slice)
       (on_total (λ (e : Entry). e.crc) nat_cmp_total) e t x (tied_itself nat_cmp_total c)
-      (λ less. lowest.not_below e inside (rw here less)) (λ less. (reaches n e above has).1 (rw here less)) in
-      let second = squeezed by_digest by_slice (on_total (λ (e : Entry). e.digest) nat_list_cmp_total) e t x
+      (λ less. lowest.not_below e inside (rw here less))
+      (λ less. (reaches n e above has).1 (rw here less)) in
+      let second = squeezed by_digest by_slice (on_total (λ (e : Entry). e.digest)
+      nat_list_cmp_total) e t x
       (tied_itself nat_list_cmp_total d) first.1 first.2 in
       other (nat_cmp-equal e.crc c first.0) (slice_cmp-equal e.digest d second.0)
 
@@ -134,7 +143,8 @@ crc_rises entries rises k d low high = first_not_less _ _ (rises k d low high)
 
 has_from_search : (slices : List SetSlice) (entries : List Entry) → IsIndexOf slices entries
     → IsSorted entry_cmp entries → (c : ℕ) (r : Result ℕ ℕ)
-    → IsSearchInRange r (length entries) → IsBinarySearchResult (λ (y : Entry). nat_cmp y.crc c) entries r
+    → IsSearchInRange r (length entries)
+    → IsBinarySearchResult (λ (y : Entry). nat_cmp y.crc c) entries r
     → IsTrue (is_ok r) ↔ IsTrue (list_any (has_crc_of c) slices)
 has_from_search slices entries ix rises c (Ok at) range here =
     let d = entry_of 0 [] 0 in
@@ -153,11 +163,13 @@ has_from_search slices entries ix rises c (Err at) range parted =
           let place = ix.complete there.0 c there.1.0 there.1.1 in
           elim (cases_lt place.0 at) [
             | inl before ↦
-                let less : nat_cmp c c ≡ Less = rw place.2 at (halves.0 place.0 x (omega arith) before) in
+                let less : nat_cmp c c ≡ Less =
+                rw place.2 at (halves.0 place.0 x (omega arith) before) in
                 let even = tied_itself nat_cmp_total c in
                 cc
             | inr after ↦
-                let more : nat_cmp c c ≡ Greater = rw place.2 at (halves.1 place.0 x after place.1) in
+                let more : nat_cmp c c ≡ Greater =
+                rw place.2 at (halves.1 place.0 x after place.1) in
                 let even = tied_itself nat_cmp_total c in
                 cc
           ],
@@ -165,7 +177,9 @@ has_from_search slices entries ix rises c (Err at) range parted =
 
 pub has_crc_from_search : (slices : List SetSlice) (entries : List Entry) → IsIndexOf slices entries
     → IsSorted entry_cmp entries → (c : ℕ) (r : Result ℕ ℕ)
-    → IsSearchInRange r (length entries) → IsBinarySearchResult (λ (y : Entry). nat_cmp y.crc c) entries r
+    → IsSearchInRange r (length entries)
+    → IsBinarySearchResult (λ (y : Entry). nat_cmp y.crc c) entries r
     → is_ok r ≡ list_any (has_crc_of c) slices
 has_crc_from_search slices entries ix rises c r range found =
-    same_bools (is_ok r) (list_any (has_crc_of c) slices) (has_from_search slices entries ix rises c r range found)
+    same_bools (is_ok r) (list_any (has_crc_of c) slices)
+    (has_from_search slices entries ix rises c r range found)

@@ -12,7 +12,8 @@ pub record GoesOn (Has : ℕ → Type 0) (at : ℕ → ℕ) (i : ℕ) (register 
 pub begins : (Has : ℕ → Type 0) (at : ℕ → ℕ) (r : ℕ) → r ≡ at 0 → GoesOn Has at 0 r
 begins Has at r is = record { here = is; none = λ k some few. absurd (omega arith) }
 
-pub goes_on : (Has : ℕ → Type 0) (at : ℕ → ℕ) (i r s : ℕ) → GoesOn Has at i r → s ≡ at (i + 1) → ¬ Has s
+pub goes_on : (Has : ℕ → Type 0) (at : ℕ → ℕ) (i r s : ℕ) → GoesOn Has at i r → s ≡ at (i + 1)
+    → ¬ Has s
     → GoesOn Has at (i + 1) s
 goes_on Has at i r s on is misses = record {
   here = is;
@@ -22,7 +23,8 @@ goes_on Has at i r s on is misses = record {
   ];
 }
 
-pub stops : (Has : ℕ → Type 0) (at : ℕ → ℕ) (i r s n : ℕ) → GoesOn Has at i r → s ≡ at (i + 1) → Has s → i + 1 ≤ n
+pub stops : (Has : ℕ → Type 0) (at : ℕ → ℕ) (i r s n : ℕ) → GoesOn Has at i r → s ≡ at (i + 1)
+    → Has s → i + 1 ≤ n
     → StopsAt Has at n (record { count = i + 1; register = s; hit = true })
 stops Has at i r s n on is has within = record {
   within = within;
@@ -42,7 +44,8 @@ ends Has at r n on = record {
   ended = λ _. (refl, λ some. on.none n some (omega arith));
 }
 
-pub ends_at : (Has : ℕ → Type 0) (at : ℕ → ℕ) (i r s n : ℕ) (b : Bool) → GoesOn Has at i r → s ≡ at (i + 1) → i + 1 ≡ n
+pub ends_at : (Has : ℕ → Type 0) (at : ℕ → ℕ) (i r s n : ℕ) (b : Bool) → GoesOn Has at i r
+    → s ≡ at (i + 1) → i + 1 ≡ n
     → (IsTrue b ↔ Has s) → StopsAt Has at n (record { count = n; register = s; hit = b })
 ends_at Has at i r s n true on is last tells =
     rw (← last) (stops Has at i r s (i + 1) on is (tells.0 refl) (omega arith))
@@ -55,20 +58,26 @@ pub refuses : (b : Bool) (P : Type 0) → (IsTrue b ↔ P) → b ≡ false → �
 refuses b P tells missed has = let yes : b ≡ true = tells.1 has in cc
 
 -- two places at once
-pub goes_on_twice : (Has : ℕ → Type 0) (at : ℕ → ℕ) (i r s t : ℕ) → GoesOn Has at i r → s ≡ at (i + 1) → ¬ Has s
+pub goes_on_twice : (Has : ℕ → Type 0) (at : ℕ → ℕ) (i r s t : ℕ) → GoesOn Has at i r
+    → s ≡ at (i + 1) → ¬ Has s
     → t ≡ at (i + 2) → ¬ Has t → GoesOn Has at (i + 2) t
 goes_on_twice Has at i r s t on is misses next_is next_misses =
     let two : i + 1 + 1 ≡ i + 2 = omega arith in
-    rw (← two) (goes_on Has at (i + 1) s t (goes_on Has at i r s on is misses) (rw two next_is) next_misses)
+    rw (← two) (goes_on Has at (i + 1) s t (goes_on Has at i r s on is misses) (rw two next_is)
+    next_misses)
 
-pub stops_twice : (Has : ℕ → Type 0) (at : ℕ → ℕ) (i r s t n : ℕ) → GoesOn Has at i r → s ≡ at (i + 1) → ¬ Has s
-    → t ≡ at (i + 2) → Has t → i + 2 ≤ n → StopsAt Has at n (record { count = i + 2; register = t; hit = true })
+pub stops_twice : (Has : ℕ → Type 0) (at : ℕ → ℕ) (i r s t n : ℕ) → GoesOn Has at i r
+    → s ≡ at (i + 1) → ¬ Has s
+    → t ≡ at (i + 2) → Has t → i + 2 ≤ n
+    → StopsAt Has at n (record { count = i + 2; register = t; hit = true })
 stops_twice Has at i r s t n on is misses next_is has within =
     let two : i + 1 + 1 ≡ i + 2 = omega arith in
-    rw (← two) (stops Has at (i + 1) s t n (goes_on Has at i r s on is misses) (rw two next_is) has (omega arith))
+    rw (← two) (stops Has at (i + 1) s t n (goes_on Has at i r s on is misses) (rw two next_is) has
+    (omega arith))
 
 -- one stretch after another
-pub along : (Has : ℕ → Type 0) (at other : ℕ → ℕ) (n : ℕ) (s : Slid) → ((k : ℕ) → k ≤ n → other k ≡ at k)
+pub along : (Has : ℕ → Type 0) (at other : ℕ → ℕ) (n : ℕ) (s : Slid)
+    → ((k : ℕ) → k ≤ n → other k ≡ at k)
     → StopsAt Has other n s → StopsAt Has at n s
 along Has at other n s same stops = record {
   within = stops.within;
@@ -76,12 +85,18 @@ along Has at other n s same stops = record {
   before = λ k some less. let few : k < s.count =
       less in rw (← same k (omega (arith, stops.within))) (stops.before k some less);
   found = λ hit. ((stops.found hit).0, rw (← same s.count stops.within) (stops.found hit).1);
-  ended = λ missed. ((stops.ended missed).0, λ some. rw (← same n (omega arith)) ((stops.ended missed).1 some));
+  ended = λ missed. (
+    (stops.ended missed).0,
+    λ some. rw (← same n (omega arith))
+        ((stops.ended missed).1 some),
+  );
 }
 
-pub joined : (Has : ℕ → Type 0) (at : ℕ → ℕ) (m n : ℕ) (a b : Slid) → a.hit ≡ false → StopsAt Has at m a
+pub joined : (Has : ℕ → Type 0) (at : ℕ → ℕ) (m n : ℕ) (a b : Slid) → a.hit ≡ false
+    → StopsAt Has at m a
     → StopsAt Has (λ k. at (m + k)) n b
-    → StopsAt Has at (m + n) (record { count = a.count + b.count; register = b.register; hit = b.hit })
+    → StopsAt Has at (m + n)
+    (record { count = a.count + b.count; register = b.register; hit = b.hit })
 joined Has at m n a b missed first second =
     let whole : a.count ≡ m = (first.ended missed).0 in
     rw whole (record {
@@ -101,7 +116,8 @@ joined Has at m n a b missed first second =
         omega (arith, (second.ended miss).0),
         λ some. elim (cases_lt 0 n) [
           | inl more ↦ (second.ended miss).1 more
-          | inr none ↦ let e : m + n ≡ m = omega arith in rw e ((first.ended missed).1 (omega arith))
+          | inr none ↦ let e : m + n ≡ m = omega arith in
+              rw e ((first.ended missed).1 (omega arith))
         ],
       );
     })
@@ -120,7 +136,3 @@ arrived Has at m n s stops (inl hit) few = record {
 arrived Has at m n s stops (inr whole) few =
     let e : m ≡ n = omega (arith, stops.within) in
     rw (← e) stops
-
-pub true_or_false : (b : Bool) → (b ≡ true) ⊎ (b ≡ false)
-true_or_false true = inl refl
-true_or_false false = inr refl

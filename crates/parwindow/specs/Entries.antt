@@ -1,12 +1,12 @@
 -- The slices that have sums, in an order by which halves find them.
-use Rattle.std.specs.Prelude.{◌≡◌, ℕ, ◌<◌, ◌≤◌, Bool, false, Option, None, Some, List, length, get_or, slice_get, IsTrue, Contains, All, nat_lt, min, if◌then◌else◌}
+use Rattle.std.specs.Prelude.{◌≡◌, ℕ, ◌<◌, ◌≤◌, Bool, Option, None, Some, List, length, get_or, IsTrue, Contains, All, nat_le, nat_lt, not, ◌&&◌, min, if◌then◌else◌}
 use Rattle.std.specs.declared.cmp.Ordering.{Ordering}
 use Rattle.std.specs.declared.cmp.Ordering.TheVariants.{Less}
 use Rattle.std.specs.Ordering.{nat_cmp, then_cmp, on}
-use Rattle.std.specs.Option.{option_map_or}
 use Rattle.std.specs.Cmp.Lexicographic.{slice_cmp}
 use Rattle.parset.specs.declared.recovery_set.SetSlice.{SetSlice}
-use Rattle.parwindow.specs.Index.{has_sums}
+use Rattle.parwindow.specs.Index.{slice_passes, has_sums}
+use Rattle.parwindow.specs.Missing.{mark_of}
 use Rattle.parwindow.specs.declared.entry.Entry.{Entry}
 
 -- by CRC-32, then by the MD5 from its first byte on, then by number
@@ -16,13 +16,9 @@ entry_cmp =
     (then_cmp (on (λ (e : Entry). e.digest) (slice_cmp nat_cmp))
     (on (λ (e : Entry). e.slice) nat_cmp))
 
--- slice n is there, and passes a test
-abbrev pub passes_at : List SetSlice → (SetSlice → Bool) → ℕ → Bool
-passes_at slices test n = option_map_or test (slice_get slices n) false
-
 -- slice n is there, and these are its CRC-32 and its MD5
 abbrev pub HasSums : List SetSlice → ℕ → ℕ → List ℕ → Type 0
-HasSums slices n crc digest = IsTrue (passes_at slices (has_sums (record { 0 = digest }, crc)) n)
+HasSums slices n crc digest = IsTrue (slice_passes slices (has_sums (record { 0 = digest }, crc)) n)
 
 -- an entry tells the sums of a slice
 abbrev pub IsEntryOf : List SetSlice → Entry → Type 0
@@ -32,12 +28,6 @@ IsEntryOf slices e = HasSums slices e.slice e.crc e.digest
 pub record IsIndexOf (slices : List SetSlice) (entries : List Entry) : Type 0 where
   pub sound : All (IsEntryOf slices) entries
   pub complete : (n crc : ℕ) (digest : List ℕ) → HasSums slices n crc digest
-      → Contains entries (record { crc = crc; digest = digest; slice = n })
-
--- the same, for the slices below a number
-pub record IsIndexBelow (slices : List SetSlice) (number : ℕ) (entries : List Entry) : Type 0 where
-  pub sound : All (IsEntryOf slices) entries
-  pub complete : (n crc : ℕ) (digest : List ℕ) → n < number → HasSums slices n crc digest
       → Contains entries (record { crc = crc; digest = digest; slice = n })
 
 -- the entries at and after `at` are those that are not below t
@@ -62,3 +52,9 @@ IsLeastOf entries from (Some n) =
 abbrev pub lesser : ℕ → Option ℕ → ℕ → Option ℕ
 lesser from None n = if nat_lt n from then None else Some n
 lesser from (Some least) n = if nat_lt n from then Some least else Some (min least n)
+
+-- the slice of an entry has at most so many bytes of its file, and its mark is false
+abbrev pub is_open : List SetSlice → List Bool → ℕ → Entry → Bool
+is_open slices found left e =
+    slice_passes slices (λ slice. nat_le slice.length left) e.slice
+    && not (mark_of found e.slice)

@@ -8,6 +8,7 @@ use Rattle.parfield.specs.declared.hash16.Hash16.{Hash16}
 use Rattle.parset.specs.declared.recovery_set.SetSlice.{SetSlice}
 use Rattle.parfield.specs.Md5.{md5}
 use Rattle.parwindow.specs.Crc32.{crc_of}
+use Rattle.parset.specs.Limits.{slice_size_limit, slice_limit}
 
 -- the slices of a set
 pub record SliceSet : Type 0 where
@@ -23,14 +24,14 @@ slice_set_of size slices = record { slice_size = size; slices = slices }
 -- what holds of the slices of an index
 pub record IsSliceSet (set : SliceSet) : Type 0 where
   pub least_size : 4 ≤ set.slice_size
-  pub greatest_size : set.slice_size ≤ 268435456
+  pub greatest_size : set.slice_size ≤ slice_size_limit
   pub multiple : set.slice_size % 4 ≡ 0
-  pub few : length set.slices ≤ 32768
+  pub few : length set.slices ≤ slice_limit
   pub own : All (λ slice. (0 < slice.length) × (slice.length ≤ set.slice_size)) set.slices
 
 -- slice n is there, and passes a test
-abbrev pub slice_passes : SliceSet → (SetSlice → Bool) → ℕ → Bool
-slice_passes set test n = option_map_or test (slice_get set.slices n) false
+abbrev pub slice_passes : List SetSlice → (SetSlice → Bool) → ℕ → Bool
+slice_passes slices test n = option_map_or test (slice_get slices n) false
 
 -- the sums of bytes: their MD5 and their CRC-32
 abbrev pub sums_of : List ℕ → Hash16 × ℕ
@@ -46,13 +47,13 @@ abbrev pub has_crc_of : ℕ → SetSlice → Bool
 has_crc_of crc slice = option_map_or (λ known. known.1 == crc) slice.sums false
 
 -- some slice has this CRC-32
-abbrev pub has_crc_in : SliceSet → ℕ → Bool
-has_crc_in set crc = list_any (has_crc_of crc) set.slices
+abbrev pub set_has_crc : SliceSet → ℕ → Bool
+set_has_crc set crc = list_any (has_crc_of crc) set.slices
 
 -- the sums of a slice are known, and at most so many of its bytes are its file's
 abbrev pub has_fit_of : ℕ → SetSlice → Bool
 has_fit_of left slice = option_map_or (λ known. nat_le slice.length left) slice.sums false
 
 -- some slice is such a one
-abbrev pub has_fit_in : SliceSet → ℕ → Bool
-has_fit_in set left = list_any (has_fit_of left) set.slices
+abbrev pub set_has_fit : SliceSet → ℕ → Bool
+set_has_fit set left = list_any (has_fit_of left) set.slices

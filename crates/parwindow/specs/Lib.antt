@@ -1,9 +1,10 @@
 pub mod Crc32
 pub mod Entries
 pub mod FilterBits
-pub mod Filtered
+pub mod Indexed
 pub mod OwnLengths
 pub mod Index
+pub mod KeyBits
 pub mod Least
 pub mod Missing
 pub mod Rolled

@@ -5,8 +5,8 @@ use Rattle.parwindow.specs.Window.{WindowState}
 use Rattle.parwindow.specs.declared.window.Window.TheInside.{Inside}
 
 -- what a contract sees of them
-abbrev pub state_of : Inside → WindowState
-state_of w =
+abbrev pub window_view : Inside → WindowState
+window_view w =
     record { content = w.ring.items; capacity = w.ring.capacity; digests = w.digests.count }
 
 -- its register is that of its bytes, and its tables are those of its size

@@ -1,7 +1,7 @@
 -- Many pushes into a full window at once, up to the CRC-32 of a slice.
 use Rattle.std.specs.Prelude.{◌≡◌, ℕ, ◌+◌, ◌<◌, ◌≤◌, Bool, List, length, take, drop, ◌++◌, slice_index, IsTrue}
 use Rattle.parwindow.specs.Crc32.{crc_of}
-use Rattle.parwindow.specs.Index.{SliceSet, has_crc_in}
+use Rattle.parwindow.specs.Index.{SliceSet, set_has_crc}
 use Rattle.parwindow.specs.Window.{WindowState, content_after}
 
 -- the content of a full window once k of the bytes are pushed: as many are gone at the front
@@ -18,7 +18,7 @@ pub record PushesSlide : Type 0 where
 
 -- after k pushes the content has the CRC-32 of a slice
 abbrev pub is_at_slice : SliceSet → List ℕ → List ℕ → ℕ → Bool
-is_at_slice set content bytes k = has_crc_in set (crc_of (slid_content content bytes k))
+is_at_slice set content bytes k = set_has_crc set (crc_of (slid_content content bytes k))
 
 -- n of the bytes are pushed, up to the first after which the content has the CRC-32 of a slice
 pub record PushesUntil (set : SliceSet) (content bytes : List ℕ) (n : ℕ) : Type 0 where

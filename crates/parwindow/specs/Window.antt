@@ -14,7 +14,7 @@ pub record WindowState : Type 0 where
 abbrev pub empty_window : ℕ → WindowState
 empty_window size = record { content = []; capacity = size; digests = 0 }
 
--- the content once a byte is pushed: that byte last, and the first byte gone where the window was full
+-- the content once a byte is pushed: that byte last, and the first one gone where it was full
 abbrev pub content_after : WindowState → ℕ → List ℕ
 content_after w byte =
     if length w.content == w.capacity then drop 1 (w.content ++ byte ∷ [])

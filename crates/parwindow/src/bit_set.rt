@@ -1,4 +1,5 @@
 ghost use Rattle.std.specs.Prelude.{◌≡◌, ◌↔◌, ℕ, IsTrue, IfOk, replicate, vec_len};
+ghost use Rattle.parwindow.specs.KeyBits.{word_count, HasBit};
 
 use std::alloc::{AllocError, Global};
 
@@ -7,15 +8,13 @@ use std::alloc::{AllocError, Global};
 pub struct BitSet {
     /// The words that hold the bits.
     pub words: Vec<u64>,
-    ghost size: { vec_len words ≡ 16384 },
+    ghost size: { vec_len words ≡ word_count },
 }
 
 impl BitSet {
-    ghost use Rattle.parwindow.specs.FilterBits.{HasBit};
-
     /// A set in which no bit is set.
     pub fn new(alloc: Global) -> Result<BitSet, AllocError>
-        ensures { IfOk result (λ set. set.words.items ≡ replicate 16384 0) }
+        ensures { IfOk result (λ set. set.words.items ≡ replicate word_count 0) }
     {
         let words = vec![in alloc; 0u64; 16_384]?;
         Ok(BitSet { words })

@@ -1,10 +1,11 @@
-ghost use Rattle.std.specs.Prelude.{◌≡◌, ◌<◌, ◌≤◌, All, List, length, IfOk, IsSorted};
+ghost use Rattle.std.specs.Prelude.{◌≡◌, ℕ, ◌<◌, ◌≤◌, All, List, length, IfOk, IsSorted};
 ghost use Rattle.std.specs.List.{list_any};
 ghost use Rattle.parset.specs.declared.recovery_set.SetSlice.{SetSlice};
-ghost use Rattle.parwindow.specs.Index.{has_crc_of, has_sums};
+ghost use Rattle.parwindow.specs.Index.{has_crc_of, has_sums, slice_passes, slice_set_of};
 ghost use Rattle.parwindow.specs.Least.{IsLeastFrom};
-ghost use Rattle.parwindow.specs.Entries.{entry_cmp, AreWithCrc, IsFloor, IsIndexOf, IsLeastOf, lesser, passes_at};
-ghost use Rattle.parwindow.specs.OwnLengths.{is_missing_of, is_open};
+ghost use Rattle.parset.specs.Limits.{slice_limit};
+ghost use Rattle.parwindow.specs.Entries.{entry_cmp, AreWithCrc, IsFloor, IsIndexOf, IsLeastOf, is_open, lesser};
+ghost use Rattle.parwindow.specs.Missing.{set_has_missing};
 
 use crate::entry::Entry;
 use parfield::Hash16;
@@ -21,7 +22,7 @@ pub struct Entries {
 impl Entries {
     /// The entries of these slices.
     pub fn of(alloc: Global, slices: &[SetSlice]) -> Result<Entries, AllocError>
-        requires { length slices.now ≤ 32768 }
+        requires { length slices.now ≤ slice_limit }
         ensures { IfOk result (λ entries. IsIndexOf slices.now entries.list.items) }
     {
         let mut list = listed(alloc, slices)?;
@@ -40,7 +41,7 @@ impl Entries {
     /// The first slice from a number on that has this CRC-32.
     pub fn next_crc(&self, crc: u32, from: u32) -> Option<u32>
         ensures { (slices : List SetSlice) → IsIndexOf slices self.now.list.items
-            → IsLeastFrom (passes_at slices (has_crc_of crc)) from result }
+            → IsLeastFrom (slice_passes slices (has_crc_of crc)) from result }
     {
         least_from(with_crc(&self.list, crc), from)
     }
@@ -48,7 +49,7 @@ impl Entries {
     /// The first slice from a number on that has both sums.
     pub fn next_match(&self, crc: u32, digest: Hash16, from: u32) -> Option<u32>
         ensures { (slices : List SetSlice) → IsIndexOf slices self.now.list.items
-            → IsLeastFrom (passes_at slices (has_sums (digest, crc))) from result }
+            → IsLeastFrom (slice_passes slices (has_sums (digest, crc))) from result }
     {
         next_match_in(&self.list, crc, digest, from)
     }
@@ -57,7 +58,8 @@ impl Entries {
     pub fn is_missing(&self, slices: &[SetSlice], crc: u32, left: u64, found: &[bool]) -> bool
         requires indexed { IsIndexOf slices.now self.now.list.items }
         requires each { length found.now ≡ length slices.now }
-        ensures { result ≡ is_missing_of slices.now found.now crc left }
+        ensures { (size : ℕ)
+            → result ≡ set_has_missing (slice_set_of size slices.now) found.now crc left }
     {
         has_open(with_crc(&self.list, crc), slices, left, found)
     }
@@ -65,7 +67,7 @@ impl Entries {
 
 // The entries of these slices, in the order of the slices.
 fn listed(alloc: Global, slices: &[SetSlice]) -> Result<Vec<Entry>, AllocError>
-    requires { length slices.now ≤ 32768 }
+    requires { length slices.now ≤ slice_limit }
     ensures { IfOk result (λ list. IsIndexOf slices.now list.items) }
 {
     let mut list = Vec::with_capacity(alloc, slices.len())?;
@@ -108,7 +110,7 @@ fn has_crc_in(entries: &[Entry], crc: u32) -> bool
 fn next_match_in(entries: &[Entry], crc: u32, digest: Hash16, from: u32) -> Option<u32>
     requires { IsSorted entry_cmp entries.now }
     ensures { (slices : List SetSlice) → IsIndexOf slices entries.now
-        → IsLeastFrom (passes_at slices (has_sums (digest, crc))) from result }
+        → IsLeastFrom (slice_passes slices (has_sums (digest, crc))) from result }
 {
     let wanted = Entry {
         crc,

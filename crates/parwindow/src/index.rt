@@ -1,13 +1,14 @@
 ghost use Rattle.std.specs.Prelude.{◌≡◌, ◌<◌, ◌≤◌, ◌%◌, ◌↔◌, length, slice_get, IfOk, IfSome, IsTrue};
 ghost use Rattle.std.specs.Option.{IsSomeAnd};
-ghost use Rattle.parwindow.specs.Index.{slice_set_of, slice_passes, has_sums, has_crc_of, has_crc_in, has_fit_in};
-ghost use Rattle.parwindow.specs.Filtered.{IsShortest};
+ghost use Rattle.parwindow.specs.Index.{slice_set_of, slice_passes, has_sums, has_crc_of, set_has_crc, set_has_fit};
+ghost use Rattle.parwindow.specs.Indexed.{IsShortest};
 ghost use Rattle.parwindow.specs.Least.{IsLeastFrom};
-ghost use Rattle.parwindow.specs.Missing.{has_fit_crc_in, is_missing_in};
+ghost use Rattle.parset.specs.Limits.{slice_size_limit, slice_limit};
+ghost use Rattle.parwindow.specs.Missing.{set_has_fit_crc, set_has_missing};
 ghost use Rattle.parwindow.specs.Slide.{HasRegister};
 
+use crate::bloom_filter::BloomFilter;
 use crate::entries::Entries;
-use crate::filter::Filter;
 use crate::own_lengths::OwnLengths;
 use parfield::{Hash16, Sequence};
 use parset::{RecoverySet, SetSlice};
@@ -19,7 +20,7 @@ use std::marker::Model;
 pub struct Index {
     size: u64,
     slices: Sequence<SetSlice>,
-    filter: Filter,
+    filter: BloomFilter,
     entries: Entries,
     lengths: OwnLengths,
     shortest: Option<u64>,
@@ -30,11 +31,11 @@ impl Model for Index {
 
     ghost Value = { SliceSet };
 
-    ghost use Rattle.parwindow.specs.Filtered.{IsFiltered};
+    ghost use Rattle.parwindow.specs.Indexed.{IsIndexed};
 
     ghost view = { λ i. slice_set_of i.size i.slices };
 
-    ghost invariant = { IsFiltered };
+    ghost invariant = { IsIndexed };
 }
 
 impl Index {
@@ -46,7 +47,7 @@ impl Index {
         Ok(Index {
             size: set.size(),
             slices: Sequence::from_vec(slices),
-            filter: Filter::of(alloc, set.slices())?,
+            filter: BloomFilter::of(alloc, set.slices())?,
             entries: Entries::of(alloc, set.slices())?,
             lengths: OwnLengths::of(alloc, set.slices())?,
             shortest: shortest_of(set.slices()),
@@ -57,7 +58,7 @@ impl Index {
     pub fn size(&self) -> u64
         ensures size { result ≡ self.now.slice_size }
         ensures least { 4 ≤ result }
-        ensures greatest { result ≤ 268435456 }
+        ensures greatest { result ≤ slice_size_limit }
         ensures multiple { result % 4 ≡ 0 }
     {
         self.size
@@ -66,7 +67,7 @@ impl Index {
     /// How many slices there are.
     pub fn slices(&self) -> u32
         ensures slices { result ≡ length self.now.slices }
-        ensures few { result ≤ 32768 }
+        ensures few { result ≤ slice_limit }
     {
         self.slices.len() as u32
     }
@@ -83,21 +84,21 @@ impl Index {
 
     /// Whether some slice with sums has at most so many bytes of its file.
     pub fn fits(&self, left: u64) -> bool
-        ensures { result ≡ has_fit_in self.now left }
+        ensures { result ≡ set_has_fit self.now left }
     {
         self.shortest.is_some_and(|least| least <= left)
     }
 
     /// Whether some slice has this CRC-32.
     pub fn has_crc(&self, crc: u32) -> bool
-        ensures { result ≡ has_crc_in self.now crc }
+        ensures { result ≡ set_has_crc self.now crc }
     {
-        self.filter.is_marked(crc ^ 0xFFFF_FFFF) && self.entries.has_crc(crc)
+        self.filter.may_have(crc ^ 0xFFFF_FFFF) && self.entries.has_crc(crc)
     }
 
     /// Whether some slice has this CRC-32 and at most so many bytes of its file.
     pub fn has_fit_crc(&self, crc: u32, left: u64) -> bool
-        ensures { result ≡ has_fit_crc_in self.now crc left }
+        ensures { result ≡ set_has_fit_crc self.now crc left }
     {
         self.has_crc(crc) && self.lengths.has(crc, left)
     }
@@ -106,7 +107,7 @@ impl Index {
     /// `found` has a mark for each slice, by number. Goes over the slices with this CRC-32 once.
     pub fn is_missing(&self, crc: u32, left: u64, found: &[bool]) -> bool
         requires { length found.now ≡ length self.now.slices }
-        ensures { result ≡ is_missing_in self.now found.now crc left }
+        ensures { result ≡ set_has_missing self.now found.now crc left }
     {
         self.entries
             .is_missing(self.slices.as_slice(), crc, left, found)
@@ -114,7 +115,7 @@ impl Index {
 
     /// The first slice from a number on that has this CRC-32.
     pub fn next_crc(&self, crc: u32, from: u32) -> Option<u32>
-        ensures found { IsLeastFrom (slice_passes self.now (has_crc_of crc)) from result }
+        ensures found { IsLeastFrom (slice_passes self.now.slices (has_crc_of crc)) from result }
         ensures there { IfSome result (λ n. n < length self.now.slices) }
     {
         self.entries.next_crc(crc, from)
@@ -129,11 +130,12 @@ impl Index {
 
     /// The first slice from a number on that has both sums.
     pub fn next_match(&self, crc: u32, digest: Hash16, from: u32) -> Option<u32>
-        ensures found { IsLeastFrom (slice_passes self.now (has_sums (digest, crc))) from result }
+        ensures found { IsLeastFrom (slice_passes self.now.slices (has_sums (digest, crc)))
+            from result }
 
         // It is the number of a slice, of which there are few.
         ensures there { IfSome result (λ n. n < length self.now.slices) }
-        ensures few { length self.now.slices ≤ 32768 }
+        ensures few { length self.now.slices ≤ slice_limit }
     {
         self.entries.next_match(crc, digest, from)
     }

@@ -1,6 +1,7 @@
 ghost use Rattle.std.specs.Prelude.{◌≡◌, ◌+◌, ◌<◌, ◌≤◌, ◌++◌, length, min};
 ghost use Rattle.parwindow.specs.Crc32.{register_of};
-ghost use Rattle.parwindow.specs.Slide.{slid_register, moved_register, rolled, HasRegister, StopsAt};
+ghost use Rattle.parset.specs.Limits.{slice_size_limit};
+ghost use Rattle.parwindow.specs.Slide.{slid_register, moved_register, rolled_register, HasRegister, StopsAt};
 ghost use Rattle.parwindow.specs.Until.{slid_content};
 
 use crate::checksum::after_byte;
@@ -14,7 +15,7 @@ impl SlideTables {
     /// The tables for a window of `size` bytes, by squaring: no byte runs through it.
     pub fn new(size: usize) -> SlideTables
         requires some { 0 < size }
-        requires within { size ≤ 268435456 }
+        requires within { size ≤ slice_size_limit }
         ensures { result.others + 1 ≡ size }
     {
         SlideTables {
@@ -58,7 +59,8 @@ impl SlideTables {
 
     // Slides over bytes that go and bytes that come, as long as there are both.
     fn slide(&self, index: &Index, gone: &[u8], come: &[u8], start: u32) -> Slid
-        ensures { StopsAt (HasRegister index.now) (rolled self.now.others start gone.now come.now)
+        ensures { StopsAt (HasRegister index.now)
+            (rolled_register self.now.others start gone.now come.now)
             (min (length gone.now) (length come.now)) result }
     {
         let len = gone.len().min(come.len());

@@ -1,6 +1,7 @@
 ghost use Rattle.std.specs.Prelude.{◌≡◌, ◌+◌, ◌<◌, ◌≤◌, ◌↔◌, [], length, IfOk, IsTrue};
 ghost use Rattle.parfield.specs.Md5.{md5};
 ghost use Rattle.parwindow.specs.Crc32.{crc_of};
+ghost use Rattle.parset.specs.Limits.{slice_size_limit};
 ghost use Rattle.parwindow.specs.Until.{slid_content, PushesUntil};
 ghost use Rattle.parwindow.specs.Window.{content_after, empty_window, fallen_byte};
 
@@ -27,9 +28,9 @@ impl Model for Window {
 
     ghost Value = { WindowState };
 
-    ghost use Rattle.parwindow.specs.Rolled.{state_of, IsRolled};
+    ghost use Rattle.parwindow.specs.Rolled.{window_view, IsRolled};
 
-    ghost view = { state_of };
+    ghost view = { window_view };
 
     ghost invariant = { IsRolled };
 }
@@ -39,7 +40,7 @@ impl Window {
     #[tactic(auto, unfolding(crate::specs::Crc32::register_of))]
     pub fn new(alloc: Global, size: usize) -> Result<Window, AllocError>
         requires some { 0 < size }
-        requires within { size ≤ 268435456 }
+        requires within { size ≤ slice_size_limit }
         ensures { IfOk result (λ window. window ≡ empty_window size) }
     {
         let ring = HeapCircularBuffer::with_capacity(alloc, size)?;

@@ -1,7 +1,7 @@
 ghost use Rattle.std.specs.Prelude.{◌≡◌, ◌^◌, ◌≤◌, ◌∷◌, [], length, IfOk, IfErr, IfSome, IfNone, true, false};
 ghost use Rattle.std.specs.Char.{is_ascii_digit};
 ghost use Rattle.std.specs.List.{list_all, position, slice_split};
-ghost use Rattle.parfind.specs.CursorText.{cursor_in, cursor_text, id_in, is_canonical, is_colon, is_lower_digit, number_in, pair_of_parts, IsCursorFault};
+ghost use Rattle.parfind.specs.CursorText.{cursor_pair_of, cursor_text, id_of, is_canonical, is_colon, is_lower_digit, number_of, pair_of_parts, IsCursorFault};
 
 use crate::cursors::cursor::Cursor;
 use parfield::Hash16;
@@ -29,9 +29,9 @@ impl Cursor {
 }
 
 /// The set ID and the cursor whose text this is; `None` for any other text.
-#[tactic(auto, unfolding(crate::specs::CursorText::cursor_in))]
+#[tactic(auto, unfolding(crate::specs::CursorText::cursor_pair_of))]
 pub fn split_cursor(text: &[u8]) -> Option<(Hash16, Cursor)>
-    ensures { result ≡ cursor_in text.now }
+    ensures { result ≡ cursor_pair_of text.now }
 {
     let (id, rest) = parted(text)?;
     let (file, rest) = parted(rest)?;
@@ -41,7 +41,7 @@ pub fn split_cursor(text: &[u8]) -> Option<(Hash16, Cursor)>
 
 /// The cursor of this set whose text this is, or the first fault that the text has.
 pub fn read_cursor(text: &[u8], set: Hash16) -> Result<Cursor, CursorFault>
-    ensures cursor { IfOk result (λ c. cursor_in text.now ≡ Some (set, c)) }
+    ensures cursor { IfOk result (λ c. cursor_pair_of text.now ≡ Some (set, c)) }
     ensures fault { IfErr result (IsCursorFault text.now set) }
 {
     match split_cursor(text) {
@@ -56,7 +56,7 @@ pub fn read_cursor(text: &[u8], set: Hash16) -> Result<Cursor, CursorFault>
     }
 }
 
-// What stands before the first colon, and all that stands behind it.
+// What stands before the first colon, and all that stands after it.
 fn parted(text: &[u8]) -> Option<(&[u8], &[u8])>
     ensures parts { IfSome result (λ p.
         slice_split is_colon text.now ≡ p.0.now ∷ slice_split is_colon p.1.now) }
@@ -76,10 +76,10 @@ fn first_colon(text: &[u8]) -> Option<usize>
 fn pair_of_parts(id: &[u8], file: &[u8], offset: &[u8], slice: &[u8]) -> Option<(Hash16, Cursor)>
     ensures { result ≡ pair_of_parts (id.now ∷ file.now ∷ offset.now ∷ slice.now ∷ []) }
 {
-    let id = id_in(id)?;
-    let file = u32_in(file)?;
-    let offset = u64_in(offset)?;
-    let slice = u32_in(slice)?;
+    let id = id_of(id)?;
+    let file = u32_of(file)?;
+    let offset = u64_of(offset)?;
+    let slice = u32_of(slice)?;
     let cursor = Cursor {
         file,
         offset,
@@ -89,8 +89,8 @@ fn pair_of_parts(id: &[u8], file: &[u8], offset: &[u8], slice: &[u8]) -> Option<
 }
 
 // The ID that a part is in 32 digits, those above 9 in lower case; `None` for any other part.
-fn id_in(part: &[u8]) -> Option<Hash16>
-    ensures { result ≡ id_in part.now }
+fn id_of(part: &[u8]) -> Option<Hash16>
+    ensures { result ≡ id_of part.now }
 {
     if are_lower_hex_digits(part) {
         Hash16::read(part)
@@ -108,15 +108,15 @@ fn are_lower_hex_digits(part: &[u8]) -> bool
 }
 
 // The number that a part is in canonical decimal, if it is below 2^32.
-fn u32_in(part: &[u8]) -> Option<u32>
-    ensures { result ≡ number_in (2 ^ 32) part.now }
+fn u32_of(part: &[u8]) -> Option<u32>
+    ensures { result ≡ number_of (2 ^ 32) part.now }
 {
     canonical(part)?.parse::<u32>().ok()
 }
 
 // The number that a part is in canonical decimal, if it is below 2^64.
-fn u64_in(part: &[u8]) -> Option<u64>
-    ensures { result ≡ number_in (2 ^ 64) part.now }
+fn u64_of(part: &[u8]) -> Option<u64>
+    ensures { result ≡ number_of (2 ^ 64) part.now }
 {
     canonical(part)?.parse::<u64>().ok()
 }

@@ -2,6 +2,7 @@ ghost use Rattle.std.specs.Prelude.{◌≡◌};
 ghost use Rattle.std.specs.Ordering.{is_lt, is_gt};
 ghost use Rattle.parfind.specs.Order.{is_before};
 ghost use Rattle.parfind.specs.CursorText.{ReadsItsText, HasOnePair};
+ghost use Rattle.parfind.specs.Sightings.{SightingsRise, AllFromOrigin, RestFollows, BetweenJoins};
 
 use crate::cursors::cursor::Cursor;
 
@@ -16,4 +17,12 @@ pub fn cursor_order_law()
 pub fn cursor_text_law()
     ensures read { ReadsItsText }
     ensures one { HasOnePair }
+{}
+
+/// The laws of sightings: they rise strictly, and parts of them follow one another. Does nothing.
+pub fn sighting_laws()
+    ensures rise { SightingsRise }
+    ensures all { AllFromOrigin }
+    ensures rest { RestFollows }
+    ensures joins { BetweenJoins }
 {}

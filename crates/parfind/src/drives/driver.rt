@@ -1,8 +1,9 @@
 ghost use Rattle.std.specs.Prelude.{◌≡◌, ◌+◌, ◌<◌, ◌≤◌, ◌++◌, ◌∷◌, [], All, Contains, IsTrue, IfOk, IfErr, vec_len, vec_capacity};
 ghost use Rattle.parfind.specs.Order.{is_from};
-ghost use Rattle.parfind.specs.Reach.{HandsWithin};
-ghost use Rattle.parfind.specs.Runs.{HasBudget, CallsGive, AnswersEach, search_at};
-ghost use Rattle.parfind.specs.Told.{TellsOf};
+ghost use Rattle.parfind.specs.OnePass.{HandsWithin};
+ghost use Rattle.parfind.specs.Points.{search_at};
+ghost use Rattle.parfind.specs.Runs.{HasBudget, CallsGive, AnswersEach};
+ghost use Rattle.parfind.specs.AnswersToldOf.{TellsOf};
 ghost use Rattle.parfind.specs.declared.drives.calls.Call.TheVariants.{Reopen};
 
 use crate::drives::calls::{Answer, Call, Drive};
@@ -25,8 +26,8 @@ pub fn drive<H: Shelf>(
 
     // The answers, the cursor and the shelf, where it is steady.
     ensures answer { IsTrue (H.state shelf.old).is_steady → IfOk result (λ drive.
-        CallsGive index.now (H.state shelf.old) start calls.now drive.answers
-        (H.state shelf.new) drive.cursor) }
+        CallsGive index.now (search_at (H.state shelf.old) start) calls.now drive.answers
+        (search_at (H.state shelf.new) drive.cursor)) }
 
     // On any shelf.
     ensures each { IfOk result (λ drive. AnswersEach calls.now drive.answers) }

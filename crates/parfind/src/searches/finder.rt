@@ -1,15 +1,14 @@
-ghost use Rattle.std.specs.Prelude.{◌≡◌, ◌≢◌, ◌-◌, ◌<◌, ◌≤◌, None, Some, Ok, length, option_map, IsTrue, OnOk, IfOk, IfErr};
-ghost use Rattle.parshelf.specs.Reads.{ReadsOnly, FaultsIn};
-ghost use Rattle.parfind.specs.Fetched.{ReadsUpTo};
-ghost use Rattle.parfind.specs.Finders.{BelongsTo, search_of, StandsAt};
+ghost use Rattle.std.specs.Prelude.{◌≡◌, ◌≢◌, ◌-◌, ◌<◌, ◌≤◌, None, Some, Ok, length, option_map, IsTrue, OnOk, IfOk, IfSome, IfNone};
+ghost use Rattle.parfind.specs.Finders.{BelongsTo, GoesAlong, search_of, StandsAt};
 ghost use Rattle.parfind.specs.declared.searches.finder.Step.TheVariants.{Spent};
-ghost use Rattle.parfind.specs.Looking.{HasFit, IsAtPlace, IsNextPlace};
+ghost use Rattle.parfind.specs.NextPlace.{HasFit, IsAtPlace, IsNextPlace};
 ghost use Rattle.parfind.specs.Marks.{marks};
 ghost use Rattle.parfind.specs.Moves.{StepMoves, PassesAll, IsWithin, Advances, steps_left};
+ghost use Rattle.parfind.specs.OnePass.{CallReads};
 ghost use Rattle.parfind.specs.Places.{place_at};
-ghost use Rattle.parfind.specs.Reach.{CallReads};
-ghost use Rattle.parfind.specs.Steps.{StepGives, scan_of};
-ghost use Rattle.parfind.specs.Visits.{StepSees, step_of, count_of};
+ghost use Rattle.parfind.specs.PlaceVisit.{answer_of, count_of, step_of};
+ghost use Rattle.parfind.specs.Points.{search_at};
+ghost use Rattle.parfind.specs.Steps.{StepGives, StepSees, scan_of};
 
 use crate::cursors::{Cursor, Sighting};
 use crate::searches::places::{next_place, rest_of};
@@ -29,6 +28,17 @@ pub enum Step {
     Spent,
     /// There is no further sighting.
     Done,
+}
+
+// What a try of a place comes to.
+#[derive(Clone, Copy)]
+pub(crate) enum Visit {
+    // A sighting at the place.
+    Hit(Sighting),
+    // So many places were passed, with no sighting from the cursor on at any of them.
+    Passed(u64),
+    // No place is left.
+    End,
 }
 
 /// A search that stands at a cursor, in one pass over each file.
@@ -89,38 +99,36 @@ impl Finder {
     }
 
     /// The next sighting, or `Done`.
+    #[tactic(auto, using(crate::proofs::CallLaws::reads_near, crate::proofs::CallLaws::few_digests))]
     pub fn next<H: Shelf>(&mut self, index: &Index, shelf: &mut H) -> Result<Step, ReadFault>
         requires { BelongsTo self.old index.now (H.state shelf.old) }
         ensures belongs { BelongsTo self.new index.now (H.state shelf.new) }
 
         // The answer, the cursor and the shelf, where it is steady.
-        ensures answer { IsTrue (H.state shelf.old).is_steady →
-            StepGives index.now (H.state shelf.old) (H.state shelf.new) None
-            self.old.cursor result self.new.cursor }
+        ensures answer { IsTrue (H.state shelf.old).is_steady → StepGives index.now None
+            (search_at (H.state shelf.old) self.old.cursor) result
+            (search_at (H.state shelf.new) self.new.cursor) }
 
         // On any shelf: where the search goes, that it comes nearer to its end, what was counted.
         ensures moves { StepMoves (H.state shelf.old).lengths None
             self.old.cursor result self.new.cursor }
-        ensures advances { IfOk result (λ step.
-            Advances index.now (H.state shelf.old).lengths None
-            self.old.cursor step self.new.cursor) }
-        ensures ok { OnOk result (ReadsOnly (H.state shelf.old) (H.state shelf.new)) }
-        ensures fault { IfErr result
-            (FaultsIn (H.state shelf.old) (H.state shelf.new) self.new.cursor.file) }
+        ensures advances { IfOk result (λ step. Advances index.now None
+            (search_at (H.state shelf.old) self.old.cursor) step self.new.cursor) }
+        ensures along { GoesAlong (H.state shelf.old) (H.state shelf.new)
+            self.old self.new result }
 
         // How much is read, on any shelf.
         ensures reads { CallReads index.now.slice_size
             (search_of (H.state shelf.old) self.old) (search_of (H.state shelf.new) self.new) }
         ensures digests { IsTrue (H.state shelf.new).is_steady → self.new.digests
             ≤ marks (scan_of index.now (H.state shelf.new)) self.new.opening self.new.cursor }
-        ensures opening { self.new.opening ≡ self.old.opening }
-        ensures no_fewer { self.old.digests ≤ self.new.digests }
     {
         self.advance(index, shelf, None)
     }
 
     /// The next sighting, if it is at one of the first `budget` places; `Done`, where fewer places
     /// are ahead and there is none; else `Spent`.
+    #[tactic(auto, using(crate::proofs::CallLaws::reads_near, crate::proofs::CallLaws::few_digests))]
     pub fn step<H: Shelf>(
         &mut self,
         index: &Index,
@@ -132,27 +140,23 @@ impl Finder {
         ensures belongs { BelongsTo self.new index.now (H.state shelf.new) }
 
         // The answer, the cursor and the shelf, where it is steady.
-        ensures answer { IsTrue (H.state shelf.old).is_steady →
-            StepGives index.now (H.state shelf.old) (H.state shelf.new) (Some budget)
-            self.old.cursor result self.new.cursor }
+        ensures answer { IsTrue (H.state shelf.old).is_steady → StepGives index.now (Some budget)
+            (search_at (H.state shelf.old) self.old.cursor) result
+            (search_at (H.state shelf.new) self.new.cursor) }
 
         // On any shelf: where the search goes, that it comes nearer to its end, what was counted.
         ensures moves { StepMoves (H.state shelf.old).lengths (Some budget)
             self.old.cursor result self.new.cursor }
-        ensures advances { IfOk result (λ step.
-            Advances index.now (H.state shelf.old).lengths (Some budget)
-            self.old.cursor step self.new.cursor) }
-        ensures ok { OnOk result (ReadsOnly (H.state shelf.old) (H.state shelf.new)) }
-        ensures fault { IfErr result
-            (FaultsIn (H.state shelf.old) (H.state shelf.new) self.new.cursor.file) }
+        ensures advances { IfOk result (λ step. Advances index.now (Some budget)
+            (search_at (H.state shelf.old) self.old.cursor) step self.new.cursor) }
+        ensures along { GoesAlong (H.state shelf.old) (H.state shelf.new)
+            self.old self.new result }
 
         // How much is read, on any shelf.
         ensures reads { CallReads index.now.slice_size
             (search_of (H.state shelf.old) self.old) (search_of (H.state shelf.new) self.new) }
         ensures digests { IsTrue (H.state shelf.new).is_steady → self.new.digests
             ≤ marks (scan_of index.now (H.state shelf.new)) self.new.opening self.new.cursor }
-        ensures opening { self.new.opening ≡ self.old.opening }
-        ensures no_fewer { self.old.digests ≤ self.new.digests }
     {
         self.advance(index, shelf, Some(budget))
     }
@@ -168,69 +172,55 @@ impl Finder {
         requires belongs { BelongsTo self.old index.now (H.state shelf.old) }
         ensures belongs { BelongsTo self.new index.now (H.state shelf.new) }
 
-        ensures answer { IsTrue (H.state shelf.old).is_steady →
-            StepGives index.now (H.state shelf.old) (H.state shelf.new) budget
-            self.old.cursor result self.new.cursor }
+        ensures answer { IsTrue (H.state shelf.old).is_steady → StepGives index.now budget
+            (search_at (H.state shelf.old) self.old.cursor) result
+            (search_at (H.state shelf.new) self.new.cursor) }
+
         ensures moves { StepMoves (H.state shelf.old).lengths budget
             self.old.cursor result self.new.cursor }
-        ensures advances { IfOk result (λ step.
-            Advances index.now (H.state shelf.old).lengths budget
-            self.old.cursor step self.new.cursor) }
-
-        ensures ok { OnOk result (ReadsOnly (H.state shelf.old) (H.state shelf.new)) }
-        ensures fault { IfErr result
-            (FaultsIn (H.state shelf.old) (H.state shelf.new) self.new.cursor.file) }
-
-        ensures reads { ReadsUpTo (H.state shelf.old) (H.state shelf.new)
-            self.old.fetched self.new.fetched }
-        ensures opening { self.new.opening ≡ self.old.opening }
-        ensures no_fewer { self.old.digests ≤ self.new.digests }
+        ensures advances { IfOk result (λ step. Advances index.now budget
+            (search_at (H.state shelf.old) self.old.cursor) step self.new.cursor) }
+        ensures along { GoesAlong (H.state shelf.old) (H.state shelf.new)
+            self.old self.new result }
     {
         let mut left = budget;
         loop {
-            let (step, count) = self.visit(index, shelf, left)?;
-            match step {
-                Step::Spent => {
-                    left = fewer(left, count);
+            match self.try_place(index, shelf, left)? {
+                Visit::Hit(sighting) => return Ok(Step::Hit(sighting)),
+                Visit::Passed(count) => {
+                    left = budget_left(left, count);
                     if left == Some(0) {
                         return Ok(Step::Spent);
                     }
                 }
-                other => return Ok(other),
+                Visit::End => return Ok(Step::Done),
             }
         }
     }
 
-    // A step with a budget that it names, which is within the one that is left: the first place
-    // from the cursor on, and those behind it where the window's CRC-32 is no slice's, or all that
-    // are left of a file into which no slice fits any more.
-    fn visit<H: Shelf>(
+    // Tries the first place from the cursor on: without a hit it is passed, with those after it up
+    // to one whose window has a slice's CRC-32, or all that are left of a file into which no slice
+    // fits.
+    fn try_place<H: Shelf>(
         &mut self,
         index: &Index,
         shelf: &mut H,
         left: Option<u64>,
-    ) -> Result<(Step, u64), ReadFault>
+    ) -> Result<Visit, ReadFault>
         requires left { left ≢ Some 0 }
         requires belongs { BelongsTo self.old index.now (H.state shelf.old) }
         ensures belongs { BelongsTo self.new index.now (H.state shelf.new) }
 
         ensures sees { IsTrue (H.state shelf.old).is_steady →
             StepSees (scan_of index.now (H.state shelf.old))
-            self.old.cursor (step_of result) self.new.cursor }
+            self.old.cursor (answer_of result) self.new.cursor }
         ensures moves { StepMoves (H.state shelf.old).lengths (Some (count_of result))
-            self.old.cursor (step_of result) self.new.cursor }
-        ensures advances { IfOk result (λ step.
-            Advances index.now (H.state shelf.old).lengths (Some 1)
-            self.old.cursor step.0 self.new.cursor) }
-        ensures within { IfOk result (λ step. (0 < step.1) × IsWithin step.1 left) }
-
-        ensures ok { OnOk result (ReadsOnly (H.state shelf.old) (H.state shelf.new)) }
-        ensures fault { IfErr result
-            (FaultsIn (H.state shelf.old) (H.state shelf.new) self.new.cursor.file) }
-        ensures reads { ReadsUpTo (H.state shelf.old) (H.state shelf.new)
-            self.old.fetched self.new.fetched }
-        ensures opening { self.new.opening ≡ self.old.opening }
-        ensures no_fewer { self.old.digests ≤ self.new.digests }
+            self.old.cursor (answer_of result) self.new.cursor }
+        ensures advances { IfOk result (λ visit. Advances index.now (Some 1)
+            (search_at (H.state shelf.old) self.old.cursor) (step_of visit) self.new.cursor) }
+        ensures within { IsWithin (count_of result) left }
+        ensures along { GoesAlong (H.state shelf.old) (H.state shelf.new)
+            self.old self.new result }
     {
         let Some(at) = next_place(shelf, self.cursor) else {
             if self.cursor.file < shelf.count() {
@@ -240,47 +230,57 @@ impl Finder {
                     slice: 0,
                 };
             }
-            return Ok((Step::Done, 1));
+            return Ok(Visit::End);
         };
-        if !index.fits(rest_of(shelf, at)) {
-            return Ok((Step::Spent, self.skip(index, shelf, at, left)));
+        if let Some(count) = self.pass_unfit(index, shelf, at, left) {
+            return Ok(Visit::Passed(count));
         }
-        self.arrive(index, shelf, at)?;
-        self.look(index, shelf, left)
+        self.move_window(index, shelf, at)?;
+        self.at_place(index, shelf, left)
     }
 
     // Passes the places that are left of a file into which no slice fits any more, as many as the
-    // budget has. The window stays.
-    fn skip<H: Shelf>(&mut self, index: &Index, shelf: &H, at: Cursor, left: Option<u64>) -> u64
+    // budget has, and answers how many; `None` where one fits.
+    fn pass_unfit<H: Shelf>(
+        &mut self,
+        index: &Index,
+        shelf: &H,
+        at: Cursor,
+        left: Option<u64>,
+    ) -> Option<u64>
         requires left { left ≢ Some 0 }
         requires next { IsNextPlace (H.state shelf.now).lengths self.old.cursor at }
-        requires none { ¬ HasFit index.now (H.state shelf.now).lengths at }
         requires belongs { BelongsTo self.old index.now (H.state shelf.now) }
         ensures belongs { BelongsTo self.new index.now (H.state shelf.now) }
 
-        ensures sees { IsTrue (H.state shelf.now).is_steady →
+        ensures fits { IfNone result (HasFit index.now (H.state shelf.now).lengths at
+            × (self.new ≡ self.old)) }
+        ensures sees { IsTrue (H.state shelf.now).is_steady → IfSome result (λ _.
             StepSees (scan_of index.now (H.state shelf.now))
-            self.old.cursor (Ok Spent) self.new.cursor }
-        ensures passes { PassesAll (H.state shelf.now).lengths result
-            self.old.cursor self.new.cursor }
-        ensures advances { steps_left index.now (H.state shelf.now).lengths self.new.cursor
-            < steps_left index.now (H.state shelf.now).lengths self.old.cursor }
-        ensures within { IsWithin result left }
+            self.old.cursor (Ok Spent) self.new.cursor) }
+        ensures passes { IfSome result (λ count. PassesAll (H.state shelf.now).lengths count
+            self.old.cursor self.new.cursor) }
+        ensures advances { IfSome result (λ _.
+            steps_left index.now (H.state shelf.now).lengths self.new.cursor
+            < steps_left index.now (H.state shelf.now).lengths self.old.cursor) }
+        ensures within { IfSome result (λ count. IsWithin count left) }
         ensures stays { self.new ≡ record self.old { cursor = self.new.cursor } }
     {
-        // Only the contract speaks of it.
-        let _ = index;
-        let count = rest_of(shelf, at).min(left.unwrap_or(u64::MAX));
+        let rest = rest_of(shelf, at);
+        if index.fits(rest) {
+            return None;
+        }
+        let count = rest.min(left.unwrap_or(u64::MAX));
         self.cursor = Cursor {
             file: at.file,
             offset: at.offset + count,
             slice: 0,
         };
-        count
+        Some(count)
     }
 
     // Goes to the next place, and brings the window there.
-    fn arrive<H: Shelf>(
+    fn move_window<H: Shelf>(
         &mut self,
         index: &Index,
         shelf: &mut H,
@@ -293,13 +293,8 @@ impl Finder {
         ensures cursor { self.new.cursor ≡ at }
         ensures stands { StandsAt self.new.track at }
         ensures full { OnOk result (length self.new.window.content ≡ self.new.window.capacity) }
-
-        ensures ok { OnOk result (ReadsOnly (H.state shelf.old) (H.state shelf.new)) }
-        ensures fault { IfErr result (FaultsIn (H.state shelf.old) (H.state shelf.new) at.file) }
-        ensures reads { ReadsUpTo (H.state shelf.old) (H.state shelf.new)
-            self.old.fetched self.new.fetched }
-        ensures opening { self.new.opening ≡ self.old.opening }
-        ensures no_fewer { self.old.digests ≤ self.new.digests }
+        ensures along { GoesAlong (H.state shelf.old) (H.state shelf.new)
+            self.old self.new result }
     {
         // Only the contract speaks of it.
         let _ = index;
@@ -308,13 +303,13 @@ impl Finder {
         self.track.fill(&mut self.window, shelf)
     }
 
-    // What `visit` gives at the place where the search stands, whose window is there.
-    fn look<H: Shelf>(
+    // What `try_place` gives at the place where the search stands, whose window is there.
+    fn at_place<H: Shelf>(
         &mut self,
         index: &Index,
         shelf: &mut H,
         left: Option<u64>,
-    ) -> Result<(Step, u64), ReadFault>
+    ) -> Result<Visit, ReadFault>
         requires left { left ≢ Some 0 }
         requires file { self.old.cursor.file < length (H.state shelf.old).lengths }
         requires there { IsAtPlace (H.state shelf.old).lengths self.old.cursor }
@@ -325,21 +320,14 @@ impl Finder {
 
         ensures sees { IsTrue (H.state shelf.old).is_steady →
             StepSees (scan_of index.now (H.state shelf.old))
-            self.old.cursor (step_of result) self.new.cursor }
+            self.old.cursor (answer_of result) self.new.cursor }
         ensures moves { StepMoves (H.state shelf.old).lengths (Some (count_of result))
-            self.old.cursor (step_of result) self.new.cursor }
-        ensures advances { IfOk result (λ step.
-            Advances index.now (H.state shelf.old).lengths (Some 1)
-            self.old.cursor step.0 self.new.cursor) }
-        ensures within { IfOk result (λ step. (0 < step.1) × IsWithin step.1 left) }
-
-        ensures ok { OnOk result (ReadsOnly (H.state shelf.old) (H.state shelf.new)) }
-        ensures fault { IfErr result
-            (FaultsIn (H.state shelf.old) (H.state shelf.new) self.new.cursor.file) }
-        ensures reads { ReadsUpTo (H.state shelf.old) (H.state shelf.new)
-            self.old.fetched self.new.fetched }
-        ensures opening { self.new.opening ≡ self.old.opening }
-        ensures no_fewer { self.old.digests ≤ self.new.digests }
+            self.old.cursor (answer_of result) self.new.cursor }
+        ensures advances { IfOk result (λ visit. Advances index.now (Some 1)
+            (search_at (H.state shelf.old) self.old.cursor) (step_of visit) self.new.cursor) }
+        ensures within { IsWithin (count_of result) left }
+        ensures along { GoesAlong (H.state shelf.old) (H.state shelf.new)
+            self.old self.new result }
     {
         let at = self.cursor;
         let rest = rest_of(shelf, at);
@@ -353,21 +341,23 @@ impl Finder {
                 offset: at.offset,
                 slice,
             };
-            return Ok((Step::Hit(sighting), 1));
+            return Ok(Visit::Hit(sighting));
         }
         let most = left.unwrap_or(u64::MAX);
-        let count = self.track.pass(&mut self.window, index, shelf, most)?;
+        let count = self
+            .track
+            .slide_until_match(&mut self.window, index, shelf, most)?;
         self.cursor = Cursor {
             file: at.file,
             offset: at.offset + count,
             slice: 0,
         };
-        Ok((Step::Spent, count))
+        Ok(Visit::Passed(count))
     }
 }
 
 // What is left of a budget after so many more places.
-fn fewer(budget: Option<u64>, count: u64) -> Option<u64>
+fn budget_left(budget: Option<u64>, count: u64) -> Option<u64>
     requires { IsWithin count budget }
     ensures { result ≡ option_map (λ places. places - count) budget }
 {

@@ -1,5 +1,5 @@
 ghost use Rattle.std.specs.Prelude.{◌≡◌, ◌<◌, length, IfSome, IfNone};
-ghost use Rattle.parfind.specs.Looking.{IsAtPlace, IsNextPlace, NoPlaceFrom, rest_of};
+ghost use Rattle.parfind.specs.NextPlace.{IsAtPlace, IsNextPlace, NoPlaceFrom, rest_of};
 
 use crate::cursors::Cursor;
 use parshelf::Shelf;

@@ -1,14 +1,16 @@
-ghost use Rattle.std.specs.Prelude.{◌≡◌, ◌+◌, ◌≤◌, [], length, IsTrue, OnOk, OnErr, IfErr};
-ghost use Rattle.parshelf.specs.Reads.{ReadsOnly, FaultsIn};
+ghost use Rattle.std.specs.Prelude.{◌≡◌, ◌+◌, ◌≤◌, ◌<◌, ℕ, [], false, length, IsTrue, IfErr};
 ghost use Rattle.parfind.specs.Tracks.{IsUnread};
-ghost use Rattle.parfind.specs.Handed.{HandsEachOnce, SkipsUnfit};
+ghost use Rattle.parset.specs.Limits.{slice_size_limit};
+ghost use Rattle.parshelf.specs.Reads.{ReadsFile};
+ghost use Rattle.parfind.specs.Handover.{HandsEachOnce, SkipsUnfit};
 ghost use Rattle.parfind.specs.Marks.{missing_places};
 ghost use Rattle.parfind.specs.Steps.{scan_of};
-ghost use Rattle.parfind.specs.Surveys.{MarksSighted, MarksNoOther, MarksUpToFault, KeepsMarks, IsAllMarked, StopsOnceFound, SurveyLeaves};
+ghost use Rattle.parfind.specs.Surveys.{SurveyMarks, MarksUpToFault, KeepsMarks, IsAllMarked, StopsOnceFound, ReadsNamed, SurveyLeaves, marked_at};
+ghost use Rattle.parwindow.specs.Missing.{mark_of};
 ghost use Rattle.parfind.specs.Surveying.{SurveyEnds, survey_at};
 ghost use Rattle.parfind.specs.declared.surveys.surveying.SurveyFault.TheVariants.{Memory};
 
-use crate::surveys::marking::{mark_seen, next_missing};
+use crate::surveys::marking::mark_seen;
 use crate::tracks::Track;
 use parshelf::{ReadFault, Shelf};
 use parwindow::{Index, Window};
@@ -42,16 +44,13 @@ pub fn survey<H: Shelf>(
 
     // The marks on a steady shelf.
     ensures found { IsTrue (H.state shelf.old).is_steady →
-        OnOk result (MarksSighted (scan_of index.now (H.state shelf.old)) found.old found.new) }
-    ensures no_other { IsTrue (H.state shelf.old).is_steady →
-        OnErr result (MarksNoOther (scan_of index.now (H.state shelf.old)) found.old found.new) }
+        SurveyMarks (scan_of index.now (H.state shelf.old)) found.old found.new result }
     ensures stops { IsTrue (H.state shelf.old).is_steady →
         StopsOnceFound index.now (H.state shelf.old) (H.state shelf.new) found.old }
 
     // On any shelf.
     ensures kept { KeepsMarks found.old found.new }
-    ensures ok { OnOk result (ReadsOnly (H.state shelf.old) (H.state shelf.new)) }
-    ensures fault { IfErr result (SurveyLeaves (H.state shelf.old) (H.state shelf.new)) }
+    ensures shelf { SurveyLeaves (H.state shelf.old) (H.state shelf.new) result }
     ensures untouched { IfErr result (λ fault. fault ≡ Memory → found.new ≡ found.old) }
     ensures handed { HandsEachOnce (H.state shelf.old) (H.state shelf.new) }
     ensures unfit { SkipsUnfit index.now (H.state shelf.old) (H.state shelf.new) }
@@ -79,12 +78,10 @@ pub fn survey_in<H: Shelf>(
 
     // The marks on a steady shelf.
     ensures found { IsTrue (H.state shelf.old).is_steady →
-        OnOk result (MarksSighted (scan_of index.now (H.state shelf.old)) found.old found.new) }
-    ensures no_other { IsTrue (H.state shelf.old).is_steady →
-        OnErr result (MarksNoOther (scan_of index.now (H.state shelf.old)) found.old found.new) }
+        SurveyMarks (scan_of index.now (H.state shelf.old)) found.old found.new result }
     ensures so_far { IsTrue (H.state shelf.old).is_steady → IfErr result (λ fault.
-        MarksUpToFault index.now (H.state shelf.old) (H.state shelf.new)
-        found.old found.new fault.0) }
+        MarksUpToFault index.now (marked_at (H.state shelf.old) found.old)
+        (marked_at (H.state shelf.new) found.new) fault.0) }
 
     // How much is read and hashed on a steady shelf.
     ensures stops { IsTrue (H.state shelf.old).is_steady →
@@ -94,9 +91,7 @@ pub fn survey_in<H: Shelf>(
 
     // On any shelf.
     ensures kept { KeepsMarks found.old found.new }
-    ensures ok { OnOk result (ReadsOnly (H.state shelf.old) (H.state shelf.new)) }
-    ensures fault { IfErr result (λ fault.
-        FaultsIn (H.state shelf.old) (H.state shelf.new) fault.0 fault.1) }
+    ensures shelf { ReadsNamed (H.state shelf.old) (H.state shelf.new) result }
     ensures handed { HandsEachOnce (H.state shelf.old) (H.state shelf.new) }
     ensures unfit { SkipsUnfit index.now (H.state shelf.old) (H.state shelf.new) }
     ensures none { IsAllMarked found.old → H.state shelf.new ≡ H.state shelf.old }
@@ -109,14 +104,14 @@ pub fn survey_in<H: Shelf>(
     prove!(window.size() as u64 == size);
     window.clear();
     let mut track = Track::new(0, 0);
-    match sweep(index, shelf, window, &mut track, found) {
+    match survey_files(index, shelf, window, &mut track, found) {
         Ok(()) => Ok(()),
-        Err(fault) => Err((track.file, fault)),
+        Err(fault) => Err((track.file(), fault)),
     }
 }
 
 // Goes from the beginning of all files on, until each slice has its mark.
-fn sweep<H: Shelf>(
+fn survey_files<H: Shelf>(
     index: &Index,
     shelf: &mut H,
     window: &mut Window,
@@ -125,38 +120,51 @@ fn sweep<H: Shelf>(
 ) -> Result<(), ReadFault>
     requires sized { window.old.capacity ≡ index.now.slice_size }
     requires each { length found.old ≡ length index.now.slices }
-    requires few { window.old.capacity ≤ 268435456 }
+    requires few { window.old.capacity ≤ slice_size_limit }
     requires empty { window.old.content ≡ [] }
     requires unread { IsUnread 0 0 track.old }
     ensures ends { SurveyEnds index.now
         (survey_at (H.state shelf.old) window.old found.old track.old)
         (survey_at (H.state shelf.new) window.new found.new track.new) result }
-    ensures ok { OnOk result (ReadsOnly (H.state shelf.old) (H.state shelf.new)) }
-    ensures fault { IfErr result
-        (FaultsIn (H.state shelf.old) (H.state shelf.new) track.new.file) }
+    ensures shelf { ReadsFile track.new.file (H.state shelf.old) (H.state shelf.new) result }
     ensures none { IsAllMarked found.old → H.state shelf.new ≡ H.state shelf.old }
     ensures window { window.new ≡ record window.old {
       content = window.new.content;
       digests = window.new.digests;
     } }
 {
-    let mut settled = None;
+    let mut exhausted_crc = None;
     let mut missing = next_missing(found, 0);
-    while missing < found.len() && track.file < shelf.count() {
-        let left = shelf.length(track.file) - track.held;
+    while missing < found.len() && track.file() < shelf.count() {
+        let left = track.rest(shelf);
         if left == 0 || !index.fits(left) {
-            let next = track.file + 1;
+            let next = track.file() + 1;
             track.enter(window, next, 0);
-            settled = None;
+            exhausted_crc = None;
             continue;
         }
         track.fill(window, shelf)?;
-        mark_seen(window, index, left, found, &mut settled);
+        mark_seen(window, index, left, found, &mut exhausted_crc);
         missing = next_missing(found, missing);
         if missing == found.len() {
             break;
         }
-        track.pass(window, index, shelf, u64::MAX)?;
+        track.slide_until_match(window, index, shelf, u64::MAX)?;
     }
     Ok(())
+}
+
+// The first slice from a number on that has no mark; the number of all slices, where there is none.
+fn next_missing(found: &[bool], from: usize) -> usize
+    requires { from ≤ length found.now }
+    ensures onward { from ≤ result }
+    ensures within { result ≤ length found.now }
+    ensures missing { result < length found.now → mark_of found.now result ≡ false }
+    ensures marked { (n : ℕ) → from ≤ n → n < result → IsTrue (mark_of found.now n) }
+{
+    let mut number = from;
+    while number < found.len() && found[number] {
+        number += 1;
+    }
+    number
 }

@@ -3,7 +3,7 @@ ghost use Rattle.parfield.specs.Md5.{md5};
 ghost use Rattle.parwindow.specs.Crc32.{crc_of};
 ghost use Rattle.parwindow.specs.Index.{slice_passes, sums_of};
 ghost use Rattle.parwindow.specs.Least.{IsLeastFrom};
-ghost use Rattle.parwindow.specs.Missing.{has_fit_crc_in};
+ghost use Rattle.parwindow.specs.Missing.{set_has_fit_crc};
 ghost use Rattle.parfind.specs.Fitting.{is_fit};
 ghost use Rattle.parfind.specs.Tracks.{Looks, Remembers, remembered};
 
@@ -23,13 +23,13 @@ impl Track {
     ) -> Option<u32>
         requires remembers { Remembers window.old self.old }
         requires full { length window.old.content ≡ window.old.capacity }
-        ensures first { IsLeastFrom (slice_passes index.now
+        ensures first { IsLeastFrom (slice_passes index.now.slices
             (is_fit (sums_of window.old.content) left)) first result }
         ensures there { IfSome result (λ n. (n < length index.now.slices)
             × (length index.now.slices ≤ 32768)) }
         ensures looks { Looks window.old self.old window.new self.new }
         ensures marked { remembered self.old.digest < remembered self.new.digest
-            → IsTrue (has_fit_crc_in index.now (crc_of window.old.content) left) }
+            → IsTrue (set_has_fit_crc index.now (crc_of window.old.content) left) }
         ensures remembers { Remembers window.new self.new }
     {
         let crc = window.crc();
@@ -65,7 +65,7 @@ pub(crate) fn first_fit(
     left: u64,
     first: u32,
 ) -> Option<u32>
-    ensures first { IsLeastFrom (slice_passes index.now (is_fit (digest, crc) left)) first result }
+    ensures first { IsLeastFrom (slice_passes index.now.slices (is_fit (digest, crc) left)) first result }
     ensures there { IfSome result (λ n. n < length index.now.slices) }
     ensures few { length index.now.slices ≤ 32768 }
 {

@@ -1,8 +1,8 @@
 ghost use Rattle.std.specs.Prelude.{◌≡◌, ◌≢◌, ◌+◌, ◌<◌, ◌≤◌, ◌++◌, [], length, slice_index, IsTrue, OnOk, IfOk, IfErr};
 ghost use Rattle.parshelf.specs.Shelf.{file_of};
-ghost use Rattle.parshelf.specs.Reads.{ReadsOnly, FaultsIn};
 ghost use Rattle.parfind.specs.Tracks.{IsTied, IsUnread, SameTrack, HasNoCrc, Passes, fetched_of};
 ghost use Rattle.parfind.specs.Fetched.{ReadsUpTo};
+ghost use Rattle.parshelf.specs.Reads.{ReadsFile};
 
 use crate::tracks::track::Track;
 use parshelf::{ReadFault, Shelf};
@@ -24,7 +24,8 @@ impl Track {
     /// Fills the window from its file, and with zeros past the file's end.
     pub fn fill<H: Shelf>(&mut self, window: &mut Window, shelf: &mut H) -> Result<(), ReadFault>
         requires file { self.old.file < length (H.state shelf.old).lengths }
-        requires inside { self.old.held < slice_index (H.state shelf.old).lengths self.old.file }
+        requires inside { self.old.window_offset
+            < slice_index (H.state shelf.old).lengths self.old.file }
         requires tied { IsTied (H.state shelf.old) window.old self.old }
         ensures tied { IsTied (H.state shelf.new) window.new self.new }
         ensures full { OnOk result (length window.new.content ≡ window.new.capacity) }
@@ -33,21 +34,23 @@ impl Track {
 
         ensures reads { ReadsUpTo (H.state shelf.old) (H.state shelf.new)
             (fetched_of self.old) (fetched_of self.new) }
-        ensures ok { OnOk result (ReadsOnly (H.state shelf.old) (H.state shelf.new)) }
-        ensures fault { IfErr result
-            (FaultsIn (H.state shelf.old) (H.state shelf.new) self.old.file) }
+        ensures shelf { ReadsFile self.old.file
+            (H.state shelf.old) (H.state shelf.new) result }
     {
         while !window.is_full() {
-            self.ready(window, shelf)?;
+            self.ensure_next_byte(window, shelf)?;
             let room = (window.size() - window.len()) as u64;
-            append(window, self.piece(window, shelf.length(self.file), room));
+            append(
+                window,
+                self.next_bytes(window, shelf.length(self.file), room),
+            );
         }
         Ok(())
     }
 
-    /// Passes the place of a full window, and those behind it up to the first whose CRC-32 is that
+    /// Passes the place of a full window, and those after it up to the first whose CRC-32 is that
     /// of a slice; at most so many, and only of this file. The answer is how many.
-    pub fn pass<H: Shelf>(
+    pub fn slide_until_match<H: Shelf>(
         &mut self,
         window: &mut Window,
         index: &Index,
@@ -56,7 +59,8 @@ impl Track {
     ) -> Result<u64, ReadFault>
         requires some { 0 < most }
         requires file { self.old.file < length (H.state shelf.old).lengths }
-        requires inside { self.old.held < slice_index (H.state shelf.old).lengths self.old.file }
+        requires inside { self.old.window_offset
+            < slice_index (H.state shelf.old).lengths self.old.file }
         requires sized { window.old.capacity ≡ index.now.slice_size }
         requires full { length window.old.content ≡ window.old.capacity }
         requires tied { IsTied (H.state shelf.old) window.old self.old }
@@ -65,23 +69,22 @@ impl Track {
 
         ensures passes { IfOk result (Passes
             (slice_index (H.state shelf.old).lengths self.old.file) self.old self.new most) }
-        ensures none { IsTrue (H.state shelf.old).is_steady → IfOk result
-            (HasNoCrc index.now (file_of (H.state shelf.old) self.old.file) self.old.held) }
+        ensures none { IsTrue (H.state shelf.old).is_steady → IfOk result (HasNoCrc
+            index.now (file_of (H.state shelf.old) self.old.file) self.old.window_offset) }
         ensures stays { IfErr result (λ _.
             SameTrack self.old self.new × (window.new ≡ window.old)) }
         ensures same { self.new.file ≡ self.old.file }
 
         ensures reads { ReadsUpTo (H.state shelf.old) (H.state shelf.new)
             (fetched_of self.old) (fetched_of self.new) }
-        ensures ok { OnOk result (ReadsOnly (H.state shelf.old) (H.state shelf.new)) }
-        ensures fault { IfErr result
-            (FaultsIn (H.state shelf.old) (H.state shelf.new) self.old.file) }
+        ensures shelf { ReadsFile self.old.file
+            (H.state shelf.old) (H.state shelf.new) result }
     {
-        self.ready(window, shelf)?;
+        self.ensure_next_byte(window, shelf)?;
         let file_end = shelf.length(self.file);
-        let piece = self.piece(window, file_end, most.min(file_end - self.held));
-        let count = window.push_until(index, piece) as u64;
-        self.held += count;
+        let bytes = self.next_bytes(window, file_end, most.min(file_end - self.window_offset));
+        let count = window.push_until(index, bytes) as u64;
+        self.window_offset += count;
         self.digest = None;
         Ok(count)
     }

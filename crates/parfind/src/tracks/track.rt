@@ -10,13 +10,13 @@ pub(crate) struct Track {
     /// The number of the file.
     pub file: u32,
     /// The offset whose window is held, or is being filled.
-    pub held: u64,
+    pub window_offset: u64,
     /// The MD5 of the window's content, once it was taken.
     pub digest: Option<Hash16>,
     /// The offset of what was read last.
-    pub base: u64,
-    /// What was read last, in the first `end` bytes.
+    pub buffer_offset: u64,
+    /// What was read last, in the first `buffer_len` bytes.
     pub bytes: [u8; AHEAD],
     /// How many bytes were read last.
-    pub end: usize,
+    pub buffer_len: usize,
 }

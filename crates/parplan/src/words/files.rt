@@ -1,5 +1,5 @@
 ghost use Rattle.std.specs.Prelude.{◌≡◌, ◌≤◌, length, IfOk, map, filter, option_map, string_bytes};
-ghost use Rattle.parplan.specs.FileWords.{is_packet_file, is_scanned_file, scanned_as, folder_of, front_under, without_front};
+ghost use Rattle.parplan.specs.FileWords.{is_packet_file, is_scanned_file, scanned_as, folder_of, base_prefix, without_prefix};
 
 use crate::Scanned;
 use parfield::{Sequence, Text};
@@ -27,27 +27,27 @@ pub fn scanned_files(
     words: &[&str],
 ) -> Result<Sequence<Scanned>, AllocError>
     ensures files { IfOk result (λ files. files
-        ≡ map (scanned_as (front_under (option_map (λ dir. dir.now) base.entry)))
+        ≡ map (scanned_as (base_prefix (option_map (λ dir. dir.now) base.entry)))
         (filter is_scanned_file (map (λ word. word.now) words.now))) }
     ensures few { IfOk result (λ files. length files ≤ length words.now) }
 {
-    let front = front(alloc, base)?;
+    let prefix = base_prefix(alloc, base)?;
     let mut scanned = Vec::new(alloc);
     for word in words {
         if !names_packet_file(word.as_bytes()) {
-            scanned.push(scanned_file(alloc, front.as_str(), word)?)?;
+            scanned.push(scanned_file(alloc, prefix.as_str(), word)?)?;
         }
     }
     Ok(Sequence::from_vec(scanned))
 }
 
-// A file to be scanned, whose name loses a front.
-fn scanned_file(alloc: Global, front: &str, word: &str) -> Result<Scanned, AllocError>
-    ensures { IfOk result (λ file. file ≡ scanned_as front.now word.now) }
+// A file to be scanned, whose name loses a prefix.
+fn scanned_file(alloc: Global, prefix: &str, word: &str) -> Result<Scanned, AllocError>
+    ensures { IfOk result (λ file. file ≡ scanned_as prefix.now word.now) }
 {
     Ok(Scanned {
         path: text(alloc, word)?,
-        name: text(alloc, stripped(front, word))?,
+        name: text(alloc, stripped(prefix, word))?,
     })
 }
 
@@ -58,10 +58,10 @@ fn text(alloc: Global, word: &str) -> Result<Text, AllocError>
     Ok(Text::from_string(String::from_str(alloc, word)?))
 }
 
-// The front that names lose, which is empty without DIR.
-fn front(alloc: Global, base: Option<&str>) -> Result<String, AllocError>
-    ensures { IfOk result (λ front. string_bytes front
-        ≡ front_under (option_map (λ dir. dir.now) base.entry)) }
+// The prefix that names lose, which is empty without DIR.
+fn base_prefix(alloc: Global, base: Option<&str>) -> Result<String, AllocError>
+    ensures { IfOk result (λ prefix. string_bytes prefix
+        ≡ base_prefix (option_map (λ dir. dir.now) base.entry)) }
 {
     match base {
         None => Ok(String::new(alloc)),
@@ -80,11 +80,11 @@ fn folder(alloc: Global, dir: &str) -> Result<String, AllocError>
     }
 }
 
-// The word without the front, where it begins so.
-fn stripped<'a>(front: &str, word: &'a str) -> &'a str
-    ensures { result.now ≡ without_front front.now word.entry.now }
+// The word without the prefix, where it begins so.
+fn stripped<'a>(prefix: &str, word: &'a str) -> &'a str
+    ensures { result.now ≡ without_prefix prefix.now word.entry.now }
 {
-    match word.strip_prefix(front) {
+    match word.strip_prefix(prefix) {
         Some(rest) => rest,
         None => word,
     }

@@ -1,10 +1,10 @@
 ghost use Rattle.std.specs.Prelude.{◌≡◌, ◌<◌, ◌↔◌, IfSome, IsTrue, slice_index};
 ghost use Rattle.std.specs.Int.{IsInRange};
-ghost use Rattle.parplan.specs.Limit.{limit_in};
+ghost use Rattle.parplan.specs.Limit.{limit_of};
 
 /// The limit that a text is in canonical decimal, from 1 on.
 pub fn read_limit(text: &str) -> Option<u64>
-    ensures limit { result ≡ limit_in text.now }
+    ensures limit { result ≡ limit_of text.now }
     ensures positive { IfSome result (λ limit. 0 < limit) }
 {
     if !begins_above_zero(text.as_bytes()) {

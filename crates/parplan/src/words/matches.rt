@@ -1,6 +1,6 @@
 ghost use Rattle.std.specs.Prelude.{◌≡◌, ◌⊎◌, IfOk, IfErr, Ok, Err, map, option_map, string_bytes};
 ghost use Rattle.clap.specs.Words.{found_of, kind_of, rows_of, first_of, all_of, count_of};
-ghost use Rattle.parplan.specs.Matches.{rows_in, fault_by};
+ghost use Rattle.parplan.specs.Matches.{verb_rows_of, plan_fault_of};
 
 use crate::PlanFault;
 use crate::words::grammar::{Verb, command_line};
@@ -14,10 +14,10 @@ pub fn matches_for<'a>(
     verb: Verb,
     words: &'a [String],
 ) -> Result<ArgMatches<'a>, PlanFault>
-    ensures rows { IfOk result (λ matches. rows_in verb (map string_bytes words.entry.now)
+    ensures rows { IfOk result (λ matches. verb_rows_of verb (map string_bytes words.entry.now)
         ≡ Ok (rows_of (found_of matches))) }
     ensures fault { IfErr result (λ fault. (fault ≡ PlanFault.Memory)
-        ⊎ (rows_in verb (map string_bytes words.entry.now) ≡ Err fault)) }
+        ⊎ (verb_rows_of verb (map string_bytes words.entry.now) ≡ Err fault)) }
 {
     match command_line(alloc, verb)?.try_get_matches_from(words) {
         Ok(matches) => Ok(matches),
@@ -27,7 +27,7 @@ pub fn matches_for<'a>(
 
 // What an error of clap comes to; a request for help is one.
 fn fault(error: &Error) -> PlanFault
-    ensures { result ≡ fault_by (kind_of error.now) }
+    ensures { result ≡ plan_fault_of (kind_of error.now) }
 {
     match error.kind() {
         ErrorKind::OutOfMemory => PlanFault::Memory,

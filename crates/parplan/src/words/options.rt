@@ -1,6 +1,6 @@
 ghost use Rattle.std.specs.Prelude.{◌≡◌, ◌≢◌, ◌<◌, ◌≤◌, Some, IfOk, IfErr, IfSome, Ok, Err, option_map};
 ghost use Rattle.clap.specs.Words.{found_of, rows_of};
-ghost use Rattle.parplan.specs.Options.{set_option_of, base_option_of, limit_option_of, cursor_option_of, quiet_of, command_of, value_needed};
+ghost use Rattle.parplan.specs.Options.{set_option_of, base_option_of, limit_option_of, cursor_option_of, quiet_of, command_of};
 ghost use Rattle.parplan.specs.Commands.{HasLimit};
 
 use crate::words::grammar::Verb;
@@ -36,7 +36,7 @@ pub fn set_given(matches: &ArgMatches<'_>) -> Result<Option<Hash16>, PlanFault>
 {
     match value_of(matches, "set") {
         None => Ok(None),
-        Some(text) => needed(Hash16::read(text.as_bytes())),
+        Some(text) => Ok(Some(Hash16::read(text.as_bytes()).ok_or(PlanFault::Value)?)),
     }
 }
 
@@ -61,7 +61,7 @@ fn limit_given(matches: &ArgMatches<'_>) -> Result<Option<u64>, PlanFault>
 {
     match value_of(matches, "limit") {
         None => Ok(None),
-        Some(text) => needed(read_limit(text)),
+        Some(text) => Ok(Some(read_limit(text).ok_or(PlanFault::Value)?)),
     }
 }
 
@@ -71,7 +71,7 @@ fn cursor_given(matches: &ArgMatches<'_>) -> Result<Option<(Hash16, Cursor)>, Pl
 {
     match value_of(matches, "cursor") {
         None => Ok(None),
-        Some(text) => needed(split_cursor(text.as_bytes())),
+        Some(text) => Ok(Some(split_cursor(text.as_bytes()).ok_or(PlanFault::Value)?)),
     }
 }
 
@@ -81,14 +81,4 @@ fn quiet_given(matches: &ArgMatches<'_>) -> u8
     ensures few { result ≤ 2 }
 {
     uses_of(matches, "quiet").min(2)
-}
-
-// The value that an option's text has to have.
-fn needed<T>(value: Option<T>) -> Result<Option<T>, PlanFault>
-    ensures { result ≡ value_needed value }
-{
-    match value {
-        None => Err(PlanFault::Value),
-        Some(value) => Ok(Some(value)),
-    }
 }

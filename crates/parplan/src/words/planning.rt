@@ -1,7 +1,8 @@
 ghost use Rattle.std.specs.Prelude.{◌≡◌, ◌≢◌, ◌≤◌, ◌<◌, map, length, string_bytes, IfOk, IfErr, Ok, Err};
 ghost use Rattle.clap.specs.Words.{found_of, rows_of};
+ghost use Rattle.parshelf.specs.Disk.{open_file_limit};
 ghost use Rattle.parplan.specs.Commands.{HasLimit};
-ghost use Rattle.parplan.specs.Plans.{plan_of, plan_in, verb_of, verb_in, files_of, AnswersPlan, TellsTaken};
+ghost use Rattle.parplan.specs.Plans.{plan_of, plan_of_rows, verb_of, first_verb_of, files_of, AnswersPlan, TellsTaken};
 
 use crate::words::files::{packet_files, scanned_files};
 use crate::words::grammar::Verb;
@@ -20,21 +21,21 @@ pub fn plan(alloc: Global, words: &[String]) -> Result<Plan, PlanFault>
 
     // What every plan keeps to.
     ensures few { IfOk result (λ plan.
-        (length plan.packets ≤ 65535) × (length plan.scanned ≤ 65535)) }
+        (length plan.packets ≤ open_file_limit) × (length plan.scanned ≤ open_file_limit)) }
     ensures some_packets { IfOk result (λ plan. 0 < length plan.packets) }
     ensures limit { IfOk result (λ plan. HasLimit plan.command) }
 {
     let verb = first_verb(words)?;
     let matches = matches_for(alloc, verb, words)?;
-    plan_by(alloc, verb, &matches)
+    plan_of_matches(alloc, verb, &matches)
 }
 
 // The plan of what the words give a verb, which takes them.
-fn plan_by(alloc: Global, verb: Verb, matches: &ArgMatches<'_>) -> Result<Plan, PlanFault>
-    ensures plan { AnswersPlan (plan_in verb (rows_of (found_of matches.now))) result }
+fn plan_of_matches(alloc: Global, verb: Verb, matches: &ArgMatches<'_>) -> Result<Plan, PlanFault>
+    ensures plan { AnswersPlan (plan_of_rows verb (rows_of (found_of matches.now))) result }
     ensures taken { IfErr result (λ fault. fault ≢ PlanFault.Usage) }
     ensures few { IfOk result (λ plan.
-        (length plan.packets ≤ 65535) × (length plan.scanned ≤ 65535)) }
+        (length plan.packets ≤ open_file_limit) × (length plan.scanned ≤ open_file_limit)) }
     ensures some_packets { IfOk result (λ plan. 0 < length plan.packets) }
     ensures limit { IfOk result (λ plan. HasLimit plan.command) }
 {
@@ -57,7 +58,7 @@ fn plan_by(alloc: Global, verb: Verb, matches: &ArgMatches<'_>) -> Result<Plan, 
 
 // The verb that the first word names.
 fn first_verb(words: &[String]) -> Result<Verb, PlanFault>
-    ensures { result ≡ verb_in (map string_bytes words.now) }
+    ensures { result ≡ first_verb_of (map string_bytes words.now) }
 {
     match words.first() {
         None => Err(PlanFault::Usage),
@@ -82,7 +83,7 @@ fn verb_named(word: &str) -> Result<Verb, PlanFault>
 fn files_given<'m, 'a>(matches: &'m ArgMatches<'a>) -> Result<&'m [&'a str], PlanFault>
     ensures files { IfOk result (λ files. files_of (rows_of (found_of matches.now))
         ≡ Ok (map (λ file. file.now) files.now)) }
-    ensures few { IfOk result (λ files. length files.now ≤ 65535) }
+    ensures few { IfOk result (λ files. length files.now ≤ open_file_limit) }
     ensures fault { IfErr result (λ fault. files_of (rows_of (found_of matches.now)) ≡ Err fault) }
 {
     match values_of(matches, "files") {

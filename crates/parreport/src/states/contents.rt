@@ -3,12 +3,12 @@ ghost use Rattle.std.specs.BTreeSet.{contains};
 ghost use Rattle.std.specs.Ordering.{nat_cmp};
 ghost use Rattle.parshelf.specs.Reads.{ReadsOnly};
 ghost use Rattle.parshelf.specs.Shelf.{file_of};
-ghost use Rattle.parreport.specs.Contents.{HandsOnce, HandsAsked};
+ghost use Rattle.parreport.specs.Contents.{HandsOnce, ReadsCandidates};
 ghost use Rattle.parreport.specs.Files.{FilesLeave};
-ghost use Rattle.parreport.specs.States.{has_length, asked_of};
+ghost use Rattle.parreport.specs.States.{has_length, checked_of};
 
-use crate::states::faults::FilesFault;
 use parfield::Hash16;
+use parfind::SurveyFault;
 use parset::SetFile;
 use parshelf::{Shelf, digest_of};
 use std::alloc::{AllocError, Global};
@@ -29,10 +29,10 @@ pub fn contents<Q: Shelf>(
     alloc: Global,
     files: &[SetFile],
     shelf: &mut Q,
-) -> Result<Vec<Option<LengthAndMd5>>, FilesFault>
+) -> Result<Vec<Option<LengthAndMd5>>, SurveyFault>
     ensures contents { IsTrue (Q.state shelf.old).is_steady → IfOk result (λ contents.
-        contents.items ≡ map (asked_of files.now) (Q.state shelf.old).files) }
-    ensures bytes { HandsAsked files.now (Q.state shelf.old) (Q.state shelf.new) }
+        contents.items ≡ map (checked_of files.now) (Q.state shelf.old).files) }
+    ensures bytes { ReadsCandidates files.now (Q.state shelf.old) (Q.state shelf.new) }
     ensures ok { OnOk result (ReadsOnly (Q.state shelf.old) (Q.state shelf.new)) }
     ensures fault { IfErr result (FilesLeave (Q.state shelf.old) (Q.state shelf.new)) }
 {
@@ -73,11 +73,11 @@ fn content_at<Q: Shelf>(
     lengths: &BTreeSet<u64>,
     shelf: &mut Q,
     file: u32,
-) -> Result<Option<LengthAndMd5>, FilesFault>
+) -> Result<Option<LengthAndMd5>, SurveyFault>
     requires lengths { (n : ℕ) → contains nat_cmp lengths.now n ≡ has_length files.now n }
     requires file { file < length (Q.state shelf.old).lengths }
     ensures content { IsTrue (Q.state shelf.old).is_steady → IfOk result (λ content.
-        content ≡ asked_of files.now (file_of (Q.state shelf.old) file)) }
+        content ≡ checked_of files.now (file_of (Q.state shelf.old) file)) }
     ensures bytes { HandsOnce files.now (Q.state shelf.old) (Q.state shelf.new) file }
     ensures ok { OnOk result (ReadsOnly (Q.state shelf.old) (Q.state shelf.new)) }
     ensures fault { IfErr result (FilesLeave (Q.state shelf.old) (Q.state shelf.new)) }
@@ -89,6 +89,6 @@ fn content_at<Q: Shelf>(
     }
     match digest_of(shelf, file) {
         Ok(whole) => Ok(Some(LengthAndMd5 { length, whole })),
-        Err(fault) => Err(FilesFault::Read { file, fault }),
+        Err(fault) => Err(SurveyFault::Read(file, fault)),
     }
 }

@@ -1,15 +1,15 @@
 ghost use Rattle.std.specs.Prelude.{◌≡◌, length, is_none, All, IsTrue, IfOk, OnOk, IfErr};
 ghost use Rattle.parshelf.specs.Reads.{ReadsOnly};
-ghost use Rattle.parreport.specs.Contents.{HandsAsked, HandsAskedAndOnce};
+ghost use Rattle.parreport.specs.Contents.{ReadsCandidates, ReadsCandidatesThenScans};
 ghost use Rattle.parreport.specs.Files.{FilesLeave};
 ghost use Rattle.parreport.specs.States.{named_files};
 ghost use Rattle.parreport.specs.Findings.{findings_of};
 
 use crate::states::contents::contents;
-use crate::states::faults::FilesFault;
-use crate::states::found::{found_slices, need_of};
-use crate::states::state::{State, intact_ids, states};
+use crate::states::found::{found_slices, intact_ids, need_of};
+use crate::states::state::{State, states};
 use parfield::Sequence;
+use parfind::SurveyFault;
 use parplan::Scanned;
 use parset::RecoverySet;
 use parshelf::Shelf;
@@ -43,7 +43,7 @@ pub(crate) fn findings_on<Q: Shelf>(
     files: &[Scanned],
     set: &RecoverySet,
     shelf: &mut Q,
-) -> Result<Findings, FilesFault>
+) -> Result<Findings, SurveyFault>
     requires { length (Q.state shelf.old).lengths ≡ length files.now }
 
     // On a steady shelf.
@@ -53,9 +53,10 @@ pub(crate) fn findings_on<Q: Shelf>(
     // On any shelf.
     ensures states { IfOk result (λ findings. length findings.states ≡ length set.now.files) }
     ensures slices { IfOk result (λ findings. length findings.found ≡ length set.now.slices) }
-    ensures handed { HandsAskedAndOnce set.now.files (Q.state shelf.old) (Q.state shelf.new) }
+    ensures handed { ReadsCandidatesThenScans set.now.files
+        (Q.state shelf.old) (Q.state shelf.new) }
     ensures unsearched { All (λ slice. IsTrue (is_none slice.sums)) set.now.slices →
-        HandsAsked set.now.files (Q.state shelf.old) (Q.state shelf.new) }
+        ReadsCandidates set.now.files (Q.state shelf.old) (Q.state shelf.new) }
     ensures ok { OnOk result (ReadsOnly (Q.state shelf.old) (Q.state shelf.new)) }
     ensures fault { IfErr result (FilesLeave (Q.state shelf.old) (Q.state shelf.new)) }
 {

@@ -1,23 +1,56 @@
 ghost use Rattle.std.specs.Prelude.{◌≡◌, ◌&&◌, ◌||◌, map, length, All, EachIndex, IsTrue, IfOk, OnOk, IfErr};
 ghost use Rattle.std.specs.BTreeSet.{contains};
-ghost use Rattle.std.specs.List.{enumerate_from};
+ghost use Rattle.std.specs.List.{enumerate_from, list_any};
+ghost use Rattle.std.specs.Str.{bytes_eq};
 ghost use Rattle.parfield.specs.HashOrder.{id_cmp};
 ghost use Rattle.parshelf.specs.Reads.{ReadsOnly};
 ghost use Rattle.parwindow.specs.Index.{slice_set_of};
 ghost use Rattle.parfind.specs.Steps.{scan_of};
-ghost use Rattle.parfind.specs.Handed.{HandsEachOnce};
-ghost use Rattle.parfind.specs.Surveys.{is_sighted, mark_of, StopsOnceFound};
+ghost use Rattle.parfind.specs.Handover.{HandsEachOnce};
+ghost use Rattle.parfind.specs.Surveys.{is_sighted, StopsOnceFound};
+ghost use Rattle.parwindow.specs.Missing.{mark_of};
 ghost use Rattle.parreport.specs.Files.{FilesLeave};
+ghost use Rattle.parreport.specs.States.{is_intact};
 ghost use Rattle.parreport.specs.Findings.{need_of, is_settled, can_be_found};
 
-use crate::states::faults::FilesFault;
+use crate::states::state::State;
 use parfield::Hash16;
-use parfind::survey;
-use parset::{RecoverySet, SetSlice};
+use parfind::{SurveyFault, survey};
+use parset::{RecoverySet, SetFile, SetSlice};
 use parshelf::Shelf;
 use parwindow::Index;
 use std::alloc::{AllocError, Global};
 use std::collections::BTreeSet;
+
+/// The IDs of the files that are complete or renamed.
+pub fn intact_ids(
+    alloc: Global,
+    files: &[SetFile],
+    states: &[State],
+) -> Result<BTreeSet<Hash16>, AllocError>
+    requires { length states.now ≡ length files.now }
+    ensures { IfOk result (λ whole. (state_at : SetFile → State)
+        → states.now ≡ map state_at files.now
+        → (id : Hash16) → contains id_cmp whole id
+        ≡ list_any (λ file. bytes_eq file.id.0 id.0 && is_intact (state_at file)) files.now) }
+{
+    let mut whole = BTreeSet::new(alloc);
+    for (index, file) in files.iter().enumerate() {
+        add_if_intact(&mut whole, file.id, states[index])?;
+    }
+    Ok(whole)
+}
+
+// Adds the ID of a file in this state, if it is complete or renamed.
+fn add_if_intact(whole: &mut BTreeSet<Hash16>, id: Hash16, state: State) -> Result<(), AllocError>
+    ensures { OnOk result ((q : Hash16) → contains id_cmp whole.new q
+        ≡ (contains id_cmp whole.old q || (bytes_eq id.0 q.0 && is_intact state))) }
+{
+    if state.is_intact() {
+        whole.insert(id)?;
+    }
+    Ok(())
+}
 
 /// Which slices are found: those of these files, and those that have a sighting. Files are searched
 /// until each slice of another file that has its sums is found; where none is left to be found so,
@@ -27,7 +60,7 @@ pub fn found_slices<Q: Shelf>(
     set: &RecoverySet,
     whole: &BTreeSet<Hash16>,
     shelf: &mut Q,
-) -> Result<Vec<bool>, FilesFault>
+) -> Result<Vec<bool>, SurveyFault>
 
     // On a steady shelf.
     ensures found { IsTrue (Q.state shelf.old).is_steady → IfOk result (λ found. found.items

@@ -1,16 +1,11 @@
-ghost use Rattle.std.specs.Prelude.{◌≡◌, ◌&&◌, ◌||◌, length, map, drop, position, IfOk, OnOk};
-ghost use Rattle.std.specs.BTreeSet.{contains};
+ghost use Rattle.std.specs.Prelude.{◌≡◌, map, drop, position, IfOk};
 ghost use Rattle.std.specs.List.{list_any, zip};
-ghost use Rattle.std.specs.Str.{bytes_eq};
-ghost use Rattle.parfield.specs.HashOrder.{id_cmp};
-ghost use Rattle.parreport.specs.States.{shows_content_of, shows_both, is_name_of, is_intact, is_complete, state_by};
+ghost use Rattle.parreport.specs.States.{shows_content_of, shows_both, is_name_of, is_intact, is_complete, checked_state_of};
 
 use crate::states::contents::LengthAndMd5;
-use parfield::Hash16;
 use parplan::Scanned;
 use parset::SetFile;
 use std::alloc::{AllocError, Global};
-use std::collections::BTreeSet;
 
 /// How the scanned files stand to a file of the recovery set.
 #[derive(Clone, Copy, Debug, PartialEq, Eq)]
@@ -55,17 +50,17 @@ pub fn states(
     set_files: &[SetFile],
 ) -> Result<Vec<State>, AllocError>
     ensures { IfOk result (λ states.
-        states.items ≡ map (state_by files.now contents.now) set_files.now) }
+        states.items ≡ map (checked_state_of files.now contents.now) set_files.now) }
 {
     set_files
         .iter()
-        .map(|file| state_among(files, contents, file))
+        .map(|file| checked_state_of(files, contents, file))
         .collect(alloc)
 }
 
 // The state of a file, by the names and the contents of the scanned files.
-fn state_among(files: &[Scanned], contents: &[Option<LengthAndMd5>], file: &SetFile) -> State
-    ensures { result ≡ state_by files.now contents.now file.now }
+fn checked_state_of(files: &[Scanned], contents: &[Option<LengthAndMd5>], file: &SetFile) -> State
+    ensures { result ≡ checked_state_of files.now contents.now file.now }
 {
     match first_with_content(contents, file) {
         Some(first) if has_both_from(files, contents, first, file) => State::Complete,
@@ -130,34 +125,4 @@ fn has_name(scanned: &Scanned, file: &SetFile) -> bool
     ensures { result ≡ is_name_of file.now scanned.now.name }
 {
     scanned.name.as_str().as_bytes() == file.name.as_slice()
-}
-
-/// The IDs of the files that are complete or renamed.
-pub fn intact_ids(
-    alloc: Global,
-    files: &[SetFile],
-    states: &[State],
-) -> Result<BTreeSet<Hash16>, AllocError>
-    requires { length states.now ≡ length files.now }
-    ensures { IfOk result (λ whole. (state_at : SetFile → State)
-        → states.now ≡ map state_at files.now
-        → (id : Hash16) → contains id_cmp whole id
-        ≡ list_any (λ file. bytes_eq file.id.0 id.0 && is_intact (state_at file)) files.now) }
-{
-    let mut whole = BTreeSet::new(alloc);
-    for (index, file) in files.iter().enumerate() {
-        add_if_intact(&mut whole, file.id, states[index])?;
-    }
-    Ok(whole)
-}
-
-// Adds the ID of a file in this state, if it is complete or renamed.
-fn add_if_intact(whole: &mut BTreeSet<Hash16>, id: Hash16, state: State) -> Result<(), AllocError>
-    ensures { OnOk result ((q : Hash16) → contains id_cmp whole.new q
-        ≡ (contains id_cmp whole.old q || (bytes_eq id.0 q.0 && is_intact state))) }
-{
-    if state.is_intact() {
-        whole.insert(id)?;
-    }
-    Ok(())
 }

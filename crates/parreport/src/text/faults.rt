@@ -1,10 +1,9 @@
 ghost use Rattle.std.specs.Prelude.{◌≡◌};
-ghost use Rattle.parreport.specs.Faults.{cause_of, packet_fault_of, scanned_fault_of, search_fault_of};
-ghost use Rattle.parreport.specs.declared.text.faults.FindFault.TheVariants as find_fault;
+ghost use Rattle.parreport.specs.Faults.{cause_of, scanned_fault_of};
 ghost use Rattle.parreport.specs.declared.text.faults.RunFault.TheVariants as run_fault;
 
-use crate::states::FilesFault;
 use parfield::Hash16;
+use parfind::SurveyFault;
 use parset::SetFault;
 use parshelf::{Failed, ReadFault};
 use std::alloc::AllocError;
@@ -47,17 +46,6 @@ pub enum RunFault {
     OtherSet,
 }
 
-/// Why a search did not write all that it was asked for.
-#[derive(Clone, Copy)]
-pub enum FindFault {
-    /// The scanned file of this number could not be read.
-    Read { file: u32, fault: ReadFault },
-    /// The output failed, or took nothing.
-    Write,
-    /// Memory was refused.
-    Memory,
-}
-
 impl From<AllocError> for RunFault {
     ghost from_gives = { λ _ e. e ≡ run_fault.Memory };
 
@@ -89,65 +77,18 @@ impl From<SetFault> for RunFault {
     }
 }
 
-// A fault of the scanned files; `packet_fault` is one of the packet files.
-impl From<FilesFault> for RunFault {
+// The scanned files were not all read.
+impl From<SurveyFault> for RunFault {
     ghost from_gives = { λ why e. e ≡ scanned_fault_of why };
 
-    fn from(why: FilesFault) -> RunFault {
+    fn from(why: SurveyFault) -> RunFault {
         match why {
-            FilesFault::Read { file, fault } => RunFault::Read {
+            SurveyFault::Read(file, fault) => RunFault::Read {
                 packet: false,
                 file,
                 fault,
             },
-            FilesFault::Memory => RunFault::Memory,
+            SurveyFault::Memory => RunFault::Memory,
         }
-    }
-}
-
-/// The fault that it is for a run that the packet files were not all read.
-pub(crate) fn packet_fault(why: FilesFault) -> RunFault
-    ensures { result ≡ packet_fault_of why }
-{
-    match why {
-        FilesFault::Read { file, fault } => RunFault::Read {
-            packet: true,
-            file,
-            fault,
-        },
-        FilesFault::Memory => RunFault::Memory,
-    }
-}
-
-impl From<FindFault> for RunFault {
-    ghost from_gives = { λ why e. e ≡ search_fault_of why };
-
-    fn from(why: FindFault) -> RunFault {
-        match why {
-            FindFault::Read { file, fault } => RunFault::Read {
-                packet: false,
-                file,
-                fault,
-            },
-            FindFault::Write => RunFault::Write,
-            FindFault::Memory => RunFault::Memory,
-        }
-    }
-}
-
-impl From<AllocError> for FindFault {
-    ghost from_gives = { λ _ e. e ≡ find_fault.Memory };
-
-    fn from(_e: AllocError) -> FindFault {
-        FindFault::Memory
-    }
-}
-
-// A sink that failed.
-impl From<Failed> for FindFault {
-    ghost from_gives = { λ _ e. e ≡ find_fault.Write };
-
-    fn from(_e: Failed) -> FindFault {
-        FindFault::Write
     }
 }

@@ -1,5 +1,5 @@
 ghost use Rattle.std.specs.Prelude.{◌≡◌, slice_index_or, []};
-ghost use Rattle.parreport.specs.FindText.{names_of};
+ghost use Rattle.parreport.specs.Names.{names_of};
 
 use parfield::Text;
 use parplan::Scanned;

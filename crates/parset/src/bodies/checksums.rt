@@ -4,7 +4,7 @@ ghost use Rattle.parset.specs.BodyAnswers.{AnswersBody};
 ghost use Rattle.parset.specs.Reasons.{checksums_reason};
 
 use crate::bodies::aside::{Aside, BodyFault};
-use crate::bodies::fields::{hash_at, is_over_limit, u32_at};
+use crate::bodies::body_bytes::{hash_at, is_over_limit, u32_at};
 use parfield::{Hash16, Sequence};
 use std::alloc::{AllocError, Global};
 
@@ -26,7 +26,7 @@ pub fn ifsc_body(alloc: Global, body: &[u8]) -> Result<Ifsc, BodyFault>
 {
     match checksums_reason(body) {
         Some(reason) => Err(reason.into()),
-        None => Ok(fields_in(alloc, body)?),
+        None => Ok(checksums_of(alloc, body)?),
     }
 }
 
@@ -42,26 +42,26 @@ pub(crate) fn checksums_reason(body: &[u8]) -> Option<Aside>
     if body.len() < 16 || (body.len() - 16) % 20 != 0 {
         return Some(Aside::WrongLength);
     }
-    if pairs_in(body).len() > SLICES_LIMIT {
+    if raw_pairs(body).len() > SLICES_LIMIT {
         return Some(Aside::OverLimit);
     }
     None
 }
 
 // The fields of a body that is long enough for them.
-fn fields_in(alloc: Global, body: &[u8]) -> Result<Ifsc, AllocError>
+fn checksums_of(alloc: Global, body: &[u8]) -> Result<Ifsc, AllocError>
     requires { 16 ≤ length body.now }
     ensures { IfOk result (λ fields. fields ≡ checksums_of body.now) }
 {
     Ok(Ifsc {
         id: hash_at(body, 0),
-        sums: Sequence::from_vec(sums_of(alloc, pairs_in(body))?),
+        sums: Sequence::from_vec(pairs_of(alloc, raw_pairs(body))?),
     })
 }
 
-// The sums of the slices, in twenty bytes each.
+// The sums of the slices, twenty bytes each.
 #[tactic(auto, unfolding(crate::specs::Bodies::pairs_of))]
-fn pairs_in(body: &[u8]) -> &[[u8; 20]]
+fn raw_pairs(body: &[u8]) -> &[[u8; 20]]
     requires { 16 ≤ length body.now }
     ensures { map pair_of result.now ≡ pairs_of body.now }
 {
@@ -70,14 +70,14 @@ fn pairs_in(body: &[u8]) -> &[[u8; 20]]
 }
 
 // The sums of each slice.
-fn sums_of(alloc: Global, pairs: &[[u8; 20]]) -> Result<Vec<(Hash16, u32)>, AllocError>
+fn pairs_of(alloc: Global, pairs: &[[u8; 20]]) -> Result<Vec<(Hash16, u32)>, AllocError>
     ensures { IfOk result (λ found. found.items ≡ map pair_of pairs.now) }
 {
-    pairs.iter().map(sums_in).collect(alloc)
+    pairs.iter().map(pair_of).collect(alloc)
 }
 
 // The MD5 and the CRC-32 of a slice.
-fn sums_in(pair: &[u8; 20]) -> (Hash16, u32)
+fn pair_of(pair: &[u8; 20]) -> (Hash16, u32)
     ensures { result ≡ pair_of pair.now }
 {
     (hash_at(pair, 0), u32_at(pair, 16))

@@ -4,7 +4,7 @@ ghost use Rattle.parset.specs.BodyAnswers.{AnswersBody};
 ghost use Rattle.parset.specs.Reasons.{creator_reason};
 
 use crate::bodies::aside::{Aside, BodyFault};
-use crate::bodies::fields::{is_over_limit, trimmed};
+use crate::bodies::body_bytes::{copied, is_over_limit, trimmed};
 use parfield::Sequence;
 use std::alloc::Global;
 
@@ -16,8 +16,7 @@ pub fn creator_body(alloc: Global, body: &[u8]) -> Result<Sequence<u8>, BodyFaul
     if let Some(reason) = creator_reason(body) {
         return Err(reason.into());
     }
-    let text = Vec::from_slice(alloc, trimmed(body))?;
-    Ok(Sequence::from_vec(text))
+    Ok(copied(alloc, trimmed(body))?)
 }
 
 /// Why a Creator body is not usable.

@@ -4,7 +4,7 @@ ghost use Rattle.parset.specs.BodyAnswers.{AnswersBody};
 ghost use Rattle.parset.specs.Reasons.{description_reason, is_wrong_name};
 
 use crate::bodies::aside::{Aside, BodyFault};
-use crate::bodies::fields::{hash_at, is_over_limit, trimmed, u64_at};
+use crate::bodies::body_bytes::{copied, hash_at, is_over_limit, trimmed, u64_at};
 use parfield::{Hash16, Sequence};
 use std::alloc::{AllocError, Global};
 
@@ -35,7 +35,7 @@ pub fn desc_body(alloc: Global, body: &[u8]) -> Result<Desc, BodyFault>
 {
     match description_reason(body) {
         Some(reason) => Err(reason.into()),
-        None => Ok(fields_in(alloc, body)?),
+        None => Ok(description_of(alloc, body)?),
     }
 }
 
@@ -51,7 +51,7 @@ pub(crate) fn description_reason(body: &[u8]) -> Option<Aside>
     if body.len() < 56 || body.len() % 4 != 0 {
         return Some(Aside::WrongLength);
     }
-    if is_wrong_name(name_in(body)) {
+    if is_wrong_name(name_of(body)) {
         return Some(Aside::Name);
     }
     if u64_at(body, 48) >= LENGTH_LIMIT {
@@ -62,7 +62,7 @@ pub(crate) fn description_reason(body: &[u8]) -> Option<Aside>
 
 // The fields of a body that is long enough for them.
 #[tactic(auto, unfolding(crate::specs::Bodies::file_length_field))]
-fn fields_in(alloc: Global, body: &[u8]) -> Result<Desc, AllocError>
+fn description_of(alloc: Global, body: &[u8]) -> Result<Desc, AllocError>
     requires { 56 ≤ length body.now }
     ensures { IfOk result (λ fields. fields ≡ description_of body.now) }
 {
@@ -71,12 +71,12 @@ fn fields_in(alloc: Global, body: &[u8]) -> Result<Desc, AllocError>
         whole: hash_at(body, 16),
         front: hash_at(body, 32),
         length: u64_at(body, 48),
-        name: Sequence::from_vec(Vec::from_slice(alloc, name_in(body))?),
+        name: copied(alloc, name_of(body))?,
     })
 }
 
 // The name, without the zero bytes that fill it up.
-fn name_in(body: &[u8]) -> &[u8]
+fn name_of(body: &[u8]) -> &[u8]
     requires { 56 ≤ length body.now }
     ensures { result.now ≡ name_of body.now }
 {

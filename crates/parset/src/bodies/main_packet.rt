@@ -7,7 +7,7 @@ ghost use Rattle.parset.specs.Reasons.{has_wrong_main_length, has_wrong_size, is
 ghost use Rattle.parset.specs.Reasons.{main_reason};
 
 use crate::bodies::aside::{Aside, BodyFault};
-use crate::bodies::fields::{is_over_limit, u32_at, u64_at};
+use crate::bodies::body_bytes::{is_over_limit, u32_at, u64_at};
 use md5::{Digest, Md5};
 use parfield::{Hash16, Sequence};
 use std::alloc::{AllocError, Global};
@@ -36,7 +36,7 @@ pub fn main_body(alloc: Global, body: &[u8], set: Hash16) -> Result<Main, BodyFa
 {
     match main_reason(alloc, body, set)? {
         Some(reason) => Err(reason.into()),
-        None => Ok(fields_in(alloc, body)?),
+        None => Ok(main_of(alloc, body)?),
     }
 }
 
@@ -119,7 +119,7 @@ fn repeats(alloc: Global, ids: &[[u8; 16]]) -> Result<bool, AllocError>
 }
 
 // The fields of a body of a right length.
-fn fields_in(alloc: Global, body: &[u8]) -> Result<Main, AllocError>
+fn main_of(alloc: Global, body: &[u8]) -> Result<Main, AllocError>
     requires { has_wrong_main_length body.now ≡ false }
     ensures { IfOk result (λ main. main ≡ main_of body.now) }
 {

@@ -4,7 +4,7 @@ ghost use Rattle.parset.specs.BodyAnswers.{answer_of};
 ghost use Rattle.parset.specs.Reasons.{slice_reason};
 
 use crate::bodies::aside::Aside;
-use crate::bodies::fields::u32_at;
+use crate::bodies::body_bytes::u32_at;
 
 /// The largest exponent.
 pub(crate) const EXPONENT_LIMIT: u32 = 65_534;

@@ -51,7 +51,7 @@ impl From<AllocError> for OpenFault {
 }
 
 impl DiskShelf {
-    ghost use Rattle.parshelf.specs.Disk.{disk_state_of, unread_of, NamesPath};
+    ghost use Rattle.parshelf.specs.Disk.{disk_state_of, open_file_limit, unread_of, NamesPath};
 
     /// Opens the files at these paths, in order. A folder, a pipe or a device is not opened.
     pub fn open<R: Files<File = File>, S: AsStr>(
@@ -59,7 +59,7 @@ impl DiskShelf {
         alloc: Global,
         paths: &[S],
     ) -> Result<DiskShelf, OpenFault>
-        requires { length paths.now ≤ 65535 }
+        requires { length paths.now ≤ open_file_limit }
 
         ensures count { IfOk result (λ shelf.
             length (disk_state_of shelf).lengths ≡ length paths.now) }
@@ -135,5 +135,5 @@ impl Shelf for DiskShelf {
         }
     }
 
-    ghost in_order = { disk_state_of-IsShelf };
+    ghost well_formed = { disk_state_of-IsShelf };
 }

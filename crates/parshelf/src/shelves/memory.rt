@@ -25,7 +25,7 @@ pub struct MemShelf {
 }
 
 impl MemShelf {
-    ghost use Rattle.parshelf.specs.Memory.{unread_over, shelf_state_of, piece_of, failing_of, read_number_of};
+    ghost use Rattle.parshelf.specs.Memory.{unread_files_of, shelf_state_of, read_piece, failing_of, read_number_of};
 
     /// Files that are read at most `piece` bytes at a time, and the numbers of the reads that fail.
     /// Reads are numbered from 1, over all files.
@@ -35,8 +35,8 @@ impl MemShelf {
         requires short { All (λ file. length file.items < 2 ^ 63) files.items }
         requires piece { 0 < piece }
 
-        ensures state { shelf_state_of result ≡ unread_over (map (λ file. file.items) files.items) }
-        ensures piece { piece_of result ≡ piece }
+        ensures state { shelf_state_of result ≡ unread_files_of (map (λ file. file.items) files.items) }
+        ensures piece { read_piece result ≡ piece }
         ensures failing { failing_of result ≡ failing.items }
         ensures number { read_number_of result ≡ 0 }
     {
@@ -62,8 +62,8 @@ impl MemShelf {
 }
 
 impl Shelf for MemShelf {
-    ghost use Rattle.parshelf.specs.Shelf.{after_read, failed_in, bytes_at};
-    ghost use Rattle.parshelf.specs.Memory.{shelf_state_of, piece_of, failing_of, read_number_of, shelf_state_of-IsShelf};
+    ghost use Rattle.parshelf.specs.Shelf.{after_read, after_failure, bytes_at};
+    ghost use Rattle.parshelf.specs.Memory.{shelf_state_of, read_piece, failing_of, read_number_of, shelf_state_of-IsShelf};
 
     ghost state = { shelf_state_of };
 
@@ -84,16 +84,16 @@ impl Shelf for MemShelf {
             shelf_state_of self.new
             ≡ after_read (shelf_state_of self.old) file offset (length buf.old) n) }
         ensures failed { OnErr result
-            (shelf_state_of self.new ≡ failed_in (shelf_state_of self.old) file) }
+            (shelf_state_of self.new ≡ after_failure (shelf_state_of self.old) file) }
         ensures bytes { IfOk result (λ n.
             take n buf.new ≡ bytes_at (shelf_state_of self.old) file offset n) }
 
         // Which reads fail, and how much the others give.
         ensures number { read_number_of self.new ≡ min (read_number_of self.old + 1) (2 ^ 64 - 1) }
         ensures failing { IsErr result ↔ Contains (failing_of self.old) (read_number_of self.new) }
-        ensures piece { IfOk result (λ n. n ≡ min (min (piece_of self.old) (length buf.old))
+        ensures piece { IfOk result (λ n. n ≡ min (min (read_piece self.old) (length buf.old))
             (slice_index (shelf_state_of self.old).lengths file - offset)) }
-        ensures same_piece { piece_of self.new ≡ piece_of self.old }
+        ensures same_piece { read_piece self.new ≡ read_piece self.old }
         ensures same_failing { failing_of self.new ≡ failing_of self.old }
     {
         self.calls = self.calls.saturating_add(1);
@@ -108,7 +108,7 @@ impl Shelf for MemShelf {
         Ok(size)
     }
 
-    ghost in_order = { shelf_state_of-IsShelf };
+    ghost well_formed = { shelf_state_of-IsShelf };
 }
 
 // Puts the bytes from an offset on, at most `piece` of them, at the front of `buf`.

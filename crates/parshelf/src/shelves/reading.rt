@@ -1,6 +1,6 @@
 ghost use Rattle.std.specs.Prelude.{◌≡◌, ◌+◌, ◌<◌, ◌≤◌, ◌↔◌, length, slice_index, IsTrue, OnOk, IfOk, IfErr};
 ghost use Rattle.md5.specs.Md5.{md5};
-ghost use Rattle.parshelf.specs.Shelf.{handed_over, bytes_at, file_of, failure_count, early_end_count};
+ghost use Rattle.parshelf.specs.Shelf.{after_handing, bytes_at, file_of, failure_count, early_end_count};
 ghost use Rattle.parshelf.specs.Reads.{FaultsWithin};
 
 use crate::shelves::shelf::Shelf;
@@ -28,7 +28,7 @@ pub fn fill<H: Shelf>(
     requires within { offset + length buf.old ≤ slice_index (H.state shelf.old).lengths file }
 
     ensures ok { OnOk result
-        (H.state shelf.new ≡ handed_over (H.state shelf.old) file (length buf.old)) }
+        (H.state shelf.new ≡ after_handing (H.state shelf.old) file (length buf.old)) }
     ensures bytes { IsTrue (H.state shelf.old).is_steady →
         OnOk result (buf.new ≡ bytes_at (H.state shelf.old) file offset (length buf.old)) }
 
@@ -60,7 +60,7 @@ pub fn digest_of<H: Shelf>(shelf: &mut H, file: u32) -> Result<Hash16, ReadFault
     requires { file < length (H.state shelf.old).lengths }
 
     ensures ok { OnOk result (H.state shelf.new
-        ≡ handed_over (H.state shelf.old) file (slice_index (H.state shelf.old).lengths file)) }
+        ≡ after_handing (H.state shelf.old) file (slice_index (H.state shelf.old).lengths file)) }
     ensures digest { IsTrue (H.state shelf.old).is_steady →
         IfOk result (λ hash. hash.0 ≡ md5 (file_of (H.state shelf.old) file)) }
 
@@ -89,7 +89,7 @@ pub fn digest_of_part<H: Shelf>(
     requires within { offset + size ≤ slice_index (H.state shelf.old).lengths file }
     requires buffer { 0 < length buffer.old }
 
-    ensures ok { OnOk result (H.state shelf.new ≡ handed_over (H.state shelf.old) file size) }
+    ensures ok { OnOk result (H.state shelf.new ≡ after_handing (H.state shelf.old) file size) }
     ensures digest { IsTrue (H.state shelf.old).is_steady →
         IfOk result (λ hash. hash.0 ≡ md5 (bytes_at (H.state shelf.old) file offset size)) }
 

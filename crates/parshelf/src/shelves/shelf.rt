@@ -1,5 +1,5 @@
 ghost use Rattle.std.specs.Prelude.{◌≡◌, ◌<◌, ◌≤◌, ◌^◌, length, take, slice_index, IsTrue, IfOk, OnErr};
-ghost use Rattle.parshelf.specs.Shelf.{ShelfState, IsShelf, after_read, failed_in, bytes_at};
+ghost use Rattle.parshelf.specs.Shelf.{ShelfState, IsShelf, after_read, after_failure, bytes_at};
 
 use crate::sinks::Failed;
 
@@ -26,7 +26,7 @@ pub trait Shelf {
         // One count of this file changes, and nothing else.
         ensures ok { IfOk result (λ n.
             state self.new ≡ after_read (state self.old) file offset (length buf.old) n) }
-        ensures failed { OnErr result (state self.new ≡ failed_in (state self.old) file) }
+        ensures failed { OnErr result (state self.new ≡ after_failure (state self.old) file) }
 
         ensures bound { IfOk result (λ n. n ≤ length buf.old) }
         ensures bytes { IsTrue (state self.old).is_steady →
@@ -36,5 +36,5 @@ pub trait Shelf {
             → slice_index (state self.old).lengths file ≤ offset) };
 
     /// What holds of every shelf.
-    ghost in_order: { (shelf : Self) → IsShelf (state shelf) };
+    ghost well_formed: { (shelf : Self) → IsShelf (state shelf) };
 }

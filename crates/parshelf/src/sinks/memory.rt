@@ -18,16 +18,16 @@ pub struct MemSink {
 
 impl MemSink {
     ghost use Rattle.parshelf.specs.SinkState.{empty_sink};
-    ghost use Rattle.parshelf.specs.MemorySink.{memory_sink_state, room_of, piece_of, takes_zero};
+    ghost use Rattle.parshelf.specs.MemorySink.{memory_sink_state, sink_limits_of};
 
     /// A sink that takes `room` bytes, at most `piece` a call. With no room left it takes 0 bytes
     /// of a part that is not empty where `zero`, else it fails.
     pub fn new(alloc: Global, room: usize, piece: usize, zero: bool) -> Result<MemSink, AllocError>
         requires { 0 < piece }
         ensures state { IfOk result (λ sink. memory_sink_state sink ≡ empty_sink) }
-        ensures room { IfOk result (λ sink. room_of sink ≡ room) }
-        ensures piece { IfOk result (λ sink. piece_of sink ≡ piece) }
-        ensures zero { IfOk result (λ sink. takes_zero sink ≡ zero) }
+        ensures room { IfOk result (λ sink. (sink_limits_of sink).room ≡ room) }
+        ensures piece { IfOk result (λ sink. (sink_limits_of sink).piece ≡ piece) }
+        ensures zero { IfOk result (λ sink. (sink_limits_of sink).takes_zero ≡ zero) }
     {
         Ok(MemSink {
             buffer: vec![in alloc; 0; room]?,
@@ -48,7 +48,7 @@ impl MemSink {
 
 impl Sink for MemSink {
     ghost use Rattle.parshelf.specs.SinkState.{appended, refused};
-    ghost use Rattle.parshelf.specs.MemorySink.{memory_sink_state, room_of, piece_of, takes_zero};
+    ghost use Rattle.parshelf.specs.MemorySink.{memory_sink_state, sink_limits_of, limits_after};
 
     ghost state = { memory_sink_state };
 
@@ -64,13 +64,13 @@ impl Sink for MemSink {
         ensures failed { OnErr result
             (memory_sink_state self.new ≡ refused (memory_sink_state self.old)) }
 
+        // How much it takes, when it fails, and how it goes on.
         ensures size { IfOk result (λ n. n
-            ≡ min (min (length part.now) (piece_of self.old)) (room_of self.old)) }
-        ensures room { IfOk result (λ n. room_of self.new + n ≡ room_of self.old) }
-        ensures fails { IsErr result
-            ↔ ((room_of self.old ≡ 0) × (0 < length part.now) × (takes_zero self.old ≡ false)) }
-        ensures same_piece { piece_of self.new ≡ piece_of self.old }
-        ensures same_zero { takes_zero self.new ≡ takes_zero self.old }
+            ≡ min (min (length part.now) (sink_limits_of self.old).piece)
+            (sink_limits_of self.old).room) }
+        ensures fails { IsErr result ↔ (((sink_limits_of self.old).room ≡ 0)
+            × (0 < length part.now) × ((sink_limits_of self.old).takes_zero ≡ false)) }
+        ensures limits { sink_limits_of self.new ≡ limits_after (sink_limits_of self.old) result }
     {
         let rest = self.buffer.len() - self.used;
         if rest == 0 && !part.is_empty() {

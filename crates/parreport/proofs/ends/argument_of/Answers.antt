@@ -13,9 +13,3 @@ overflow_cast-file-2 c = grind (arith, common_steps) steps 100000
 
 pub returns-then-packet : goal.returns-then-packet
 returns-then-packet c = grind (arith, elements) steps 1500000
-
-pub returns-in-Some : goal.returns-in-Some
-returns-in-Some c = grind (arith, elements) steps 1500000
-
-pub returns-in-None : goal.returns-in-None
-returns-in-None c = grind (arith, elements) steps 1500000

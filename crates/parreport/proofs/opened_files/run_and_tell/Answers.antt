@@ -12,7 +12,7 @@ returns g c =
       told = subst (λ end. IfOk c.tell.result (λ told. TellsEnd end told.0 told.1.items)) {y = end} c.run_end-end.ensures c.tell.ensures;
       text = ran.text;
       lines = ran.lines;
-      silent = ran.silent;
+      nothing_written = ran.nothing_written;
       packets_read = ran.packets;
       scanned_read = ran.scanned;
       sink = ran.sink;

@@ -2,8 +2,8 @@ use Rattle.std.proofs.Common.{arith, rules}
 use Rattle.std.proofs.lemmas.Grind.{common_steps}
 use Rattle.parreport.proofs.opened_files.run_opened.Goals as goal
 
-pub returns-clause-silent : goal.returns-clause-silent
-returns-clause-silent g c = search rules
+pub returns-clause-nothing_written : goal.returns-clause-nothing_written
+returns-clause-nothing_written g c = search rules
 
 pub returns-clause-unopened : goal.returns-clause-unopened
 returns-clause-unopened g c = search rules

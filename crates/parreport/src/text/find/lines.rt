@@ -1,8 +1,9 @@
 ghost use Rattle.std.specs.Prelude.{◌≡◌, IfOk, string_bytes};
-ghost use Rattle.parreport.specs.FindText.{found_line, line_of_slice, names_of, WritesLine};
+ghost use Rattle.parreport.specs.FindText.{found_line, line_of_slice, WritesLine};
+ghost use Rattle.parreport.specs.Names.{names_of};
 ghost use Rattle.parreport.specs.Lines.{sighting_line, end_line, cursor_line};
 
-use crate::text::faults::FindFault;
+use crate::text::faults::RunFault;
 use crate::text::names::scanned_name;
 use parfield::{Hash16, Shown};
 use parfind::{Cursor, Sighting};
@@ -12,13 +13,13 @@ use parshelf::{Sink, write_text};
 use std::alloc::{AllocError, Global};
 
 /// Writes the line of a sighting.
-pub fn put_sighting<W: Sink>(
+pub fn write_sighting<W: Sink>(
     alloc: Global,
     files: &[Scanned],
     set: &RecoverySet,
     sighting: Sighting,
     out: &mut W,
-) -> Result<(), FindFault>
+) -> Result<(), RunFault>
     ensures { WritesLine (found_line (names_of files.now) set.now sighting) result
         (W.state out.old) (W.state out.new) }
 {
@@ -26,24 +27,24 @@ pub fn put_sighting<W: Sink>(
     Ok(write_text(out, line.as_bytes())?)
 }
 
-/// Writes the line behind the last sighting.
+/// Writes the line after the last sighting.
 #[tactic(auto, unfolding(crate::specs::Lines::end_line))]
-pub fn put_end<W: Sink>(out: &mut W) -> Result<(), FindFault>
+pub fn write_end<W: Sink>(out: &mut W) -> Result<(), RunFault>
     ensures { WritesLine end_line result (W.state out.old) (W.state out.new) }
 {
     Ok(write_text(out, b"end\n")?)
 }
 
 /// Writes the line of the cursor to go on from.
-pub fn put_cursor<W: Sink>(
+pub fn write_cursor<W: Sink>(
     alloc: Global,
     set: Hash16,
     at: Cursor,
     out: &mut W,
-) -> Result<(), FindFault>
+) -> Result<(), RunFault>
     ensures { WritesLine (cursor_line set at) result (W.state out.old) (W.state out.new) }
 {
-    let line = line_behind(alloc, set, at)?;
+    let line = cursor_line(alloc, set, at)?;
     Ok(write_text(out, &line)?)
 }
 
@@ -68,7 +69,7 @@ fn line_of(
 
 // The line of the cursor to go on from.
 #[tactic(auto, unfolding(crate::specs::Lines::cursor_line))]
-fn line_behind(alloc: Global, set: Hash16, at: Cursor) -> Result<Vec<u8>, AllocError>
+fn cursor_line(alloc: Global, set: Hash16, at: Cursor) -> Result<Vec<u8>, AllocError>
     ensures { IfOk result (λ line. line.items ≡ cursor_line set at) }
 {
     let mut line = Vec::from_slice(alloc, b"cursor ")?;

@@ -1,67 +1,68 @@
-ghost use Rattle.std.specs.Prelude.{◌≡◌, ◌++◌, ◌<◌, length, IfOk, OnOk, IfErr, string_bytes};
+ghost use Rattle.std.specs.Prelude.{◌≡◌, ◌++◌, length, IfOk, OnOk, string_bytes};
 ghost use Rattle.std.specs.List.{flat_map};
-ghost use Rattle.parshelf.specs.Blocks.{block, Waits};
 ghost use Rattle.parreport.specs.Lines.{packet_line, count_line, kind_word};
-ghost use Rattle.parreport.specs.Listing.{Breaks};
-ghost use Rattle.parreport.specs.PacketsText.{chosen_of, line_among};
+ghost use Rattle.parreport.specs.PacketsText.{chosen_of, kept_line, packets_text};
+ghost use Rattle.parreport.specs.Writers.{Writes};
 
+use crate::text::block_writer::BlockWriter;
 use crate::text::faults::RunFault;
 use crate::text::names::packet_name;
 use parfield::{Hash16, Kind, Shown, Text};
 use parsalvage::Kept;
-use parshelf::{Sink, write_block};
+use parshelf::Sink;
 use std::alloc::AllocError;
 
-/// Puts the lines of the packets that are asked for behind what waits, and writes each block of
-/// them; gives their number.
-pub fn put_packets<W: Sink>(
+/// Writes a line for each packet that is asked for, and their number.
+pub fn write_packets_text<W: Sink>(
     names: &[Text],
     choice: Option<Hash16>,
     packets: &[Kept],
-    waiting: &mut String,
-    out: &mut W,
+    writer: &mut BlockWriter<'_, W>,
+) -> Result<(), RunFault>
+    ensures { Writes W.state writer.old writer.new
+        (packets_text names.now choice packets.now) result }
+{
+    let count = write_chosen(names, choice, packets, writer)?;
+    write_count(count, writer)
+}
+
+// Writes the lines of the packets that are asked for; gives their number.
+fn write_chosen<W: Sink>(
+    names: &[Text],
+    choice: Option<Hash16>,
+    packets: &[Kept],
+    writer: &mut BlockWriter<'_, W>,
 ) -> Result<u64, RunFault>
     ensures count { IfOk result (λ n. n ≡ length (chosen_of choice packets.now)) }
-    ensures lines { OnOk result (Waits (W.state out.old) (W.state out.new)
-        (string_bytes waiting.old
-        ++ flat_map (line_among names.now) (chosen_of choice packets.now))
-        (string_bytes waiting.new)) }
-    ensures fault { IfErr result (λ fault. Breaks fault (W.state out.old) (W.state out.new)
-        (string_bytes waiting.old
-        ++ flat_map (line_among names.now) (chosen_of choice packets.now))) }
-    ensures less { OnOk result (length (string_bytes waiting.old) < block
-        → length (string_bytes waiting.new) < block) }
+    ensures lines { Writes W.state writer.old writer.new
+        (flat_map (kept_line names.now) (chosen_of choice packets.now)) result }
 {
     let mut count = 0u64;
     for packet in packets {
         if packet.is_chosen(choice) {
-            put_packet(packet_name(names, packet.file), packet, waiting, out)?;
+            write_packet(packet_name(names, packet.file), packet, writer)?;
             count += 1;
         }
     }
     Ok(count)
 }
 
-// Puts the line of a packet behind what waits, and writes that once it is a block.
-fn put_packet<W: Sink>(
+// Writes the line of a packet.
+fn write_packet<W: Sink>(
     name: &[u8],
     packet: &Kept,
-    waiting: &mut String,
-    out: &mut W,
+    writer: &mut BlockWriter<'_, W>,
 ) -> Result<(), RunFault>
-    ensures line { OnOk result (Waits (W.state out.old) (W.state out.new)
-        (string_bytes waiting.old ++ packet_line name.now packet.now) (string_bytes waiting.new)) }
-    ensures fault { IfErr result (λ fault. Breaks fault (W.state out.old) (W.state out.new)
-        (string_bytes waiting.old ++ packet_line name.now packet.now)) }
-    ensures less { OnOk result (length (string_bytes waiting.new) < block) }
+    ensures { Writes W.state writer.old writer.new (packet_line name.now packet.now) result }
 {
-    push_packet(waiting, name, packet)?;
-    Ok(write_block(out, waiting)?)
+    let mut text = writer.take_buffer();
+    append_packet(&mut text, name, packet)?;
+    writer.put_back(text)
 }
 
 // Appends the line of a packet.
 #[tactic(auto, unfolding(crate::specs::Lines::packet_line))]
-fn push_packet(text: &mut String, name: &[u8], packet: &Kept) -> Result<(), AllocError>
+fn append_packet(text: &mut String, name: &[u8], packet: &Kept) -> Result<(), AllocError>
     ensures { OnOk result (string_bytes text.new
         ≡ string_bytes text.old ++ packet_line name.now packet.now) }
 {
@@ -76,9 +77,18 @@ fn push_packet(text: &mut String, name: &[u8], packet: &Kept) -> Result<(), Allo
     )
 }
 
-/// Appends the line after those of all packets.
+// Writes the line after those of all packets.
+fn write_count<W: Sink>(count: u64, writer: &mut BlockWriter<'_, W>) -> Result<(), RunFault>
+    ensures { Writes W.state writer.old writer.new (count_line count) result }
+{
+    let mut text = writer.take_buffer();
+    append_count(&mut text, count)?;
+    writer.put_back(text)
+}
+
+// Appends that line.
 #[tactic(auto, unfolding(crate::specs::Lines::count_line))]
-pub fn push_count(text: &mut String, count: u64) -> Result<(), AllocError>
+fn append_count(text: &mut String, count: u64) -> Result<(), AllocError>
     ensures { OnOk result (string_bytes text.new ≡ string_bytes text.old ++ count_line count) }
 {
     writeln!(text, "packets {count}")

@@ -1,22 +1,22 @@
 ghost use Rattle.std.specs.Prelude.{◌≡◌};
 ghost use Rattle.std.specs.List.{list_all};
 ghost use Rattle.parreport.specs.States.{is_complete};
-ghost use Rattle.parreport.specs.VerifyText.{status_of, status_by};
+ghost use Rattle.parreport.specs.VerifyText.{status_from, status_of};
 
 use crate::states::{Findings, State};
 use crate::text::status::Status;
 use parset::RecoverySet;
 
 /// The status that the findings come to.
-pub fn status_by(set: &RecoverySet, findings: &Findings) -> Status
-    ensures { result ≡ status_by set.now findings.now }
+pub fn status_of(set: &RecoverySet, findings: &Findings) -> Status
+    ensures { result ≡ status_of set.now findings.now }
 {
-    status_of(findings.states.as_slice(), findings.need(), set.have())
+    status_from(findings.states.as_slice(), findings.need(), set.have())
 }
 
 // The status, where so many slices are needed and there are so many exponents.
-fn status_of(states: &[State], need: usize, have: u32) -> Status
-    ensures { result ≡ status_of states.now need have }
+fn status_from(states: &[State], need: usize, have: u32) -> Status
+    ensures { result ≡ status_from states.now need have }
 {
     if are_complete(states) {
         Status::Complete

@@ -4,14 +4,14 @@ use Rattle.std.proofs.lemmas.Result.{err_from_is_err_and}
 use Rattle.parsalvage.proofs.HandLaws.{Hands-none}
 use Rattle.parsalvage.proofs.body_store.extend.Goals as goal
 
-pub returns-in_err-resize-clause-fault : goal.returns-in_err-resize-clause-fault
-returns-in_err-resize-clause-fault g c =
+pub returns-in_err-resize-clause-leaves : goal.returns-in_err-resize-clause-leaves
+returns-in_err-resize-clause-leaves g c =
     let same = err_from_is_err_and c.from_residual.result c.from_residual.ensures.1 in
-    rw (same.1, same.2) (Hands-none _ _ _, λ _. tt)
+    rw (same.1, same.2) (Hands-none _ _ _)
 
-pub returns-clause-ok : goal.returns-clause-ok
-returns-clause-ok g c =
-    let hands = c.in_ok-read.ensures.ok in
+pub returns-clause-leaves : goal.returns-clause-leaves
+returns-clause-leaves g c =
+    let hands = c.in_ok-read.ensures.leaves in
     let room = length-drop c.len-held.result c.resize.new.self.items in
     record {
       count = hands.count;
@@ -46,9 +46,6 @@ returns-in_err-resize-clause-keeps g c = grind (arith, common_steps) steps 10000
 pub returns-in_err-resize-clause-bytes : goal.returns-in_err-resize-clause-bytes
 returns-in_err-resize-clause-bytes g c = grind (arith, common_steps) steps 100000
 
-pub returns-in_err-resize-clause-ok : goal.returns-in_err-resize-clause-ok
-returns-in_err-resize-clause-ok g c = grind (arith, common_steps) steps 100000
-
 pub slice_bounds-read-count : goal.slice_bounds-read-count
 slice_bounds-read-count g c = grind (arith, common_steps) steps 100000
 
@@ -82,11 +79,8 @@ returns-in_err-read-clause-keeps g c = grind (arith, common_steps) steps 400000
 pub returns-in_err-read-clause-bytes : goal.returns-in_err-read-clause-bytes
 returns-in_err-read-clause-bytes g c = grind (arith, common_steps) steps 400000
 
-pub returns-in_err-read-clause-ok : goal.returns-in_err-read-clause-ok
-returns-in_err-read-clause-ok g c = grind (arith, common_steps) steps 400000
-
-pub returns-in_err-read-clause-fault : goal.returns-in_err-read-clause-fault
-returns-in_err-read-clause-fault g c = grind (arith, common_steps) steps 400000
+pub returns-in_err-read-clause-leaves : goal.returns-in_err-read-clause-leaves
+returns-in_err-read-clause-leaves g c = grind (arith, common_steps) steps 400000
 
 pub returns-clause-start : goal.returns-clause-start
 returns-clause-start g c = grind (arith, common_steps) steps 100000
@@ -102,6 +96,3 @@ returns-clause-keeps g c = grind (arith, common_steps) steps 1500000
 
 pub returns-clause-bytes : goal.returns-clause-bytes
 returns-clause-bytes g c = grind (arith, common_steps) steps 1500000
-
-pub returns-clause-fault : goal.returns-clause-fault
-returns-clause-fault g c = grind (arith, common_steps) steps 100000

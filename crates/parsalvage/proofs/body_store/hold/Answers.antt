@@ -12,7 +12,7 @@ returns-clause-run g c = λ steady.
     let after = c.in_ok-extend.ensures in
     rw (after.start, after.end)
     (run_more file c.reach.new.bodies.bytes.items c.extend.new.bodies.bytes.items c.reach.new.bodies.start c.reach.new.bodies.end _
-    before store.in_order store.fits (omega arith) after.keeps (after.bytes steady) after.len)
+    before store.rising store.fits (omega arith) after.keeps (after.bytes steady) after.len)
 
 pub returns-clause-part : goal.returns-clause-part
 returns-clause-part g c = λ steady.
@@ -21,7 +21,7 @@ returns-clause-part g c = λ steady.
     let store = c.reach.ensures.store _ (omega arith) c.requires.store in
     let after = c.in_ok-extend.ensures in
     let whole = run_more file c.reach.new.bodies.bytes.items c.extend.new.bodies.bytes.items c.reach.new.bodies.start c.reach.new.bodies.end c.max-last.result
-    before store.in_order store.fits (omega arith) after.keeps (after.bytes steady) after.len in
+    before store.rising store.fits (omega arith) after.keeps (after.bytes steady) after.len in
     let count : c.len.result ≡ length c.extend.new.bodies.bytes.items = search rules in
     let end : c.extend.new.bodies.end ≡ c.max-last.result = after.end in
     ap (λ (n : ℕ). take c.args.size (drop (n - (c.extend.new.bodies.end - c.args.from)) c.extend.new.bodies.bytes.items)) count
@@ -47,11 +47,8 @@ returns-in_err-extend-clause-run g c = grind (arith, common_steps) steps 400000
 pub returns-in_err-extend-clause-part : goal.returns-in_err-extend-clause-part
 returns-in_err-extend-clause-part g c = grind (arith, common_steps) steps 100000
 
-pub returns-in_err-extend-clause-ok : goal.returns-in_err-extend-clause-ok
-returns-in_err-extend-clause-ok g c = grind (arith, common_steps) steps 100000
-
-pub returns-in_err-extend-clause-fault : goal.returns-in_err-extend-clause-fault
-returns-in_err-extend-clause-fault g c = grind (arith, common_steps) steps 400000
+pub returns-in_err-extend-clause-leaves : goal.returns-in_err-extend-clause-leaves
+returns-in_err-extend-clause-leaves g c = grind (arith, common_steps) steps 400000
 
 pub returns-clause-begins : goal.returns-clause-begins
 returns-clause-begins g c = grind (arith, common_steps) steps 100000
@@ -59,11 +56,8 @@ returns-clause-begins g c = grind (arith, common_steps) steps 100000
 pub returns-clause-keeps : goal.returns-clause-keeps
 returns-clause-keeps g c = grind (arith, common_steps) steps 100000
 
-pub returns-clause-ok : goal.returns-clause-ok
-returns-clause-ok g c = grind (arith, common_steps) steps 100000
-
-pub returns-clause-fault : goal.returns-clause-fault
-returns-clause-fault g c = grind (arith, common_steps) steps 100000
+pub returns-clause-leaves : goal.returns-clause-leaves
+returns-clause-leaves g c = grind (arith, common_steps) steps 100000
 
 pub reach-requires : goal.reach-requires
 reach-requires g c = grind (arith, common_steps) steps 100000

@@ -17,8 +17,8 @@ returns-then-is_empty-clause-some c = grind (arith, common_steps) steps 100000
 pub returns-in_err-store-clause-kept : goal.returns-in_err-store-clause-kept
 returns-in_err-store-clause-kept c = grind (arith, common_steps) steps 100000
 
-pub keep_notes-requires : goal.keep_notes-requires
-keep_notes-requires c = grind (arith, common_steps) steps 100000
+pub keep_packets-requires : goal.keep_packets-requires
+keep_packets-requires c = grind (arith, common_steps) steps 100000
 
 pub returns-clause-kept : goal.returns-clause-kept
 returns-clause-kept c = grind (arith, common_steps) steps 100000

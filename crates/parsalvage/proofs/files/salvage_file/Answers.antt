@@ -6,16 +6,17 @@ use Rattle.parsalvage.proofs.files.salvage_file.Goals as goal
 
 pub returns-clause-kept : goal.returns-clause-kept
 returns-clause-kept g c = λ steady.
-    let long = length-file_of _ c.args.file (g.met.H.Shelf.in_order c.args.shelf.now) steady in
+    let long = length-file_of _ c.args.file (g.met.H.Shelf.well_formed c.args.shelf.now) steady in
     c.in_ok-keep_found.ensures.kept ∙ found_all _ _ _ _ (c.in_ok-found.ensures.found steady) long
 
 pub returns-clause-inside : goal.returns-clause-inside
 returns-clause-inside g c = found_inside _ _ _ _ c.in_ok-found.ensures.lies c.in_ok-keep_found.ensures.kept
 
 -- memory for the list was refused, so there is a packet
+
 pub returns-in_err-keep_found-clause-empty : goal.returns-in_err-keep_found-clause-empty
 returns-in_err-keep_found-clause-empty g c = λ steady none _.
-    let long = length-file_of _ c.args.file (g.met.H.Shelf.in_order c.args.shelf.now) steady in
+    let long = length-file_of _ c.args.file (g.met.H.Shelf.well_formed c.args.shelf.now) steady in
     c.in_err-keep_found.ensures.some (found_none _ _ _ _ (c.in_ok-found.ensures.found steady) long none)
 
 pub slice_bounds-search_file-end : goal.slice_bounds-search_file-end
@@ -33,11 +34,8 @@ returns-in_err-found-clause-kept g c = grind (arith, common_steps) steps 400000
 pub returns-in_err-found-clause-inside : goal.returns-in_err-found-clause-inside
 returns-in_err-found-clause-inside g c = grind (arith, common_steps) steps 400000
 
-pub returns-in_err-found-clause-ok : goal.returns-in_err-found-clause-ok
-returns-in_err-found-clause-ok g c = grind (arith, common_steps) steps 400000
-
-pub returns-in_err-found-clause-fault : goal.returns-in_err-found-clause-fault
-returns-in_err-found-clause-fault g c = grind (arith, common_steps) steps 400000
+pub returns-in_err-found-clause-leaves : goal.returns-in_err-found-clause-leaves
+returns-in_err-found-clause-leaves g c = grind (arith, common_steps) steps 400000
 
 pub returns-in_err-found-clause-bound : goal.returns-in_err-found-clause-bound
 returns-in_err-found-clause-bound g c = grind (arith, common_steps) steps 400000
@@ -54,20 +52,14 @@ returns-in_err-keep_found-clause-kept g c = grind (arith, common_steps) steps 40
 pub returns-in_err-keep_found-clause-inside : goal.returns-in_err-keep_found-clause-inside
 returns-in_err-keep_found-clause-inside g c = grind (arith, common_steps) steps 400000
 
-pub returns-in_err-keep_found-clause-ok : goal.returns-in_err-keep_found-clause-ok
-returns-in_err-keep_found-clause-ok g c = grind (arith, common_steps) steps 400000
-
-pub returns-in_err-keep_found-clause-fault : goal.returns-in_err-keep_found-clause-fault
-returns-in_err-keep_found-clause-fault g c = grind (arith, common_steps) steps 400000
+pub returns-in_err-keep_found-clause-leaves : goal.returns-in_err-keep_found-clause-leaves
+returns-in_err-keep_found-clause-leaves g c = grind (arith, common_steps) steps 400000
 
 pub returns-in_err-keep_found-clause-bound : goal.returns-in_err-keep_found-clause-bound
 returns-in_err-keep_found-clause-bound g c = grind (arith, common_steps) steps 400000
 
-pub returns-clause-ok : goal.returns-clause-ok
-returns-clause-ok g c = grind (arith, common_steps) steps 400000
-
-pub returns-clause-fault : goal.returns-clause-fault
-returns-clause-fault g c = grind (arith, common_steps) steps 100000
+pub returns-clause-leaves : goal.returns-clause-leaves
+returns-clause-leaves g c = grind (arith, common_steps) steps 400000
 
 pub returns-clause-bound : goal.returns-clause-bound
 returns-clause-bound g c = grind (arith, common_steps) steps 400000

@@ -4,8 +4,8 @@ use Rattle.std.proofs.Common.{ap, sym, arith}
 use Rattle.std.proofs.Math.ListN.{get_or}
 use Rattle.std.proofs.lemmas.List.{at_drop_more, append_assoc}
 use Rattle.parfield.specs.Packet.{packet_view}
-use Rattle.parfield.specs.declared.fields.Packet.{Packet}
-use Rattle.parsalvage.specs.Kept.{kept_as, body_kept}
+use Rattle.parfield.specs.declared.headers.Packet.{Packet}
+use Rattle.parsalvage.specs.Kept.{kept_packet, kept_body}
 use Rattle.parsalvage.specs.declared.kept.Kept.{Kept}
 use Rattle.parsalvage.specs.declared.kept.KeptBody.{KeptBody}
 use Rattle.parsalvage.proofs.keeping.kept_of.Goals as goal
@@ -25,16 +25,16 @@ kept_with file packet body = record {
 one_more : (file : ℕ) (before : List Kept) (packets : List Packet) (i : ℕ) (d : Packet)
     (body : KeptBody) (new all : List Kept)
     → i < length packets
-    → before ++ map (kept_as file) (map packet_view (drop i packets)) ≡ all
-    → body ≡ body_kept (get_or packets i d).kind (get_or packets i d).body.now
+    → before ++ map (kept_packet file) (map packet_view (drop i packets)) ≡ all
+    → body ≡ kept_body (get_or packets i d).kind (get_or packets i d).body.now
     → new ≡ before ++ (kept_with file (get_or packets i d) body ∷ [])
-    → new ++ map (kept_as file) (map packet_view (drop (i + 1) packets)) ≡ all
+    → new ++ map (kept_packet file) (map packet_view (drop (i + 1) packets)) ≡ all
 one_more file before packets i d body new all low so_far body_is is =
-    let left : List Kept = map (kept_as file) (map packet_view (drop (i + 1) packets)) in
+    let left : List Kept = map (kept_packet file) (map packet_view (drop (i + 1) packets)) in
     ap (λ (xs : List Kept). xs ++ left) is
     ∙ append_assoc before (kept_with file (get_or packets i d) body ∷ []) left
     ∙ ap (λ (b : KeptBody). before ++ (kept_with file (get_or packets i d) b ∷ left)) body_is
-    ∙ sym (at_drop_more (λ (xs : List Packet). before ++ map (kept_as file) (map packet_view xs))
+    ∙ sym (at_drop_more (λ (xs : List Packet). before ++ map (kept_packet file) (map packet_view xs))
     packets i d low)
     ∙ so_far
 

@@ -1,21 +1,11 @@
 use Rattle.std.proofs.lemmas.Grind.{common_steps}
-use Rattle.std.proofs.Common.{◌≡◌, ◌-◌, ◌≤◌, ◌∙◌, ℕ, List, length, take, drop, ap, arith, length-drop, refl}
+use Rattle.std.proofs.Common.{◌≡◌, ◌-◌, ◌≤◌, ◌∙◌, ℕ, List, length, take, drop, arith, length-drop, refl}
 use Rattle.std.proofs.lemmas.List.{length-take-le, length-replicate}
 use Rattle.std.proofs.lemmas.Result.{err_from_is_err_and}
-use Rattle.parshelf.specs.Shelf.{ShelfState}
-use Rattle.parshelf.proofs.ShelfLaws.{length-file_of}
-use Rattle.parsalvage.proofs.HandLaws.{Hands-lengths}
-use Rattle.parsalvage.proofs.FileLaws.{FileSearched-start, FileSearched-next, FileSearched-fault, FileSearched-unread, piece_is, packets_are, hands_whole, packets_whole}
-use borrow.Rule.Slice.PartMut.{put_mid, same_len_mid}
+use Rattle.parsalvage.proofs.HandLaws.{not_memory}
+use Rattle.parsalvage.proofs.FileLaws.{FileSearched-start, FileSearched-read, FileSearched-next, FileSearched-fault, FileSearched-empty, FileSearched-unread, piece_is, packets_are, hands_whole, lies_whole, packets_whole}
+use borrow.Rule.Slice.PartMut.{same_len_mid}
 use Rattle.parsalvage.proofs.searching.search_file.Goals as goal
-
-pub loop-base-init : goal.loop-base-init
-loop-base-init g c = record {
-  within = omega arith;
-  few = omega arith;
-  whole = length-replicate {A = ℕ} 65536 0;
-  searched = FileSearched-start _ _ _ _ _ c.new.ensures.items c.new-2.ensures.items refl refl;
-}
 
 -- a part of the window that lies within it
 part_length : (window : List ℕ) (held size : ℕ) → length window ≡ 65536 → held ≤ size → size ≤ 65536
@@ -23,117 +13,92 @@ part_length : (window : List ℕ) (held size : ℕ) → length window ≡ 65536 
 part_length window held size whole low high =
     length-take-le (size - held) (drop held window) (omega (arith, whole, length-drop held window))
 
+pub loop-base-init : goal.loop-base-init
+loop-base-init g c = record {
+  within = omega arith;
+  few = omega arith;
+  whole = length-replicate {A = ℕ} 65536 0;
+  searched = FileSearched-start _ _ _ _ c.new.ensures.items c.new-2.ensures.items refl refl;
+}
+
 pub search_piece-requires-clause-piece : goal.search_piece-requires-clause-piece
 search_piece-requires-clause-piece g c =
     let before = c.loop-base.invariant in
-    let few = before.few in
-    let high : c.min-size.result ≤ 65536 = omega arith in
     let wide : 64 ≤ c.min-size.result = omega arith in
-    let full = part_length c.loop-base.window c.loop-base.held c.min-size.result before.whole (omega (arith, few, wide)) high in
-    let filled : length c.fill.new.buf ≡ c.min-size.result - c.loop-base.held = c.fill.auto.buf ∙ full in
-    let long : length (put_mid c.loop-base.held (c.min-size.result - c.loop-base.held) c.loop-base.window c.fill.new.buf) ≡ 65536
-    = same_len_mid c.loop-base.held (c.min-size.result - c.loop-base.held) c.loop-base.window c.fill.new.buf c.fill.auto.buf ∙ before.whole in
-    piece_is (g.H.Shelf.state c.args.shelf.now) (g.H.Shelf.state c.loop-base.shelf) c.args.file _
-    c.loop-base.base c.loop-base.held c.min-size.result (c.min-size.result - c.loop-base.held) c.loop-base.window c.fill.new.buf c.loop-base.found
-    before.searched
-    (λ steady.
-    let length_is = length-file_of _ c.args.file (g.met.H.Shelf.in_order c.args.shelf.now) steady in
-    omega (arith, length_is, c.length-end.ensures.value))
-    (omega (arith, wide)) (omega (arith, few, wide)) (omega (arith, few, before.whole)) filled (omega (arith, long, high))
-    (g.H.Shelf.state c.fill.new.shelf) (rw full at c.in_ok-fill.ensures.ok) (rw full at c.in_ok-fill.ensures.bytes)
+    let high : c.min-size.result ≤ 65536 = omega arith in
+    let read = FileSearched-read _ _ _ before.searched c.min-size.result c.fill.new.buf (omega (arith, before.few, wide)) (omega (arith, before.whole, high))
+    c.fill.auto.buf _ c.in_ok-fill.ensures.ok c.in_ok-fill.ensures.bytes in
+    piece_is _ _ _ read (omega (arith, wide))
 
 pub search_piece-requires-clause-found : goal.search_piece-requires-clause-found
 search_piece-requires-clause-found g c =
     let before = c.loop-base.invariant in
-    let few = before.few in
-    let high : c.min-size.result ≤ 65536 = omega arith in
     let wide : 64 ≤ c.min-size.result = omega arith in
-    let full = part_length c.loop-base.window c.loop-base.held c.min-size.result before.whole (omega (arith, few, wide)) high in
-    let filled : length c.fill.new.buf ≡ c.min-size.result - c.loop-base.held = c.fill.auto.buf ∙ full in
-    let long : length (put_mid c.loop-base.held (c.min-size.result - c.loop-base.held) c.loop-base.window c.fill.new.buf) ≡ 65536
-    = same_len_mid c.loop-base.held (c.min-size.result - c.loop-base.held) c.loop-base.window c.fill.new.buf c.fill.auto.buf ∙ before.whole in
-    packets_are (g.H.Shelf.state c.args.shelf.now) (g.H.Shelf.state c.loop-base.shelf) c.args.file _
-    c.loop-base.base c.loop-base.held c.min-size.result (c.min-size.result - c.loop-base.held) c.loop-base.window c.fill.new.buf c.loop-base.found
-    before.searched
-    (λ steady.
-    let length_is = length-file_of _ c.args.file (g.met.H.Shelf.in_order c.args.shelf.now) steady in
-    omega (arith, length_is, c.length-end.ensures.value))
-    (omega (arith, wide)) (omega (arith, few, wide)) (omega (arith, few, before.whole)) filled (omega (arith, long, high))
-    (g.H.Shelf.state c.fill.new.shelf) (rw full at c.in_ok-fill.ensures.ok) (rw full at c.in_ok-fill.ensures.bytes)
+    let high : c.min-size.result ≤ 65536 = omega arith in
+    let read = FileSearched-read _ _ _ before.searched c.min-size.result c.fill.new.buf (omega (arith, before.few, wide)) (omega (arith, before.whole, high))
+    c.fill.auto.buf _ c.in_ok-fill.ensures.ok c.in_ok-fill.ensures.bytes in
+    packets_are _ _ _ read (omega (arith, wide))
 
 pub loop-base-preserved : goal.loop-base-preserved
 loop-base-preserved g c =
     let before = c.loop-base.invariant in
-    let few = before.few in
-    let high : c.min-size.result ≤ 65536 = omega arith in
     let wide : 64 ≤ c.min-size.result = omega arith in
-    let full = part_length c.loop-base.window c.loop-base.held c.min-size.result before.whole (omega (arith, few, wide)) high in
-    let filled : length c.fill.new.buf ≡ c.min-size.result - c.loop-base.held = c.fill.auto.buf ∙ full in
-    let long : length (put_mid c.loop-base.held (c.min-size.result - c.loop-base.held) c.loop-base.window c.fill.new.buf) ≡ 65536
-    = same_len_mid c.loop-base.held (c.min-size.result - c.loop-base.held) c.loop-base.window c.fill.new.buf c.fill.auto.buf ∙ before.whole in
-    let same = ap (λ (v : ShelfState). v.lengths) c.in_ok-fill.ensures.ok ∙ Hands-lengths _ _ _ _ before.searched.hands in
+    let high : c.min-size.result ≤ 65536 = omega arith in
+    let read = FileSearched-read _ _ _ before.searched c.min-size.result c.fill.new.buf (omega (arith, before.few, wide)) (omega (arith, before.whole, high))
+    c.fill.auto.buf _ c.in_ok-fill.ensures.ok c.in_ok-fill.ensures.bytes in
     record {
       within = omega arith;
       few = omega arith;
-      whole = c.copy_within.ensures.len ∙ long;
-      searched = FileSearched-next (g.H.Shelf.state c.args.shelf.now) (g.H.Shelf.state c.loop-base.shelf) c.args.file _
-          c.loop-base.base c.loop-base.held c.min-size.result (c.min-size.result - c.loop-base.held) c.loop-base.window c.fill.new.buf c.loop-base.found
-          before.searched
-          (λ steady.
-          let length_is = length-file_of _ c.args.file (g.met.H.Shelf.in_order c.args.shelf.now) steady in
-          omega (arith, length_is, c.length-end.ensures.value))
-          (omega (arith, wide)) (omega (arith, few, wide)) (omega (arith, few, before.whole)) filled (omega (arith, long, high))
-          (g.H.Shelf.state c.fill.new.shelf) (rw full at c.in_ok-fill.ensures.ok) (rw full at c.in_ok-fill.ensures.bytes)
-          (g.H.Shelf.state c.search_piece.new.shelf) c.search_piece.new.found c.copy_within.new.self c.copy_within.ensures.after
-          (rw same at c.in_ok-search_piece.ensures.lies) c.in_ok-search_piece.ensures.found c.in_ok-search_piece.ensures.ok;
+      whole = c.copy_within.ensures.len ∙ (same_len_mid c.loop-base.held (c.min-size.result - c.loop-base.held) c.loop-base.window c.fill.new.buf c.fill.auto.buf ∙ before.whole);
+      searched = FileSearched-next _ _ _ read (omega (arith, wide)) _ c.search_piece.new.found c.copy_within.new.self c.copy_within.ensures.len c.copy_within.ensures.after
+          c.in_ok-search_piece.ensures.lies c.in_ok-search_piece.ensures.found c.in_ok-search_piece.ensures.leaves;
     }
+
+pub returns-clause-lies : goal.returns-clause-lies
+returns-clause-lies g c =
+    lies_whole _ _ _ c.loop-base.invariant.searched (g.met.H.Shelf.well_formed c.args.shelf.now) (omega arith) (omega arith)
 
 pub returns-clause-found : goal.returns-clause-found
 returns-clause-found g c =
-    packets_whole _ _ _ _ _ _ _ _ c.loop-base.invariant.searched (omega arith) (omega arith)
-    (λ steady. length-file_of _ c.args.file (g.met.H.Shelf.in_order c.args.shelf.now) steady)
+    packets_whole _ _ _ c.loop-base.invariant.searched (g.met.H.Shelf.well_formed c.args.shelf.now) (omega arith) (omega arith)
 
-pub returns-clause-ok : goal.returns-clause-ok
-returns-clause-ok g c =
-    hands_whole _ _ _ _ _ _ _ _ c.loop-base.invariant.searched (omega arith) (omega arith)
-    (λ steady. length-file_of _ c.args.file (g.met.H.Shelf.in_order c.args.shelf.now) steady)
+pub returns-clause-leaves : goal.returns-clause-leaves
+returns-clause-leaves g c =
+    hands_whole _ _ _ c.loop-base.invariant.searched (g.met.H.Shelf.well_formed c.args.shelf.now) (omega arith) (omega arith)
 
-pub returns-in_err-fill-clause-fault : goal.returns-in_err-fill-clause-fault
-returns-in_err-fill-clause-fault g c =
+pub returns-in_err-fill-clause-leaves : goal.returns-in_err-fill-clause-leaves
+returns-in_err-fill-clause-leaves g c =
     let same = err_from_is_err_and c.from_residual.result c.from_residual.ensures.1 in
     let before = c.loop-base.invariant in
-    let few = before.few in
-    let high : c.min-size.result ≤ 65536 = omega arith in
     let wide : 64 ≤ c.min-size.result = omega arith in
-    let full = part_length c.loop-base.window c.loop-base.held c.min-size.result before.whole (omega (arith, few, wide)) high in
+    let high : c.min-size.result ≤ 65536 = omega arith in
+    let full = part_length c.loop-base.window c.loop-base.held c.min-size.result before.whole (omega (arith, before.few, wide)) high in
     rw (same.1, same.2)
-    (FileSearched-unread _ _ _ _ _ _ _ (c.min-size.result - c.loop-base.held) _ _ _ before.searched
-    (λ steady.
-    let length_is = length-file_of _ c.args.file (g.met.H.Shelf.in_order c.args.shelf.now) steady in
-    omega (arith, length_is, few, wide, c.length-end.ensures.value))
-    (rw full at c.in_err-fill.ensures.fault))
+    (FileSearched-unread _ _ _ _ _ _ before.searched (g.met.H.Shelf.well_formed c.args.shelf.now)
+    (omega (arith, full, before.few, wide, c.length-end.ensures.value)) c.in_err-fill.ensures.fault)
 
-pub returns-in_err-search_piece-clause-fault : goal.returns-in_err-search_piece-clause-fault
-returns-in_err-search_piece-clause-fault g c =
+pub returns-in_err-search_piece-clause-leaves : goal.returns-in_err-search_piece-clause-leaves
+returns-in_err-search_piece-clause-leaves g c =
     let same = err_from_is_err_and c.from_residual-in_err-search_piece.result c.from_residual-in_err-search_piece.ensures.1 in
     let before = c.loop-base.invariant in
-    let few = before.few in
-    let high : c.min-size.result ≤ 65536 = omega arith in
     let wide : 64 ≤ c.min-size.result = omega arith in
-    let full = part_length c.loop-base.window c.loop-base.held c.min-size.result before.whole (omega (arith, few, wide)) high in
-    let filled : length c.fill.new.buf ≡ c.min-size.result - c.loop-base.held = c.fill.auto.buf ∙ full in
-    let long : length (put_mid c.loop-base.held (c.min-size.result - c.loop-base.held) c.loop-base.window c.fill.new.buf) ≡ 65536
-    = same_len_mid c.loop-base.held (c.min-size.result - c.loop-base.held) c.loop-base.window c.fill.new.buf c.fill.auto.buf ∙ before.whole in
+    let high : c.min-size.result ≤ 65536 = omega arith in
+    let read = FileSearched-read _ _ _ before.searched c.min-size.result c.fill.new.buf (omega (arith, before.few, wide)) (omega (arith, before.whole, high))
+    c.fill.auto.buf _ c.in_ok-fill.ensures.ok c.in_ok-fill.ensures.bytes in
     rw (same.1, same.2)
-    (FileSearched-fault (g.H.Shelf.state c.args.shelf.now) (g.H.Shelf.state c.loop-base.shelf) c.args.file _
-    c.loop-base.base c.loop-base.held c.min-size.result (c.min-size.result - c.loop-base.held) c.loop-base.window c.fill.new.buf c.loop-base.found
-    before.searched
-    (λ steady.
-    let length_is = length-file_of _ c.args.file (g.met.H.Shelf.in_order c.args.shelf.now) steady in
-    omega (arith, length_is, c.length-end.ensures.value))
-    (omega (arith, wide)) (omega (arith, few, wide)) (omega (arith, few, before.whole)) filled (omega (arith, long, high))
-    (g.H.Shelf.state c.fill.new.shelf) (rw full at c.in_ok-fill.ensures.ok) (rw full at c.in_ok-fill.ensures.bytes)
-    (g.H.Shelf.state c.search_piece.new.shelf) _ c.in_err-search_piece.ensures.fault)
+    (FileSearched-fault _ _ _ read (omega (arith, wide)) _ _ (g.met.H.Shelf.well_formed c.args.shelf.now)
+    (omega (arith, c.length-end.ensures.value)) c.in_err-search_piece.ensures.leaves)
+
+pub returns-in_err-search_piece-clause-empty : goal.returns-in_err-search_piece-clause-empty
+returns-in_err-search_piece-clause-empty g c =
+    let same = err_from_is_err_and c.from_residual-in_err-search_piece.result c.from_residual-in_err-search_piece.ensures.1 in
+    let before = c.loop-base.invariant in
+    let wide : 64 ≤ c.min-size.result = omega arith in
+    let high : c.min-size.result ≤ 65536 = omega arith in
+    let read = FileSearched-read _ _ _ before.searched c.min-size.result c.fill.new.buf (omega (arith, before.few, wide)) (omega (arith, before.whole, high))
+    c.fill.auto.buf _ c.in_ok-fill.ensures.ok c.in_ok-fill.ensures.bytes in
+    rw (same.1, same.2) (λ steady none. not_memory _ _ _ refl refl
+    (FileSearched-empty _ _ _ read (omega (arith, wide)) _ c.in_err-search_piece.ensures.empty steady none))
 
 pub returns-in_err-fill-clause-lies : goal.returns-in_err-fill-clause-lies
 returns-in_err-fill-clause-lies g c = grind (arith, common_steps) steps 400000
@@ -141,26 +106,14 @@ returns-in_err-fill-clause-lies g c = grind (arith, common_steps) steps 400000
 pub returns-in_err-fill-clause-found : goal.returns-in_err-fill-clause-found
 returns-in_err-fill-clause-found g c = grind (arith, common_steps) steps 400000
 
-pub returns-in_err-fill-clause-ok : goal.returns-in_err-fill-clause-ok
-returns-in_err-fill-clause-ok g c = grind (arith, common_steps) steps 400000
-
 pub returns-in_err-search_piece-clause-lies : goal.returns-in_err-search_piece-clause-lies
 returns-in_err-search_piece-clause-lies g c = grind (arith, common_steps) steps 400000
 
 pub returns-in_err-search_piece-clause-found : goal.returns-in_err-search_piece-clause-found
 returns-in_err-search_piece-clause-found g c = grind (arith, common_steps) steps 400000
 
-pub returns-in_err-search_piece-clause-ok : goal.returns-in_err-search_piece-clause-ok
-returns-in_err-search_piece-clause-ok g c = grind (arith, common_steps) steps 400000
-
 pub loop-base-smaller : goal.loop-base-smaller
 loop-base-smaller g c = grind (arith, common_steps) steps 400000
-
-pub returns-clause-lies : goal.returns-clause-lies
-returns-clause-lies g c = grind (arith, common_steps) steps 1500000
-
-pub returns-clause-fault : goal.returns-clause-fault
-returns-clause-fault g c = grind (arith, common_steps) steps 100000
 
 pub overflow_add-base : goal.overflow_add-base
 overflow_add-base g c = grind (arith, common_steps) steps 100000
@@ -184,7 +137,7 @@ pub fill-requires-clause-file : goal.fill-requires-clause-file
 fill-requires-clause-file g c = grind (arith, common_steps) steps 100000
 
 pub fill-requires-clause-within : goal.fill-requires-clause-within
-fill-requires-clause-within g c = grind (arith, common_steps) steps 100000
+fill-requires-clause-within g c = grind (arith, common_steps) steps 400000
 
 pub slice_bounds-window-end-in-loop-base : goal.slice_bounds-window-end-in-loop-base
 slice_bounds-window-end-in-loop-base g c = grind (arith, common_steps) steps 400000

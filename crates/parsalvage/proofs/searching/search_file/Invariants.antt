@@ -1,4 +1,4 @@
-use Rattle.std.proofs.Common.{◌+◌, ◌-◌, ◌≤◌, ◌≡◌, length, slice_index}
+use Rattle.std.proofs.Common.{◌+◌, ◌-◌, ◌≤◌, ◌≡◌, length}
 use Rattle.parsalvage.proofs.FileLaws.{FileSearched}
 use Rattle.parsalvage.proofs.searching.search_file.Given as goal
 
@@ -8,8 +8,8 @@ invariant-loop-base g l = record {
   within : l.base + l.held ≤ l.end;
   few : l.held ≤ 7;
   whole : length l.window ≡ 65536;
-  searched : FileSearched (g.H.Shelf.state l.fn.shelf) (g.H.Shelf.state l.shelf) l.file (slice_index (g.H.Shelf.state l.fn.shelf).lengths l.file)
-      l.base l.held l.window l.found;
+  searched : FileSearched (g.H.Shelf.state l.fn.shelf) l.file
+      (record { shelf = g.H.Shelf.state l.shelf; base = l.base; held = l.held; window = l.window; found = l.found });
 }
 
 abbrev pub decreases-loop-base : goal.decreases-loop-base

@@ -38,11 +38,8 @@ returns-in_err-place-clause-run g c = grind (arith, common_steps) steps 400000
 pub returns-in_err-place-clause-body : goal.returns-in_err-place-clause-body
 returns-in_err-place-clause-body g c = grind (arith, common_steps) steps 100000
 
-pub returns-in_err-place-clause-ok : goal.returns-in_err-place-clause-ok
-returns-in_err-place-clause-ok g c = grind (arith, common_steps) steps 100000
-
-pub returns-in_err-place-clause-fault : goal.returns-in_err-place-clause-fault
-returns-in_err-place-clause-fault g c = grind (arith, common_steps) steps 100000
+pub returns-in_err-place-clause-leaves : goal.returns-in_err-place-clause-leaves
+returns-in_err-place-clause-leaves g c = grind (arith, common_steps) steps 100000
 
 pub returns-then-is_whole-clause-store : goal.returns-then-is_whole-clause-store
 returns-then-is_whole-clause-store g c = grind (arith, common_steps) steps 100000
@@ -62,11 +59,8 @@ returns-then-is_whole-clause-run g c = grind (arith, common_steps) steps 100000
 pub returns-then-is_whole-clause-body : goal.returns-then-is_whole-clause-body
 returns-then-is_whole-clause-body g c = grind (arith, common_steps) steps 1500000
 
-pub returns-then-is_whole-clause-ok : goal.returns-then-is_whole-clause-ok
-returns-then-is_whole-clause-ok g c = grind (arith, common_steps) steps 100000
-
-pub returns-then-is_whole-clause-fault : goal.returns-then-is_whole-clause-fault
-returns-then-is_whole-clause-fault g c = grind (arith, common_steps) steps 100000
+pub returns-then-is_whole-clause-leaves : goal.returns-then-is_whole-clause-leaves
+returns-then-is_whole-clause-leaves g c = grind (arith, common_steps) steps 100000
 
 pub front_at-requires-clause-file : goal.front_at-requires-clause-file
 front_at-requires-clause-file g c = grind (arith, common_steps) steps 100000
@@ -95,11 +89,8 @@ returns-in_err-first-clause-run g c = grind (arith, common_steps) steps 100000
 pub returns-in_err-first-clause-body : goal.returns-in_err-first-clause-body
 returns-in_err-first-clause-body g c = grind (arith, common_steps) steps 100000
 
-pub returns-in_err-first-clause-ok : goal.returns-in_err-first-clause-ok
-returns-in_err-first-clause-ok g c = grind (arith, common_steps) steps 100000
-
-pub returns-in_err-first-clause-fault : goal.returns-in_err-first-clause-fault
-returns-in_err-first-clause-fault g c = grind (arith, common_steps) steps 400000
+pub returns-in_err-first-clause-leaves : goal.returns-in_err-first-clause-leaves
+returns-in_err-first-clause-leaves g c = grind (arith, common_steps) steps 400000
 
 pub returns-clause-store : goal.returns-clause-store
 returns-clause-store g c = grind (arith, common_steps) steps 100000
@@ -116,11 +107,8 @@ returns-clause-keeps g c = grind (arith, common_steps) steps 100000
 pub returns-clause-run : goal.returns-clause-run
 returns-clause-run g c = grind (arith, common_steps) steps 100000
 
-pub returns-clause-ok : goal.returns-clause-ok
-returns-clause-ok g c = grind (arith, common_steps) steps 100000
-
-pub returns-clause-fault : goal.returns-clause-fault
-returns-clause-fault g c = grind (arith, common_steps) steps 100000
+pub returns-clause-leaves : goal.returns-clause-leaves
+returns-clause-leaves g c = grind (arith, common_steps) steps 100000
 
 pub returns-clause-body : goal.returns-clause-body
-returns-clause-body g c = grind (arith, common_steps, g.met.H.Shelf.in_order)
+returns-clause-body g c = grind (arith, common_steps, g.met.H.Shelf.well_formed)

@@ -8,14 +8,14 @@ use Rattle.parsalvage.proofs.validating.header_at.Goals as goal
 pub returns-in_default-clause-found : goal.returns-in_default-clause-found
 returns-in_default-clause-found g c = λ steady.
     let bytes : List ℕ = file_of (g.H.Shelf.state c.args.shelf.now) c.args.file in
-    let size = length-file_of _ c.args.file (g.met.H.Shelf.in_order c.args.shelf.now) steady in
+    let size = length-file_of _ c.args.file (g.met.H.Shelf.well_formed c.args.shelf.now) steady in
     let long : 64 ≤ length (drop c.args.at bytes) = omega (arith, length-drop c.args.at bytes, size) in
     framed_no_header (drop c.args.at bytes) _ (c.in_ok-read.ensures.bytes steady) long c.in_default.ensures.found
 
 pub returns-then-head-room-clause-found : goal.returns-then-head-room-clause-found
 returns-then-head-room-clause-found g c = λ steady.
     let bytes : List ℕ = file_of (g.H.Shelf.state c.args.shelf.now) c.args.file in
-    let size = length-file_of _ c.args.file (g.met.H.Shelf.in_order c.args.shelf.now) steady in
+    let size = length-file_of _ c.args.file (g.met.H.Shelf.well_formed c.args.shelf.now) steady in
     let rest = length-drop c.args.at bytes in
     let long : 64 ≤ length (drop c.args.at bytes) = omega (arith, rest, size) in
     framed_yes (drop c.args.at bytes) _ (c.in_ok-read.ensures.bytes steady) long c.in-Ok.head
@@ -24,14 +24,14 @@ returns-then-head-room-clause-found g c = λ steady.
 pub returns-then-head-room-clause-fields : goal.returns-then-head-room-clause-fields
 returns-then-head-room-clause-fields g c = λ steady.
     let bytes : List ℕ = file_of (g.H.Shelf.state c.args.shelf.now) c.args.file in
-    let size = length-file_of _ c.args.file (g.met.H.Shelf.in_order c.args.shelf.now) steady in
+    let size = length-file_of _ c.args.file (g.met.H.Shelf.well_formed c.args.shelf.now) steady in
     let long : 64 ≤ length (drop c.args.at bytes) = omega (arith, length-drop c.args.at bytes, size) in
     c.in-Ok.ensures.fields ∙ fields_same (drop c.args.at bytes) _ (c.in_ok-read.ensures.bytes steady) long
 
 pub returns-else-head-room-clause-found : goal.returns-else-head-room-clause-found
 returns-else-head-room-clause-found g c = λ steady.
     let bytes : List ℕ = file_of (g.H.Shelf.state c.args.shelf.now) c.args.file in
-    let size = length-file_of _ c.args.file (g.met.H.Shelf.in_order c.args.shelf.now) steady in
+    let size = length-file_of _ c.args.file (g.met.H.Shelf.well_formed c.args.shelf.now) steady in
     let rest = length-drop c.args.at bytes in
     let long : 64 ≤ length (drop c.args.at bytes) = omega (arith, rest, size) in
     framed_too_long (drop c.args.at bytes) _ (c.in_ok-read.ensures.bytes steady) long c.in-Ok.head
@@ -52,11 +52,8 @@ returns-in_err-read-clause-found g c = grind (arith, common_steps) steps 100000
 pub returns-in_err-read-clause-fields : goal.returns-in_err-read-clause-fields
 returns-in_err-read-clause-fields g c = grind (arith, common_steps) steps 100000
 
-pub returns-in_err-read-clause-ok : goal.returns-in_err-read-clause-ok
-returns-in_err-read-clause-ok g c = grind (arith, common_steps) steps 100000
-
-pub returns-in_err-read-clause-fault : goal.returns-in_err-read-clause-fault
-returns-in_err-read-clause-fault g c = grind (arith, common_steps) steps 100000
+pub returns-in_err-read-clause-leaves : goal.returns-in_err-read-clause-leaves
+returns-in_err-read-clause-leaves g c = grind (arith, common_steps) steps 100000
 
 pub returns-in_default-clause-fits : goal.returns-in_default-clause-fits
 returns-in_default-clause-fits g c = grind (arith, common_steps) steps 100000
@@ -67,20 +64,14 @@ returns-in_default-clause-long g c = grind (arith, common_steps) steps 100000
 pub returns-in_default-clause-fields : goal.returns-in_default-clause-fields
 returns-in_default-clause-fields g c = grind (arith, common_steps) steps 100000
 
-pub returns-in_default-clause-ok : goal.returns-in_default-clause-ok
-returns-in_default-clause-ok g c = grind (arith, common_steps) steps 100000
-
-pub returns-in_default-clause-fault : goal.returns-in_default-clause-fault
-returns-in_default-clause-fault g c = grind (arith, common_steps) steps 100000
+pub returns-in_default-clause-leaves : goal.returns-in_default-clause-leaves
+returns-in_default-clause-leaves g c = grind (arith, common_steps) steps 100000
 
 pub returns-then-head-room-clause-long : goal.returns-then-head-room-clause-long
 returns-then-head-room-clause-long g c = grind (arith, common_steps) steps 1500000
 
-pub returns-then-head-room-clause-ok : goal.returns-then-head-room-clause-ok
-returns-then-head-room-clause-ok g c = grind (arith, common_steps) steps 400000
-
-pub returns-then-head-room-clause-fault : goal.returns-then-head-room-clause-fault
-returns-then-head-room-clause-fault g c = grind (arith, common_steps) steps 100000
+pub returns-then-head-room-clause-leaves : goal.returns-then-head-room-clause-leaves
+returns-then-head-room-clause-leaves g c = grind (arith, common_steps) steps 400000
 
 pub returns-else-head-room-clause-fits : goal.returns-else-head-room-clause-fits
 returns-else-head-room-clause-fits g c = grind (arith, common_steps) steps 100000
@@ -91,11 +82,8 @@ returns-else-head-room-clause-long g c = grind (arith, common_steps) steps 10000
 pub returns-else-head-room-clause-fields : goal.returns-else-head-room-clause-fields
 returns-else-head-room-clause-fields g c = grind (arith, common_steps) steps 100000
 
-pub returns-else-head-room-clause-ok : goal.returns-else-head-room-clause-ok
-returns-else-head-room-clause-ok g c = grind (arith, common_steps) steps 400000
-
-pub returns-else-head-room-clause-fault : goal.returns-else-head-room-clause-fault
-returns-else-head-room-clause-fault g c = grind (arith, common_steps) steps 100000
+pub returns-else-head-room-clause-leaves : goal.returns-else-head-room-clause-leaves
+returns-else-head-room-clause-leaves g c = grind (arith, common_steps) steps 400000
 
 pub overflow_sub-room : goal.overflow_sub-room
 overflow_sub-room g c = grind (arith, common_steps) steps 100000

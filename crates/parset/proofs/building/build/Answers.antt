@@ -4,15 +4,15 @@ use Rattle.parset.proofs.MainLaws.{first_main_bounds}
 use Rattle.parset.proofs.SetLaws.{no_main, with_main}
 use Rattle.parset.proofs.building.build.Goals as goal
 
-pub set_by-requires : goal.set_by-requires
-set_by-requires c =
+pub set_of_main-requires : goal.set_of_main-requires
+set_of_main-requires c =
     first_main_bounds c.args.choice c.args.packets.now c.in-Some.set c.in-Some.main (sym c.in_ok-set.ensures ∙ c.in-Some.is)
 
 pub returns-in_ok-own-in-Some : goal.returns-in_ok-own-in-Some
 returns-in_ok-own-in-Some c =
-    with_main c.args.choice c.args.packets.now c.in-Some.set c.in-Some.main _ c.set_by.result
+    with_main c.args.choice c.args.packets.now c.in-Some.set c.in-Some.main _ c.set_of_main.result
     (sym c.in_ok-set.ensures ∙ c.in-Some.is) (ap (map (λ k. k.now)) c.as_slice.ensures.value ∙ c.in_ok-own-in-Some.ensures)
-    c.set_by.ensures
+    c.set_of_main.ensures
 
 pub returns-in-None : goal.returns-in-None
 returns-in-None c = no_main c.args.choice c.args.packets.now (sym c.in_ok-set.ensures ∙ c.in-None.is)

@@ -1,7 +1,7 @@
 use Rattle.std.proofs.lemmas.Grind.{common_steps}
 use Rattle.std.proofs.Common.{◌∙◌, ◌++◌, [], ap, sym, arith}
 use Rattle.std.specs.List.{cons_option}
-use Rattle.parset.specs.Choosing.{aside_in}
+use Rattle.parset.specs.Choosing.{aside_of}
 use Rattle.parset.proofs.ChoosingLaws.{filter_map_more, filter_map_same}
 use Rattle.parset.proofs.choosing.asides.Goals as goal
 use Rattle.parset.proofs.choosing.asides.Goals.{in-Some+in_ok-push, in_default}
@@ -13,10 +13,10 @@ loop-kept-preserved c =
       | in-Some+in_ok-push w ↦
           ap (λ v. v.items) w.asides-is ∙ w.in_ok-push.ensures.items
           ∙ ap (λ o. before ++ cons_option o []) (sym w.in-Some.is ∙ c.in_ok-aside.ensures.aside)
-          ∙ filter_map_more (aside_in c.args.size) (λ k. k.now) own i k before c.loop-kept-test.true c.kept-item.is c.loop-kept.invariant
+          ∙ filter_map_more (aside_of c.args.size) (λ k. k.now) own i k before c.loop-kept-test.true c.kept-item.is c.loop-kept.invariant
       | in_default w ↦
           ap (λ v. v.items) w.asides-is
-          ∙ filter_map_same (aside_in c.args.size) (λ k. k.now) own i k before c.loop-kept-test.true c.kept-item.is c.loop-kept.invariant
+          ∙ filter_map_same (aside_of c.args.size) (λ k. k.now) own i k before c.loop-kept-test.true c.kept-item.is c.loop-kept.invariant
           (sym w.in_default.is ∙ c.in_ok-aside.ensures.aside)
     ]
 

@@ -6,7 +6,7 @@ use Rattle.std.specs.Str.{bytes_eq}
 use Rattle.parfield.specs.HashOrder.{id_cmp}
 use Rattle.parsalvage.specs.declared.kept.Kept.{Kept}
 use Rattle.parset.specs.Choosing.{only_if}
-use Rattle.parset.specs.PacketFields.{checksums_in}
+use Rattle.parset.specs.PacketFields.{usable_checksums}
 use Rattle.parset.specs.declared.bodies.checksums.Ifsc.{Ifsc}
 use Rattle.parset.proofs.ChoosingLaws.{counted, first_found_more, first_found_same}
 use Rattle.parset.proofs.choosing.checksums.Goals as goal
@@ -17,7 +17,7 @@ loop-kept-preserved c q count known =
     let own = c.args.own.now in let i = c.loop-kept.kept-index in let k = c.kept-item.result in
     let counts = get id_cmp c.args.counts.now in
     let passes = λ (s : Ifsc). bytes_eq s.id.0 q.0 && length s.sums == count in
-    let find = λ (k : Kept). only_if passes (checksums_in k.kind k.body) in
+    let find = λ (k : Kept). only_if passes (usable_checksums k.kind k.body) in
     let before = get id_cmp c.loop-kept.found q in
     let so_far = c.loop-kept.invariant q count known in
     elim c.match-branch-2.branch [

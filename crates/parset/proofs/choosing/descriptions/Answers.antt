@@ -6,7 +6,7 @@ use Rattle.std.specs.Str.{bytes_eq}
 use Rattle.parfield.specs.HashOrder.{id_cmp}
 use Rattle.parsalvage.specs.declared.kept.Kept.{Kept}
 use Rattle.parset.specs.Choosing.{only_if}
-use Rattle.parset.specs.PacketFields.{description_in}
+use Rattle.parset.specs.PacketFields.{usable_description}
 use Rattle.parset.specs.declared.bodies.description.Desc.{Desc}
 use Rattle.parset.proofs.ChoosingLaws.{first_found_more, first_found_same}
 use Rattle.parset.proofs.choosing.descriptions.Goals as goal
@@ -16,7 +16,7 @@ pub loop-kept-preserved : goal.loop-kept-preserved
 loop-kept-preserved c q =
     let own = c.args.own.now in let i = c.loop-kept.kept-index in let k = c.kept-item.result in
     let passes = λ (d : Desc). bytes_eq d.id.0 q.0 in
-    let find = λ (k : Kept). only_if passes (description_in k.kind k.body) in
+    let find = λ (k : Kept). only_if passes (usable_description k.kind k.body) in
     let before = get id_cmp c.loop-kept.found q in
     elim c.match-branch-2.branch [
       | in-Some+in_ok-put_first w ↦

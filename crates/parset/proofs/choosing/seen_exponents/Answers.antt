@@ -1,8 +1,9 @@
-use Rattle.std.proofs.Common.{◌≡◌, ◌<◌, false, ◌∙◌, ap, map, length, sym, get_or, vec_len}
+use Rattle.std.proofs.Common.{◌≡◌, ◌+◌, ◌<◌, false, ◌∙◌, ap, map, length, sym, get_or, vec_len}
 use Rattle.std.specs.List.{list_any}
 use Rattle.std.proofs.lemmas.List.{get_or-replicate, take_all}
 use Rattle.std.proofs.lemmas.List.FromFn.{fill_by_all}
 use Rattle.parset.specs.Choosing.{all_exponents, has_exponent}
+use Rattle.parset.specs.Limits.{exponent_limit}
 use Rattle.parset.proofs.ExponentLaws.{exponent_below, seen_more, seen_same}
 use Rattle.parset.proofs.choosing.seen_exponents.Goals as goal
 use Rattle.parset.proofs.choosing.seen_exponents.Goals.{in-Some, in_default}
@@ -10,7 +11,7 @@ use Rattle.parset.proofs.choosing.seen_exponents.Goals.{in-Some, in_default}
 pub loop-kept-init : goal.loop-kept-init
 loop-kept-init c = record {
   all = c.in_ok-seen.ensures.len;
-  each = λ e below. ap (λ flags. get_or flags e false) (c.in_ok-seen.ensures.items_if_clones_equal (λ y same. same)) ∙ get_or-replicate 65535 e false false below;
+  each = λ e below. ap (λ flags. get_or flags e false) (c.in_ok-seen.ensures.items_if_clones_equal (λ y same. same)) ∙ get_or-replicate (exponent_limit + 1) e false false below;
 }
 
 pub index_mut-requires : goal.index_mut-requires
@@ -24,7 +25,7 @@ loop-kept-preserved c =
     elim c.match-read_exponent.branch [
       | in-Some w ↦
           let below = exponent_below c.args.size k.now w.in-Some.exponent w.in-Some.ensures in
-          let size : length c.loop-kept.seen.items ≡ 65535 = sym c.loop-kept.seen.ok.0 ∙ before.all in
+          let size : length c.loop-kept.seen.items ≡ exponent_limit + 1 = sym c.loop-kept.seen.ok.0 ∙ before.all in
           let fits : w.in-Some.exponent < length c.loop-kept.seen.items = rw size below in
           record {
             all = ap vec_len w.seen-is ∙ before.all;
@@ -42,6 +43,6 @@ loop-kept-preserved c =
 pub returns : goal.returns
 unfolding all_exponents
 returns c =
-    fill_by_all _ c.loop-kept.seen.items 65535 false (sym c.loop-kept.seen.ok.0 ∙ c.loop-kept.invariant.all)
+    fill_by_all _ c.loop-kept.seen.items (exponent_limit + 1) false (sym c.loop-kept.seen.ok.0 ∙ c.loop-kept.invariant.all)
     (λ e below. c.loop-kept.invariant.each e below
     ∙ ap (λ ks. list_any (has_exponent c.args.size e) (map (λ k. k.now) ks)) (take_all c.loop-kept.kept-index c.args.own.now c.loop-kept-test.false))

@@ -2,7 +2,7 @@ use Rattle.std.proofs.Common.{arith, ◌≡◌, ◌+◌, ◌∙◌, ap, drop, ma
 use Rattle.std.proofs.lemmas.Grind.{common_steps}
 use Rattle.parfield.specs.declared.hash16.Hash16.{Hash16}
 use Rattle.parset.specs.Choosing.{file_description_of}
-use Rattle.parset.proofs.DescribingLaws.{behind, described_all, described_more, described_none}
+use Rattle.parset.proofs.DescribingLaws.{appended, described_all, described_more, described_none}
 use Rattle.parset.specs.RecoverySet.{descriptions_of}
 use Rattle.parset.proofs.describing.described.Goals as goal
 
@@ -22,7 +22,7 @@ loop-id-preserved c =
     let found : file_description_of id own ≡ Some c.in-Some.file.now = sym (c.in_ok-found.ensures id) ∙ sym c.in-Some.ensures.value in
     c.loop-id.invariant
     ∙ (described_more own c.args.ids.now c.loop-id.id-index d c.loop-id.files.items c.in-Some.file.now c.loop-id-test.true found
-    ∙ ap (λ files. behind files (descriptions_of own (drop (c.loop-id.id-index + 1) c.args.ids.now))) (sym c.in_ok-push_description-in-Some.ensures))
+    ∙ ap (λ files. appended files (descriptions_of own (drop (c.loop-id.id-index + 1) c.args.ids.now))) (sym c.in_ok-push_description-in-Some.ensures))
 
 pub returns : goal.returns
 returns c =

@@ -5,7 +5,8 @@ use Rattle.parwindow.proofs.entries.least_from.Goals as goal
 
 pub loop-entry-preserved : goal.loop-entry-preserved
 loop-entry-preserved c =
-    least_at c.args.entries.now c.loop-entry.entry-index _ c.args.from c.loop-entry.least c.lesser-least.result
+    least_at c.args.entries.now c.loop-entry.entry-index _ c.args.from c.loop-entry.least
+    c.lesser-least.result
     c.loop-entry-test.true
     c.loop-entry.invariant c.lesser-least.ensures
 

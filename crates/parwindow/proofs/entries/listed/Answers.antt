@@ -10,7 +10,8 @@ loop-number-preserved c =
     elim c.match-slice.branch [
       | in-Some+in_ok-push w ↦
           rw (w.list-is, w.in_ok-push.ensures.items)
-          (index_push slices c.loop-number.list.items c.loop-number.number _ w.in-Some.hash w.in-Some.crc
+          (index_push slices c.loop-number.list.items c.loop-number.number
+          _ w.in-Some.hash w.in-Some.crc
           c.loop-number-test.true w.in-Some.is c.loop-number.invariant)
       | in_default w ↦ rw w.list-is
           (index_skip slices c.loop-number.list.items c.loop-number.number _ c.loop-number-test.true

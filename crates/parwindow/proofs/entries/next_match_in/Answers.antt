@@ -6,9 +6,11 @@ use Rattle.parwindow.proofs.entries.next_match_in.Goals as goal
 pub returns-in-Some : goal.returns-in-Some
 returns-in-Some c =
     let there = c.in-Some.ensures.lookup in
-    let same = same_bytes c.in-Some.entry.now.digest c.args.digest.0 (sym c.if-eq.true ∙ c.eq.ensures) in
+    let same = same_bytes c.in-Some.entry.now.digest c.args.digest.0
+    (sym c.if-eq.true ∙ c.eq.ensures) in
     λ slices indexed.
-    next_found slices c.args.entries.now indexed c.args.crc c.args.digest.0 c.args.from c.floor_of.result
+    next_found slices c.args.entries.now indexed c.args.crc c.args.digest.0 c.args.from
+    c.floor_of.result
     c.floor_of.ensures
     c.in-Some.entry.now there.3.0 (sym there.1) c.if-entry-crc.true same
 
@@ -16,7 +18,8 @@ pub returns-in_default : goal.returns-in_default
 returns-in_default c =
     let there = c.in-Some.ensures.lookup in
     λ slices indexed.
-    none_other slices c.args.entries.now indexed c.args.crc c.args.digest.0 c.args.from c.floor_of.result
+    none_other slices c.args.entries.now indexed c.args.crc c.args.digest.0 c.args.from
+    c.floor_of.result
     c.floor_of.ensures
     c.in-Some.entry.now there.3.0 (sym there.1)
     (λ same_crc same_digest. other_bytes c.in-Some.entry.now.digest c.args.digest.0
@@ -26,16 +29,19 @@ pub returns-in_default-2 : goal.returns-in_default-2
 returns-in_default-2 c =
     let there = c.in-Some.ensures.lookup in
     λ slices indexed.
-    none_other slices c.args.entries.now indexed c.args.crc c.args.digest.0 c.args.from c.floor_of.result
+    none_other slices c.args.entries.now indexed c.args.crc c.args.digest.0 c.args.from
+    c.floor_of.result
     c.floor_of.ensures
     c.in-Some.entry.now there.3.0 (sym there.1)
     (λ same_crc same_digest. c.if-entry-crc.false same_crc)
 
 pub returns-in_default-3 : goal.returns-in_default-3
 returns-in_default-3 c =
-    let past : length c.args.entries.now ≤ c.floor_of.result = rw c.in_default.is at c.get.ensures.lookup.3 in
+    let past : length c.args.entries.now ≤ c.floor_of.result =
+    rw c.in_default.is at c.get.ensures.lookup.3 in
     λ slices indexed.
-    none_past slices c.args.entries.now indexed c.args.crc c.args.digest.0 c.args.from c.floor_of.result
+    none_past slices c.args.entries.now indexed c.args.crc c.args.digest.0 c.args.from
+    c.floor_of.result
     c.floor_of.ensures past
 
 pub floor_of-requires : goal.floor_of-requires

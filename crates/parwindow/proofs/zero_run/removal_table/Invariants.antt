@@ -3,4 +3,5 @@ use Rattle.parwindow.specs.Crc32.{removal_of}
 use Rattle.parwindow.proofs.zero_run.removal_table.Given as goal
 
 abbrev pub invariant-loop-x : goal.invariant-loop-x
-invariant-loop-x l = (length l.table ≡ 256) × ((k : ℕ) → k < l.x → get_or l.table k 0 ≡ removal_of k l.fn.len)
+invariant-loop-x l = (length l.table ≡ 256)
+    × ((k : ℕ) → k < l.x → get_or l.table k 0 ≡ removal_of k l.fn.len)

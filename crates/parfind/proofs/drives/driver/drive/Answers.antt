@@ -30,9 +30,9 @@ loop-call-preserved g c =
             room = omega (arith, before.room, c.put-in-loop-call.ensures.capacity);
             count = omega (arith, before.count, c.put-in-loop-call.ensures.len);
             so_far = drive_steps set old s (g.H.Shelf.state w.step.new.shelf) c.args.start c.loop-call.finder w.step.new.self calls later
-                (call.Step n) (Some n) w.step.result xs c.put-in-loop-call.new.answers.items (asks_step n) (g.met.H.Shelf.in_order c.loop-call.shelf)
+                (call.Step n) (Some n) w.step.result xs c.put-in-loop-call.new.answers.items (asks_step n) (g.met.H.Shelf.well_formed c.loop-call.shelf)
                 (rw (next_call calls i (call.Step n) _ c.loop-call-test.true w.in-Step.is) at before.so_far)
-                (record { answer = r.answer; moves = r.moves; ok = r.ok; fault = r.fault; reads = r.reads; opening = r.opening })
+                (record { answer = r.answer; moves = r.moves; advances = r.advances; along = r.along }) r.reads
                 (added ∙ ap (λ (x : Answer). xs ++ x ∷ []) w.answer-is);
           })
       | in-Next w ↦
@@ -42,9 +42,9 @@ loop-call-preserved g c =
             room = omega (arith, before.room, c.put-in-loop-call.ensures.capacity);
             count = omega (arith, before.count, c.put-in-loop-call.ensures.len);
             so_far = drive_steps set old s (g.H.Shelf.state w.next.new.shelf) c.args.start c.loop-call.finder w.next.new.self calls later
-                call.Next None w.next.result xs c.put-in-loop-call.new.answers.items asks_next (g.met.H.Shelf.in_order c.loop-call.shelf)
+                call.Next None w.next.result xs c.put-in-loop-call.new.answers.items asks_next (g.met.H.Shelf.well_formed c.loop-call.shelf)
                 (rw (next_call calls i call.Next _ c.loop-call-test.true w.in-Next.is) at before.so_far)
-                (record { answer = r.answer; moves = r.moves; ok = r.ok; fault = r.fault; reads = r.reads; opening = r.opening })
+                (record { answer = r.answer; moves = r.moves; advances = r.advances; along = r.along }) r.reads
                 (added ∙ ap (λ (x : Answer). xs ++ x ∷ []) w.answer-is);
           })
       | in-Reopen+in-Ok w ↦

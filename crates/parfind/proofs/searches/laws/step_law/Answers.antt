@@ -1,5 +1,6 @@
 use Rattle.parfind.proofs.HandingLaws.{step_hands_out}
+use Rattle.parfind.proofs.StepLaws.{spent_sees_none}
 use Rattle.parfind.proofs.searches.laws.step_law.Goals as goal
 
 pub returns : goal.returns
-returns c = step_hands_out
+returns c = record { hits = step_hands_out; spent = spent_sees_none }

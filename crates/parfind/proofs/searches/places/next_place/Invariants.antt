@@ -1,6 +1,6 @@
 use Rattle.std.proofs.Common.{◌-◌, length}
 use Rattle.parfind.specs.declared.cursors.cursor.Cursor.{Cursor}
-use Rattle.parfind.specs.Looking.{IsAtPlace}
+use Rattle.parfind.specs.NextPlace.{IsAtPlace}
 use Rattle.parfind.proofs.OrderLaws.{From}
 use Rattle.parfind.proofs.searches.places.next_place.Given as goal
 

@@ -2,14 +2,11 @@ use Rattle.std.proofs.lemmas.Grind.{common_steps}
 use Rattle.std.proofs.Common.{rules, arith}
 use Rattle.parfind.proofs.surveys.surveying.survey.Goals as goal
 
-pub returns-clause-fault : goal.returns-clause-fault
-returns-clause-fault g c = search rules steps 300000
+pub returns-clause-shelf : goal.returns-clause-shelf
+returns-clause-shelf g c = search rules steps 300000
 
 pub returns-in_err-window-clause-found : goal.returns-in_err-window-clause-found
 returns-in_err-window-clause-found g c = grind (arith, common_steps) steps 100000
-
-pub returns-in_err-window-clause-no_other : goal.returns-in_err-window-clause-no_other
-returns-in_err-window-clause-no_other g c = grind (arith, common_steps) steps 100000
 
 pub returns-in_err-window-clause-stops : goal.returns-in_err-window-clause-stops
 returns-in_err-window-clause-stops g c = grind (arith, common_steps) steps 100000
@@ -17,11 +14,8 @@ returns-in_err-window-clause-stops g c = grind (arith, common_steps) steps 10000
 pub returns-in_err-window-clause-kept : goal.returns-in_err-window-clause-kept
 returns-in_err-window-clause-kept g c = grind (arith, common_steps) steps 100000
 
-pub returns-in_err-window-clause-ok : goal.returns-in_err-window-clause-ok
-returns-in_err-window-clause-ok g c = grind (arith, common_steps) steps 100000
-
-pub returns-in_err-window-clause-fault : goal.returns-in_err-window-clause-fault
-returns-in_err-window-clause-fault g c = grind (arith, common_steps) steps 100000
+pub returns-in_err-window-clause-shelf : goal.returns-in_err-window-clause-shelf
+returns-in_err-window-clause-shelf g c = grind (arith, common_steps) steps 100000
 
 pub returns-in_err-window-clause-handed : goal.returns-in_err-window-clause-handed
 returns-in_err-window-clause-handed g c = grind (arith, common_steps) steps 100000
@@ -35,20 +29,14 @@ returns-in_err-window-clause-none g c = grind (arith, common_steps) steps 100000
 pub returns-in-Ok-clause-found : goal.returns-in-Ok-clause-found
 returns-in-Ok-clause-found g c = grind (arith, common_steps)
 
-pub returns-in-Ok-clause-no_other : goal.returns-in-Ok-clause-no_other
-returns-in-Ok-clause-no_other g c = grind (arith, common_steps) steps 100000
-
 pub returns-in-Ok-clause-stops : goal.returns-in-Ok-clause-stops
 returns-in-Ok-clause-stops g c = grind (arith, common_steps) steps 100000
 
 pub returns-in-Ok-clause-kept : goal.returns-in-Ok-clause-kept
 returns-in-Ok-clause-kept g c = grind (arith, common_steps) steps 100000
 
-pub returns-in-Ok-clause-ok : goal.returns-in-Ok-clause-ok
-returns-in-Ok-clause-ok g c = grind (arith, common_steps) steps 100000
-
-pub returns-in-Ok-clause-fault : goal.returns-in-Ok-clause-fault
-returns-in-Ok-clause-fault g c = grind (arith, common_steps) steps 100000
+pub returns-in-Ok-clause-shelf : goal.returns-in-Ok-clause-shelf
+returns-in-Ok-clause-shelf g c = grind (arith, common_steps) steps 100000
 
 pub returns-in-Ok-clause-handed : goal.returns-in-Ok-clause-handed
 returns-in-Ok-clause-handed g c = grind (arith, common_steps) steps 100000
@@ -60,19 +48,13 @@ pub returns-in-Ok-clause-none : goal.returns-in-Ok-clause-none
 returns-in-Ok-clause-none g c = grind (arith, common_steps) steps 100000
 
 pub returns-clause-found : goal.returns-clause-found
-returns-clause-found g c = grind (arith, common_steps) steps 100000
-
-pub returns-clause-no_other : goal.returns-clause-no_other
-returns-clause-no_other g c = grind (arith, common_steps)
+returns-clause-found g c = grind (arith, common_steps)
 
 pub returns-clause-stops : goal.returns-clause-stops
 returns-clause-stops g c = grind (arith, common_steps) steps 100000
 
 pub returns-clause-kept : goal.returns-clause-kept
 returns-clause-kept g c = grind (arith, common_steps) steps 100000
-
-pub returns-clause-ok : goal.returns-clause-ok
-returns-clause-ok g c = grind (arith, common_steps) steps 100000
 
 pub returns-clause-handed : goal.returns-clause-handed
 returns-clause-handed g c = grind (arith, common_steps) steps 100000

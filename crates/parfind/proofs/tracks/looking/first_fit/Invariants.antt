@@ -6,7 +6,7 @@ use Rattle.parfind.proofs.tracks.looking.first_fit.Given as goal
 abbrev pub invariant-loop-slice : goal.invariant-loop-slice
 invariant-loop-slice l = record {
   onward : l.first ≤ l.from;
-  passed : (k : ℕ) → l.first ≤ k → k < l.from → ¬ IsTrue (slice_passes l.index (is_fit (l.digest, l.crc) l.left) k);
+  passed : (k : ℕ) → l.first ≤ k → k < l.from → ¬ IsTrue (slice_passes l.index.slices (is_fit (l.digest, l.crc) l.left) k);
 }
 
 abbrev pub decreases-loop-slice : goal.decreases-loop-slice

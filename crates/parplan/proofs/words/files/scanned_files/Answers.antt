@@ -2,11 +2,11 @@ use Rattle.std.proofs.Common.{arith}
 use Rattle.std.proofs.lemmas.Grind.{common_steps}
 use Rattle.parplan.proofs.words.files.scanned_files.Goals as goal
 
-pub returns-in_err-front-clause-files : goal.returns-in_err-front-clause-files
-returns-in_err-front-clause-files c = grind (arith, common_steps) steps 100000
+pub returns-in_err-prefix-clause-files : goal.returns-in_err-prefix-clause-files
+returns-in_err-prefix-clause-files c = grind (arith, common_steps) steps 100000
 
-pub returns-in_err-front-clause-few : goal.returns-in_err-front-clause-few
-returns-in_err-front-clause-few c = grind (arith, common_steps) steps 100000
+pub returns-in_err-prefix-clause-few : goal.returns-in_err-prefix-clause-few
+returns-in_err-prefix-clause-few c = grind (arith, common_steps) steps 100000
 
 pub loop-word-init : goal.loop-word-init
 loop-word-init c = grind (arith, common_steps) steps 100000

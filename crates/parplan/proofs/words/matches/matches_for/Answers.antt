@@ -6,18 +6,18 @@ use Rattle.clap.specs.Kinds.{IsAmong, Kinds}
 use Rattle.clap.specs.declared.error.kind.ErrorKind.{ErrorKind}
 use Rattle.clap.specs.declared.error.kind.ErrorKind.TheVariants.{OutOfMemory}
 use Rattle.parplan.specs.Grammar.{grammar_of}
-use Rattle.parplan.specs.Matches.{faults_given, rows_given, rows_in, rows_by, fault_by}
+use Rattle.parplan.specs.Matches.{faults_given, rows_given, verb_rows_of, taken_rows, plan_fault_of}
 use Rattle.parplan.specs.declared.command.PlanFault.TheVariants.{Memory, Usage}
 use Rattle.parplan.specs.declared.words.grammar.Verb.{Verb}
 use Rattle.parplan.proofs.GrammarLaws.{is_simple-grammar_of, is_simple_and_free-grammar_of}
 use Rattle.parplan.proofs.words.matches.matches_for.Goals as goal
 
-memory_or_usage : (k : ErrorKind) → (fault_by k ≡ Memory) ⊎ (fault_by k ≡ Usage)
+memory_or_usage : (k : ErrorKind) → (plan_fault_of k ≡ Memory) ⊎ (plan_fault_of k ≡ Usage)
 memory_or_usage OutOfMemory = inl refl
 memory_or_usage _ = inr refl
 
 -- where a kind is among the faults, there is one
-refused_by : (k : ErrorKind) (kinds : Kinds) (rows : List Row) → IsAmong k kinds → rows_by kinds rows ≡ Err Usage
+refused_by : (k : ErrorKind) (kinds : Kinds) (rows : List Row) → IsAmong k kinds → taken_rows kinds rows ≡ Err Usage
 refused_by k [] rows among = absurd among
 refused_by k (x ∷ xs) rows among = refl
 
@@ -30,21 +30,21 @@ module _ (verb : Verb) (words : List Text) (a : App) (is : a ≡ grammar_of verb
   free = ap is_simple_and_free is ∙ is_simple_and_free-grammar_of verb
 
   taken : (rows : List Row) → (is_simple_and_free a ≡ true → fault_of a words ≡ []) → (is_simple a ≡ true → rows ≡ matches_of a words)
-      → rows_in verb words ≡ Ok rows
+      → verb_rows_of verb words ≡ Ok rows
   unfolding faults_given rows_given
   taken rows kinds matches =
       let none : fault_of (grammar_of verb) words ≡ [] = ap (λ b. fault_of b words) (sym is) ∙ kinds free in
       let same : matches_of (grammar_of verb) words ≡ rows = ap (λ b. matches_of b words) (sym is) ∙ sym (matches simple) in
-      ap (λ faults. rows_by faults (matches_of (grammar_of verb) words)) none ∙ ap Ok same
+      ap (λ faults. taken_rows faults (matches_of (grammar_of verb) words)) none ∙ ap Ok same
 
   refused : (k : ErrorKind) → (is_simple_and_free a ≡ true → (k ≡ OutOfMemory) ⊎ IsAmong k (fault_of a words))
-      → (fault_by k ≡ Memory) ⊎ (rows_in verb words ≡ Err (fault_by k))
+      → (plan_fault_of k ≡ Memory) ⊎ (verb_rows_of verb words ≡ Err (plan_fault_of k))
   unfolding faults_given rows_given
   refused k kinds = elim (kinds free) [
-    | inl memory ↦ inl (ap fault_by memory)
+    | inl memory ↦ inl (ap plan_fault_of memory)
     | inr among ↦ elim (memory_or_usage k) [
       | inl memory ↦ inl memory
-      | inr usage ↦ inr (ap (λ b. rows_by (fault_of b words) (matches_of (grammar_of verb) words)) (sym is)
+      | inr usage ↦ inr (ap (λ b. taken_rows (fault_of b words) (matches_of (grammar_of verb) words)) (sym is)
           ∙ refused_by k (fault_of a words) _ among ∙ ap Err (sym usage))
     ]
   ]

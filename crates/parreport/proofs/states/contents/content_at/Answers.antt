@@ -13,7 +13,7 @@ returns-in-Ok-clause-bytes g c =
     = ap (has_length files) (sym c.length-length.ensures.value)
     ∙ (sym (c.requires.lengths c.length-length.result) ∙ (sym c.contains.ensures ∙ c.if-not-contains.false)) in
     let whole = asked_whole files (slice_index old.lengths c.args.file) asked in
-    HandsOnce-added files old _ c.args.file (slice_index old.lengths c.args.file) (g.met.Q.Shelf.in_order c.args.shelf.now)
+    HandsOnce-added files old _ c.args.file (slice_index old.lengths c.args.file) (g.met.Q.Shelf.well_formed c.args.shelf.now)
     c.requires.file (omega (arith, whole)) (ap (λ (s : ShelfState). s.handed) c.in-Ok.ensures.ok)
 
 pub returns-in-Err-clause-bytes : goal.returns-in-Err-clause-bytes
@@ -23,7 +23,7 @@ returns-in-Err-clause-bytes g c =
     let asked : has_length files (slice_index old.lengths c.args.file) ≡ true
     = ap (has_length files) (sym c.length-length.ensures.value)
     ∙ (sym (c.requires.lengths c.length-length.result) ∙ (sym c.contains.ensures ∙ c.if-not-contains.false)) in
-    HandsOnce-fault files _ _ c.args.file c.in-Err.fault (g.met.Q.Shelf.in_order c.args.shelf.now) c.requires.file asked
+    HandsOnce-fault files _ _ c.args.file c.in-Err.fault (g.met.Q.Shelf.well_formed c.args.shelf.now) c.requires.file asked
     c.in-Err.ensures.fault
 
 pub returns-then-not-contains-clause-bytes : goal.returns-then-not-contains-clause-bytes

@@ -1,6 +1,6 @@
 use Rattle.std.proofs.lemmas.Grind.{common_steps}
 use Rattle.std.proofs.Common.{arith}
-use Rattle.parreport.proofs.ContentLaws.{HandsAsked-more}
+use Rattle.parreport.proofs.ContentLaws.{ReadsCandidates-more}
 use Rattle.parreport.proofs.states.contents.contents.Goals as goal
 
 pub returns-in_err-lengths-clause-contents : goal.returns-in_err-lengths-clause-contents
@@ -50,13 +50,13 @@ returns-clause-fault g c = grind (arith, common_steps) steps 100000
 
 pub returns-in_err-content_at-clause-bytes : goal.returns-in_err-content_at-clause-bytes
 returns-in_err-content_at-clause-bytes g c =
-    HandsAsked-more c.args.files.now (g.Q.Shelf.state c.args.shelf.now) (g.Q.Shelf.state c.loop-file.shelf)
+    ReadsCandidates-more c.args.files.now (g.Q.Shelf.state c.args.shelf.now) (g.Q.Shelf.state c.loop-file.shelf)
     (g.Q.Shelf.state c.content_at.new.shelf) c.loop-file.file c.loop-file.invariant.reads c.loop-file.invariant.bytes
     c.content_at.ensures.bytes
 
 pub returns-in_err-map_err-clause-bytes : goal.returns-in_err-map_err-clause-bytes
 returns-in_err-map_err-clause-bytes g c =
-    HandsAsked-more c.args.files.now (g.Q.Shelf.state c.args.shelf.now) (g.Q.Shelf.state c.loop-file.shelf)
+    ReadsCandidates-more c.args.files.now (g.Q.Shelf.state c.args.shelf.now) (g.Q.Shelf.state c.loop-file.shelf)
     (g.Q.Shelf.state c.content_at.new.shelf) c.loop-file.file c.loop-file.invariant.reads c.loop-file.invariant.bytes
     c.content_at.ensures.bytes
 
@@ -70,4 +70,4 @@ pub map_err-requires : goal.map_err-requires
 map_err-requires g c = grind (arith, common_steps) steps 100000
 
 pub loop-file-preserved : goal.loop-file-preserved
-loop-file-preserved g c = grind (arith, common_steps, g.met.Q.Shelf.in_order)
+loop-file-preserved g c = grind (arith, common_steps, g.met.Q.Shelf.well_formed)

@@ -1,6 +1,6 @@
 use Rattle.std.proofs.Common.{◌≡◌, IsTrue, map, take}
 use Rattle.parshelf.specs.Reads.{ReadsOnly}
-use Rattle.parreport.specs.States.{asked_of}
+use Rattle.parreport.specs.States.{checked_of}
 use Rattle.parreport.proofs.ContentLaws.{HandsBefore}
 use Rattle.parreport.proofs.states.contents.contents.Given as goal
 
@@ -10,5 +10,5 @@ invariant-loop-file g l = record {
   reads : ReadsOnly (g.Q.Shelf.state l.fn.shelf) (g.Q.Shelf.state l.shelf);
   bytes : HandsBefore l.files (g.Q.Shelf.state l.fn.shelf) (g.Q.Shelf.state l.shelf) l.file;
   whole : IsTrue (g.Q.Shelf.state l.fn.shelf).is_steady
-      → l.contents.items ≡ map (asked_of l.files) (take l.file (g.Q.Shelf.state l.fn.shelf).files);
+      → l.contents.items ≡ map (checked_of l.files) (take l.file (g.Q.Shelf.state l.fn.shelf).files);
 }

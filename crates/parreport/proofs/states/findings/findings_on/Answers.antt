@@ -7,8 +7,8 @@ use Rattle.parfield.specs.HashOrder.{id_cmp}
 use Rattle.parset.specs.declared.recovery_set.SetFile.{SetFile}
 use Rattle.parset.specs.declared.recovery_set.SetSlice.{SetSlice}
 use Rattle.parshelf.specs.Shelf.{ShelfState}
-use Rattle.parreport.specs.States.{named_files, asked_of, is_intact, state_of}
-use Rattle.parreport.specs.Contents.{HandsAsked}
+use Rattle.parreport.specs.States.{named_files, checked_of, is_intact, state_of}
+use Rattle.parreport.specs.Contents.{ReadsCandidates}
 use Rattle.parreport.proofs.SumLaws.{unsearched}
 use Rattle.parreport.proofs.StateLaws.{contents_sized, findings_made, found_read, states_read}
 use Rattle.parreport.proofs.states.findings.findings_on.Goals as goal
@@ -20,11 +20,11 @@ returns-clause-findings g c = λ steady.
     let now : ShelfState = g.Q.Shelf.state c.contents.new.shelf in
     let state = state_of (named_files files old.files) in
     let reads = c.in_ok-contents.ensures.ok in
-    let sized = contents_sized old files (g.met.Q.Shelf.in_order c.args.shelf.now) c.requires steady in
+    let sized = contents_sized old files (g.met.Q.Shelf.well_formed c.args.shelf.now) c.requires steady in
     let same = c.files-set_files.ensures.field in
     let states = states_read files old.files c.deref.result.now c.files-set_files.result.now set.files c.in_ok-states.states.items sized
     c.in_ok-states.ensures
-    (c.deref.ensures.value ∙ (c.in_ok-contents.ensures.contents steady ∙ ap (λ own. map (asked_of own) old.files) same)) same in
+    (c.deref.ensures.value ∙ (c.in_ok-contents.ensures.contents steady ∙ ap (λ own. map (checked_of own) old.files) same)) same in
     let asked : c.as_slice.result.now ≡ map state c.files-set_files.result.now
     = c.as_slice.ensures.value ∙ (states ∙ ap (map state) (sym c.files-set_files.ensures.field)) in
     let still : IsTrue now.is_steady = ap (λ (s : ShelfState). s.is_steady) reads ∙ steady in
@@ -40,7 +40,7 @@ returns-clause-unsearched g c =
     let old : ShelfState = g.Q.Shelf.state c.args.shelf.now in
     let now : ShelfState = g.Q.Shelf.state c.contents.new.shelf in
     unsearched c.args.set.now.files c.in_ok-whole.whole c.args.set.now.slices old now _
-    (subst (λ files. HandsAsked files old now) c.files-set_files.ensures.field c.in_ok-contents.ensures.bytes)
+    (subst (λ files. ReadsCandidates files old now) c.files-set_files.ensures.field c.in_ok-contents.ensures.bytes)
     c.found_slices.ensures.none
 
 pub returns-in_err-found-clause-unsearched : goal.returns-in_err-found-clause-unsearched
@@ -48,7 +48,7 @@ returns-in_err-found-clause-unsearched g c =
     let old : ShelfState = g.Q.Shelf.state c.args.shelf.now in
     let now : ShelfState = g.Q.Shelf.state c.contents.new.shelf in
     unsearched c.args.set.now.files c.in_ok-whole.whole c.args.set.now.slices old now _
-    (subst (λ files. HandsAsked files old now) c.files-set_files.ensures.field c.in_ok-contents.ensures.bytes)
+    (subst (λ files. ReadsCandidates files old now) c.files-set_files.ensures.field c.in_ok-contents.ensures.bytes)
     c.found_slices.ensures.none
 
 pub returns-in_err-contents-clause-findings : goal.returns-in_err-contents-clause-findings
@@ -145,7 +145,7 @@ pub returns-clause-fault : goal.returns-clause-fault
 returns-clause-fault g c = grind (arith, common_steps) steps 100000
 
 pub returns-in_err-found-clause-handed : goal.returns-in_err-found-clause-handed
-returns-in_err-found-clause-handed g c = grind (arith, common_steps, g.met.Q.Shelf.in_order)
+returns-in_err-found-clause-handed g c = grind (arith, common_steps, g.met.Q.Shelf.well_formed)
 
 pub returns-clause-handed : goal.returns-clause-handed
-returns-clause-handed g c = grind (arith, common_steps, g.met.Q.Shelf.in_order)
+returns-clause-handed g c = grind (arith, common_steps, g.met.Q.Shelf.well_formed)

@@ -4,7 +4,8 @@ use Rattle.std.proofs.lemmas.List.{length-map}
 use Rattle.parshelf.specs.Shelf.{ShelfState}
 use Rattle.parwindow.specs.Index.{slice_set_of}
 use Rattle.parfind.specs.Steps.{scan_of}
-use Rattle.parfind.specs.Surveys.{mark_of, MarksSighted, StopsOnceFound}
+use Rattle.parfind.specs.Surveys.{MarksSighted, StopsOnceFound}
+use Rattle.parwindow.specs.Missing.{mark_of}
 use Rattle.parreport.specs.Findings.{is_settled, can_be_found}
 use Rattle.parreport.proofs.StateLaws.{take-all_back}
 use Rattle.parreport.proofs.SumLaws.{marks_found, all_settled}

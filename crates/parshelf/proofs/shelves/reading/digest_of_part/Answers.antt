@@ -4,14 +4,14 @@ use Rattle.std.proofs.lemmas.List.{length-take-le, drop-drop}
 use Rattle.std.proofs.lemmas.Result.{err_from_is_err_and}
 use Rattle.std.proofs.Math.Seq.{take-add}
 use Rattle.parshelf.specs.Shelf.{file_of}
-use Rattle.parshelf.proofs.ShelfLaws.{handed_over-zero, handed_over_more, steady-handed_over}
+use Rattle.parshelf.proofs.ShelfLaws.{after_handing-zero, handed_over_more, steady-after_handing}
 use Rattle.parshelf.proofs.ReadLaws.{FaultsWithin_more}
 use Rattle.parshelf.proofs.shelves.reading.digest_of_part.Goals as goal
 
 pub loop-done-init : goal.loop-done-init
 loop-done-init g c = record {
   within = omega arith;
-  reads = sym (handed_over-zero _ _);
+  reads = sym (after_handing-zero _ _);
   holds = λ _. c.new-hasher.ensures;
 }
 
@@ -32,7 +32,7 @@ loop-done-preserved g c =
       within = omega arith;
       reads = handed_over_more _ _ _ _ _ _ before.reads (rw full at c.in_ok-fill.ensures.ok);
       holds = λ steady.
-          let steady_now = steady-handed_over _ _ _ _ before.reads steady in
+          let steady_now = steady-after_handing _ _ _ _ before.reads steady in
           let next = rw (full, before.reads) at (c.in_ok-fill.ensures.bytes steady_now) in
           let bytes : List ℕ = drop c.args.offset (file_of (g.H.Shelf.state c.args.shelf.now) c.args.file) in
           let behind = drop-drop c.loop-done.done c.args.offset (file_of (g.H.Shelf.state c.args.shelf.now) c.args.file) in

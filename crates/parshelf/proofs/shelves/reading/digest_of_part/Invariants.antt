@@ -1,13 +1,13 @@
 use Rattle.std.proofs.Common.{◌-◌, ◌≡◌, ◌≤◌, IsTrue}
 use Rattle.md5.specs.Md5.{Holds}
-use Rattle.parshelf.specs.Shelf.{handed_over, bytes_at}
+use Rattle.parshelf.specs.Shelf.{after_handing, bytes_at}
 use Rattle.parshelf.proofs.shelves.reading.digest_of_part.Given as goal
 
 -- the front of the part is hashed, and this much was handed over
 abbrev pub invariant-loop-done : goal.invariant-loop-done
 invariant-loop-done g l = record {
   within : l.done ≤ l.size;
-  reads : g.H.Shelf.state l.shelf ≡ handed_over (g.H.Shelf.state l.fn.shelf) l.file l.done;
+  reads : g.H.Shelf.state l.shelf ≡ after_handing (g.H.Shelf.state l.fn.shelf) l.file l.done;
   holds : IsTrue (g.H.Shelf.state l.fn.shelf).is_steady
       → Holds l.hasher (bytes_at (g.H.Shelf.state l.fn.shelf) l.file l.offset l.done);
 }

@@ -1,12 +1,12 @@
 use Rattle.std.proofs.lemmas.Grind.{common_steps}
 use Rattle.std.proofs.Common.{◌≡◌, ◌+◌, ◌<◌, ◌∙◌, length, slice_index, ap, refl, sym, arith}
-use Rattle.parshelf.specs.Shelf.{ShelfState, ended_in, failure_count, early_end_count}
+use Rattle.parshelf.specs.Shelf.{ShelfState, after_early_end, failure_count, early_end_count}
 use Rattle.parshelf.proofs.PieceLaws.{read_more}
-use Rattle.parshelf.proofs.ShelfLaws.{handed_over-zero, handed_over_more, after_read-some, after_read-none, failure_count-failed_in, early_end_count-ended_in, steady-handed_over}
+use Rattle.parshelf.proofs.ShelfLaws.{after_handing-zero, handed_over_more, after_read-some, after_read-none, failure_count-after_failure, early_end_count-after_early_end, steady-after_handing}
 use Rattle.parshelf.proofs.shelves.reading.fill.Goals as goal
 
 pub loop-done-init : goal.loop-done-init
-loop-done-init g c = record { within = omega arith; reads = sym (handed_over-zero _ _); bytes = λ _. refl }
+loop-done-init g c = record { within = omega arith; reads = sym (after_handing-zero _ _); bytes = λ _. refl }
 
 -- the read gave no byte before the file's length, so the shelf is not steady
 pub returns-in-Ok-eq0-clause-fault : goal.returns-in-Ok-eq0-clause-fault
@@ -19,10 +19,10 @@ returns-in-Ok-eq0-clause-fault g c =
         count = c.loop-done.done;
         within = omega arith;
         after = read.ok ∙ after_read-none _ _ _ _ _ c.in-Ok-eq0.field-0-test (omega arith) inside
-            ∙ ap (λ (v : ShelfState). ended_in v c.args.file) before.reads;
+            ∙ ap (λ (v : ShelfState). after_early_end v c.args.file) before.reads;
       },
       λ steady.
-          let steady_now = steady-handed_over _ _ _ _ before.reads steady in
+          let steady_now = steady-after_handing _ _ _ _ before.reads steady in
           let at_end = rw before.reads at (read.end steady_now c.in-Ok-eq0.field-0-test (omega arith)) in
           omega (arith, at_end),
     )
@@ -33,7 +33,7 @@ loop-done-preserved g c =
       within = omega (arith, read.bound);
       reads = handed_over_more _ _ _ _ _ _ before.reads (read.ok ∙ after_read-some _ _ _ _ _ (omega arith));
       bytes = λ steady.
-          let steady_now = steady-handed_over _ _ _ _ before.reads steady in
+          let steady_now = steady-after_handing _ _ _ _ before.reads steady in
           let next = rw before.reads at (read.bytes steady_now) in
           read_more c.loop-done.buf c.read_at.new.buf _ c.loop-done.done _ c.in-Ok.n c.args.offset
           (omega arith) (omega (arith, read.bound)) (before.bytes steady) next;
@@ -50,7 +50,7 @@ returns-in-Ok-eq0-clause-ended g c =
     let once : early_end_count (g.H.Shelf.state c.read_at.new.self) ≡ early_end_count mid + 1
     = ap early_end_count
     (c.in-Ok-eq0.ensures.ok ∙ after_read-none _ _ _ _ _ c.in-Ok-eq0.field-0-test (omega arith) inside)
-    ∙ early_end_count-ended_in mid c.args.file (g.met.H.Shelf.in_order c.loop-done.shelf) within in
+    ∙ early_end_count-after_early_end mid c.args.file (g.met.H.Shelf.well_formed c.loop-done.shelf) within in
     (λ _. omega (arith, once, ap early_end_count before), λ _. refl)
 
 -- the one failure was counted
@@ -61,7 +61,7 @@ returns-in-Err-clause-failed g c =
     let within : c.args.file < length mid.lengths = rw before c.requires.file in
     let once : failure_count (g.H.Shelf.state c.read_at.new.self) ≡ failure_count mid + 1
     = ap failure_count c.in-Err.ensures.failed
-    ∙ failure_count-failed_in mid c.args.file (g.met.H.Shelf.in_order c.loop-done.shelf) within in
+    ∙ failure_count-after_failure mid c.args.file (g.met.H.Shelf.well_formed c.loop-done.shelf) within in
     (λ _. omega (arith, once, ap failure_count before), λ _. refl)
 
 pub overflow_add-offset : goal.overflow_add-offset

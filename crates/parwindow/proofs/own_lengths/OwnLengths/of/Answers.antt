@@ -5,5 +5,6 @@ use Rattle.parwindow.proofs.own_lengths.OwnLengths.of.Goals as goal
 
 pub returns : goal.returns
 returns c = λ crc left.
-    sym (list_any-IsPermutation (is_within crc left) c.in_ok-list.list.items c.sort_unstable.new.self.items c.sort_unstable.ensures.permutation)
+    sym (list_any-IsPermutation (is_within crc left) c.in_ok-list.list.items
+    c.sort_unstable.new.self.items c.sort_unstable.ensures.permutation)
     ∙ c.in_ok-list.ensures crc left

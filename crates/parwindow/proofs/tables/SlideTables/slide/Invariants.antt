@@ -1,5 +1,5 @@
 use Rattle.std.proofs.Common.{◌+◌, ◌-◌, ◌≡◌, ◌≤◌, length, min}
-use Rattle.parwindow.specs.Slide.{rolled, HasRegister}
+use Rattle.parwindow.specs.Slide.{rolled_register, HasRegister}
 use Rattle.parwindow.proofs.StopLaws.{GoesOn}
 use Rattle.parwindow.proofs.tables.SlideTables.slide.Given as goal
 
@@ -7,7 +7,8 @@ abbrev pub invariant-loop-i : goal.invariant-loop-i
 invariant-loop-i l = record {
   is_len : l.len ≡ min (length l.gone) (length l.come);
   within : l.i ≤ l.len;
-  on : GoesOn (HasRegister l.index) (rolled l.self.others l.start l.gone l.come) l.i l.register;
+  on : GoesOn (HasRegister l.index) (rolled_register l.self.others l.start l.gone l.come)
+      l.i l.register;
 }
 
 abbrev pub decreases-loop-i : goal.decreases-loop-i

@@ -1,18 +1,22 @@
 use Rattle.std.proofs.Common.{true, ◌≡◌, ◌+◌, ◌⊎◌, length, min, ◌-◌, ◌≤◌, ap, ◌∙◌, inl, inr, arith, drop, length-drop}
 use Rattle.parwindow.specs.Slide.{HasRegister}
-use Rattle.parwindow.proofs.SlideLaws.{front_part, back_part, bytes_part, rest_is}
+use Rattle.parwindow.proofs.SlideLaws.{front_part, back_part, bytes_part}
+use Rattle.parwindow.proofs.ListLaws.{rest_is}
 use Rattle.parwindow.proofs.StopLaws.{arrived}
 use Rattle.parwindow.proofs.tables.SlideTables.slide_over.Goals as goal
 use Rattle.parwindow.proofs.tables.SlideTables.slide_over.Goals.{then-first-via-then-first, then-first-via-else-first+then-first-bytes}
 
 pub returns-then-first : goal.returns-then-first
 returns-then-first c =
-    let first = front_part (HasRegister c.args.index.now) c.args.front.now c.args.back.now c.args.bytes.now
+    let first = front_part (HasRegister c.args.index.now) c.args.front.now c.args.back.now
+    c.args.bytes.now
     c.args.self.now.others c.args.start _
     c.requires.full c.requires.start c.slide-first.ensures in
-    let within : min (length c.args.front.now) (length c.args.bytes.now) ≤ length c.args.bytes.now = omega arith in
+    let within : min (length c.args.front.now) (length c.args.bytes.now) ≤ length c.args.bytes.now =
+    omega arith in
     elim c.then-first.branch [
-      | then-first-via-then-first w ↦ arrived (HasRegister c.args.index.now) _ _ _ _ first (inl w.if-first.true) within
+      | then-first-via-then-first w ↦
+          arrived (HasRegister c.args.index.now) _ _ _ _ first (inl w.if-first.true) within
       | then-first-via-else-first+then-first-bytes w ↦
           arrived (HasRegister c.args.index.now) _ _ _ _ first (inr w.if-first-bytes.true) within
     ]
@@ -32,7 +36,8 @@ returns-then-second c =
     let long : length c.args.front.now ≤ length bytes = second.1 in
     let within : length c.args.front.now + min (length c.args.back.now)
     (length bytes - length c.args.front.now) ≤ length bytes = omega arith in
-    let either : (c.slide-second.result.hit ≡ true) ⊎ (a.count + c.slide-second.result.count ≡ length bytes) =
+    let either : (c.slide-second.result.hit ≡ true)
+    ⊎ (a.count + c.slide-second.result.count ≡ length bytes) =
     elim c.then-second.either [
       | inl hit ↦ inl hit
       | inr whole ↦
@@ -54,7 +59,9 @@ returns c =
     c.args.self.now.others a b
     c.requires.full first c.if-first.false c.if-first-bytes.false
     (rw (rest_is bytes a.count) at c.slide-second.ensures) in
-    bytes_part (HasRegister c.args.index.now) c.args.front.now c.args.back.now bytes c.args.self.now.others
+    bytes_part (HasRegister c.args.index.now) c.args.front.now
+    c.args.back.now bytes c.args.self.now.others
     a.count b.count b.register b.hit c.slide-third.result
-    c.requires.full second.1 second.0 second.2 c.if-second.false (rw (rest_is bytes a.count) at c.if-second-rest.false)
+    c.requires.full second.1 second.0 second.2 c.if-second.false
+    (rw (rest_is bytes a.count) at c.if-second-rest.false)
     (rw (rest_is bytes a.count, rest_is (drop a.count bytes) b.count) at c.slide-third.ensures)

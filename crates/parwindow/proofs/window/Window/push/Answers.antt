@@ -6,10 +6,12 @@ pub invariant_of-self : goal.invariant_of-self
 invariant_of-self c =
     let w = c.self.inside in
     let held = c.self.invariant in
-    rw (c.push_back-fallen.ensures.items, c.moved-self-inside.ensures, c.push_back-fallen.ensures.value, held.rolled) (record {
+    let fallen = c.push_back-fallen.ensures in
+    rw (fallen.items, c.moved-self-inside.ensures, fallen.value, held.rolled) (record {
       within = length-keep_last w.ring.capacity (w.ring.items ++ c.args.byte ∷ []);
       room = held.room;
-      rolled = register_moves w.ring.items w.ring.capacity w.tables.others c.args.byte held.within held.room;
+      rolled = register_moves w.ring.items w.ring.capacity w.tables.others c.args.byte
+          held.within held.room;
     })
 
 pub returns-clause-content : goal.returns-clause-content

@@ -6,7 +6,8 @@ use Rattle.parwindow.proofs.window.Window.push_until.Goals as goal
 pub returns-clause-until : goal.returns-clause-until
 returns-clause-until c =
     rw (← c.self.view_is, ← c.as_slices.ensures)
-    (pushes_until c.args.index.now _ c.args.bytes.now c.slide_over-slid.result c.slide_over-slid.ensures)
+    (pushes_until c.args.index.now _ c.args.bytes.now c.slide_over-slid.result
+    c.slide_over-slid.ensures)
 
 pub invariant_of-self : goal.invariant_of-self
 invariant_of-self c = grind (arith, common_steps) steps 1500000

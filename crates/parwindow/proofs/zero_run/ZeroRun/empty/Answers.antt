@@ -10,4 +10,7 @@ loop-i-preserved c =
 
 pub invariant_of-result : goal.invariant_of-result
 invariant_of-result c =
-    record { by_bit = λ i below. c.loop-i.invariant.1 i (omega arith) ∙ sym (crc_steps_none (2 ^ i)) }
+    record {
+      by_bit = λ i below. c.loop-i.invariant.1 i (omega arith)
+          ∙ sym (crc_steps_none (2 ^ i));
+    }

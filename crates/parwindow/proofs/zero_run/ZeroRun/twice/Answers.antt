@@ -8,4 +8,5 @@ loop-i-preserved c =
     let run = c.args.self.now in
     fills_more (λ k. crc_steps (8 * (2 * run.len)) (2 ^ k)) 32 c.loop-i.columns c.loop-i.i _
     c.loop-i.invariant.0 (omega arith)
-    (twice_column run.len c.loop-i.i _ _ (run.by_bit c.loop-i.i (omega arith)) c.apply.ensures) c.loop-i.invariant.1
+    (twice_column run.len c.loop-i.i _ _ (run.by_bit c.loop-i.i (omega arith)) c.apply.ensures)
+    c.loop-i.invariant.1

@@ -4,4 +4,5 @@ use Rattle.parwindow.proofs.zero_run.ZeroRun.twice.Given as goal
 
 abbrev pub invariant-loop-i : goal.invariant-loop-i
 invariant-loop-i l =
-    (length l.columns ≡ 32) × ((k : ℕ) → k < l.i → get_or l.columns k 0 ≡ crc_steps (8 * (2 * l.self.len)) (2 ^ k))
+    (length l.columns ≡ 32) × ((k : ℕ) → k < l.i
+    → get_or l.columns k 0 ≡ crc_steps (8 * (2 * l.self.len)) (2 ^ k))

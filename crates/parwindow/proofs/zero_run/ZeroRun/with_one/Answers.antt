@@ -8,5 +8,6 @@ loop-i-preserved c =
     let run = c.args.self.now in
     fills_more (λ k. crc_steps (8 * (run.len + 1)) (2 ^ k)) 32 c.loop-i.columns c.loop-i.i _
     c.loop-i.invariant.0 (omega arith)
-    (with_one_column run.len c.loop-i.i _ _ (run.by_bit c.loop-i.i (omega arith)) c.after_byte.ensures)
+    (with_one_column run.len c.loop-i.i _ _ (run.by_bit c.loop-i.i (omega arith))
+    c.after_byte.ensures)
     c.loop-i.invariant.1

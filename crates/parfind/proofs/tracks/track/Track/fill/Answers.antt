@@ -13,44 +13,41 @@ pub loop-self-preserved : goal.loop-self-preserved
 loop-self-preserved g c =
     let s : ShelfState = g.H.Shelf.state c.args.shelf.now in
     let mid : ShelfState = g.H.Shelf.state c.loop-self.shelf in
-    let new : ShelfState = g.H.Shelf.state c.ready.new.shelf in
+    let new : ShelfState = g.H.Shelf.state c.ensure_next_byte.new.shelf in
     let v : WindowState = c.loop-self.window in
-    let t = c.ready.new.self in
+    let t = c.ensure_next_byte.new.self in
     let so_far = c.loop-self.invariant in
-    let r = c.in_ok-ready.ensures in
+    let r = c.in_ok-ensure_next_byte.ensures in
     let file_end : c.length.result ≡ slice_index new.lengths t.file = c.length.ensures.value in
     let lengths : mid.lengths ≡ s.lengths = ap (λ (u : ShelfState). u.lengths) so_far.only in
     record {
       tied = subst (λ (w : WindowState). IsTied new w t) (sym c.append.ensures)
           (follows_more (slice_index new.lengths t.file) new.is_steady (file_of new t.file) v t r.tied
-          (length-file_of new t.file (g.met.H.Shelf.in_order c.ready.new.shelf))
-          c.piece.result.now (rw file_end at c.piece.ensures.bytes) (λ before. c.piece.ensures.hand (rw file_end before))
-          c.piece.ensures.some (omega (arith, c.piece.ensures.within, c.size.ensures, c.len.ensures.len, r.tied.within)));
+          (length-file_of new t.file (g.met.H.Shelf.well_formed c.ensure_next_byte.new.shelf))
+          c.next_bytes.result.now (rw file_end at c.next_bytes.ensures.bytes) (λ before. c.next_bytes.ensures.hand (rw file_end before))
+          c.next_bytes.ensures.some (omega (arith, c.next_bytes.ensures.within, c.size.ensures, c.len.ensures.len, r.tied.within)));
       same = record {
         file_is = r.same.file_is ∙ so_far.same.file_is;
-        held_is = r.same.held_is ∙ so_far.same.held_is;
+        offset_is = r.same.offset_is ∙ so_far.same.offset_is;
         digest_is = r.same.digest_is ∙ so_far.same.digest_is;
       };
       window_is = kept_window c.args.window.now v c.append.new.window _ so_far.window_is c.append.ensures;
-      only = ReadsOnly_more s mid new so_far.only r.ok;
+      only = ReadsOnly_more s mid new so_far.only r.shelf;
       reads = hands_more s.lengths s.handed mid.handed new.handed (fetched_of c.args.self.now) (fetched_of c.loop-self.self) (fetched_of t)
           so_far.reads (rw lengths at r.reads);
     }
 
-pub returns-in_err-ready-clause-tied : goal.returns-in_err-ready-clause-tied
-returns-in_err-ready-clause-tied g c = grind (arith, common_steps) steps 100000
+pub returns-in_err-ensure_next_byte-clause-tied : goal.returns-in_err-ensure_next_byte-clause-tied
+returns-in_err-ensure_next_byte-clause-tied g c = grind (arith, common_steps) steps 100000
 
-pub returns-in_err-ready-clause-full : goal.returns-in_err-ready-clause-full
-returns-in_err-ready-clause-full g c = grind (arith, common_steps) steps 100000
+pub returns-in_err-ensure_next_byte-clause-full : goal.returns-in_err-ensure_next_byte-clause-full
+returns-in_err-ensure_next_byte-clause-full g c = grind (arith, common_steps) steps 100000
 
-pub returns-in_err-ready-clause-same : goal.returns-in_err-ready-clause-same
-returns-in_err-ready-clause-same g c = grind (arith, common_steps) steps 100000
+pub returns-in_err-ensure_next_byte-clause-same : goal.returns-in_err-ensure_next_byte-clause-same
+returns-in_err-ensure_next_byte-clause-same g c = grind (arith, common_steps) steps 100000
 
-pub returns-in_err-ready-clause-window : goal.returns-in_err-ready-clause-window
-returns-in_err-ready-clause-window g c = grind (arith, common_steps) steps 100000
-
-pub returns-in_err-ready-clause-ok : goal.returns-in_err-ready-clause-ok
-returns-in_err-ready-clause-ok g c = grind (arith, common_steps) steps 100000
+pub returns-in_err-ensure_next_byte-clause-window : goal.returns-in_err-ensure_next_byte-clause-window
+returns-in_err-ensure_next_byte-clause-window g c = grind (arith, common_steps) steps 100000
 
 pub returns-clause-tied : goal.returns-clause-tied
 returns-clause-tied g c = grind (arith, common_steps) steps 100000
@@ -67,44 +64,41 @@ returns-clause-window g c = grind (arith, common_steps) steps 100000
 pub returns-clause-reads : goal.returns-clause-reads
 returns-clause-reads g c = grind (arith, common_steps) steps 100000
 
-pub returns-clause-ok : goal.returns-clause-ok
-returns-clause-ok g c = grind (arith, common_steps) steps 100000
-
-pub returns-clause-fault : goal.returns-clause-fault
-returns-clause-fault g c = grind (arith, common_steps) steps 100000
+pub returns-clause-shelf : goal.returns-clause-shelf
+returns-clause-shelf g c = grind (arith, common_steps) steps 100000
 
 pub loop-self-init : goal.loop-self-init
 loop-self-init g c = grind (arith, common_steps) steps 100000
 
-pub ready-requires-clause-file : goal.ready-requires-clause-file
-ready-requires-clause-file g c = grind (arith, common_steps) steps 100000
+pub ensure_next_byte-requires-clause-file : goal.ensure_next_byte-requires-clause-file
+ensure_next_byte-requires-clause-file g c = grind (arith, common_steps) steps 100000
 
-pub ready-requires-clause-inside : goal.ready-requires-clause-inside
-ready-requires-clause-inside g c = grind (arith, common_steps) steps 100000
+pub ensure_next_byte-requires-clause-inside : goal.ensure_next_byte-requires-clause-inside
+ensure_next_byte-requires-clause-inside g c = grind (arith, common_steps) steps 100000
 
-pub ready-requires-clause-tied : goal.ready-requires-clause-tied
-ready-requires-clause-tied g c = grind (arith, common_steps) steps 100000
+pub ensure_next_byte-requires-clause-tied : goal.ensure_next_byte-requires-clause-tied
+ensure_next_byte-requires-clause-tied g c = grind (arith, common_steps) steps 100000
 
-pub returns-in_err-ready-clause-fault : goal.returns-in_err-ready-clause-fault
-returns-in_err-ready-clause-fault g c = grind (arith, common_steps) steps 100000
+pub returns-in_err-ensure_next_byte-clause-shelf : goal.returns-in_err-ensure_next_byte-clause-shelf
+returns-in_err-ensure_next_byte-clause-shelf g c = grind (arith, common_steps) steps 100000
 
 pub overflow_sub-room : goal.overflow_sub-room
 overflow_sub-room g c = grind (arith, common_steps) steps 100000
 
-pub piece-requires-clause-some : goal.piece-requires-clause-some
-piece-requires-clause-some g c = grind (arith, common_steps) steps 100000
+pub next_bytes-requires-clause-some : goal.next_bytes-requires-clause-some
+next_bytes-requires-clause-some g c = grind (arith, common_steps) steps 100000
 
-pub piece-requires-clause-small : goal.piece-requires-clause-small
-piece-requires-clause-small g c = grind (arith, common_steps) steps 400000
+pub next_bytes-requires-clause-small : goal.next_bytes-requires-clause-small
+next_bytes-requires-clause-small g c = grind (arith, common_steps) steps 400000
 
-pub piece-requires-clause-fits : goal.piece-requires-clause-fits
-piece-requires-clause-fits g c = grind (arith, common_steps) steps 100000
+pub next_bytes-requires-clause-fits : goal.next_bytes-requires-clause-fits
+next_bytes-requires-clause-fits g c = grind (arith, common_steps) steps 100000
 
-pub piece-requires-clause-behind : goal.piece-requires-clause-behind
-piece-requires-clause-behind g c = grind (arith, common_steps) steps 100000
+pub next_bytes-requires-clause-not_ahead : goal.next_bytes-requires-clause-not_ahead
+next_bytes-requires-clause-not_ahead g c = grind (arith, common_steps) steps 100000
 
-pub piece-requires-clause-ready : goal.piece-requires-clause-ready
-piece-requires-clause-ready g c = grind (arith, common_steps) steps 400000
+pub next_bytes-requires-clause-next : goal.next_bytes-requires-clause-next
+next_bytes-requires-clause-next g c = grind (arith, common_steps) steps 400000
 
 pub append-requires : goal.append-requires
 append-requires g c = grind (arith, common_steps) steps 100000

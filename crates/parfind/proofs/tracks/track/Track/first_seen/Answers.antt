@@ -2,13 +2,13 @@ use Rattle.std.proofs.Common.{arith, ◌≡◌, true, rules}
 use Rattle.std.proofs.lemmas.Grind.{common_steps}
 use Rattle.parwindow.specs.Crc32.{crc_of}
 use Rattle.parwindow.specs.Index.{sums_of}
-use Rattle.parwindow.specs.Missing.{has_fit_crc_in}
+use Rattle.parwindow.specs.Missing.{set_has_fit_crc}
 use Rattle.parfind.proofs.FittingLaws.{fit_has_crc}
 use Rattle.parfind.proofs.tracks.track.Track.first_seen.Goals as goal
 
 pub returns-then-not-has_fit_crc-clause-first : goal.returns-then-not-has_fit_crc-clause-first
 returns-then-not-has_fit_crc-clause-first c = λ k from fits.
-    let has : has_fit_crc_in c.args.index.now (crc_of c.args.window.now.content) c.args.left ≡ true =
+    let has : set_has_fit_crc c.args.index.now (crc_of c.args.window.now.content) c.args.left ≡ true =
     fit_has_crc c.args.index.now (sums_of c.args.window.now.content) c.args.left k fits in
     cc
 

@@ -29,17 +29,11 @@ returns-then-not-is_empty-clause-nothing c = grind (arith, common_steps) steps 1
 pub returns-then-not-is_empty-clause-size : goal.returns-then-not-is_empty-clause-size
 returns-then-not-is_empty-clause-size c = grind (arith, common_steps) steps 100000
 
-pub returns-then-not-is_empty-clause-room : goal.returns-then-not-is_empty-clause-room
-returns-then-not-is_empty-clause-room c = grind (arith, common_steps) steps 100000
+pub returns-then-not-is_empty-clause-limits : goal.returns-then-not-is_empty-clause-limits
+returns-then-not-is_empty-clause-limits c = grind (arith, common_steps) steps 100000
 
 pub returns-then-not-is_empty-clause-fails : goal.returns-then-not-is_empty-clause-fails
 returns-then-not-is_empty-clause-fails c = grind (arith, common_steps) steps 100000
-
-pub returns-then-not-is_empty-clause-same_piece : goal.returns-then-not-is_empty-clause-same_piece
-returns-then-not-is_empty-clause-same_piece c = grind (arith, common_steps) steps 100000
-
-pub returns-then-not-is_empty-clause-same_zero : goal.returns-then-not-is_empty-clause-same_zero
-returns-then-not-is_empty-clause-same_zero c = grind (arith, common_steps) steps 100000
 
 pub overflow_add-end : goal.overflow_add-end
 overflow_add-end c = grind (arith, common_steps) steps 100000
@@ -77,14 +71,8 @@ returns-clause-full c = grind (arith, common_steps) steps 100000
 pub returns-clause-failed : goal.returns-clause-failed
 returns-clause-failed c = grind (arith, common_steps) steps 100000
 
-pub returns-clause-room : goal.returns-clause-room
-returns-clause-room c = grind (arith, common_steps) steps 100000
+pub returns-clause-limits : goal.returns-clause-limits
+returns-clause-limits c = grind (arith, common_steps) steps 100000
 
 pub returns-clause-fails : goal.returns-clause-fails
 returns-clause-fails c = grind (arith, common_steps) steps 100000
-
-pub returns-clause-same_piece : goal.returns-clause-same_piece
-returns-clause-same_piece c = grind (arith, common_steps) steps 100000
-
-pub returns-clause-same_zero : goal.returns-clause-same_zero
-returns-clause-same_zero c = grind (arith, common_steps) steps 100000

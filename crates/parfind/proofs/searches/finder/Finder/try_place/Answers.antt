@@ -1,0 +1,85 @@
+use Rattle.std.proofs.Common.{sym, ap, subst, arith, Some}
+use Rattle.std.proofs.lemmas.Result.{err_from_is_err_and}
+use Rattle.parshelf.specs.Shelf.{ShelfState}
+use Rattle.parwindow.specs.Index.{SliceSet}
+use Rattle.parfind.specs.Finders.{FinderState}
+use Rattle.parfind.specs.Moves.{StepMoves}
+use Rattle.parfind.specs.NextPlace.{IsNextPlace}
+use Rattle.parfind.specs.PlaceVisit.{answer_of, count_of}
+use Rattle.parfind.specs.Steps.{StepSees, scan_of}
+use Rattle.parfind.proofs.MoveLaws.{greater-end, greater-same}
+use Rattle.parfind.proofs.TryLaws.{tried_next}
+use Rattle.parfind.proofs.VisitLaws.{visit_ended, visit_stopped, visit_stays, visit_ends}
+use Rattle.parfind.proofs.searches.finder.Finder.try_place.Goals as goal
+
+pub returns : goal.returns
+returns g c =
+    let set : SliceSet = c.args.index.now in
+    let old : ShelfState = g.H.Shelf.state c.args.shelf.now in
+    let mid : ShelfState = g.H.Shelf.state c.move_window.new.shelf in
+    let new : ShelfState = g.H.Shelf.state c.at_place.new.shelf in
+    let f : FinderState = c.args.self.now in
+    let same = ap (λ (x : FinderState). x.cursor) c.self.view_is in
+    let found = rw same at c.in-Some.ensures.found in
+    let m = c.in_ok-move_window.ensures in
+    let next = subst (IsNextPlace old.lengths f.cursor) (sym m.cursor) found in
+    let r = c.at_place.ensures in
+    let along = rw c.in_default-pass_unfit.ensures.fits.1 at m.along in
+    let tried = tried_next set c.args.left old mid new f c.move_window.new.self c.at_place.new.self _ along next
+    (g.met.H.Shelf.well_formed c.args.shelf.now) c.at_place.result
+    (record { sees = r.sees; moves = r.moves; advances = r.advances; within = r.within; along = r.along }) in
+    record {
+      belongs = r.belongs;
+      sees = tried.sees;
+      moves = tried.moves;
+      advances = tried.advances;
+      within = tried.within;
+      along = tried.along;
+    }
+
+pub returns-then-self-count-clause-moves : goal.returns-then-self-count-clause-moves
+returns-then-self-count-clause-moves g c =
+    let s = g.H.Shelf.state c.args.shelf.now in
+    let same = ap (λ (f : FinderState). f.cursor) c.self.view_is in
+    let none = rw same at c.in_default.ensures.none in
+    let end = greater-end s.lengths c.args.self.now.cursor (omega (arith, c.if-self-count.true, c.count.ensures, ap (λ (f : FinderState). f.cursor.file) c.self.view_is)) in
+    visit_ends s.lengths c.args.self.now.cursor _ none (rw (end, c.count-then-self-count.ensures))
+
+pub returns-else-self-count-clause-moves : goal.returns-else-self-count-clause-moves
+returns-else-self-count-clause-moves g c =
+    let s = g.H.Shelf.state c.args.shelf.now in
+    let same = ap (λ (f : FinderState). f.cursor) c.self.view_is in
+    let none = rw same at c.in_default.ensures.none in
+    let end = greater-same s.lengths c.args.self.now.cursor (omega (arith, c.if-self-count.false, c.count.ensures, ap (λ (f : FinderState). f.cursor.file) c.self.view_is)) in
+    visit_ends s.lengths c.args.self.now.cursor _ none (sym end)
+
+pub returns-then-self-count-clause-sees : goal.returns-then-self-count-clause-sees
+returns-then-self-count-clause-sees g c = λ steady.
+    let same = ap (λ (f : FinderState). f.cursor) c.self.view_is in
+    let none = rw same at c.in_default.ensures.none in
+    visit_ended c.args.index.now (g.H.Shelf.state c.args.shelf.now) (g.met.H.Shelf.well_formed c.args.shelf.now) steady c.args.self.now.cursor none
+
+pub returns-else-self-count-clause-sees : goal.returns-else-self-count-clause-sees
+returns-else-self-count-clause-sees g c = λ steady.
+    let same = ap (λ (f : FinderState). f.cursor) c.self.view_is in
+    let none = rw same at c.in_default.ensures.none in
+    visit_ended c.args.index.now (g.H.Shelf.state c.args.shelf.now) (g.met.H.Shelf.well_formed c.args.shelf.now) steady c.args.self.now.cursor none
+
+pub returns-in_err-move_window-clause-moves : goal.returns-in_err-move_window-clause-moves
+returns-in_err-move_window-clause-moves g c =
+    let s : ShelfState = g.H.Shelf.state c.args.shelf.now in
+    let same = ap (λ (f : FinderState). f.cursor) c.self.view_is in
+    let found = rw same at c.in-Some.ensures.found in
+    let failed = err_from_is_err_and c.from_residual.result c.from_residual.ensures.1 in
+    subst (λ answer. StepMoves s.lengths (Some (count_of answer)) c.args.self.now.cursor (answer_of answer) c.move_window.new.self.cursor) (sym failed.1)
+    (rw c.in_err-move_window.ensures.cursor (visit_stays s.lengths c.args.self.now.cursor c.in-Some.at found))
+
+pub returns-in_err-move_window-clause-sees : goal.returns-in_err-move_window-clause-sees
+returns-in_err-move_window-clause-sees g c = λ steady.
+    let s : ShelfState = g.H.Shelf.state c.args.shelf.now in
+    let same = ap (λ (f : FinderState). f.cursor) c.self.view_is in
+    let found = rw same at c.in-Some.ensures.found in
+    let failed = err_from_is_err_and c.from_residual.result c.from_residual.ensures.1 in
+    subst (λ answer. StepSees (scan_of c.args.index.now s) c.args.self.now.cursor (answer_of answer) c.move_window.new.self.cursor) (sym failed.1)
+    (rw c.in_err-move_window.ensures.cursor
+    (visit_stopped c.args.index.now s (g.met.H.Shelf.well_formed c.args.shelf.now) steady c.args.self.now.cursor c.in-Some.at found))

@@ -1,0 +1,24 @@
+-- What the answers of calls tell of a shelf, whether it is steady or not.
+use Rattle.std.specs.Prelude.{◌≡◌, ℕ, ◌+◌, List, Ok, Err, map, sum}
+use Rattle.parshelf.specs.Shelf.{ShelfState, failure_count, early_end_count}
+use Rattle.parshelf.specs.declared.shelves.reading.ReadFault.TheVariants.{Failed, Ended}
+use Rattle.parfind.specs.declared.drives.calls.Answer.{Answer}
+use Rattle.parfind.specs.declared.drives.calls.Answer.TheVariants as answer
+use Rattle.parfind.specs.Runs.{told_failures}
+
+-- how many reads an answer tells of that gave no byte before their file's length
+abbrev pub told_early_ends : Answer → ℕ
+told_early_ends (answer.Step (Ok step)) = 0
+told_early_ends (answer.Step (Err Failed)) = 0
+told_early_ends (answer.Step (Err Ended)) = 1
+told_early_ends answer.Reopened = 0
+told_early_ends answer.NoMemory = 0
+
+-- a shelf is the same but for its counts: as many reads failed as answers tell of, and as many
+-- ended a file early
+pub record TellsOf (old new : ShelfState) (answers : List Answer) : Type 0 where
+  pub lengths_are : new.lengths ≡ old.lengths
+  pub steady_is : new.is_steady ≡ old.is_steady
+  pub files_are : new.files ≡ old.files
+  pub failed : failure_count new ≡ failure_count old + sum (map told_failures answers)
+  pub ended : early_end_count new ≡ early_end_count old + sum (map told_early_ends answers)

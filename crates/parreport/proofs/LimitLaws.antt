@@ -1,0 +1,86 @@
+-- How many lines are asked for, how many are left of them, and the last line.
+use Rattle.std.proofs.Common.{◌≡◌, ◌≢◌, ℕ, ◌+◌, ◌-◌, ◌<◌, List, [], ◌∷◌, ◌++◌, length, take, Option, None, Some, slice_get, get_or, zero, suc, refl, sym, ap, ◌∙◌, subst, arith, append-nil}
+use Rattle.std.proofs.Math.Seq.{take-append-add}
+use Rattle.std.proofs.lemmas.Option.{slice_get_past, slice_get-get_or}
+use Rattle.parfield.specs.declared.hash16.Hash16.{Hash16}
+use Rattle.parfind.specs.Moves.{IsBelow}
+use Rattle.parfind.specs.Order.{cursor_after}
+use Rattle.parfind.specs.declared.cursors.cursor.Cursor.{Cursor}
+use Rattle.parfind.specs.declared.cursors.sighting.Sighting.{Sighting}
+use Rattle.parreport.specs.FindText.{limited, last_line, line_after, limit_left}
+use Rattle.parreport.specs.Lines.{end_line, cursor_line}
+
+-- so many lines were written of a limit, and so many are left
+abbrev pub CountsDown : Option ℕ → Option ℕ → ℕ → Type 0
+CountsDown None None n = Unit {0}
+CountsDown None (Some left) n = ⊥
+CountsDown (Some limit) None n = ⊥
+CountsDown (Some limit) (Some left) n = n + left ≡ limit
+
+slice_get-front : (xs ys : List Sighting) (n : ℕ) → n < length xs → slice_get (xs ++ ys) n ≡ slice_get xs n
+slice_get-front [] ys n within = absurd (omega arith)
+slice_get-front (x ∷ xs) ys zero within = refl
+slice_get-front (x ∷ xs) ys (suc n) within = slice_get-front xs ys n (omega arith)
+
+-- what is written of the handed ones and of the others
+pub limited-parts : (limit left : Option ℕ) (xs ys : List Sighting) → CountsDown limit left (length xs)
+    → limited limit (xs ++ ys) ≡ xs ++ limited left ys
+limited-parts None None xs ys h = refl
+limited-parts None (Some left) xs ys h = absurd h
+limited-parts (Some limit) None xs ys h = absurd h
+limited-parts (Some limit) (Some left) xs ys h =
+    subst (λ (k : ℕ). take k (xs ++ ys) ≡ xs ++ take left ys) h (take-append-add xs ys left)
+
+pub limited-one : (left : Option ℕ) (x : Sighting) (xs : List Sighting) → left ≢ Some 0
+    → limited left (x ∷ xs) ≡ x ∷ limited (limit_left left) xs
+limited-one None x xs some = refl
+limited-one (Some zero) x xs some = absurd (some refl)
+limited-one (Some (suc n)) x xs some =
+    let less : n ≡ suc n - 1 = omega arith in ap (λ (k : ℕ). x ∷ take k xs) less
+
+pub limited-nil : (left : Option ℕ) → limited left [] ≡ []
+limited-nil None = refl
+limited-nil (Some zero) = refl
+limited-nil (Some (suc n)) = refl
+
+pub counted_one : (limit left : Option ℕ) (n : ℕ) → CountsDown limit left n → left ≢ Some 0 → CountsDown limit (limit_left left) (n + 1)
+counted_one None None n h some = tt
+counted_one None (Some left) n h some = h
+counted_one (Some limit) None n h some = h
+counted_one (Some limit) (Some zero) n h some = absurd (some refl)
+counted_one (Some limit) (Some (suc left)) n h some = omega arith
+
+pub below_limit : (limit left : Option ℕ) (n : ℕ) → CountsDown limit left n → left ≢ Some 0 → IsBelow n limit
+below_limit None left n h some = tt
+below_limit (Some limit) None n h some = absurd h
+below_limit (Some limit) (Some zero) n h some = absurd (some refl)
+below_limit (Some limit) (Some (suc left)) n h some = omega arith
+
+pub counted_none : (limit : Option ℕ) → CountsDown limit limit 0
+counted_none None = tt
+counted_none (Some n) = omega arith
+
+-- with nothing left after the handed ones, the last line is `end`
+pub last_line-end : (id : Hash16) (limit left : Option ℕ) (xs : List Sighting) → CountsDown limit left (length xs) → left ≢ Some 0
+    → last_line id limit (xs ++ []) ≡ end_line
+last_line-end id None left xs h some = refl
+last_line-end id (Some limit) None xs h some = absurd h
+last_line-end id (Some limit) (Some zero) xs h some = absurd (some refl)
+last_line-end id (Some limit) (Some (suc left)) xs h some =
+    rw (append-nil xs, slice_get_past xs (limit - 1) (omega arith)) refl
+
+-- with as many handed as the limit allows, it is that of the cursor after them
+pub last_line-cursor : (id : Hash16) (limit : Option ℕ) (xs ys : List Sighting) (now : Cursor) → CountsDown limit (Some 0) (length xs)
+    → limit ≢ Some 0 → ((x : Sighting) → slice_get xs (length xs - 1) ≡ Some x → now ≡ cursor_after x)
+    → last_line id limit (xs ++ ys) ≡ cursor_line id now
+last_line-cursor id None xs ys now h some stands = absurd h
+last_line-cursor id (Some zero) xs ys now h some stands = absurd (some refl)
+last_line-cursor id (Some (suc n)) [] ys now h some stands = absurd (omega (arith, h))
+last_line-cursor id (Some (suc n)) (x ∷ xs) ys now h some stands =
+    let within : n < length (x ∷ xs) = omega (arith, h) in
+    let last : slice_get (x ∷ xs) n ≡ Some (get_or (x ∷ xs) n x) = slice_get-get_or (x ∷ xs) n x within in
+    let place : length (x ∷ xs) - 1 ≡ n = omega (arith, h) in
+    let less : suc n - 1 ≡ n = omega arith in
+    ap (λ (k : ℕ). line_after id (slice_get (x ∷ xs ++ ys) k)) less
+    ∙ ap (line_after id) (slice_get-front (x ∷ xs) ys n within ∙ last)
+    ∙ ap (cursor_line id) (sym (stands (get_or (x ∷ xs) n x) (ap (slice_get (x ∷ xs)) place ∙ last)))

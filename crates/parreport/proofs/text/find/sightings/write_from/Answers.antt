@@ -1,0 +1,186 @@
+use Rattle.std.proofs.lemmas.Grind.{elements, common_steps}
+use Rattle.std.proofs.Common.{rules, ◌≢◌, ◌≡◌, Some, Ok, Err, refl, arith}
+use Rattle.std.proofs.lemmas.Result.{err_from_is_err_and}
+use Rattle.parset.specs.RecoverySet.{SetView}
+use Rattle.parshelf.specs.Shelf.{ShelfState}
+use Rattle.parshelf.proofs.ReadLaws.{ReadsOnly_more}
+use Rattle.parfind.specs.declared.cursors.cursor.Cursor.{Cursor}
+use Rattle.parfind.specs.Points.{search_at}
+use Rattle.parfind.specs.declared.searches.finder.Step.TheVariants.{Hit, Done}
+use Rattle.parreport.specs.FindText.{Search, search_of}
+use Rattle.parshelf.specs.SinkState.{SinkState}
+use Rattle.parreport.proofs.FindLaws.{hands_front, hands_one, hands_refused, ends_text, ends_refused, stops_text, stops_refused, keeps_after_fault, gives_from}
+use Rattle.parreport.proofs.LineLaws.{fault_text, last_text, line_reads, line_sink, line_keeps, line_fault}
+use Rattle.parreport.proofs.text.find.sightings.write_from.Goals as goal
+
+pub loop-left-preserved-in-Ok-Hit : goal.loop-left-preserved-in-Ok-Hit
+loop-left-preserved-in-Ok-Hit g c =
+    let s : Search = search_of c.args.files.now (g.Q.Shelf.state c.args.shelf.now).files c.args.set.now c.args.finder.now.cursor c.args.limit in
+    let set : SetView = c.args.set.now in
+    let old : ShelfState = g.Q.Shelf.state c.args.shelf.now in
+    let mid : ShelfState = g.Q.Shelf.state c.loop-left.shelf in
+    let so_far = c.loop-left.invariant in
+    let line = rw c.in_ok-write_sighting-in-Ok-Hit.was at c.write_sighting.ensures in
+    let some : c.loop-left.left ≢ Some 0 = search rules in
+    record {
+      belongs = c.in-Ok-Hit.ensures.belongs;
+      reads = ReadsOnly_more old mid (g.Q.Shelf.state c.next.new.shelf) so_far.reads c.in-Ok-Hit.ensures.along.shelf;
+      failures = rw line so_far.failures;
+      handed = λ steady.
+          let gives = gives_from set c.args.index.now old mid c.loop-left.finder.cursor (search_at (g.Q.Shelf.state c.next.new.shelf) c.next.new.self.cursor) (Ok (Hit c.in-Ok-Hit.sighting)) c.requires.index
+          so_far.reads steady (λ still. rw c.in-Ok-Hit.field-0-is at (c.in-Ok-Hit.ensures.answer still)) in
+          rw c.limit_left-left.ensures
+          (hands_one s c.loop-left.left c.loop-left.finder.cursor
+          (g.W.Sink.state c.args.out.now) (g.W.Sink.state c.loop-left.out) (so_far.handed steady) some c.in-Ok-Hit.sighting c.next.new.self.cursor gives.sees
+          (g.W.Sink.state c.write_sighting.new.out) gives.moves.after line);
+    }
+
+pub returns-in_err-write_sighting-in-Ok-Hit-clause-text : goal.returns-in_err-write_sighting-in-Ok-Hit-clause-text
+returns-in_err-write_sighting-in-Ok-Hit-clause-text g c = λ steady.
+    let s : Search = search_of c.args.files.now (g.Q.Shelf.state c.args.shelf.now).files c.args.set.now c.args.finder.now.cursor c.args.limit in
+    let set : SetView = c.args.set.now in
+    let old : ShelfState = g.Q.Shelf.state c.args.shelf.now in
+    let mid : ShelfState = g.Q.Shelf.state c.loop-left.shelf in
+    let so_far = c.loop-left.invariant in
+    let before : SinkState = g.W.Sink.state c.args.out.now in
+    let between : SinkState = g.W.Sink.state c.loop-left.out in
+    let after : SinkState = g.W.Sink.state c.write_sighting.new.out in
+    let some : c.loop-left.left ≢ Some 0 = search rules in
+    let gives = gives_from set c.args.index.now old mid c.loop-left.finder.cursor (search_at (g.Q.Shelf.state c.next.new.shelf) c.next.new.self.cursor) (Ok (Hit c.in-Ok-Hit.sighting)) c.requires.index
+    so_far.reads steady (λ still. rw c.in-Ok-Hit.field-0-is at (c.in-Ok-Hit.ensures.answer still)) in
+    let line = c.in_err-write_sighting-in-Ok-Hit.ensures in
+    let failed = err_from_is_err_and c.from_residual.result c.from_residual.ensures.1 in
+    rw (failed.1, failed.2)
+    (fault_text _ _ c.in_err-write_sighting-in-Ok-Hit.field-0.0 before between after line
+    (hands_front s c.loop-left.left c.loop-left.finder.cursor before between (so_far.handed steady))
+    (hands_refused s c.loop-left.left c.loop-left.finder.cursor before between (so_far.handed steady)
+    some c.in-Ok-Hit.sighting c.next.new.self.cursor gives.sees after))
+
+pub returns-in-Ok-Done-clause-text : goal.returns-in-Ok-Done-clause-text
+returns-in-Ok-Done-clause-text g c = λ steady.
+    let s : Search = search_of c.args.files.now (g.Q.Shelf.state c.args.shelf.now).files c.args.set.now c.args.finder.now.cursor c.args.limit in
+    let set : SetView = c.args.set.now in
+    let old : ShelfState = g.Q.Shelf.state c.args.shelf.now in
+    let mid : ShelfState = g.Q.Shelf.state c.loop-left.shelf in
+    let now : Cursor = c.loop-left.finder.cursor in
+    let so_far = c.loop-left.invariant in
+    let before : SinkState = g.W.Sink.state c.args.out.now in
+    let between : SinkState = g.W.Sink.state c.loop-left.out in
+    let new : SinkState = g.W.Sink.state c.write_end.new.out in
+    let some : c.loop-left.left ≢ Some 0 = search rules in
+    let gives = gives_from set c.args.index.now old mid now (search_at (g.Q.Shelf.state c.next.new.shelf) c.next.new.self.cursor) (Ok Done) c.requires.index
+    so_far.reads steady (λ still. rw c.in-Ok-Done.field-0-is at (c.in-Ok-Done.ensures.answer still)) in
+    last_text _ _ c.write_end.result before between new c.write_end.ensures
+    (hands_front s c.loop-left.left now before between (so_far.handed steady))
+    (ends_text s c.loop-left.left now before between (so_far.handed steady) some gives.sees new)
+    (ends_refused s c.loop-left.left now before between (so_far.handed steady) some gives.sees new)
+
+pub returns-clause-text : goal.returns-clause-text
+returns-clause-text g c = λ steady.
+    let s : Search = search_of c.args.files.now (g.Q.Shelf.state c.args.shelf.now).files c.args.set.now c.args.finder.now.cursor c.args.limit in
+    let set : SetView = c.args.set.now in
+    let old : ShelfState = g.Q.Shelf.state c.args.shelf.now in
+    let now : Cursor = c.loop-left.finder.cursor in
+    let before : SinkState = g.W.Sink.state c.args.out.now in
+    let mid : SinkState = g.W.Sink.state c.loop-left.out in
+    let new : SinkState = g.W.Sink.state c.write_cursor.new.out in
+    let none : c.loop-left.left ≡ Some 0 = search rules in
+    let handed = rw none at (c.loop-left.invariant.handed steady) in
+    let line = rw (c.id.ensures, c.cursor.ensures) at c.write_cursor.ensures in
+    last_text _ _ c.write_cursor.result before mid new line
+    (hands_front s (Some 0) now before mid handed)
+    (stops_text s now before mid handed c.requires.limit new)
+    (stops_refused s now before mid handed c.requires.limit new)
+
+pub returns-in-Err-clause-lines : goal.returns-in-Err-clause-lines
+returns-in-Err-clause-lines g c = λ steady.
+    let s : Search = search_of c.args.files.now (g.Q.Shelf.state c.args.shelf.now).files c.args.set.now c.args.finder.now.cursor c.args.limit in
+    let set : SetView = c.args.set.now in
+    let old : ShelfState = g.Q.Shelf.state c.args.shelf.now in
+    let handed = c.loop-left.invariant.handed steady in
+    let some : c.loop-left.left ≢ Some 0 = search rules in
+    let gives = gives_from set c.args.index.now old (g.Q.Shelf.state c.loop-left.shelf) c.loop-left.finder.cursor (search_at (g.Q.Shelf.state c.next.new.shelf) c.next.new.self.cursor) (Err c.in-Err.fault) c.requires.index
+    c.loop-left.invariant.reads steady (λ still. c.in-Err.ensures.answer still) in
+    rw c.cursor-file.ensures
+    (keeps_after_fault s old (g.Q.Shelf.state c.next.new.shelf) c.loop-left.left c.loop-left.finder.cursor c.next.new.self.cursor
+    (g.W.Sink.state c.args.out.now) (g.W.Sink.state c.loop-left.out) c.in-Err.fault refl handed some gives)
+
+pub returns-in-Err-clause-text : goal.returns-in-Err-clause-text
+returns-in-Err-clause-text g c = λ steady.
+    hands_front _ c.loop-left.left c.loop-left.finder.cursor _ _ (c.loop-left.invariant.handed steady)
+
+pub returns-in_err-write_sighting-in-Ok-Hit-clause-lines : goal.returns-in_err-write_sighting-in-Ok-Hit-clause-lines
+returns-in_err-write_sighting-in-Ok-Hit-clause-lines g c = grind (arith, common_steps) steps 1500000
+
+pub loop-left-smaller-in-Ok-Hit : goal.loop-left-smaller-in-Ok-Hit
+loop-left-smaller-in-Ok-Hit g c = grind (arith, common_steps) steps 100000
+
+pub loop-left-smaller : goal.loop-left-smaller
+loop-left-smaller g c = grind (arith, common_steps) steps 100000
+
+pub loop-left-preserved : goal.loop-left-preserved
+loop-left-preserved g c = grind (arith, common_steps) steps 100000
+
+pub returns-in-Err-clause-sink : goal.returns-in-Err-clause-sink
+returns-in-Err-clause-sink g c = grind (arith, common_steps) steps 100000
+
+pub returns-clause-lines : goal.returns-clause-lines
+returns-clause-lines g c = grind (arith, common_steps) steps 400000
+
+pub returns-clause-reads : goal.returns-clause-reads
+returns-clause-reads g c = grind (arith, common_steps) steps 100000
+
+pub returns-clause-sink : goal.returns-clause-sink
+returns-clause-sink g c = grind (arith, common_steps) steps 100000
+
+pub returns-in-Ok-Done-clause-reads : goal.returns-in-Ok-Done-clause-reads
+returns-in-Ok-Done-clause-reads g c =
+    let old : ShelfState = g.Q.Shelf.state c.args.shelf.now in
+    let next : ShelfState = g.Q.Shelf.state c.next.new.shelf in
+    line_reads _ c.write_end.result old next (g.W.Sink.state c.loop-left.out) (g.W.Sink.state c.write_end.new.out) c.write_end.ensures
+    (ReadsOnly_more old (g.Q.Shelf.state c.loop-left.shelf) next c.loop-left.invariant.reads c.in-Ok-Done.ensures.along.shelf)
+
+pub returns-in-Ok-Done-clause-sink : goal.returns-in-Ok-Done-clause-sink
+returns-in-Ok-Done-clause-sink g c =
+    line_sink _ c.write_end.result (g.W.Sink.state c.args.out.now) (g.W.Sink.state c.loop-left.out) (g.W.Sink.state c.write_end.new.out)
+    c.write_end.ensures c.loop-left.invariant.failures
+
+pub returns-in-Ok-Done-clause-lines : goal.returns-in-Ok-Done-clause-lines
+returns-in-Ok-Done-clause-lines g c = λ steady. line_keeps _ _ c.write_end.result _ _ c.write_end.ensures
+
+pub returns-in_err-write_sighting-in-Ok-Hit-clause-reads : goal.returns-in_err-write_sighting-in-Ok-Hit-clause-reads
+returns-in_err-write_sighting-in-Ok-Hit-clause-reads g c =
+    let old : ShelfState = g.Q.Shelf.state c.args.shelf.now in
+    let next : ShelfState = g.Q.Shelf.state c.next.new.shelf in
+    let failed = err_from_is_err_and c.from_residual.result c.from_residual.ensures.1 in
+    rw (failed.1, failed.2)
+    (line_reads _ (Err c.in_err-write_sighting-in-Ok-Hit.field-0.0) old next (g.W.Sink.state c.loop-left.out) (g.W.Sink.state c.write_sighting.new.out)
+    c.in_err-write_sighting-in-Ok-Hit.ensures
+    (ReadsOnly_more old (g.Q.Shelf.state c.loop-left.shelf) next c.loop-left.invariant.reads c.in-Ok-Hit.ensures.along.shelf))
+
+pub returns-in_err-write_sighting-in-Ok-Hit-clause-sink : goal.returns-in_err-write_sighting-in-Ok-Hit-clause-sink
+returns-in_err-write_sighting-in-Ok-Hit-clause-sink g c =
+    let failed = err_from_is_err_and c.from_residual.result c.from_residual.ensures.1 in
+    rw (failed.1, failed.2)
+    (line_sink _ (Err c.in_err-write_sighting-in-Ok-Hit.field-0.0) (g.W.Sink.state c.args.out.now) (g.W.Sink.state c.loop-left.out)
+    (g.W.Sink.state c.write_sighting.new.out) c.in_err-write_sighting-in-Ok-Hit.ensures c.loop-left.invariant.failures)
+
+pub limit_left-left-requires : goal.limit_left-left-requires
+limit_left-left-requires g c = grind (arith, common_steps) steps 400000
+
+pub returns-in-Err-clause-reads : goal.returns-in-Err-clause-reads
+returns-in-Err-clause-reads g c = grind (arith, elements) steps 400000
+
+pub loop-left-init : goal.loop-left-init
+loop-left-init g c = search rules steps 2000000
+
+pub returns-in_err-write_sighting-in-Ok-Hit-clause-fault : goal.returns-in_err-write_sighting-in-Ok-Hit-clause-fault
+returns-in_err-write_sighting-in-Ok-Hit-clause-fault g c =
+    let failed = err_from_is_err_and c.from_residual.result c.from_residual.ensures.1 in
+    rw (failed.1, failed.2) (line_fault _ (Err c.in_err-write_sighting-in-Ok-Hit.field-0.0) _ _ c.in_err-write_sighting-in-Ok-Hit.ensures)
+
+pub returns-in-Ok-Done-clause-fault : goal.returns-in-Ok-Done-clause-fault
+returns-in-Ok-Done-clause-fault g c = line_fault _ c.write_end.result _ _ c.write_end.ensures
+
+pub returns-clause-fault : goal.returns-clause-fault
+returns-clause-fault g c = line_fault _ c.write_cursor.result _ _ c.write_cursor.ensures

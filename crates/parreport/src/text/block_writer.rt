@@ -1,0 +1,67 @@
+ghost use Rattle.std.specs.Prelude.{◌<◌, length, string_bytes};
+ghost use Rattle.parreport.specs.Blocks.{block};
+
+use crate::text::faults::RunFault;
+use parshelf::{Sink, write_text};
+use std::alloc::Global;
+use std::mem::replace;
+
+/// What lines are written to: they are given to the sink in blocks, so that a long text is never
+/// held whole. Who makes one takes it apart at the end, and writes what waits.
+#[derive(Drop)]
+pub struct BlockWriter<'a, W> {
+    alloc: Global,
+    /// Where the blocks go.
+    pub sink: &'a mut W,
+    /// What waits for more.
+    pub buffer: String,
+    ghost below_block: { length (string_bytes buffer) < block },
+}
+
+// At least so many bytes of a long text are given to the sink at once.
+const BLOCK: usize = 65_536;
+
+impl<'a, W: Sink> BlockWriter<'a, W> {
+    ghost use Rattle.std.specs.Prelude.{◌≡◌, [], OnOk, IfErr};
+    ghost use Rattle.parreport.specs.Blocks.{IsBuffered, StopsIn};
+
+    /// A writer to a sink, in which nothing waits.
+    pub fn new(alloc: Global, sink: &'a mut W) -> BlockWriter<'a, W>
+        ensures same_sink { result.sink.ghost_name ≡ sink.entry.ghost_name }
+        ensures state { W.state result.sink.now ≡ W.state sink.old }
+        ensures buffer { string_bytes result.buffer ≡ [] }
+    {
+        BlockWriter {
+            alloc,
+            sink,
+            buffer: String::new(alloc),
+        }
+    }
+
+    /// Takes out what waits, so that a line can be appended to it.
+    pub fn take_buffer(&mut self) -> String
+        ensures same_sink { self.new.sink.ghost_name ≡ self.old.sink.ghost_name }
+        ensures state { W.state self.new.sink.now ≡ W.state self.old.sink.now }
+        ensures taken { string_bytes result ≡ string_bytes self.old.buffer }
+        ensures buffer { string_bytes self.new.buffer ≡ [] }
+    {
+        replace(&mut self.buffer, String::new(self.alloc))
+    }
+
+    /// Lets a text wait that begins with what was taken out, or writes it once it is a block.
+    pub fn put_back(&mut self, text: String) -> Result<(), RunFault>
+        ensures same_sink { self.new.sink.ghost_name ≡ self.old.sink.ghost_name }
+        ensures buffered { OnOk result (IsBuffered (W.state self.old.sink.now)
+            (W.state self.new.sink.now) (string_bytes text) (string_bytes self.new.buffer)) }
+        ensures stopped { IfErr result (λ why. StopsIn why (W.state self.old.sink.now)
+            (W.state self.new.sink.now) (string_bytes text)) }
+    {
+        let mut text = text;
+        if text.len() >= BLOCK {
+            write_text(self.sink, text.as_bytes())?;
+            text.clear();
+        }
+        self.buffer = text;
+        Ok(())
+    }
+}

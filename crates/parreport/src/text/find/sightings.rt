@@ -1,0 +1,109 @@
+ghost use Rattle.std.specs.Prelude.{◌≡◌, ◌≢◌, IsTrue, IfErr, Some};
+ghost use Rattle.parfind.specs.Finders.{BelongsTo};
+ghost use Rattle.parwindow.specs.Index.{slice_set_of};
+ghost use Rattle.parreport.specs.Faults.{listing_of, IsSearchFault, OnScannedFault};
+ghost use Rattle.parreport.specs.FindText.{find_text, limit_left, search_of, WritesLinesBefore};
+ghost use Rattle.parreport.specs.Outcomes.{Answers, EndsScanned, EndsSink};
+ghost use Rattle.parreport.specs.Report.{listed};
+
+use crate::text::faults::RunFault;
+use crate::text::find::lines::{write_cursor, write_end, write_sighting};
+use parfind::{Cursor, Finder, Step};
+use parplan::Scanned;
+use parset::RecoverySet;
+use parshelf::{Shelf, Sink};
+use parwindow::Index;
+use std::alloc::Global;
+
+/// Writes a line for each sighting from a cursor on, each before the next is looked for; then
+/// `end`, or the cursor to go on from, once as many lines are written as the limit allows.
+pub fn write_sightings<Q: Shelf, W: Sink>(
+    alloc: Global,
+    files: &[Scanned],
+    set: &RecoverySet,
+    at: Cursor,
+    limit: Option<u64>,
+    shelf: &mut Q,
+    out: &mut W,
+) -> Result<(), RunFault>
+    requires { limit ≢ Some 0 }
+
+    // The text on a steady shelf.
+    ensures text { IsTrue (Q.state shelf.old).is_steady
+        → Answers (listed (find_text
+        (search_of files.now (Q.state shelf.old).files set.now at limit)))
+        (listing_of result) (W.state out.old) (W.state out.new) }
+    ensures lines { IsTrue (Q.state shelf.old).is_steady → IfErr result (OnScannedFault (λ file.
+        WritesLinesBefore (search_of files.now (Q.state shelf.old).files set.now at limit)
+        file (W.state out.old) (W.state out.new))) }
+
+    // On any shelf: the answer tells what failed.
+    ensures fault { IfErr result IsSearchFault }
+    ensures reads { EndsScanned (listing_of result) (Q.state shelf.old) (Q.state shelf.new) }
+    ensures sink { EndsSink (listing_of result) (W.state out.old) (W.state out.new) }
+{
+    let index = Index::new(alloc, set)?;
+    let mut finder = Finder::open(alloc, &index, shelf, at)?;
+    write_from(alloc, files, set, &index, &mut finder, limit, shelf, out)
+}
+
+// Writes these lines from where a finder stands.
+fn write_from<Q: Shelf, W: Sink>(
+    alloc: Global,
+    files: &[Scanned],
+    set: &RecoverySet,
+    index: &Index,
+    finder: &mut Finder,
+    limit: Option<u64>,
+    shelf: &mut Q,
+    out: &mut W,
+) -> Result<(), RunFault>
+    requires limit { limit ≢ Some 0 }
+    requires index { index.now ≡ slice_set_of set.now.size set.now.slices }
+    requires belongs { BelongsTo finder.old index.now (Q.state shelf.old) }
+
+    ensures text { IsTrue (Q.state shelf.old).is_steady
+        → Answers (listed (find_text
+        (search_of files.now (Q.state shelf.old).files set.now finder.old.cursor limit)))
+        (listing_of result) (W.state out.old) (W.state out.new) }
+    ensures lines { IsTrue (Q.state shelf.old).is_steady → IfErr result (OnScannedFault (λ file.
+        WritesLinesBefore
+        (search_of files.now (Q.state shelf.old).files set.now finder.old.cursor limit)
+        file (W.state out.old) (W.state out.new))) }
+    ensures fault { IfErr result IsSearchFault }
+    ensures reads { EndsScanned (listing_of result) (Q.state shelf.old) (Q.state shelf.new) }
+    ensures sink { EndsSink (listing_of result) (W.state out.old) (W.state out.new) }
+{
+    let mut left = limit;
+    while left != Some(0) {
+        match finder.next(index, shelf) {
+            Ok(Step::Hit(sighting)) => {
+                write_sighting(alloc, files, set, sighting, out)?;
+                left = limit_left(left);
+            }
+            // `next` has no budget to spend, so this answer never comes.
+            Ok(Step::Spent) => {}
+            Ok(Step::Done) => return write_end(out),
+            Err(fault) => {
+                let file = finder.cursor().file;
+                return Err(RunFault::Read {
+                    packet: false,
+                    file,
+                    fault,
+                });
+            }
+        }
+    }
+    write_cursor(alloc, set.id(), finder.cursor(), out)
+}
+
+// How many lines are left once one more is written, where there is a limit.
+fn limit_left(left: Option<u64>) -> Option<u64>
+    requires { left ≢ Some 0 }
+    ensures { result ≡ limit_left left }
+{
+    match left {
+        None => None,
+        Some(lines) => Some(lines - 1),
+    }
+}

@@ -1,0 +1,68 @@
+use Rattle.std.proofs.lemmas.Grind.{common_steps}
+use Rattle.std.proofs.Common.{refl, rules, arith}
+use Rattle.parsalvage.specs.declared.file_scan.FileScan.{FileScan}
+use Rattle.parsalvage.specs.declared.file_scan.StoredPacket.{StoredPacket}
+use Rattle.parsalvage.proofs.ScanLaws.{LiesIn-more, FoundBelow-packet, stored_packet}
+use Rattle.parsalvage.proofs.file_scan.store_packet.Goals as goal
+
+pub returns-clause-lies : goal.returns-clause-lies
+returns-clause-lies g c =
+    let held = c.in_ok-body.ensures in
+    let new : FileScan = record { packets = c.push.new.self; bodies = c.hold_body.new.bodies } in
+    let packet : StoredPacket = record { at = c.args.at; length = c.args.head.length; set = c.args.head.set; kind = c.args.head.kind; body = c.in_ok-body.body } in
+    LiesIn-more _ c.args.at c.args.found.now new packet c.requires.lies held.store held.begins held.fits held.keeps
+    (search rules) refl (omega arith)
+
+pub returns-clause-found : goal.returns-clause-found
+returns-clause-found g c = λ steady.
+    let held = c.in_ok-body.ensures in
+    let new : FileScan = record { packets = c.push.new.self; bodies = c.hold_body.new.bodies } in
+    let packet : StoredPacket = record { at = c.args.at; length = c.args.head.length; set = c.args.head.set; kind = c.args.head.kind; body = c.in_ok-body.body } in
+    FoundBelow-packet c.args.file c.args.at _ c.args.found.now new packet (c.requires.found steady) (c.requires.packet steady)
+    (held.run steady) held.keeps c.requires.lies.held (search rules)
+    (stored_packet c.args.file c.args.at _ c.hold_body.new.bodies.bytes.items c.args.head packet (c.requires.fields steady) refl refl refl refl (held.body steady))
+
+pub overflow_sub-size : goal.overflow_sub-size
+overflow_sub-size g c = grind (arith, common_steps) steps 100000
+
+pub hold_body-requires-clause-file : goal.hold_body-requires-clause-file
+hold_body-requires-clause-file g c = grind (arith, common_steps) steps 100000
+
+pub hold_body-requires-clause-within : goal.hold_body-requires-clause-within
+hold_body-requires-clause-within g c = grind (arith, common_steps) steps 100000
+
+pub hold_body-requires-clause-later : goal.hold_body-requires-clause-later
+hold_body-requires-clause-later g c = grind (arith, common_steps) steps 100000
+
+pub hold_body-requires-clause-store : goal.hold_body-requires-clause-store
+hold_body-requires-clause-store g c = grind (arith, common_steps) steps 100000
+
+pub hold_body-requires-clause-piece : goal.hold_body-requires-clause-piece
+hold_body-requires-clause-piece g c = grind (arith, common_steps) steps 100000
+
+pub hold_body-requires-clause-run : goal.hold_body-requires-clause-run
+hold_body-requires-clause-run g c = grind (arith, common_steps) steps 100000
+
+pub returns-in_err-body-clause-lies : goal.returns-in_err-body-clause-lies
+returns-in_err-body-clause-lies g c = grind (arith, common_steps) steps 100000
+
+pub returns-in_err-body-clause-found : goal.returns-in_err-body-clause-found
+returns-in_err-body-clause-found g c = grind (arith, common_steps) steps 400000
+
+pub returns-in_err-body-clause-leaves : goal.returns-in_err-body-clause-leaves
+returns-in_err-body-clause-leaves g c = grind (arith, common_steps) steps 400000
+
+pub returns-then-is_err-clause-lies : goal.returns-then-is_err-clause-lies
+returns-then-is_err-clause-lies g c = grind (arith, common_steps) steps 100000
+
+pub returns-then-is_err-clause-found : goal.returns-then-is_err-clause-found
+returns-then-is_err-clause-found g c = grind (arith, common_steps) steps 100000
+
+pub returns-then-is_err-clause-leaves : goal.returns-then-is_err-clause-leaves
+returns-then-is_err-clause-leaves g c = grind (arith, common_steps) steps 400000
+
+pub returns-clause-leaves : goal.returns-clause-leaves
+returns-clause-leaves g c = grind (arith, common_steps) steps 400000
+
+pub overflow_add-at : goal.overflow_add-at
+overflow_add-at g c = search rules steps 300000

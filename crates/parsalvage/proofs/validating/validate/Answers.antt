@@ -1,0 +1,129 @@
+use Rattle.std.proofs.lemmas.Grind.{common_steps}
+use Rattle.std.proofs.Common.{true, false, arith}
+use Rattle.std.proofs.lemmas.Result.{err_from_is_err_and}
+use Rattle.parsalvage.proofs.ValidateLaws.{validated_hands, validated_fault, validated_packet}
+use Rattle.parsalvage.proofs.validating.validate.Goals as goal
+
+pub returns-in_err-hash-in-Some-clause-leaves : goal.returns-in_err-hash-in-Some-clause-leaves
+returns-in_err-hash-in-Some-clause-leaves g c =
+    let same = err_from_is_err_and c.from_residual-in_err-hash-in-Some.result c.from_residual-in_err-hash-in-Some.ensures.1 in
+    rw (same.1, same.2)
+    (validated_fault _ _ c.args.file c.args.at c.in-Some.head
+    (λ steady. rw c.in-Some.is at (c.in_ok-head.ensures.found steady))
+    (λ steady. rw c.in-Some.is at (c.in_ok-head.ensures.fields steady))
+    c.in_ok-head.ensures.leaves _ _ c.in_err-hash-in-Some.ensures.leaves)
+
+pub returns-then-eq-clause-found : goal.returns-then-eq-clause-found
+returns-then-eq-clause-found g c = λ steady.
+    validated_packet _ _ c.args.file c.args.at c.in-Some.head
+    (λ steady. rw c.in-Some.is at (c.in_ok-head.ensures.found steady))
+    (λ steady. rw c.in-Some.is at (c.in_ok-head.ensures.fields steady))
+    c.in_ok-head.ensures.leaves c.in_ok-hash-in-Some.hash.0 true steady c.in_ok-hash-in-Some.ensures.digest c.if-eq.ensures
+
+pub returns-then-eq-clause-leaves : goal.returns-then-eq-clause-leaves
+returns-then-eq-clause-leaves g c =
+    validated_hands _ _ c.args.file c.args.at c.in-Some.head
+    (λ steady. rw c.in-Some.is at (c.in_ok-head.ensures.found steady))
+    (λ steady. rw c.in-Some.is at (c.in_ok-head.ensures.fields steady))
+    c.in_ok-head.ensures.leaves _ c.in_ok-hash-in-Some.ensures.leaves
+
+pub returns-else-eq-clause-found : goal.returns-else-eq-clause-found
+returns-else-eq-clause-found g c = λ steady.
+    validated_packet _ _ c.args.file c.args.at c.in-Some.head
+    (λ steady. rw c.in-Some.is at (c.in_ok-head.ensures.found steady))
+    (λ steady. rw c.in-Some.is at (c.in_ok-head.ensures.fields steady))
+    c.in_ok-head.ensures.leaves c.in_ok-hash-in-Some.hash.0 false steady c.in_ok-hash-in-Some.ensures.digest c.if-eq.ensures
+
+pub returns-else-eq-clause-leaves : goal.returns-else-eq-clause-leaves
+returns-else-eq-clause-leaves g c =
+    validated_hands _ _ c.args.file c.args.at c.in-Some.head
+    (λ steady. rw c.in-Some.is at (c.in_ok-head.ensures.found steady))
+    (λ steady. rw c.in-Some.is at (c.in_ok-head.ensures.fields steady))
+    c.in_ok-head.ensures.leaves _ c.in_ok-hash-in-Some.ensures.leaves
+
+pub returns-in_err-head-clause-fits : goal.returns-in_err-head-clause-fits
+returns-in_err-head-clause-fits g c = grind (arith, common_steps) steps 100000
+
+pub returns-in_err-head-clause-long : goal.returns-in_err-head-clause-long
+returns-in_err-head-clause-long g c = grind (arith, common_steps) steps 100000
+
+pub returns-in_err-head-clause-found : goal.returns-in_err-head-clause-found
+returns-in_err-head-clause-found g c = grind (arith, common_steps) steps 100000
+
+pub returns-in_err-head-clause-fields : goal.returns-in_err-head-clause-fields
+returns-in_err-head-clause-fields g c = grind (arith, common_steps) steps 100000
+
+pub returns-in_err-head-clause-leaves : goal.returns-in_err-head-clause-leaves
+returns-in_err-head-clause-leaves g c = grind (arith, common_steps) steps 400000
+
+pub returns-in_err-hash-in-Some-clause-fits : goal.returns-in_err-hash-in-Some-clause-fits
+returns-in_err-hash-in-Some-clause-fits g c = grind (arith, common_steps) steps 400000
+
+pub returns-in_err-hash-in-Some-clause-long : goal.returns-in_err-hash-in-Some-clause-long
+returns-in_err-hash-in-Some-clause-long g c = grind (arith, common_steps) steps 400000
+
+pub returns-in_err-hash-in-Some-clause-found : goal.returns-in_err-hash-in-Some-clause-found
+returns-in_err-hash-in-Some-clause-found g c = grind (arith, common_steps) steps 400000
+
+pub returns-in_err-hash-in-Some-clause-fields : goal.returns-in_err-hash-in-Some-clause-fields
+returns-in_err-hash-in-Some-clause-fields g c = grind (arith, common_steps) steps 400000
+
+pub returns-then-eq-clause-fits : goal.returns-then-eq-clause-fits
+returns-then-eq-clause-fits g c = grind (arith, common_steps) steps 400000
+
+pub returns-then-eq-clause-long : goal.returns-then-eq-clause-long
+returns-then-eq-clause-long g c = grind (arith, common_steps) steps 400000
+
+pub returns-then-eq-clause-fields : goal.returns-then-eq-clause-fields
+returns-then-eq-clause-fields g c = grind (arith, common_steps) steps 400000
+
+pub returns-else-eq-clause-fits : goal.returns-else-eq-clause-fits
+returns-else-eq-clause-fits g c = grind (arith, common_steps) steps 100000
+
+pub returns-else-eq-clause-long : goal.returns-else-eq-clause-long
+returns-else-eq-clause-long g c = grind (arith, common_steps) steps 100000
+
+pub returns-else-eq-clause-fields : goal.returns-else-eq-clause-fields
+returns-else-eq-clause-fields g c = grind (arith, common_steps) steps 100000
+
+pub returns-in-None-clause-fits : goal.returns-in-None-clause-fits
+returns-in-None-clause-fits g c = grind (arith, common_steps) steps 100000
+
+pub returns-in-None-clause-long : goal.returns-in-None-clause-long
+returns-in-None-clause-long g c = grind (arith, common_steps) steps 100000
+
+pub returns-in-None-clause-found : goal.returns-in-None-clause-found
+returns-in-None-clause-found g c = grind (arith, common_steps) steps 1500000
+
+pub returns-in-None-clause-fields : goal.returns-in-None-clause-fields
+returns-in-None-clause-fields g c = grind (arith, common_steps) steps 100000
+
+pub returns-in-None-clause-leaves : goal.returns-in-None-clause-leaves
+returns-in-None-clause-leaves g c = grind (arith, common_steps) steps 100000
+
+pub header_at-requires-clause-file : goal.header_at-requires-clause-file
+header_at-requires-clause-file g c = grind (arith, common_steps) steps 100000
+
+pub header_at-requires-clause-within : goal.header_at-requires-clause-within
+header_at-requires-clause-within g c = grind (arith, common_steps) steps 100000
+
+pub header_at-requires-clause-piece : goal.header_at-requires-clause-piece
+header_at-requires-clause-piece g c = grind (arith, common_steps) steps 100000
+
+pub overflow_sub-head : goal.overflow_sub-head
+overflow_sub-head g c = grind (arith, common_steps) steps 100000
+
+pub hash_at-requires-clause-file : goal.hash_at-requires-clause-file
+hash_at-requires-clause-file g c = grind (arith, common_steps) steps 100000
+
+pub hash_at-requires-clause-within : goal.hash_at-requires-clause-within
+hash_at-requires-clause-within g c = grind (arith, common_steps) steps 100000
+
+pub hash_at-requires-clause-buffer : goal.hash_at-requires-clause-buffer
+hash_at-requires-clause-buffer g c = grind (arith, common_steps) steps 100000
+
+pub hash_at-requires-clause-piece : goal.hash_at-requires-clause-piece
+hash_at-requires-clause-piece g c = grind (arith, common_steps) steps 100000
+
+pub overflow_add-at : goal.overflow_add-at
+overflow_add-at g c = grind (arith, common_steps, g.met.H.Shelf.well_formed)

@@ -1,0 +1,62 @@
+-- Packets that a search found: their headers, and where their bodies are held in one store.
+use Rattle.std.specs.Prelude.{◌≡◌, ℕ, ◌+◌, ◌-◌, ◌<◌, ◌≤◌, List, All, drop, take, map, filter, length, IsTrue}
+use Rattle.std.specs.List.{range_with_len}
+use Rattle.std.specs.List.Sorted.{IsStrictlyIncreasing}
+use Rattle.parfield.specs.Packet.{FoundPacket}
+use Rattle.parshelf.specs.Shelf.{ShelfState, file_of}
+use Rattle.parsalvage.specs.Packets.{is_packet_at, packet_found_at}
+use Rattle.parsalvage.specs.BodyStores.{IsStore, HoldsRun}
+use Rattle.parsalvage.specs.Kept.{kept_packet}
+use Rattle.parsalvage.specs.declared.kept.Kept.{Kept}
+use Rattle.parsalvage.specs.declared.kept.KeptBody.{KeptBody}
+use Rattle.parsalvage.specs.declared.kept.KeptBody.TheVariants as kept
+use Rattle.parsalvage.specs.declared.stored_body.StoredBody.{StoredBody}
+use Rattle.parsalvage.specs.declared.stored_body.StoredBody.TheVariants.{Whole, Front}
+use Rattle.parsalvage.specs.declared.file_scan.StoredPacket.{StoredPacket}
+use Rattle.parsalvage.specs.declared.file_scan.FileScan.{FileScan}
+
+-- what is held of a body, its bytes being a part of a store
+abbrev pub kept_body_from : List ℕ → StoredBody → KeptBody
+kept_body_from store (Whole place size) = kept.Whole (take size (drop place store))
+kept_body_from store (Front first len) = kept.Front first len
+
+-- what is held of a body lies within so many bytes
+abbrev pub FitsStore : ℕ → StoredBody → Type 0
+FitsStore size (Whole place count) = place + count ≤ size
+FitsStore size (Front first len) = Unit {0}
+
+-- a stored packet of this file as it is kept
+abbrev pub kept_packet_from : ℕ → List ℕ → StoredPacket → Kept
+kept_packet_from file store packet = record {
+  file = file;
+  at = packet.at;
+  length = packet.length;
+  set = packet.set;
+  kind = packet.kind;
+  body = kept_body_from store packet.body;
+}
+
+-- the packets that begin at offsets from a up to b, rising
+unfoldable pub packets_between : List ℕ → ℕ → ℕ → List FoundPacket
+packets_between bytes a b =
+    map (packet_found_at bytes) (filter (is_packet_at bytes) (range_with_len a (b - a)))
+
+-- packets below this offset of a file of this length, by offset
+pub record LiesIn (size below : ℕ) (found : FileScan) : Type 0 where
+  pub store : IsStore size found.bodies
+  pub begins : found.bodies.start < below + 64
+  pub held : All (λ n. FitsStore (length found.bodies.bytes.items) n.body) found.packets.items
+  pub rising : IsStrictlyIncreasing (map (λ n. n.at) found.packets.items)
+  pub before : All (λ n. n.at < below) found.packets.items
+  pub within : All (λ n. n.at + n.length ≤ size) found.packets.items
+
+-- the packets of a file below this offset are found
+pub record FoundBelow (file : ℕ) (bytes : List ℕ) (below : ℕ) (found : FileScan) : Type 0 where
+  pub run : HoldsRun bytes found.bodies
+  pub packets : map (kept_packet_from file found.bodies.bytes.items) found.packets.items
+      ≡ map (kept_packet file) (packets_between bytes 0 below)
+
+-- the same of a file of a steady shelf
+abbrev pub FindsBelow : ShelfState → ℕ → ℕ → FileScan → Type 0
+FindsBelow shelf file below found =
+    IsTrue shelf.is_steady → FoundBelow file (file_of shelf file) below found

@@ -1,5 +1,0 @@
-use Rattle.std.proofs.Common.{rules}
-use Rattle.parset.proofs.bodies.fields.is_over_limit.Goals as goal
-
-pub returns : goal.returns
-returns c = search rules steps 1000000
