@@ -14,7 +14,7 @@ use Rattle.parfind.specs.declared.searches.finder.Visit.TheVariants.{Hit, Passed
 use Rattle.parfind.specs.declared.tracks.track.Track.{Track}
 use Rattle.parfind.specs.Fetched.{Place, ReadsUpTo}
 use Rattle.parfind.specs.Finders.{FinderState, BelongsTo, StandsAt}
-use Rattle.parfind.specs.Fitting.{is_fit}
+use Rattle.parfind.specs.Fitting.{is_fitting_match}
 use Rattle.parfind.specs.NextPlace.{IsAtPlace, IsNextPlace, rest_of}
 use Rattle.parfind.specs.Order.{cursor_after}
 use Rattle.parfind.specs.Sightings.{is_slice_seen}
@@ -40,7 +40,7 @@ pub record IsThere (set : SliceSet) (s : ShelfState) (f : FinderState) : Type 0 
 pub record Looked
     (set : SliceSet) (s : ShelfState) (f : FinderState) (rest : ℕ) (found : Option ℕ) (w : WindowState) (b : Track) : Type 0 where
   pub rest_is : rest ≡ rest_of s.lengths f.cursor
-  pub first : IsLeastFrom (slice_passes set.slices (is_fit (sums_of f.window.content) rest)) f.cursor.slice found
+  pub first : IsLeastFrom (slice_passes set.slices (is_fitting_match (sums_of f.window.content) rest)) f.cursor.slice found
   pub looks : Looks f.window f.track w b
   pub remembers : Remembers w b
   pub marked : remembered f.track.digest < remembered b.digest → IsTrue (set_has_fit_crc set (crc_of f.window.content) rest)

@@ -5,9 +5,9 @@ use Rattle.std.specs.List.{list_any}
 use Rattle.std.specs.Str.{bytes_eq}
 use Rattle.std.specs.Option.{option_map_or}
 use Rattle.parfield.specs.declared.hash16.Hash16.{Hash16}
-use Rattle.parwindow.specs.Index.{SliceSet, slice_passes, has_sums, has_crc_of}
+use Rattle.parwindow.specs.Index.{SliceSet, slice_passes, has_sums, has_known_crc}
 use Rattle.parwindow.specs.Missing.{has_fit_crc_of, set_has_fit_crc}
-use Rattle.parfind.specs.Fitting.{is_fit}
+use Rattle.parfind.specs.Fitting.{is_fitting_match}
 
 -- where a test is passed, something is there that passes it
 pub passing : {A : Type 0} (test : A → Bool) (found : Option A) → option_map_or test found false ≡ true
@@ -28,16 +28,16 @@ has_both sums None h = h
 has_both sums (Some k) h = (and_parts _ _ h).0
 
 -- a slice that fits has the CRC-32 of the window
-module _ (set : SliceSet) (sums : Hash16 × ℕ) (left n : ℕ) (fits : slice_passes set.slices (is_fit sums left) n ≡ true) where
+module _ (set : SliceSet) (sums : Hash16 × ℕ) (left n : ℕ) (fits : slice_passes set.slices (is_fitting_match sums left) n ≡ true) where
   pub fit_has_crc : set_has_fit_crc set sums.1 left ≡ true
   fit_has_crc =
-      let slice = passing (is_fit sums left) (slice_get set.slices n) fits in
+      let slice = passing (is_fitting_match sums left) (slice_get set.slices n) fits in
       let parts = and_parts (nat_le slice.0.length left) (has_sums sums slice.0) slice.2 in
       passing_has (has_fit_crc_of sums.1 left) set.slices n slice.0 slice.1
-      (and_from (has_crc_of sums.1 slice.0) (nat_le slice.0.length left) (has_both sums slice.0.sums parts.1) parts.0)
+      (and_from (has_known_crc sums.1 slice.0) (nat_le slice.0.length left) (has_both sums slice.0.sums parts.1) parts.0)
 
   pub fit_passes : slice_passes set.slices (has_fit_crc_of sums.1 left) n ≡ true
   fit_passes =
-      let slice = passing (is_fit sums left) (slice_get set.slices n) fits in
+      let slice = passing (is_fitting_match sums left) (slice_get set.slices n) fits in
       let parts = and_parts (nat_le slice.0.length left) (has_sums sums slice.0) slice.2 in
-      rw slice.1 (and_from (has_crc_of sums.1 slice.0) (nat_le slice.0.length left) (has_both sums slice.0.sums parts.1) parts.0)
+      rw slice.1 (and_from (has_known_crc sums.1 slice.0) (nat_le slice.0.length left) (has_both sums slice.0.sums parts.1) parts.0)

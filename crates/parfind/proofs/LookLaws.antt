@@ -6,7 +6,7 @@ use Rattle.parshelf.proofs.ShelfLaws.{length-file_of}
 use Rattle.parwindow.specs.Index.{SliceSet, slice_passes, sums_of}
 use Rattle.parwindow.specs.Least.{IsLeastFrom}
 use Rattle.parwindow.specs.Window.{window_at}
-use Rattle.parfind.specs.Fitting.{is_fit}
+use Rattle.parfind.specs.Fitting.{is_fitting_match}
 use Rattle.parfind.specs.Tracks.{HasNoCrc}
 use Rattle.parfind.proofs.TrackLaws.{whole_window}
 use Rattle.parfind.specs.Finders.{FinderState, BelongsTo, StandsAt}
@@ -28,7 +28,7 @@ module _ (f : FinderState) (set : SliceSet) (s : ShelfState) (belongs : BelongsT
   -- the slices that fit are those that are seen
   pub look_seen : length f.window.content ≡ f.window.capacity → (left : ℕ) → f.cursor.offset < slice_index s.lengths f.cursor.file
       → f.cursor.offset + left ≡ slice_index s.lengths f.cursor.file → (found : Option ℕ)
-      → IsLeastFrom (slice_passes set.slices (is_fit (sums_of f.window.content) left)) f.cursor.slice found
+      → IsLeastFrom (slice_passes set.slices (is_fitting_match (sums_of f.window.content) left)) f.cursor.slice found
       → IsLeastFrom (is_slice_seen set (file_of s f.cursor.file) f.cursor.offset) f.cursor.slice found
   look_seen full left inside all found least =
       let file : List ℕ = file_of s f.cursor.file in

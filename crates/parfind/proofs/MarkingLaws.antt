@@ -3,7 +3,7 @@ use Rattle.std.proofs.Common.{◌≡◌, ℕ, ◌+◌, ◌<◌, ◌≤◌, Bool,
 use Rattle.std.specs.List.{list_any, range_with_len}
 use Rattle.std.proofs.lemmas.Bool.{cases_Bool, cases_eq, cases_lt, eq-eqb, ne_eqb, or_cases, or_left, or_right, lt-ltb, le-ltb, false_from_ne_true, and_parts, and_from, not-true, not_from_false}
 use Rattle.std.proofs.Math.Bool.{or-false, or_assoc}
-use Rattle.parfind.specs.Fitting.{is_fit}
+use Rattle.parfind.specs.Fitting.{is_fitting_match}
 use Rattle.parfind.proofs.FittingLaws.{fit_passes}
 use Rattle.parfind.proofs.ListLaws.{Has, Has-range}
 use Rattle.parfind.proofs.SeenLaws.{passes_there, fits_on}
@@ -70,9 +70,9 @@ missing_was set was now crc left kept missing = elim (cases_Bool (set_has_missin
 
 -- where each of them has its mark, none of the slices that fit is without
 pub fits_marked : (set : SliceSet) (found : List Bool) (sums : Hash16 × ℕ) (left : ℕ) → set_has_missing set found sums.1 left ≡ false
-    → MarksMore (slice_passes set.slices (is_fit sums left)) found found
+    → MarksMore (slice_passes set.slices (is_fitting_match sums left)) found found
 fits_marked set found sums left known n =
-    let fit : Bool = slice_passes set.slices (is_fit sums left) n in
+    let fit : Bool = slice_passes set.slices (is_fitting_match sums left) n in
     same_truth (mark_of found n) (mark_of found n || fit) (λ h. or_left (mark_of found n) fit h) (λ h.
     elim (or_cases (mark_of found n) fit h) [
       | inl marked ↦ marked

@@ -1,8 +1,10 @@
 -- A window that goes along a file: more bytes come into it, and a full one moves on.
 use Rattle.std.proofs.Common.{◌≡◌, ℕ, ◌+◌, ◌<◌, ◌≤◌, Bool, List, ◌++◌, length, ap, ◌∙◌, arith, IsTrue, Option, None, Some, IfSome, length-append}
 use Rattle.parfield.specs.declared.hash16.Hash16.{Hash16}
-use Rattle.parwindow.specs.Index.{SliceSet}
-use Rattle.parwindow.specs.Until.{slid_content, PushesUntil}
+use Rattle.std.proofs.lemmas.Bool.{or_right}
+use Rattle.parwindow.specs.Crc32.{crc_of}
+use Rattle.parwindow.specs.Index.{SliceSet, set_has_crc}
+use Rattle.parwindow.specs.Until.{slid_content, slid_window, has_tail_slice, PushesUntil}
 use Rattle.parwindow.specs.Window.{WindowState, window_at}
 use Rattle.parfind.specs.declared.tracks.track.Track.{Track}
 use Rattle.parfind.specs.Tracks.{HasBytes, Follows, HasNoCrc, IsPieceOf, next_offset}
@@ -18,8 +20,10 @@ pub kept_window : (u v w : WindowState) (bytes : List ℕ) → v ≡ record u { 
     → w ≡ record u { content = w.content }
 kept_window u v w bytes before next =
     let capacity : w.capacity ≡ u.capacity = ap (λ (x : WindowState). x.capacity) next ∙ ap (λ (x : WindowState). x.capacity) before in
+    let tails : w.tails ≡ u.tails = ap (λ (x : WindowState). x.tails) next ∙ ap (λ (x : WindowState). x.tails) before in
     let digests : w.digests ≡ u.digests = ap (λ (x : WindowState). x.digests) next ∙ ap (λ (x : WindowState). x.digests) before in
-    ap (λ (n : ℕ). record w { capacity = n }) capacity ∙ ap (λ (n : ℕ). record w { capacity = u.capacity; digests = n }) digests
+    ap (λ (n : ℕ). record w { capacity = n }) capacity ∙ ap (λ (ns : List ℕ). record w { capacity = u.capacity; tails = ns }) tails
+    ∙ ap (λ (n : ℕ). record u { content = w.content; digests = n }) digests
 
 module _ (size : ℕ) (steady : Bool) (file : List ℕ) (w : WindowState) (t : Track) (follows : Follows size steady file w t)
     (ends : IsTrue steady → length file ≡ size) (piece : List ℕ) (is_piece : IsPieceOf w t size piece)
@@ -66,11 +70,12 @@ module _ (size : ℕ) (steady : Bool) (file : List ℕ) (w : WindowState) (t : T
         }
 
   -- the windows on the way
-  pub none_on : (set : SliceSet) (n : ℕ) → w.capacity ≡ set.slice_size → length w.content ≡ w.capacity → PushesUntil set w.content piece n
+  pub none_on : (set : SliceSet) (n : ℕ) → w.capacity ≡ set.slice_size → length w.content ≡ w.capacity → PushesUntil set w piece n
       → IsTrue steady → HasNoCrc set file t.window_offset n
   none_on set n sized full until is_steady k some less has =
       let fits : k ≤ length piece = omega (arith, until.within) in
       let whole : slid_content w.content piece k ≡ window_at set.slice_size file (t.window_offset + k) =
       whole_window file set.slice_size (t.window_offset + k) (slid_content w.content piece k)
       (length-slid_content w.content piece k fits ∙ full ∙ sized) (slid_has k fits is_steady) in
-      until.before k some less (rw whole has)
+      until.before k some less
+      (or_right (has_tail_slice set (slid_window w piece k)) (set_has_crc set (crc_of (slid_content w.content piece k))) (rw whole has))

@@ -10,7 +10,7 @@ use Rattle.parwindow.specs.Index.{SliceSet, slice_passes, sums_of, set_has_fit}
 use Rattle.parwindow.specs.Missing.{set_has_missing, mark_of}
 use Rattle.parwindow.specs.Window.{WindowState}
 use Rattle.parfind.specs.Fetched.{ReadsUpTo}
-use Rattle.parfind.specs.Fitting.{is_fit}
+use Rattle.parfind.specs.Fitting.{is_fitting_match}
 use Rattle.parfind.specs.Marking.{MarksMore, TakesDigest, IsExhausted}
 use Rattle.parfind.specs.NextPlace.{rest_of}
 use Rattle.parfind.specs.Surveying.{SurveyState, Surveyed, SurveyEnds, survey_at}
@@ -53,7 +53,7 @@ pub record LookedAt
   pub full : length filled.window.content ≡ filled.window.capacity
   pub some : 0 < left
   pub each : length more ≡ length filled.found
-  pub marks : MarksMore (slice_passes set.slices (is_fit (sums_of filled.window.content) left)) filled.found more
+  pub marks : MarksMore (slice_passes set.slices (is_fitting_match (sums_of filled.window.content) left)) filled.found more
   pub takes : TakesDigest (set_has_missing set filled.found (crc_of filled.window.content) left) filled.window w
   pub next : IsNextMissing more missing last
 
@@ -98,7 +98,8 @@ module _ (set : SliceSet) (old now : SurveyState) (shelf : IsShelf old.shelf) (m
         marked = so_far.marked;
         exhausted_is = tt;
         none = so_far.none;
-        window_is = kept_capacity old.window now.window w so_far.window_is (ap (λ (x : WindowState). x.capacity) window);
+        window_is = kept_capacity old.window now.window w so_far.window_is (ap (λ (x : WindowState). x.capacity) window)
+            (ap (λ (x : WindowState). x.tails) window);
         surveyed = swept_enter set old now shelf so_far.reads missing there unmarked left room full so_far.surveyed
             (survey_at now.shelf w now.found t) refl refl unread window;
       }
@@ -143,6 +144,9 @@ module _ (set : SliceSet) (old now : SurveyState) (shelf : IsShelf old.shelf) (m
 
       capacity : w.capacity ≡ now.window.capacity
       capacity = ap (λ (x : WindowState). x.capacity) look.takes ∙ ap (λ (x : WindowState). x.capacity) fill.window_is
+
+      tails : w.tails ≡ now.window.tails
+      tails = ap (λ (x : WindowState). x.tails) look.takes ∙ ap (λ (x : WindowState). x.tails) fill.window_is
 
       pub look_ends : length more ≤ last → SurveyEnds set old seen (Ok tt)
       look_ends over = record {
@@ -214,7 +218,8 @@ module _ (set : SliceSet) (old now : SurveyState) (shelf : IsShelf old.shelf) (m
                 exhausted_is = exhausted_on set more left (rest_of t.lengths (cursor_of_track a)) crc less_left exhausted_is;
                 none = λ all. absurd (some_missing all);
                 window_is = kept_capacity old.window now.window v so_far.window_is
-                    (ap (λ (x : WindowState). x.capacity) slid.window_is ∙ capacity);
+                    (ap (λ (x : WindowState). x.capacity) slid.window_is ∙ capacity)
+                    (ap (λ (x : WindowState). x.tails) slid.window_is ∙ tails);
                 surveyed = swept_pass set old seen shelf all_read last still_there still_unmarked left n passes.some looked on refl
                     slid.tied slid.window_is (capacity ∙ sized) slid.file_is passes.offset_is slid.hands none fits within_file;
               }

@@ -11,7 +11,7 @@ use Rattle.parwindow.specs.Missing.{set_has_missing, mark_of}
 use Rattle.parwindow.specs.Window.{WindowState, window_at}
 use Rattle.parfind.specs.declared.cursors.cursor.Cursor.{Cursor}
 use Rattle.parfind.specs.declared.tracks.track.Track.{Track}
-use Rattle.parfind.specs.Fitting.{is_fit}
+use Rattle.parfind.specs.Fitting.{is_fitting_match}
 use Rattle.parfind.specs.Fetched.{ReadsUpTo}
 use Rattle.parfind.specs.Tracks.{IsTied, SameTrack, IsUnread, HasNoCrc, fetched_of}
 use Rattle.parfind.proofs.FetchedLaws.{hands_enter}
@@ -144,12 +144,12 @@ module _ (set : SliceSet) (old now : SurveyState) (shelf : IsShelf old.shelf) (r
         there ∙ ap (λ (file : List ℕ). window_at set.slice_size file now.track.window_offset) (same_file now.track.file)
 
     pub swept_here : (next : SurveyState) → next.shelf ≡ now.shelf → next.track ≡ now.track
-        → MarksMore (slice_passes set.slices (is_fit (sums_of now.window.content) left)) now.found next.found
+        → MarksMore (slice_passes set.slices (is_fitting_match (sums_of now.window.content) left)) now.found next.found
         → TakesDigest (set_has_missing set now.found (crc_of now.window.content) left) now.window next.window
         → Surveyed set old next (cursor_on (cursor_of_track now.track) 1)
     swept_here next still track marks takes =
         surveyed_here set old now (cursor_of_track now.track) so_far refl shelf counted (omega arith) next still track
-        (slice_passes set.slices (is_fit (sums_of now.window.content) left)) (set_has_missing set now.found (crc_of now.window.content) left)
+        (slice_passes set.slices (is_fitting_match (sums_of now.window.content) left)) (set_has_missing set now.found (crc_of now.window.content) left)
         (λ steady n.
         let file : List ℕ = file_of old.shelf now.track.file in
         let whole : length file ≡ slice_index old.shelf.lengths now.track.file = length-file_of old.shelf now.track.file shelf steady in
@@ -174,11 +174,12 @@ module _ (files file offset : ℕ) (there : file < files) (small : offset < 9223
       → (files - file') * 9223372036854775808 - offset' < (files - file) * 9223372036854775808 - offset
   entered_nearer file' offset' next first = rw (next, first) (omega arith)
 
--- the window keeps its capacity
+-- the window keeps its capacity and its tails
 pub kept_capacity : (u v w : WindowState) → v ≡ record u { content = v.content; digests = v.digests } → w.capacity ≡ v.capacity
-    → w ≡ record u { content = w.content; digests = w.digests }
-kept_capacity u v w before same =
+    → w.tails ≡ v.tails → w ≡ record u { content = w.content; digests = w.digests }
+kept_capacity u v w before same tails =
     ap (λ (n : ℕ). record w { capacity = n }) (same ∙ ap (λ (x : WindowState). x.capacity) before)
+    ∙ ap (λ (ns : List ℕ). record w { capacity = u.capacity; tails = ns }) (tails ∙ ap (λ (x : WindowState). x.tails) before)
 
 -- a digest changes nothing of where a window goes
 pub tied_digest : (s : ShelfState) (w y : WindowState) (t : Track) (n : ℕ) → IsTied s w t → y ≡ record w { digests = n } → IsTied s y t
@@ -215,7 +216,7 @@ module _ (set : SliceSet) (old now : SurveyState) (shelf : IsShelf old.shelf) (r
   -- and the slices that are seen in it are marked
   pub swept_look : ReadsOnly now.shelf next.shelf → length next.window.content ≡ next.window.capacity → now.track.file < length old.shelf.lengths
       → 0 < left → (last : SurveyState) → last.shelf ≡ next.shelf → last.track ≡ next.track
-      → MarksMore (slice_passes set.slices (is_fit (sums_of next.window.content) left)) next.found last.found
+      → MarksMore (slice_passes set.slices (is_fitting_match (sums_of next.window.content) left)) next.found last.found
       → TakesDigest (set_has_missing set next.found (crc_of next.window.content) left) next.window last.window
       → Surveyed set old last (cursor_on (cursor_of_track next.track) 1)
   swept_look only full counted some last still track marks takes =

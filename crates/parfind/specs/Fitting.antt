@@ -5,5 +5,5 @@ use Rattle.parset.specs.declared.recovery_set.SetSlice.{SetSlice}
 use Rattle.parwindow.specs.Index.{has_sums}
 
 -- the slice has these sums, and fits into what is left of the file
-abbrev pub is_fit : Hash16 × ℕ → ℕ → SetSlice → Bool
-is_fit sums left slice = nat_le slice.length left && has_sums sums slice
+abbrev pub is_fitting_match : Hash16 × ℕ → ℕ → SetSlice → Bool
+is_fitting_match sums left slice = nat_le slice.length left && has_sums sums slice

@@ -25,7 +25,7 @@ abbrev pub marks : Scan → Cursor → Cursor → ℕ
 marks scan c d = marked_between scan c (cursor_past (place_at d))
 
 -- the window of a place has the CRC-32 of a slice whose sums are known, which fits into what is
--- left of the file and whose entry is false
+-- left of the file and has no mark
 abbrev pub is_missing_at : Scan → List Bool → Place → Bool
 is_missing_at scan found p =
     set_has_missing scan.set found

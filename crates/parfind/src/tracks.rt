@@ -12,5 +12,5 @@ mod looking;
 mod sliding;
 mod track;
 
-pub(crate) use crate::tracks::looking::first_fit;
+pub(crate) use crate::tracks::looking::first_fitting_match;
 pub(crate) use crate::tracks::track::{AHEAD, Track};

@@ -13,9 +13,9 @@ reads_scanned (command.Find limit cursor) = true
 reads_scanned (command.Verify quiet) = true
 
 -- a limit is not 0
-abbrev pub HasLimit : Command → Type 0
-HasLimit (command.Find limit cursor) = limit ≢ Some 0
-HasLimit _ = ⊤
+abbrev pub LimitIsNotZero : Command → Type 0
+LimitIsNotZero (command.Find limit cursor) = limit ≢ Some 0
+LimitIsNotZero _ = ⊤
 
 -- the command is `find`, which writes while it searches
 abbrev pub is_find : Command → Bool

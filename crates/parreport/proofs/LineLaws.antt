@@ -5,7 +5,7 @@ use Rattle.parshelf.specs.Reads.{ReadsOnly}
 use Rattle.parshelf.specs.SinkState.{SinkState, appended, refused, WritesPrefix, FailsAfterPrefix}
 use Rattle.parreport.specs.Faults.{listing_of, IsSearchFault, OnScannedFault}
 use Rattle.parreport.specs.FindText.{WritesLine}
-use Rattle.parreport.specs.Outcomes.{Answers, EndsScanned, EndsSink}
+use Rattle.parreport.specs.Outcomes.{Answers, LeavesScanned, LeavesSink}
 use Rattle.parreport.specs.Report.{listed}
 use Rattle.parreport.specs.declared.text.faults.RunFault.{RunFault}
 use Rattle.parreport.specs.declared.text.faults.RunFault.TheVariants as fault
@@ -40,7 +40,7 @@ last_text line text (Err why) old mid new h front ends refuses = fault_text line
 
 -- a line that is written, or stopped by the sink or by want of memory, tells of no read that failed
 pub line_reads : (line : List ℕ) (result : Result (Unit {0}) RunFault) (old new : ShelfState) (before after : SinkState)
-    → WritesLine line result before after → ReadsOnly old new → EndsScanned (listing_of result) old new
+    → WritesLine line result before after → ReadsOnly old new → LeavesScanned (listing_of result) old new
 line_reads line (Ok done) old new before after h reads = reads
 line_reads line (Err fault.Write) old new before after h reads = reads
 line_reads line (Err fault.Memory) old new before after h reads = reads
@@ -50,7 +50,7 @@ line_reads line (Err fault.OtherSet) old new before after h reads = absurd h
 
 -- nor of a failure of the sink that is not the line's own
 pub line_sink : (line : List ℕ) (result : Result (Unit {0}) RunFault) (old mid new : SinkState)
-    → WritesLine line result mid new → mid.failures ≡ old.failures → EndsSink (listing_of result) old new
+    → WritesLine line result mid new → mid.failures ≡ old.failures → LeavesSink (listing_of result) old new
 line_sink line (Ok done) old mid new h same = ap (λ (s : SinkState). s.failures) h ∙ same
 line_sink line (Err fault.Write) old mid new h same = omega (arith, ap (λ (s : SinkState). s.failures) h.after, same)
 line_sink line (Err fault.Memory) old mid new h same = ap (λ (s : SinkState). s.failures) h ∙ same

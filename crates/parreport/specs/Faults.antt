@@ -11,12 +11,12 @@ use Rattle.parreport.specs.declared.text.status.Status.{Status}
 use Rattle.parreport.specs.declared.text.status.Status.TheVariants.{Listed}
 
 -- the fault that a cause why there is no set is answered as
-abbrev pub cause_of : SetFault → RunFault
-cause_of set_fault.NoMain = fault.Set cause.NoMain
-cause_of (set_fault.NoDesc id) = fault.Set (cause.NoDesc id)
-cause_of (set_fault.NameTwice id) = fault.Set (cause.NameTwice id)
-cause_of set_fault.TooManySlices = fault.Set cause.TooManySlices
-cause_of set_fault.Memory = fault.Memory
+abbrev pub set_fault_of : SetFault → RunFault
+set_fault_of set_fault.NoMain = fault.Set cause.NoMain
+set_fault_of (set_fault.NoDesc id) = fault.Set (cause.NoDesc id)
+set_fault_of (set_fault.NameTwice id) = fault.Set (cause.NameTwice id)
+set_fault_of set_fault.TooManySlices = fault.Set cause.TooManySlices
+set_fault_of set_fault.Memory = fault.Memory
 
 -- the fault that it is for a run that scanned files were not all read
 abbrev pub scanned_fault_of : SurveyFault → RunFault

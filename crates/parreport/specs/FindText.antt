@@ -27,8 +27,8 @@ pub record Search : Type 0 where
   pub limit : Option ℕ
 
 -- the search in files that are scanned
-abbrev pub search_of : List Scanned → List (List ℕ) → SetView → Cursor → Option ℕ → Search
-search_of files contents set at limit = record {
+abbrev pub find_search_of : List Scanned → List (List ℕ) → SetView → Cursor → Option ℕ → Search
+find_search_of files contents set at limit = record {
   names = names_of files;
   contents = contents;
   set = set;

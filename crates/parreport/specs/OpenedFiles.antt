@@ -6,7 +6,7 @@ use Rattle.parplan.specs.Commands.{reads_scanned}
 use Rattle.parreport.specs.Unchanged.{AreSteadyFor}
 use Rattle.parreport.specs.Ends.{run_end_of, exit_status_of, message_of, error_line_of}
 use Rattle.parreport.specs.Faults.{OnScannedFault}
-use Rattle.parreport.specs.Outcomes.{Answers, ReadFaultLeaves, EndsPackets, EndsScanned, EndsSink, written, may_follow_text}
+use Rattle.parreport.specs.Outcomes.{Answers, ReadFaultLeaves, LeavesPackets, LeavesScanned, LeavesSink, written, may_follow_text}
 use Rattle.parreport.specs.Report.{report_of}
 use Rattle.parshelf.specs.SinkState.{SinkState}
 use Rattle.parreport.specs.declared.ends.End.{End}
@@ -39,7 +39,7 @@ pub record TellsRun (plan : Plan) (old new : RunState) (tells : End × Option (L
       }) file old.out new.out))
   pub nothing_written : IfErr answer (λ fault.
       may_follow_text plan.command (written old.out new.out) fault ≡ false → new.out ≡ old.out)
-  pub packets_read : EndsPackets answer old.packets new.packets
-  pub scanned_read : EndsScanned answer old.scanned new.scanned
-  pub sink : EndsSink answer old.out new.out
+  pub packets_read : LeavesPackets answer old.packets new.packets
+  pub scanned_read : LeavesScanned answer old.scanned new.scanned
+  pub sink : LeavesSink answer old.out new.out
   pub untouched : reads_scanned plan.command ≡ false → new.scanned ≡ old.scanned

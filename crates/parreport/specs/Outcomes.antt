@@ -5,7 +5,7 @@ use Rattle.parshelf.specs.Reads.{ReadsOnly, FaultsIn}
 use Rattle.parsalvage.specs.declared.kept.Kept.{Kept}
 use Rattle.parset.specs.RecoverySet.{SetView, set_of}
 use Rattle.parset.specs.declared.recovery_set.SetFault.{SetFault}
-use Rattle.parreport.specs.FindText.{search_of, WritesLinesBefore}
+use Rattle.parreport.specs.FindText.{find_search_of, WritesLinesBefore}
 use Rattle.parplan.specs.Commands.{is_find, reads_scanned}
 use Rattle.parreport.specs.Report.{Report, report_with_set, start_cursor_of}
 use Rattle.parreport.specs.Blocks.{block}
@@ -45,7 +45,7 @@ pub record ReadFaultLeaves (plan : Plan) (input : Input) (file : ℕ) (old new :
   pub reads : IsTrue (reads_scanned plan.command)
   pub made : set_of input.packets plan.set ≡ Ok set
   pub lines : OnFind plan.command (λ query. IsSomeAnd (start_cursor_of set query.cursor) (λ at.
-      WritesLinesBefore (search_of plan.scanned input.contents set at query.limit) file old new))
+      WritesLinesBefore (find_search_of plan.scanned input.contents set at query.limit) file old new))
 
 -- so many bytes were written
 abbrev pub written : SinkState → SinkState → ℕ
@@ -69,26 +69,26 @@ MakesSet made (Err fault.Memory) = ⊤
 MakesSet made (Err _) = ⊥
 
 -- what an answer says of the shelf of packet files: a read fault is its one failure or early end
-abbrev pub EndsPackets : {A : Type 0} → Result A RunFault → ShelfState → ShelfState → Type 0
-EndsPackets (Err (fault.Read true file why)) old new = FaultsIn old new file why
-EndsPackets _ old new = ReadsOnly old new
+abbrev pub LeavesPackets : {A : Type 0} → Result A RunFault → ShelfState → ShelfState → Type 0
+LeavesPackets (Err (fault.Read true file why)) old new = FaultsIn old new file why
+LeavesPackets _ old new = ReadsOnly old new
 
 -- what it says of the shelf of scanned files
-abbrev pub EndsScanned : Result Status RunFault → ShelfState → ShelfState → Type 0
-EndsScanned (Err (fault.Read false file why)) old new = FaultsIn old new file why
-EndsScanned _ old new = ReadsOnly old new
+abbrev pub LeavesScanned : Result Status RunFault → ShelfState → ShelfState → Type 0
+LeavesScanned (Err (fault.Read false file why)) old new = FaultsIn old new file why
+LeavesScanned _ old new = ReadsOnly old new
 
 -- what it says of the sink's failures: a write fault is the one
-abbrev pub EndsSink : Result Status RunFault → SinkState → SinkState → Type 0
-EndsSink (Err fault.Write) old new = new.failures ≡ old.failures + 1
-EndsSink _ old new = new.failures ≡ old.failures
+abbrev pub LeavesSink : Result Status RunFault → SinkState → SinkState → Type 0
+LeavesSink (Err fault.Write) old new = new.failures ≡ old.failures + 1
+LeavesSink _ old new = new.failures ≡ old.failures
 
 -- the fault is one of reading a packet file
-abbrev pub is_packet_read : RunFault → Bool
-is_packet_read (fault.Read packet file why) = packet
-is_packet_read _ = false
+abbrev pub is_packet_file_fault : RunFault → Bool
+is_packet_file_fault (fault.Read packet file why) = packet
+is_packet_file_fault _ = false
 
 -- the fault is one of reading
-abbrev pub is_read : RunFault → Bool
-is_read (fault.Read packet file why) = true
-is_read _ = false
+abbrev pub is_read_fault : RunFault → Bool
+is_read_fault (fault.Read packet file why) = true
+is_read_fault _ = false

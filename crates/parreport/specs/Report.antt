@@ -4,8 +4,8 @@ use Rattle.std.specs.Str.{bytes_eq}
 use Rattle.parfield.specs.declared.hash16.Hash16.{Hash16}
 use Rattle.parfind.specs.Order.{origin}
 use Rattle.parfind.specs.declared.cursors.cursor.Cursor.{Cursor}
-use Rattle.parreport.specs.Faults.{cause_of}
-use Rattle.parreport.specs.FindText.{find_text, search_of}
+use Rattle.parreport.specs.Faults.{set_fault_of}
+use Rattle.parreport.specs.FindText.{find_text, find_search_of}
 use Rattle.parsalvage.specs.Kept.{kept_of_files}
 use Rattle.parsalvage.specs.declared.kept.Kept.{Kept}
 use Rattle.parset.specs.RecoverySet.{SetView, set_of}
@@ -35,7 +35,7 @@ listed text = record { text = text; answer = Ok Listed }
 -- the report over the recovery set, or of the cause why there is none
 abbrev pub report_with_set : Result SetView SetFault → (SetView → Report) → Report
 report_with_set (Ok set) report = report set
-report_with_set (Err why) report = record { text = []; answer = Err (cause_of why) }
+report_with_set (Err why) report = record { text = []; answer = Err (set_fault_of why) }
 
 -- the report of `packets`
 abbrev pub packets_report : Plan → List Kept → Report
@@ -59,7 +59,7 @@ report_from (Some at) text = listed (text at)
 abbrev pub find_report : Plan → Query → List (List ℕ) → SetView → Report
 find_report plan query scanned set =
     report_from (start_cursor_of set query.cursor)
-    (λ at. find_text (search_of plan.scanned scanned set at query.limit))
+    (λ at. find_text (find_search_of plan.scanned scanned set at query.limit))
 
 -- the report of `verify`
 abbrev pub verify_report : Plan → ℕ → List (List ℕ) → SetView → Report

@@ -16,7 +16,7 @@ pub enum End {
     Plan(PlanFault),
     /// A file that the words name can't be opened.
     CannotOpen,
-    /// Memory was refused before the run.
+    /// Memory was refused before the run, or while files were opened.
     Memory,
     /// The run wrote no whole text.
     Run(RunFault),

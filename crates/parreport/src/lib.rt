@@ -1,5 +1,5 @@
 //! The report that a plan asks for, and how a run ends. Plans, sinks and their failures are passed
-//! on, so that a caller finds all of a run here but its shelves.
+//! on, so that one `use` reaches a whole run but for its shelves.
 //!
 //! From below: `states` says what the scanned files show of a set, `text` writes what each command
 //! tells, `salvage` collects the packets of all packet files, and `report` is the run of a plan

@@ -1,5 +1,5 @@
 ghost use Rattle.std.specs.Prelude.{◌≡◌, length, option_map, IsTrue, IsOkAnd, IfOk, IfErr};
-ghost use Rattle.parplan.specs.Commands.{reads_scanned, HasLimit};
+ghost use Rattle.parplan.specs.Commands.{reads_scanned, LimitIsNotZero};
 ghost use Rattle.parreport.specs.Ends.{opened_of};
 ghost use Rattle.parreport.specs.OpenedFiles.{TellsEnd, TellsRun};
 
@@ -24,7 +24,7 @@ pub fn run_opened<P: Shelf, Q: Shelf, W: Sink>(
         length (P.state files).lengths ≡ length plan.now.packets) }
     requires scanned { IfOk scanned.old (λ files. IsTrue (reads_scanned plan.now.command)
         → length (Q.state files).lengths ≡ length plan.now.scanned) }
-    requires limit { HasLimit plan.now.command }
+    requires limit { LimitIsNotZero plan.now.command }
 
     // Where all files are opened, they are run over, and the end of that run is told.
     ensures ran { IfOk (opened_of plan.now packets.old scanned.old) (λ files.
@@ -68,7 +68,7 @@ fn run_and_tell<P: Shelf, Q: Shelf, W: Sink>(
     requires packets { length (P.state packets.old).lengths ≡ length plan.now.packets }
     requires scanned { IsTrue (reads_scanned plan.now.command)
         → length (Q.state scanned.old).lengths ≡ length plan.now.scanned }
-    requires limit { HasLimit plan.now.command }
+    requires limit { LimitIsNotZero plan.now.command }
     ensures { TellsRun plan.now
         (record {
           packets = P.state packets.old;

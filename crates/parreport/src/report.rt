@@ -2,18 +2,17 @@ ghost use Rattle.std.specs.Prelude.{◌≡◌, length, IsTrue, false, IfErr, Lis
 ghost use Rattle.parsalvage.specs.Kept.{kept_of_files};
 ghost use Rattle.parsalvage.specs.declared.kept.Kept.{Kept};
 ghost use Rattle.parset.specs.RecoverySet.{set_of};
-ghost use Rattle.parplan.specs.Commands.{reads_scanned, HasLimit};
+ghost use Rattle.parplan.specs.Commands.{reads_scanned, LimitIsNotZero};
 ghost use Rattle.parreport.specs.Unchanged.{IsSteadyFor, AreSteadyFor};
 ghost use Rattle.parreport.specs.Faults.{OnScannedFault};
-ghost use Rattle.parreport.specs.Outcomes.{is_packet_read, written, may_follow_text, Answers, ReadFaultLeaves, EndsPackets, EndsScanned, EndsSink};
+ghost use Rattle.parreport.specs.Outcomes.{is_packet_file_fault, written, may_follow_text, Answers, ReadFaultLeaves, LeavesPackets, LeavesScanned, LeavesSink, MakesSet};
 ghost use Rattle.parreport.specs.Report.{report_of, command_report};
 
 use crate::salvage::salvage_files;
-use crate::text::{
-    Query, RunFault, Status, asked_set, write_find, write_packets, write_set, write_verify,
-};
+use crate::text::{Query, RunFault, Status, write_find, write_packets, write_set, write_verify};
 use parplan::{Command, Plan};
-use parset::RecoverySet;
+use parsalvage::Kept;
+use parset::{RecoverySet, build};
 use parshelf::{Shelf, Sink};
 use std::alloc::Global;
 
@@ -29,7 +28,7 @@ pub fn run<P: Shelf, Q: Shelf, W: Sink>(
     requires packets { length (P.state packets.old).lengths ≡ length plan.now.packets }
     requires scanned { IsTrue (reads_scanned plan.now.command)
         → length (Q.state scanned.old).lengths ≡ length plan.now.scanned }
-    requires limit { HasLimit plan.now.command }
+    requires limit { LimitIsNotZero plan.now.command }
 
     // The text and the status, where the files are read unchanged.
     ensures text { AreSteadyFor plan.now.command (P.state packets.old) (Q.state scanned.old)
@@ -45,9 +44,9 @@ pub fn run<P: Shelf, Q: Shelf, W: Sink>(
     ensures nothing_written { IfErr result (λ fault. may_follow_text plan.now.command
         (written (W.state out.old) (W.state out.new)) fault ≡ false
         → W.state out.new ≡ W.state out.old) }
-    ensures packets { EndsPackets result (P.state packets.old) (P.state packets.new) }
-    ensures scanned { EndsScanned result (Q.state scanned.old) (Q.state scanned.new) }
-    ensures sink { EndsSink result (W.state out.old) (W.state out.new) }
+    ensures packets { LeavesPackets result (P.state packets.old) (P.state packets.new) }
+    ensures scanned { LeavesScanned result (Q.state scanned.old) (Q.state scanned.new) }
+    ensures sink { LeavesSink result (W.state out.old) (W.state out.new) }
     ensures untouched { reads_scanned plan.now.command ≡ false
         → Q.state scanned.new ≡ Q.state scanned.old }
 {
@@ -57,6 +56,13 @@ pub fn run<P: Shelf, Q: Shelf, W: Sink>(
     }
     let set = asked_set(alloc, plan, &kept)?;
     run_over_set(alloc, plan, &set, scanned, out)
+}
+
+// The recovery set that a plan asks for, of the packets.
+fn asked_set(alloc: Global, plan: &Plan, kept: &[Kept]) -> Result<RecoverySet, RunFault>
+    ensures { MakesSet (set_of kept.now plan.now.set) result }
+{
+    Ok(build(alloc, kept, plan.set)?)
 }
 
 // What the plan asks for of a set.
@@ -69,7 +75,7 @@ fn run_over_set<Q: Shelf, W: Sink>(
 ) -> Result<Status, RunFault>
     requires scanned { IsTrue (reads_scanned plan.now.command)
         → length (Q.state scanned.old).lengths ≡ length plan.now.scanned }
-    requires limit { HasLimit plan.now.command }
+    requires limit { LimitIsNotZero plan.now.command }
 
     ensures text { IsSteadyFor plan.now.command (Q.state scanned.old)
         → Answers (command_report plan.now.command plan.now (Q.state scanned.old).files set.now)
@@ -79,12 +85,12 @@ fn run_over_set<Q: Shelf, W: Sink>(
         → IfErr result (OnScannedFault (λ file. ReadFaultLeaves plan.now
         (record { packets = packets; contents = (Q.state scanned.old).files })
         file (W.state out.old) (W.state out.new))) }
-    ensures no_packet { IfErr result (λ fault. is_packet_read fault ≡ false) }
+    ensures no_packet { IfErr result (λ fault. is_packet_file_fault fault ≡ false) }
     ensures nothing_written { IfErr result (λ fault. may_follow_text plan.now.command
         (written (W.state out.old) (W.state out.new)) fault ≡ false
         → W.state out.new ≡ W.state out.old) }
-    ensures scanned { EndsScanned result (Q.state scanned.old) (Q.state scanned.new) }
-    ensures sink { EndsSink result (W.state out.old) (W.state out.new) }
+    ensures scanned { LeavesScanned result (Q.state scanned.old) (Q.state scanned.new) }
+    ensures sink { LeavesSink result (W.state out.old) (W.state out.new) }
     ensures untouched { reads_scanned plan.now.command ≡ false
         → Q.state scanned.new ≡ Q.state scanned.old }
 {

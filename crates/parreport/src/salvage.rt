@@ -1,7 +1,7 @@
 ghost use Rattle.std.specs.Prelude.{◌≡◌, IsTrue, IfOk, IfErr};
 ghost use Rattle.parsalvage.specs.Kept.{kept_of_files};
 ghost use Rattle.parreport.specs.Faults.{IsPacketFault};
-ghost use Rattle.parreport.specs.Outcomes.{EndsPackets};
+ghost use Rattle.parreport.specs.Outcomes.{LeavesPackets};
 
 use crate::text::RunFault;
 use parsalvage::{Kept, SalvageFault, salvage_file};
@@ -15,7 +15,7 @@ pub fn salvage_files<H: Shelf>(alloc: Global, shelf: &mut H) -> Result<Vec<Kept>
     ensures kept { IsTrue (H.state shelf.old).is_steady → IfOk result (λ kept.
         kept.items ≡ kept_of_files (H.state shelf.old).files) }
     ensures fault { IfErr result IsPacketFault }
-    ensures reads { EndsPackets result (H.state shelf.old) (H.state shelf.new) }
+    ensures reads { LeavesPackets result (H.state shelf.old) (H.state shelf.new) }
 {
     let mut all = Vec::new(alloc);
     for file in 0..shelf.count() {

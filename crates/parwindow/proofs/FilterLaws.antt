@@ -8,7 +8,7 @@ use Rattle.std.specs.List.{list_any}
 use Rattle.std.proofs.lemmas.List.Folds.{list_any_more}
 use Rattle.parfield.specs.declared.hash16.Hash16.{Hash16}
 use Rattle.parset.specs.declared.recovery_set.SetSlice.{SetSlice}
-use Rattle.parwindow.specs.Index.{has_crc_of}
+use Rattle.parwindow.specs.Index.{has_known_crc}
 use Rattle.parwindow.specs.FilterBits.{MayHave, HasSlices}
 use Rattle.parwindow.specs.KeyBits.{HasBit}
 use Rattle.parwindow.specs.declared.bloom_filter.BloomFilter.{BloomFilter}
@@ -43,13 +43,13 @@ insert-keeps words r other within was =
 has_more : (slices : List SetSlice) (i : ℕ) (d : SetSlice) (before after : BloomFilter)
     → i < length slices
     → HasSlices (take i slices) before → ((other : ℕ) → MayHave before other → MayHave after other)
-    → ((crc : ℕ) → has_crc_of crc (get_or slices i d) ≡ true
+    → ((crc : ℕ) → has_known_crc crc (get_or slices i d) ≡ true
     → MayHave after (bit_xor crc 0xFFFFFFFF))
     → HasSlices (take (i + 1) slices) after
 has_more slices i d before after within has keeps marks crc any =
-    elim (cases_Bool (list_any (has_crc_of crc) (take i slices))) [
+    elim (cases_Bool (list_any (has_known_crc crc) (take i slices))) [
       | inl earlier ↦ keeps (bit_xor crc 0xFFFFFFFF) (has crc earlier)
-      | inr none ↦ marks crc (rw none at (sym (list_any_more (has_crc_of crc) slices i d within)
+      | inr none ↦ marks crc (rw none at (sym (list_any_more (has_known_crc crc) slices i d within)
           ∙ any))
     ]
 

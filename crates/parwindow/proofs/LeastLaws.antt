@@ -12,7 +12,7 @@ use Rattle.std.proofs.lemmas.List.Elements.{All-push, All-contains, All-contains
 use Rattle.parset.specs.declared.recovery_set.SetSlice.{SetSlice}
 use Rattle.parwindow.specs.declared.entry.Entry.{Entry}
 use Rattle.parwindow.specs.Entries.{entry_cmp, AreWithCrc, HasSums, IsIndexOf, IsLeastOf, lesser}
-use Rattle.parwindow.specs.Index.{slice_passes, has_crc_of}
+use Rattle.parwindow.specs.Index.{slice_passes, has_known_crc}
 use Rattle.parwindow.specs.Least.{IsLeastFrom}
 use Rattle.parwindow.proofs.SearchLaws.{entry_of, crc_rises}
 use Rattle.parwindow.proofs.SumLaws.{has_crc_at, crc_at}
@@ -186,7 +186,7 @@ pub next_crc_is : (slices : List SetSlice) (entries found : List Entry) (c from 
     (least : Option ℕ)
     → IsIndexOf slices entries
     → AreWithCrc entries c found → IsLeastOf found from least
-    → IsLeastFrom (slice_passes slices (has_crc_of c)) from least
+    → IsLeastFrom (slice_passes slices (has_known_crc c)) from least
 next_crc_is slices entries found c from None ix those is =
     λ k above has.
     let d = has_crc_at slices k c has in

@@ -1,17 +1,21 @@
 -- The shortest slice with a CRC-32.
-use Rattle.std.proofs.Common.{◌≡◌, ℕ, ◌<◌, ◌≤◌, true, false, nat_lt, nat_le, eqb, eq-eqb, List, length, get_or, sym, ◌∙◌, inl, inr, arith}
-use Rattle.std.specs.Ordering.{is_lt}
+use Rattle.std.proofs.Common.{◌≡◌, ℕ, ◌<◌, ◌≤◌, true, false, nat_lt, nat_le, eqb, eq-eqb, List, length, get_or, Result, Ok, Err, Ordering, Less, Equal, Greater, refl, sym, ◌∙◌, inl, inr, arith}
+use Rattle.std.specs.Prelude.{is_ok}
+use Rattle.std.specs.Ordering.{nat_cmp, ordering_then, is_lt}
 use Rattle.std.specs.Cmp.{IsTotalOrder}
 use Rattle.std.specs.List.{list_any}
-use Rattle.std.specs.List.Sorted.{IsSorted, IsPartitionedBy, IsPartitionPoint}
-use Rattle.std.proofs.lemmas.Bool.{and_parts, and_from, cases_lt, lt-ltb, ltb-true, eqb-true, leb-true, le-leb}
+use Rattle.std.specs.List.Sorted.{IsSorted, IsPartitionedBy, IsPartitionPoint, IsSearchInRange, IsBinarySearchResult}
+use Rattle.std.proofs.lemmas.Bool.{and_parts, and_from, cases_lt, lt-ltb, ltb-true, eqb-true, leb-true, le-leb, false_from_ne_true}
 use Rattle.std.proofs.lemmas.Bool.Decides.{nat_tests}
 use Rattle.std.proofs.lemmas.Cmp.{nat_cmp_total, then_total, on_total, tied_itself}
 use Rattle.std.proofs.lemmas.List.{get_or_default}
-use Rattle.std.proofs.lemmas.List.Folds.{Any-from_list_any, list_any_at}
-use Rattle.std.proofs.lemmas.List.Sorted.{sorted_far, ranks_by}
+use Rattle.std.proofs.lemmas.List.Folds.{Any-from_list_any, list_any-from_Any, list_any_at}
+use Rattle.std.proofs.lemmas.List.Sorted.{searchable_from_sorted, sorted_far, ranks_by}
 use Rattle.parwindow.specs.declared.own_lengths.OwnLength.{OwnLength}
-use Rattle.parwindow.specs.OwnLengths.{length_cmp, is_within}
+use Rattle.parwindow.specs.OwnLengths.{length_cmp, is_exactly, is_within}
+use Rattle.parset.specs.declared.recovery_set.SetSlice.{SetSlice}
+use Rattle.parwindow.specs.Index.{has_known_crc, has_own}
+use Rattle.parwindow.proofs.OrderLaws.{nat_cmp-equal}
 use Rattle.parwindow.proofs.SumLaws.{same_bools}
 
 length_cmp_total : IsTotalOrder length_cmp
@@ -95,3 +99,65 @@ module _ (own : List OwnLength) (rises : IsSorted length_cmp own) where
           λ any. absurd (omega (arith, (some_within any (record { crc = 0; length = 0 })).0)),
           λ h. cc,
         )
+
+both_equal : (a b : Ordering) → ordering_then a b ≡ Equal → (a ≡ Equal) × (b ≡ Equal)
+both_equal Less b h = cc
+both_equal Equal b h = (refl, h)
+both_equal Greater b h = cc
+
+abbrev pub length_of : ℕ → ℕ → OwnLength
+length_of c l = record { crc = c; length = l }
+
+-- a length that passes is the wanted one
+is_the_one : (c l : ℕ) (x : OwnLength) → is_exactly c l x ≡ true
+    → length_cmp x (length_of c l) ≡ Equal
+is_the_one c l x h =
+    let parts = and_parts (eqb x.length l) (eqb x.crc c) h in
+    rw (
+      eqb-true x.crc c parts.1,
+      eqb-true x.length l parts.0,
+      tied_itself nat_cmp_total c,
+      tied_itself nat_cmp_total l,
+    ) refl
+
+-- what a search for a CRC-32 and a length finds
+pub exactly_from_search : (own : List OwnLength) → IsSorted length_cmp own → (c l : ℕ)
+    (r : Result ℕ ℕ)
+    → IsSearchInRange r (length own)
+    → IsBinarySearchResult (λ y. length_cmp y (length_of c l)) own r
+    → is_ok r ≡ list_any (is_exactly c l) own
+exactly_from_search own rises c l (Ok at) range here =
+    let d = length_of 0 0 in
+    let x = get_or own at d in
+    let parts = both_equal (nat_cmp x.crc c) (nat_cmp x.length l) (here d) in
+    sym (list_any_at (is_exactly c l) own at d range
+    (and_from (eqb x.length l) (eqb x.crc c)
+    (eq-eqb x.length l (nat_cmp-equal x.length l parts.1))
+    (eq-eqb x.crc c (nat_cmp-equal x.crc c parts.0))))
+exactly_from_search own rises c l (Err at) range parted =
+    let halves = parted (searchable_from_sorted length_cmp_total (λ (f : OwnLength). f) own
+    (length_of c l) rises) in
+    sym (false_from_ne_true (list_any (is_exactly c l) own) (λ any.
+    let some = Any-from_list_any (is_exactly c l) own any in
+    let even = is_the_one c l some.1 some.4 in
+    elim (cases_lt some.0 at) [
+      | inl before ↦
+          let less : length_cmp some.1 (length_of c l) ≡ Less =
+          rw some.3 at (halves.0 some.0 some.1 (omega arith) before) in
+          let wrong : Less ≡ Equal = sym less ∙ even in cc
+      | inr after ↦
+          let more : length_cmp some.1 (length_of c l) ≡ Greater =
+          rw some.3 at (halves.1 some.0 some.1 after some.2) in
+          let wrong : Greater ≡ Equal = sym more ∙ even in cc
+    ]))
+
+-- where no slice has the CRC-32, none of a length has
+pub no_own : (slices : List SetSlice) (c own : ℕ) → list_any (has_known_crc c) slices ≡ false
+    → list_any (has_own own (has_known_crc c)) slices ≡ false
+no_own slices c own none =
+    false_from_ne_true (list_any (has_own own (has_known_crc c)) slices) (λ any.
+    let some = Any-from_list_any (has_own own (has_known_crc c)) slices any in
+    let has = (and_parts (eqb some.1.length own) (has_known_crc c some.1) some.4).1 in
+    let wrong : true ≡ false =
+    sym (list_any-from_Any (has_known_crc c) slices (some.0, some.1, some.2, some.3, has)) ∙ none in
+    cc)

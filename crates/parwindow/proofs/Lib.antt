@@ -7,11 +7,16 @@ pub mod MoveLaws
 pub mod RollLaws
 pub mod StopLaws
 pub mod SlideLaws
+pub mod UntilLaws
 pub mod FilterLaws
 pub mod OrderLaws
 pub mod SumLaws
 pub mod SearchLaws
 pub mod EntryLaws
 pub mod LeastLaws
+pub mod OpenLaws
 pub mod MissingLaws
 pub mod LengthLaws
+pub mod TailLaws
+pub mod TailMoveLaws
+pub mod ShortLaws

@@ -1,18 +1,18 @@
 -- The slices that have a CRC-32 and fit, and their entries.
-use Rattle.std.proofs.Common.{◌≡◌, ℕ, zero, suc, ◌<◌, ◌≤◌, Bool, true, false, not, nat_le, ◌&&◌, List, [], ◌∷◌, length, get_or, refl, sym, ap, ◌∙◌, arith, inl, inr, zero-add}
+use Rattle.std.proofs.Common.{◌≡◌, ℕ, zero, suc, ◌<◌, ◌≤◌, Bool, true, false, not, nat_le, eqb, eq-eqb, ◌&&◌, List, [], ◌∷◌, length, get_or, refl, sym, ap, ◌∙◌, arith, inl, inr, zero-add}
 use Rattle.std.specs.Prelude.{All, Contains}
 use Rattle.std.specs.List.{list_any, range_with_len}
-use Rattle.std.proofs.lemmas.Bool.{and_parts, and_from, cases_Bool, le-leb, leb-true, false_from_ne_true, not-true, not_from_false}
+use Rattle.std.proofs.lemmas.Bool.{eqb-true, and_parts, and_from, cases_Bool, le-leb, leb-true, false_from_ne_true}
+use Rattle.std.proofs.Math.Dec.{leb-zero}
 use Rattle.std.proofs.lemmas.List.Elements.{All-contains}
-use Rattle.std.proofs.lemmas.List.{get_or_default}
-use Rattle.std.proofs.lemmas.Option.{slice_get-get_or}
 use Rattle.std.proofs.lemmas.List.Folds.{Any-from_list_any, list_any-from_Any, list_any_at}
 use Rattle.std.proofs.lemmas.List.FromFn.{length-range_with_len, get_or-range_with_len}
 use Rattle.parset.specs.declared.recovery_set.SetSlice.{SetSlice}
 use Rattle.parwindow.specs.declared.entry.Entry.{Entry}
-use Rattle.parwindow.specs.Entries.{AreWithCrc, HasSums, IsIndexOf, is_open}
-use Rattle.parwindow.specs.Index.{has_crc_of, has_sums, slice_passes, slice_set_of}
-use Rattle.parwindow.specs.Missing.{has_fit_crc_of, mark_of, set_has_missing}
+use Rattle.parwindow.specs.Entries.{AreWithCrc, HasSums, IsIndexOf, is_between, is_open}
+use Rattle.parwindow.specs.Index.{has_known_crc, has_own, has_sums, slice_passes}
+use Rattle.parwindow.specs.Missing.{has_fit_crc_of, has_unmarked, mark_of}
+use Rattle.parwindow.proofs.OpenLaws.{between}
 use Rattle.parwindow.proofs.SearchLaws.{entry_of}
 use Rattle.parwindow.proofs.SumLaws.{crc_at, has_crc_at, passes_within, same_bools}
 
@@ -33,63 +33,88 @@ below_any p n h =
           ∙ sym (get_or-range_with_len 0 n some.0 some.1 below) ∙ some.3) ∙ some.4,
     )
 
--- slice n has the CRC-32 and fits
-pub fit_crc_at : (slices : List SetSlice) (n c left : ℕ)
-    → slice_passes slices (has_crc_of c) n ≡ true
-    → slice_passes slices (λ slice. nat_le slice.length left) n ≡ true
-    → slice_passes slices (has_fit_crc_of c left) n ≡ true
-fit_crc_at [] n c left has fits = has
-fit_crc_at (s ∷ ss) zero c left has fits = and_from (has_crc_of c s) (nat_le s.length left) has fits
-fit_crc_at (s ∷ ss) (suc n) c left has fits = fit_crc_at ss n c left has fits
+-- slice n has the CRC-32 and passes another test, where one test says both
+module _ (whole test : SetSlice → Bool) (c : ℕ)
+    (both : (s : SetSlice) → whole s ≡ (has_known_crc c s && test s)) where
+  pub passes_both : (slices : List SetSlice) (n : ℕ)
+      → slice_passes slices (has_known_crc c) n ≡ true
+      → slice_passes slices test n ≡ true → slice_passes slices whole n ≡ true
+  passes_both [] n has fits = has
+  passes_both (s ∷ ss) zero has fits = both s ∙ and_from (has_known_crc c s) (test s) has fits
+  passes_both (s ∷ ss) (suc n) has fits = passes_both ss n has fits
 
-pub fit_crc_parts : (slices : List SetSlice) (n c left : ℕ)
-    → slice_passes slices (has_fit_crc_of c left) n ≡ true
-    → (slice_passes slices (has_crc_of c) n ≡ true)
-    × (slice_passes slices (λ slice. nat_le slice.length left) n ≡ true)
-fit_crc_parts [] n c left h = (h, h)
-fit_crc_parts (s ∷ ss) zero c left h = and_parts (has_crc_of c s) (nat_le s.length left) h
-fit_crc_parts (s ∷ ss) (suc n) c left h = fit_crc_parts ss n c left h
+  pub passes_parts : (slices : List SetSlice) (n : ℕ) → slice_passes slices whole n ≡ true
+      → (slice_passes slices (has_known_crc c) n ≡ true) × (slice_passes slices test n ≡ true)
+  passes_parts [] n h = (h, h)
+  passes_parts (s ∷ ss) zero h = and_parts (has_known_crc c s) (test s) (sym (both s) ∙ h)
+  passes_parts (s ∷ ss) (suc n) h = passes_parts ss n h
 
 -- where no slice has the CRC-32 none fits too
-pub no_fit : (slices : List SetSlice) (c left : ℕ) → list_any (has_crc_of c) slices ≡ false
+pub no_fit : (slices : List SetSlice) (c left : ℕ) → list_any (has_known_crc c) slices ≡ false
     → list_any (has_fit_crc_of c left) slices ≡ false
 no_fit [] c left h = refl
-no_fit (s ∷ ss) c left h = elim (cases_Bool (has_crc_of c s)) [
+no_fit (s ∷ ss) c left h = elim (cases_Bool (has_known_crc c s)) [
   | inl here ↦ let wrong : true ≡ false = rw here at h in cc
   | inr other ↦ rw other (no_fit ss c left (rw other at h))
 ]
 
--- whether the slice of an entry is open
-module _ (slices : List SetSlice) (found : List Bool) (left : ℕ) (e : Entry)
-    (there : e.slice < length slices) (each : length found ≡ length slices) where
-  mark_is : (b : Bool) → mark_of found e.slice ≡ get_or found e.slice b
-  mark_is b = get_or_default found e.slice false b (omega arith)
+-- a slice that fits is one from 0 on
+pub fits_between : (c left : ℕ) (s : SetSlice)
+    → has_fit_crc_of c left s ≡ (has_known_crc c s && is_between 0 left s)
+fits_between c left s = rw leb-zero refl
 
-  pub open_at : (d : SetSlice) (b : Bool) → get_or found e.slice b ≡ false
-      → (get_or slices e.slice d).length ≤ left → is_open slices found left e ≡ true
-  open_at d b none short =
-      rw (slice_get-get_or slices e.slice d there)
-      (and_from (nat_le (get_or slices e.slice d).length left) (not (mark_of found e.slice))
-      (le-leb (get_or slices e.slice d).length left short)
-      (not_from_false (mark_of found e.slice) (mark_is b ∙ none)))
+-- one that fits and has a length is one from there to there
+pub own_between : (c own left : ℕ) → own ≤ left → (s : SetSlice)
+    → has_own own (has_fit_crc_of c left) s ≡ (has_known_crc c s && is_between own own s)
+own_between c own left fits s =
+    same_bools (has_own own (has_fit_crc_of c left) s)
+    (has_known_crc c s && is_between own own s) (
+      λ h.
+          let parts = and_parts (eqb s.length own) (has_fit_crc_of c left s) h in
+          let is : s.length ≡ own = eqb-true s.length own parts.0 in
+          and_from (has_known_crc c s) (is_between own own s)
+          (and_parts (has_known_crc c s) (nat_le s.length left) parts.1).0
+          (between own own s (omega (arith, is)) (omega (arith, is))),
+      λ h.
+          let parts = and_parts (has_known_crc c s) (is_between own own s) h in
+          let ends = and_parts (nat_le own s.length) (nat_le s.length own) parts.1 in
+          let is : s.length ≡ own =
+          omega (arith, leb-true own s.length ends.0, leb-true s.length own ends.1) in
+          and_from (eqb s.length own) (has_fit_crc_of c left s) (eq-eqb s.length own is)
+          (and_from (has_known_crc c s) (nat_le s.length left) parts.0
+          (le-leb s.length left (omega (arith, is, fits)))),
+    )
 
-  pub shut_marked : (b : Bool) → get_or found e.slice b ≡ true → is_open slices found left e ≡ false
-  shut_marked b marked =
-      false_from_ne_true (is_open slices found left e) (λ h.
-      let parts = and_parts (slice_passes slices (λ slice. nat_le slice.length left) e.slice)
-      (not (mark_of found e.slice)) h in
-      let both : true ≡ false = sym marked ∙ sym (mark_is b)
-      ∙ not-true (mark_of found e.slice) parts.1 in cc)
+-- one that is longer than what is left does not fit
+pub own_past : (c own left : ℕ) → left < own → (s : SetSlice)
+    → has_own own (has_fit_crc_of c left) s ≡ false
+own_past c own left past s =
+    false_from_ne_true (has_own own (has_fit_crc_of c left) s) (λ h.
+    let parts = and_parts (eqb s.length own) (has_fit_crc_of c left s) h in
+    absurd (omega (
+      arith,
+      past,
+      eqb-true s.length own parts.0,
+      leb-true s.length left
+          (and_parts (has_known_crc c s) (nat_le s.length left) parts.1).1,
+    )))
 
-  pub shut_long : (d : SetSlice) → left < (get_or slices e.slice d).length
-      → is_open slices found left e ≡ false
-  shut_long d long =
-      false_from_ne_true (is_open slices found left e) (λ h.
-      let parts = and_parts (slice_passes slices (λ slice. nat_le slice.length left) e.slice)
-      (not (mark_of found e.slice)) h in
-      let short : nat_le (get_or slices e.slice d).length left ≡ true =
-      rw (slice_get-get_or slices e.slice d there) at parts.0 in
-      absurd (omega (arith, long, leb-true (get_or slices e.slice d).length left short)))
+passes_none : (test : SetSlice → Bool) → ((s : SetSlice) → test s ≡ false)
+    → (slices : List SetSlice) (n : ℕ) → slice_passes slices test n ≡ false
+passes_none test fails [] n = refl
+passes_none test fails (s ∷ ss) zero = fails s
+passes_none test fails (s ∷ ss) (suc n) = passes_none test fails ss n
+
+-- where none passes, none without a mark does
+pub none_unmarked : (slices : List SetSlice) (found : List Bool) (test : SetSlice → Bool)
+    → ((s : SetSlice) → test s ≡ false) → has_unmarked slices found test ≡ false
+none_unmarked slices found test fails =
+    false_from_ne_true (has_unmarked slices found test) (λ h.
+    let some = below_any (λ n. slice_passes slices test n && not (mark_of found n))
+    (length slices) h in
+    let passes = (and_parts (slice_passes slices test some.0) (not (mark_of found some.0)) some.2).0
+    in
+    let wrong : true ≡ false = sym passes ∙ passes_none test fails slices some.0 in cc)
 
 module _ (slices : List SetSlice) (entries those : List Entry) (ix : IsIndexOf slices entries)
     (c : ℕ)
@@ -111,48 +136,41 @@ module _ (slices : List SetSlice) (entries those : List Entry) (ix : IsIndexOf s
       entries e ix.sound tied.0 in
       passes_within (has_sums (record { 0 = e.digest }, e.crc)) slices e.slice has
 
-  module _ (size : ℕ) (found : List Bool) (left : ℕ) where
-    open_missing : list_any (is_open slices found left) those ≡ true
-        → set_has_missing (slice_set_of size slices) found c left ≡ true
-    open_missing h =
-        let some = Any-from_list_any (is_open slices found left) those h in
+  module _ (whole test : SetSlice → Bool)
+      (both : (s : SetSlice) → whole s ≡ (has_known_crc c s && test s)) (found : List Bool) where
+    open_unmarked : list_any (is_open slices found test) those ≡ true
+        → has_unmarked slices found whole ≡ true
+    open_unmarked h =
+        let some = Any-from_list_any (is_open slices found test) those h in
         let e = some.1 in
-        let parts = and_parts (slice_passes slices (λ slice. nat_le slice.length left) e.slice)
-        (not (mark_of found e.slice)) some.4 in
+        let parts = and_parts (slice_passes slices test e.slice) (not (mark_of found e.slice))
+        some.4 in
         let has = crc_at slices e.slice c e.digest (entry_there e (some.0, some.2, some.3)) in
-        let fit = fit_crc_at slices e.slice c left has parts.0 in
-        any_below (λ n. slice_passes slices (has_fit_crc_of c left) n && not (mark_of found n))
-        (length slices) e.slice
-        (passes_within (has_fit_crc_of c left) slices e.slice fit)
-        (and_from (slice_passes slices (has_fit_crc_of c left) e.slice)
-        (not (mark_of found e.slice))
-        fit parts.1)
+        let fit = passes_both whole test c both slices e.slice has parts.0 in
+        any_below (λ n. slice_passes slices whole n && not (mark_of found n)) (length slices)
+        e.slice (passes_within whole slices e.slice fit)
+        (and_from (slice_passes slices whole e.slice) (not (mark_of found e.slice)) fit parts.1)
 
-    missing_open : set_has_missing (slice_set_of size slices) found c left ≡ true
-        → list_any (is_open slices found left) those ≡ true
-    missing_open h =
-        let some = below_any (λ n. slice_passes slices (has_fit_crc_of c left)
-        n && not (mark_of found n)) (length slices) h in
+    unmarked_open : has_unmarked slices found whole ≡ true
+        → list_any (is_open slices found test) those ≡ true
+    unmarked_open h =
+        let some = below_any (λ n. slice_passes slices whole n && not (mark_of found n))
+        (length slices) h in
         let k = some.0 in
-        let parts = and_parts (slice_passes slices (has_fit_crc_of c left) k)
-        (not (mark_of found k))
-        some.2 in
-        let fits = fit_crc_parts slices k c left parts.0 in
+        let parts = and_parts (slice_passes slices whole k) (not (mark_of found k)) some.2 in
+        let fits = passes_parts whole test c both slices k parts.0 in
         let d = has_crc_at slices k c fits.0 in
         let e = entry_of c d.0 k in
         let there = are.complete e (ix.complete k c d.0 d.1) refl in
-        list_any-from_Any (is_open slices found left) those (
+        list_any-from_Any (is_open slices found test) those (
           there.0,
           e,
           there.1,
           there.2,
-          and_from (slice_passes slices (λ slice. nat_le slice.length left) k)
-              (not (mark_of found k))
-              fits.1 parts.1,
+          and_from (slice_passes slices test k) (not (mark_of found k)) fits.1 parts.1,
         )
 
     -- the entries tell whether some slice is without a mark
-    pub missing_is : list_any (is_open slices found left) those
-        ≡ set_has_missing (slice_set_of size slices) found c left
-    missing_is = same_bools (list_any (is_open slices found left) those)
-        (set_has_missing (slice_set_of size slices) found c left) (open_missing, missing_open)
+    pub unmarked_is : list_any (is_open slices found test) those ≡ has_unmarked slices found whole
+    unmarked_is = same_bools (list_any (is_open slices found test) those)
+        (has_unmarked slices found whole) (open_unmarked, unmarked_open)

@@ -43,7 +43,7 @@ length-push : (b : List ℕ) (y : ℕ) → length (b ++ y ∷ []) ≡ length b +
 length-push b y = length-append b (y ∷ [])
 
 -- while there is room
-keep_last-room : (items : List ℕ) (cap y : ℕ) → length items < cap
+pub keep_last-room : (items : List ℕ) (cap y : ℕ) → length items < cap
     → keep_last cap (items ++ y ∷ []) ≡ items ++ y ∷ []
 keep_last-room items cap y less =
     let none : length (items ++ y ∷ []) - cap ≡ 0 = omega (arith, length-push items y) in
@@ -53,7 +53,7 @@ answer-room : (items : List ℕ) (cap y : ℕ) → length items < cap → ring_a
 answer-room items cap y less = rw (lt-ltb (length items) cap less)
 
 -- where it is full
-keep_last-full : (x : ℕ) (b : List ℕ) (cap y : ℕ) → length b + 1 ≡ cap
+pub keep_last-full : (x : ℕ) (b : List ℕ) (cap y : ℕ) → length b + 1 ≡ cap
     → keep_last cap ((x ∷ b) ++ y ∷ []) ≡ b ++ y ∷ []
 keep_last-full x b cap y full =
     let one : length ((x ∷ b) ++ y ∷ []) - cap ≡ 1 = omega (arith, length-push b y) in
@@ -94,7 +94,7 @@ ring_fallen items cap y within some =
     ]
 
 -- the register of n bytes and a last one, from that of a first one and the n bytes
-register_of-slides : (b : List ℕ) (x y : ℕ)
+pub register_of-slides : (b : List ℕ) (x y : ℕ)
     → register_of (b ++ y ∷ []) ≡ slid_register (length b) (register_of (x ∷ b)) x y
 unfolding slid_register
 register_of-slides b x y =

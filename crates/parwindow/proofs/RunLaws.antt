@@ -1,11 +1,12 @@
 -- A run of zero bytes is a linear map, known by what it makes of each bit.
-use Rattle.std.proofs.Common.{◌≡◌, ℕ, zero, suc, ◌+◌, ◌*◌, ◌/◌, ◌%◌, ◌^◌, ◌<◌, List, get_or, refl, sym, ap, ◌∙◌, arith, zero-add, length, set, ◌≢◌, below_more, get_or-set_same, get_or-set_other}
+use Rattle.std.proofs.Common.{◌≡◌, ℕ, zero, suc, ◌+◌, ◌*◌, ◌/◌, ◌%◌, ◌^◌, ◌<◌, List, get_or, refl, sym, ap, ◌∙◌, inl, inr, arith, zero-add, length, set, ◌≢◌, below_more, get_or-set_same, get_or-set_other}
 use Rattle.std.proofs.Math.ListN.{length-set}
 use Rattle.std.specs.Int.Bits.{bit_and, bit_xor, xor_zero_r}
 use Rattle.std.specs.Int.{bit_at}
-use Rattle.std.proofs.lemmas.Nat.{mod-pow-add, mod_below, pow_pos, one_shl, xor_comm}
+use Rattle.std.proofs.lemmas.Nat.{and_le_r, mod-pow-add, mod_below, pow_pos, one_shl, xor_comm}
+use Rattle.std.proofs.lemmas.Bool.{cases_eq}
 use Rattle.std.proofs.lemmas.Nat.Bits.{shr_and_one, bit_at-lt}
-use Rattle.std.proofs.Math.Nat.{mod-eq_of_lt, one-mul, zero-mul, mod-one}
+use Rattle.std.proofs.Math.Nat.{mod-eq_of_lt, one-mul, mul-one, mul-zero, zero-mul, mod-one}
 use Rattle.parwindow.specs.Crc32.{crc_steps, register_after}
 use Rattle.parwindow.specs.Crc32.{crc_step}
 use Rattle.parwindow.proofs.CrcLaws.{crc_steps-xor, crc_steps-add}
@@ -24,7 +25,7 @@ crc_steps-nothing (suc n) = crc_steps-nothing n
 mod_more : (n i : ℕ) → n % 2 ^ (i + 1) ≡ bit_at n i * 2 ^ i + n % 2 ^ i
 mod_more n i = let e : i + 1 ≡ 1 + i = omega arith in rw e (mod-pow-add n 1 i)
 
-pub apply_more_one : (len r i c out : ℕ) → out ≡ crc_steps (8 * len) (r % 2 ^ i)
+apply_more_one : (len r i c out : ℕ) → out ≡ crc_steps (8 * len) (r % 2 ^ i)
     → c ≡ crc_steps (8 * len) (2 ^ i) → bit_and (r / 2 ^ i) 1 ≡ 1
     → bit_xor out c ≡ crc_steps (8 * len) (r % 2 ^ (i + 1))
 apply_more_one len r i c out so_far column set =
@@ -60,12 +61,25 @@ fill_more f xs i v within is below =
     (λ k h. let ne : k ≢ i = omega arith in rw get_or-set_other (below k h))
     (rw get_or-set_same is)
 
-pub apply_more_zero : (len r i out : ℕ) → out ≡ crc_steps (8 * len) (r % 2 ^ i)
+apply_more_zero : (len r i out : ℕ) → out ≡ crc_steps (8 * len) (r % 2 ^ i)
     → (bit_and (r / 2 ^ i) 1 ≡ 1 → ⊥)
     → out ≡ crc_steps (8 * len) (r % 2 ^ (i + 1))
 apply_more_zero len r i out so_far clear =
     let bit : bit_at r i ≡ 0 = omega (arith, shr_and_one r i, bit_at-lt r i) in
     rw (mod_more r i, bit, zero-mul, zero-add) so_far
+
+-- one bit more, by a product
+pub apply_more : (len r i c out : ℕ) → out ≡ crc_steps (8 * len) (r % 2 ^ i)
+    → c ≡ crc_steps (8 * len) (2 ^ i)
+    → bit_xor out (c * bit_and (r / 2 ^ i) 1) ≡ crc_steps (8 * len) (r % 2 ^ (i + 1))
+apply_more len r i c out so_far column =
+    elim (cases_eq (bit_and (r / 2 ^ i) 1) 1) [
+      | inl set ↦ rw (set, mul-one) (apply_more_one len r i c out so_far column set)
+      | inr clear ↦
+          let none : bit_and (r / 2 ^ i) 1 ≡ 0 =
+          omega (arith, and_le_r (r / 2 ^ i) 1, clear) in
+          rw (none, mul-zero, xor_zero_r) (apply_more_zero len r i out so_far clear)
+    ]
 
 pub twice_column : (len i c out : ℕ) → c ≡ crc_steps (8 * len) (2 ^ i) → out ≡ crc_steps (8 * len) c
     → out ≡ crc_steps (8 * (2 * len)) (2 ^ i)

@@ -14,7 +14,7 @@ use Rattle.std.specs.Prelude.{IsTrue, is_ok, ◌↔◌}
 use Rattle.std.proofs.lemmas.List.Sorted.{searchable_from_sorted, sorted_far, ranks_by}
 use Rattle.parset.specs.declared.recovery_set.SetSlice.{SetSlice}
 use Rattle.parwindow.specs.declared.entry.Entry.{Entry}
-use Rattle.parwindow.specs.Index.{slice_passes, has_sums, has_crc_of}
+use Rattle.parwindow.specs.Index.{slice_passes, has_sums, has_known_crc}
 use Rattle.parwindow.specs.Least.{IsLeast}
 use Rattle.parwindow.specs.Entries.{entry_cmp, HasSums, IsIndexOf, IsFloor}
 use Rattle.std.specs.List.{list_any}
@@ -145,7 +145,7 @@ has_from_search : (slices : List SetSlice) (entries : List Entry) → IsIndexOf 
     → IsSorted entry_cmp entries → (c : ℕ) (r : Result ℕ ℕ)
     → IsSearchInRange r (length entries)
     → IsBinarySearchResult (λ (y : Entry). nat_cmp y.crc c) entries r
-    → IsTrue (is_ok r) ↔ IsTrue (list_any (has_crc_of c) slices)
+    → IsTrue (is_ok r) ↔ IsTrue (list_any (has_known_crc c) slices)
 has_from_search slices entries ix rises c (Ok at) range here =
     let d = entry_of 0 [] 0 in
     let e = get_or entries at d in (
@@ -179,7 +179,7 @@ pub has_crc_from_search : (slices : List SetSlice) (entries : List Entry) → Is
     → IsSorted entry_cmp entries → (c : ℕ) (r : Result ℕ ℕ)
     → IsSearchInRange r (length entries)
     → IsBinarySearchResult (λ (y : Entry). nat_cmp y.crc c) entries r
-    → is_ok r ≡ list_any (has_crc_of c) slices
+    → is_ok r ≡ list_any (has_known_crc c) slices
 has_crc_from_search slices entries ix rises c r range found =
-    same_bools (is_ok r) (list_any (has_crc_of c) slices)
+    same_bools (is_ok r) (list_any (has_known_crc c) slices)
     (has_from_search slices entries ix rises c r range found)

@@ -1,12 +1,10 @@
 -- A full window slides over bytes: the register at each place, and where it stops.
-use Rattle.std.proofs.Common.{◌≡◌, ℕ, ◌+◌, ◌-◌, ◌<◌, ◌≤◌, List, [], ◌∷◌, ◌++◌, length, take, drop, get_or, true, false, Bool, refl, sym, ap, ◌∙◌, inl, inr, arith, add-one, add-zero, append_assoc, length-append, length-drop, length-take, drop-cons, get_or-drop, min, nat_eq, eq-eqb}
+use Rattle.std.proofs.Common.{◌≡◌, ℕ, ◌+◌, ◌-◌, ◌<◌, ◌≤◌, List, [], ◌∷◌, ◌++◌, length, take, drop, get_or, true, false, Bool, refl, sym, ap, ◌∙◌, arith, add-one, add-zero, append_assoc, length-append, length-drop, length-take, drop-cons, get_or-drop, min, nat_eq, eq-eqb}
 use Rattle.std.proofs.lemmas.List.{take_more, take-append-drop, get_or_append_left, get_or-append-add, drop-append-le, append-nil, drop-drop}
-use Rattle.std.proofs.lemmas.Bool.{cases_Bool}
 use Rattle.std.specs.Int.Bits.{bit_xor}
-use Rattle.parwindow.specs.Crc32.{register_after, register_of, crc_of, removal_of}
-use Rattle.parwindow.specs.Index.{SliceSet}
-use Rattle.parwindow.specs.Slide.{slid_register, rolled_register, HasRegister, StopsAt}
-use Rattle.parwindow.specs.Until.{slid_content, PushesSlide, PushesUntil}
+use Rattle.parwindow.specs.Crc32.{register_after, register_of, removal_of}
+use Rattle.parwindow.specs.Slide.{slid_register, rolled_register, StopsAt}
+use Rattle.parwindow.specs.Until.{slid_content, PushesSlide}
 use Rattle.parwindow.specs.Window.{WindowState, content_after}
 use Rattle.parwindow.specs.declared.slid.Slid.{Slid}
 use Rattle.parwindow.proofs.CrcLaws.{register_of-push, register_of-removal_of}
@@ -200,21 +198,6 @@ bytes_part Has front back bytes n ca cb register hit s full within there before 
     (length bytes - length (front ++ back)) s (bytes_go (front ++ back)
     bytes n register full enough is) moved) in
     rw total at result
-
--- what that says of the CRC-32
-pub pushes_until : (slices : SliceSet) (content bytes : List ℕ) (s : Slid)
-    → StopsAt (HasRegister slices) (λ k. register_of (slid_content content bytes k)) (length bytes)
-    s
-    → PushesUntil slices content bytes s.count
-unfolding crc_of
-pushes_until slices content bytes s stops = record {
-  within = stops.within;
-  before = stops.before;
-  stops = λ early. elim (cases_Bool s.hit) [
-    | inl hit ↦ stops.found hit
-    | inr missed ↦ let all : s.count ≡ length bytes = (stops.ended missed).0 in absurd (omega arith)
-  ];
-}
 
 -- one push more, and one byte more of those that come
 one_more : (w : WindowState) (bytes : List ℕ) (k : ℕ) → length w.content ≡ w.capacity

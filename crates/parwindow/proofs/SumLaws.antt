@@ -9,7 +9,7 @@ use Rattle.std.proofs.lemmas.Slice.Eq.{bytes_eq-Decides}
 use Rattle.parfield.specs.declared.hash16.Hash16.{Hash16}
 use Rattle.parset.specs.declared.recovery_set.SetSlice.{SetSlice}
 use Rattle.parwindow.specs.Entries.{HasSums}
-use Rattle.parwindow.specs.Index.{slice_passes, has_sums, has_crc_of}
+use Rattle.parwindow.specs.Index.{slice_passes, has_sums, has_known_crc}
 use Rattle.parwindow.specs.Least.{IsLeastFrom}
 
 -- both sums of a slice are these
@@ -74,30 +74,30 @@ sums_of_crc (Some (md5, sum)) c h =
     (md5.0, rw (h, digest) refl)
 
 pub crc_at : (slices : List SetSlice) (n c : ℕ) (d : List ℕ) → HasSums slices n c d
-    → slice_passes slices (has_crc_of c) n ≡ true
+    → slice_passes slices (has_known_crc c) n ≡ true
 crc_at [] n c d has = has
 crc_at (s ∷ ss) zero c d has = crc_of_sums s.sums c d has
 crc_at (s ∷ ss) (suc n) c d has = crc_at ss n c d has
 
-pub has_crc_at : (slices : List SetSlice) (n c : ℕ) → slice_passes slices (has_crc_of c) n ≡ true
+pub has_crc_at : (slices : List SetSlice) (n c : ℕ) → slice_passes slices (has_known_crc c) n ≡ true
     → (d : List ℕ) × HasSums slices n c d
 has_crc_at [] n c has = ([], has)
 has_crc_at (s ∷ ss) zero c has = sums_of_crc s.sums c has
 has_crc_at (s ∷ ss) (suc n) c has = has_crc_at ss n c has
 
 pub any_from_sums : (slices : List SetSlice) (n c : ℕ) (d : List ℕ) → HasSums slices n c d
-    → list_any (has_crc_of c) slices ≡ true
+    → list_any (has_known_crc c) slices ≡ true
 any_from_sums [] n c d has = cc
 any_from_sums (s ∷ ss) zero c d has =
-    or_left (has_crc_of c s) (list_any (has_crc_of c) ss) (crc_of_sums s.sums c d has)
+    or_left (has_known_crc c s) (list_any (has_known_crc c) ss) (crc_of_sums s.sums c d has)
 any_from_sums (s ∷ ss) (suc n) c d has =
-    or_right (has_crc_of c s) (list_any (has_crc_of c) ss) (any_from_sums ss n c d has)
+    or_right (has_known_crc c s) (list_any (has_known_crc c) ss) (any_from_sums ss n c d has)
 
-pub sums_from_any : (slices : List SetSlice) (c : ℕ) → list_any (has_crc_of c) slices ≡ true
+pub sums_from_any : (slices : List SetSlice) (c : ℕ) → list_any (has_known_crc c) slices ≡ true
     → (n : ℕ) × ((d : List ℕ) × HasSums slices n c d)
 sums_from_any [] c any = cc
 sums_from_any (s ∷ ss) c any =
-    elim (cases_Bool (has_crc_of c s)) [
+    elim (cases_Bool (has_known_crc c s)) [
       | inl here ↦ let found = sums_of_crc s.sums c here in (0, (found.0, found.1))
       | inr other ↦ let found = sums_from_any ss c (rw other at any) in
           (suc found.0, (found.1.0, found.1.1))

@@ -53,8 +53,10 @@ abbrev pub lesser : ℕ → Option ℕ → ℕ → Option ℕ
 lesser from None n = if nat_lt n from then None else Some n
 lesser from (Some least) n = if nat_lt n from then Some least else Some (min least n)
 
--- the slice of an entry has at most so many bytes of its file, and its mark is false
-abbrev pub is_open : List SetSlice → List Bool → ℕ → Entry → Bool
-is_open slices found left e =
-    slice_passes slices (λ slice. nat_le slice.length left) e.slice
-    && not (mark_of found e.slice)
+-- a slice has so many bytes of its file, from the least to the most
+abbrev pub is_between : ℕ → ℕ → SetSlice → Bool
+is_between least most slice = nat_le least slice.length && nat_le slice.length most
+
+-- the slice of an entry passes a test, and its mark is false
+abbrev pub is_open : List SetSlice → List Bool → (SetSlice → Bool) → Entry → Bool
+is_open slices found test e = slice_passes slices test e.slice && not (mark_of found e.slice)

@@ -2,7 +2,7 @@
 use Rattle.std.specs.Prelude.{ℕ, ◌*◌, ◌%◌, ◌^◌, List, bit_xor, IsTrue}
 use Rattle.std.specs.List.{list_any}
 use Rattle.parset.specs.declared.recovery_set.SetSlice.{SetSlice}
-use Rattle.parwindow.specs.Index.{has_crc_of}
+use Rattle.parwindow.specs.Index.{has_known_crc}
 use Rattle.parwindow.specs.KeyBits.{HasBit}
 use Rattle.parwindow.specs.declared.bloom_filter.BloomFilter.{BloomFilter}
 
@@ -19,4 +19,5 @@ MayHave filter register =
 -- both bits of the register of each CRC-32 of a slice are set
 abbrev pub HasSlices : List SetSlice → BloomFilter → Type 0
 HasSlices slices filter =
-    (crc : ℕ) → IsTrue (list_any (has_crc_of crc) slices) → MayHave filter (bit_xor crc 0xFFFFFFFF)
+    (crc : ℕ) → IsTrue (list_any (has_known_crc crc) slices)
+    → MayHave filter (bit_xor crc 0xFFFFFFFF)

@@ -1,7 +1,7 @@
 -- The slices of a recovery set with their checksums, as an index has them
 -- (PAR2 2.0, Input File Slice Checksum packet).
-use Rattle.std.specs.Prelude.{◌≡◌, ℕ, ◌<◌, ◌≤◌, ◌%◌, ◌==◌, ◌&&◌, nat_le, Bool, false, List, length, slice_get, All}
-use Rattle.std.specs.List.{list_any}
+use Rattle.std.specs.Prelude.{◌≡◌, ℕ, ◌-◌, ◌<◌, ◌≤◌, ◌%◌, ◌==◌, ◌&&◌, nat_le, Bool, false, List, length, slice_get, is_some, filter, All}
+use Rattle.std.specs.List.{list_any, range_with_len}
 use Rattle.std.specs.Option.{option_map_or}
 use Rattle.std.specs.Str.{bytes_eq}
 use Rattle.parfield.specs.declared.hash16.Hash16.{Hash16}
@@ -43,12 +43,12 @@ has_sums sums slice =
     option_map_or (λ known. known.1 == sums.1 && bytes_eq known.0.0 sums.0.0) slice.sums false
 
 -- the sums of a slice are known, and this is its CRC-32
-abbrev pub has_crc_of : ℕ → SetSlice → Bool
-has_crc_of crc slice = option_map_or (λ known. known.1 == crc) slice.sums false
+abbrev pub has_known_crc : ℕ → SetSlice → Bool
+has_known_crc crc slice = option_map_or (λ known. known.1 == crc) slice.sums false
 
 -- some slice has this CRC-32
 abbrev pub set_has_crc : SliceSet → ℕ → Bool
-set_has_crc set crc = list_any (has_crc_of crc) set.slices
+set_has_crc set crc = list_any (has_known_crc crc) set.slices
 
 -- the sums of a slice are known, and at most so many of its bytes are its file's
 abbrev pub has_fit_of : ℕ → SetSlice → Bool
@@ -57,3 +57,21 @@ has_fit_of left slice = option_map_or (λ known. nat_le slice.length left) slice
 -- some slice is such a one
 abbrev pub set_has_fit : SliceSet → ℕ → Bool
 set_has_fit set left = list_any (has_fit_of left) set.slices
+
+-- the sums of a slice are known
+abbrev pub has_known_sums : SetSlice → Bool
+has_known_sums slice = is_some slice.sums
+
+-- so many bytes of a slice are its file's, and it passes a test
+abbrev pub has_own : ℕ → (SetSlice → Bool) → SetSlice → Bool
+has_own own test slice = slice.length == own && test slice
+
+-- some slice with so many bytes of its file has this CRC-32
+abbrev pub set_has_own_crc : SliceSet → ℕ → ℕ → Bool
+set_has_own_crc set crc own = list_any (has_own own (has_known_crc crc)) set.slices
+
+-- the own lengths of slices with sums that are below the slice size, rising
+abbrev pub tails_of : SliceSet → List ℕ
+tails_of set =
+    filter (λ own. list_any (has_own own has_known_sums) set.slices)
+    (range_with_len 1 (set.slice_size - 1))

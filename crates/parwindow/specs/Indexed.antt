@@ -4,9 +4,9 @@ use Rattle.std.specs.List.{list_any}
 use Rattle.std.specs.Option.{option_map_or}
 use Rattle.parset.specs.declared.recovery_set.SetSlice.{SetSlice}
 use Rattle.parwindow.specs.Entries.{IsIndexOf}
-use Rattle.parwindow.specs.Index.{IsSliceSet, slice_set_of, has_fit_of}
+use Rattle.parwindow.specs.Index.{IsSliceSet, slice_set_of, has_fit_of, tails_of}
 use Rattle.parwindow.specs.FilterBits.{HasSlices}
-use Rattle.parwindow.specs.OwnLengths.{AreLengthsOf}
+use Rattle.parwindow.specs.OwnLengths.{AreExactlyOf, AreLengthsOf}
 use Rattle.parwindow.specs.declared.index.Index.TheInside.{Inside}
 
 -- the least own length of the slices with sums, where there are some: one of them has at most so
@@ -16,11 +16,13 @@ IsShortest slices shortest =
     (left : ℕ)
     → option_map_or (λ least. nat_le least left) shortest false ≡ list_any (has_fit_of left) slices
 
--- its slices are those of a set, its filter has the register of each, and its entries, its lengths
--- and its shortest length are theirs
+-- its slices are those of a set, its filter has the register of each, and its entries, its lengths,
+-- its shortest length and its tails are theirs
 pub record IsIndexed (i : Inside) : Type 0 where
   pub slices : IsSliceSet (slice_set_of i.size i.slices)
   pub has : HasSlices i.slices i.filter
   pub indexes : IsIndexOf i.slices i.entries.list.items
   pub lengths : AreLengthsOf i.slices i.lengths.list.items
+  pub exactly : AreExactlyOf i.slices i.lengths.list.items
   pub shortest : IsShortest i.slices i.shortest
+  pub tails : i.tails ≡ tails_of (slice_set_of i.size i.slices)

@@ -10,6 +10,8 @@ pub mod Missing
 pub mod Rolled
 pub mod Slide
 pub mod Tables
+pub mod TailLengths
+pub mod Tails
 pub mod Until
 pub mod Window
 pub use Rattle.parfield.specs.Md5

@@ -3,11 +3,11 @@
 use Rattle.std.specs.Prelude.{ℕ, ◌&&◌, nat_le, not, Bool, false, List, length, slice_index_or}
 use Rattle.std.specs.List.{list_any, range_with_len}
 use Rattle.parset.specs.declared.recovery_set.SetSlice.{SetSlice}
-use Rattle.parwindow.specs.Index.{SliceSet, slice_passes, has_crc_of}
+use Rattle.parwindow.specs.Index.{SliceSet, slice_passes, has_known_crc, has_own}
 
 -- the sums of a slice are known, this is its CRC-32, and at most so many bytes are its file's
 abbrev pub has_fit_crc_of : ℕ → ℕ → SetSlice → Bool
-has_fit_crc_of crc left slice = has_crc_of crc slice && nat_le slice.length left
+has_fit_crc_of crc left slice = has_known_crc crc slice && nat_le slice.length left
 
 -- some slice is such a one
 abbrev pub set_has_fit_crc : SliceSet → ℕ → ℕ → Bool
@@ -17,8 +17,17 @@ set_has_fit_crc set crc left = list_any (has_fit_crc_of crc left) set.slices
 abbrev pub mark_of : List Bool → ℕ → Bool
 mark_of marks n = slice_index_or marks n false
 
--- some slice is such a one, and its mark is false
+-- some slice passes a test, and its mark is false
+abbrev pub has_unmarked : List SetSlice → List Bool → (SetSlice → Bool) → Bool
+has_unmarked slices found test =
+    list_any (λ n. slice_passes slices test n && not (mark_of found n))
+    (range_with_len 0 (length slices))
+
+-- some slice has this CRC-32 and at most so many bytes of its file, and its mark is false
 abbrev pub set_has_missing : SliceSet → List Bool → ℕ → ℕ → Bool
-set_has_missing set found crc left =
-    list_any (λ n. slice_passes set.slices (has_fit_crc_of crc left) n && not (mark_of found n))
-    (range_with_len 0 (length set.slices))
+set_has_missing set found crc left = has_unmarked set.slices found (has_fit_crc_of crc left)
+
+-- some slice with so many bytes of its file is such a one
+abbrev pub set_has_own_missing : SliceSet → List Bool → ℕ → ℕ → ℕ → Bool
+set_has_own_missing set found crc own left =
+    has_unmarked set.slices found (has_own own (has_fit_crc_of crc left))

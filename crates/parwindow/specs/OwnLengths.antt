@@ -4,6 +4,7 @@ use Rattle.std.specs.declared.cmp.Ordering.{Ordering}
 use Rattle.std.specs.Ordering.{nat_cmp, then_cmp, on}
 use Rattle.std.specs.List.{list_any}
 use Rattle.parset.specs.declared.recovery_set.SetSlice.{SetSlice}
+use Rattle.parwindow.specs.Index.{has_known_crc, has_own}
 use Rattle.parwindow.specs.Missing.{has_fit_crc_of}
 use Rattle.parwindow.specs.declared.own_lengths.OwnLength.{OwnLength}
 
@@ -21,3 +22,13 @@ is_within crc left own = own.crc == crc && nat_le own.length left
 abbrev pub AreLengthsOf : List SetSlice → List OwnLength → Type 0
 AreLengthsOf slices own =
     (crc left : ℕ) → list_any (is_within crc left) own ≡ list_any (has_fit_crc_of crc left) slices
+
+-- it has this CRC-32, and this length
+abbrev pub is_exactly : ℕ → ℕ → OwnLength → Bool
+is_exactly crc length own = own.length == length && own.crc == crc
+
+-- some slice with sums has a CRC-32 and a length exactly where one of these has
+abbrev pub AreExactlyOf : List SetSlice → List OwnLength → Type 0
+AreExactlyOf slices own =
+    (crc length : ℕ)
+    → list_any (is_exactly crc length) own ≡ list_any (has_own length (has_known_crc crc)) slices

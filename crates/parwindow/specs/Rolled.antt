@@ -1,16 +1,22 @@
 -- The fields of a window.
-use Rattle.std.specs.Prelude.{◌≡◌, ◌+◌, ◌≤◌, length}
+use Rattle.std.specs.Prelude.{◌≡◌, ◌+◌, ◌≤◌, All, length}
 use Rattle.parwindow.specs.Crc32.{register_of}
+use Rattle.parwindow.specs.Tails.{lengths_of, IsTail}
 use Rattle.parwindow.specs.Window.{WindowState}
 use Rattle.parwindow.specs.declared.window.Window.TheInside.{Inside}
 
 -- what a contract sees of them
 abbrev pub window_view : Inside → WindowState
-window_view w =
-    record { content = w.ring.items; capacity = w.ring.capacity; digests = w.digests.count }
+window_view w = record {
+  content = w.ring.items;
+  capacity = w.ring.capacity;
+  tails = lengths_of w.tails.items;
+  digests = w.digests.count;
+}
 
--- its register is that of its bytes, and its tables are those of its size
+-- its register is that of its bytes, and its tables and its tails are those of its size
 pub record IsRolled (w : Inside) : Type 0 where
   pub within : length w.ring.items ≤ w.ring.capacity
   pub room : w.ring.capacity ≡ w.tables.others + 1
   pub rolled : w.register ≡ register_of w.ring.items
+  pub tails : All (IsTail w.ring.capacity w.ring.items) w.tails.items

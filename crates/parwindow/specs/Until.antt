@@ -1,8 +1,9 @@
 -- Many pushes into a full window at once, up to the CRC-32 of a slice.
-use Rattle.std.specs.Prelude.{◌≡◌, ℕ, ◌+◌, ◌<◌, ◌≤◌, Bool, List, length, take, drop, ◌++◌, slice_index, IsTrue}
+use Rattle.std.specs.Prelude.{◌≡◌, ℕ, ◌+◌, ◌<◌, ◌≤◌, ◌||◌, Bool, List, [], length, take, drop, ◌++◌, slice_index, IsTrue}
+use Rattle.std.specs.List.{list_any}
 use Rattle.parwindow.specs.Crc32.{crc_of}
-use Rattle.parwindow.specs.Index.{SliceSet, set_has_crc}
-use Rattle.parwindow.specs.Window.{WindowState, content_after}
+use Rattle.parwindow.specs.Index.{SliceSet, set_has_crc, set_has_own_crc}
+use Rattle.parwindow.specs.Window.{WindowState, content_after, tail_content}
 
 -- the content of a full window once k of the bytes are pushed: as many are gone at the front
 abbrev pub slid_content : List ℕ → List ℕ → ℕ → List ℕ
@@ -16,14 +17,29 @@ pub record PushesSlide : Type 0 where
       → content_after (record w { content = slid_content w.content bytes k }) (slice_index bytes k)
       ≡ slid_content w.content bytes (k + 1)
 
--- after k pushes the content has the CRC-32 of a slice
-abbrev pub is_at_slice : SliceSet → List ℕ → List ℕ → ℕ → Bool
-is_at_slice set content bytes k = set_has_crc set (crc_of (slid_content content bytes k))
+-- a full window once k of the bytes are pushed
+abbrev pub slid_window : WindowState → List ℕ → ℕ → WindowState
+slid_window w bytes k = record w { content = slid_content w.content bytes k }
 
--- n of the bytes are pushed, up to the first after which the content has the CRC-32 of a slice
-pub record PushesUntil (set : SliceSet) (content bytes : List ℕ) (n : ℕ) : Type 0 where
+-- for some tail, a slice of this own length has the CRC-32 of the window's first bytes and zeros
+abbrev pub has_tail_slice : SliceSet → WindowState → Bool
+has_tail_slice set w =
+    list_any (λ own. set_has_own_crc set (crc_of (tail_content w own)) own) w.tails
+
+-- that is so, or some slice has the CRC-32 of the content
+abbrev pub is_at_slice : SliceSet → WindowState → Bool
+is_at_slice set w = has_tail_slice set w || set_has_crc set (crc_of w.content)
+
+-- n of the bytes are pushed, up to the first after which the window is at a slice
+pub record PushesUntil (set : SliceSet) (w : WindowState) (bytes : List ℕ) (n : ℕ) : Type 0 where
   pub within : n ≤ length bytes
-  -- after none of the earlier ones it has
-  pub before : (k : ℕ) → 0 < k → k < n → ¬ IsTrue (is_at_slice set content bytes k)
-  -- where some bytes are left, it has after the last one
-  pub stops : n < length bytes → (0 < n) × IsTrue (is_at_slice set content bytes n)
+  -- after none of the earlier ones it is
+  pub before : (k : ℕ) → 0 < k → k < n → ¬ IsTrue (is_at_slice set (slid_window w bytes k))
+  -- where some bytes are left, it is after the last one
+  pub stops : n < length bytes → (0 < n) × IsTrue (is_at_slice set (slid_window w bytes n))
+
+-- with no tails it is at a slice where some slice has the CRC-32 of the content
+abbrev pub NoTails : Type 0
+NoTails =
+    (set : SliceSet) (w : WindowState) → w.tails ≡ []
+    → is_at_slice set w ≡ set_has_crc set (crc_of w.content)

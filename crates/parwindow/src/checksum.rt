@@ -1,4 +1,4 @@
-ghost use Rattle.std.specs.Prelude.{◌≡◌};
+ghost use Rattle.std.specs.Prelude.{◌≡◌, fold};
 ghost use Rattle.parwindow.specs.Crc32.{crc_of, register_after};
 
 use crate::table::STEPPED_BYTES;
@@ -8,10 +8,16 @@ use crate::table::STEPPED_BYTES;
 pub fn crc32(bytes: &[u8]) -> u32
     ensures { result ≡ crc_of bytes.now }
 {
-    let register = bytes
+    after_bytes(0xFFFF_FFFF, bytes) ^ 0xFFFF_FFFF
+}
+
+/// The register after more bytes.
+pub fn after_bytes(register: u32, bytes: &[u8]) -> u32
+    ensures { result ≡ fold register_after register bytes.now }
+{
+    bytes
         .iter()
-        .fold(0xFFFF_FFFF, |register, &byte| after_byte(register, byte));
-    register ^ 0xFFFF_FFFF
+        .fold(register, |register, &byte| after_byte(register, byte))
 }
 
 /// The register after one more byte, by one look-up in place of eight steps.

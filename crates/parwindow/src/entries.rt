@@ -1,11 +1,11 @@
 ghost use Rattle.std.specs.Prelude.{◌≡◌, ℕ, ◌<◌, ◌≤◌, All, List, length, IfOk, IsSorted};
 ghost use Rattle.std.specs.List.{list_any};
 ghost use Rattle.parset.specs.declared.recovery_set.SetSlice.{SetSlice};
-ghost use Rattle.parwindow.specs.Index.{has_crc_of, has_sums, slice_passes, slice_set_of};
+ghost use Rattle.parwindow.specs.Index.{has_known_crc, has_sums, slice_passes, slice_set_of};
 ghost use Rattle.parwindow.specs.Least.{IsLeastFrom};
 ghost use Rattle.parset.specs.Limits.{slice_limit};
-ghost use Rattle.parwindow.specs.Entries.{entry_cmp, AreWithCrc, IsFloor, IsIndexOf, IsLeastOf, is_open, lesser};
-ghost use Rattle.parwindow.specs.Missing.{set_has_missing};
+ghost use Rattle.parwindow.specs.Entries.{entry_cmp, AreWithCrc, IsFloor, IsIndexOf, IsLeastOf, is_between, is_open, lesser};
+ghost use Rattle.parwindow.specs.Missing.{set_has_missing, set_has_own_missing};
 
 use crate::entry::Entry;
 use parfield::Hash16;
@@ -33,7 +33,7 @@ impl Entries {
     /// Whether some slice has this CRC-32.
     pub fn has_crc(&self, crc: u32) -> bool
         ensures { (slices : List SetSlice) → IsIndexOf slices self.now.list.items
-            → result ≡ list_any (has_crc_of crc) slices }
+            → result ≡ list_any (has_known_crc crc) slices }
     {
         has_crc_in(&self.list, crc)
     }
@@ -41,7 +41,7 @@ impl Entries {
     /// The first slice from a number on that has this CRC-32.
     pub fn next_crc(&self, crc: u32, from: u32) -> Option<u32>
         ensures { (slices : List SetSlice) → IsIndexOf slices self.now.list.items
-            → IsLeastFrom (slice_passes slices (has_crc_of crc)) from result }
+            → IsLeastFrom (slice_passes slices (has_known_crc crc)) from result }
     {
         least_from(with_crc(&self.list, crc), from)
     }
@@ -61,7 +61,24 @@ impl Entries {
         ensures { (size : ℕ)
             → result ≡ set_has_missing (slice_set_of size slices.now) found.now crc left }
     {
-        has_open(with_crc(&self.list, crc), slices, left, found)
+        has_open(with_crc(&self.list, crc), slices, 0, left, found)
+    }
+
+    /// Whether `is_missing` holds of the slices with so many bytes of their files alone.
+    pub fn is_missing_of(
+        &self,
+        slices: &[SetSlice],
+        crc: u32,
+        own: u64,
+        left: u64,
+        found: &[bool],
+    ) -> bool
+        requires indexed { IsIndexOf slices.now self.now.list.items }
+        requires each { length found.now ≡ length slices.now }
+        ensures { (size : ℕ)
+            → result ≡ set_has_own_missing (slice_set_of size slices.now) found.now crc own left }
+    {
+        own <= left && has_open(with_crc(&self.list, crc), slices, own, own, found)
     }
 }
 
@@ -99,7 +116,7 @@ fn floor_of(entries: &[Entry], wanted: &Entry) -> usize
 fn has_crc_in(entries: &[Entry], crc: u32) -> bool
     requires { IsSorted entry_cmp entries.now }
     ensures { (slices : List SetSlice) → IsIndexOf slices entries.now
-        → result ≡ list_any (has_crc_of crc) slices }
+        → result ≡ list_any (has_known_crc crc) slices }
 {
     entries
         .binary_search_by_key(&crc, |entry| entry.crc)
@@ -154,15 +171,17 @@ fn lesser(from: u32, least: Option<u32>, number: u32) -> Option<u32>
     }
 }
 
-// Whether the slice of one of these entries has at most so many bytes of its file, and no mark.
-fn has_open(entries: &[Entry], slices: &[SetSlice], left: u64, found: &[bool]) -> bool
+// Whether the slice of one of these entries has so many bytes of its file, and no mark.
+fn has_open(entries: &[Entry], slices: &[SetSlice], least: u64, most: u64, found: &[bool]) -> bool
     requires there { All (λ e. e.slice < length slices.now) entries.now }
     requires each { length found.now ≡ length slices.now }
-    ensures { result ≡ list_any (is_open slices.now found.now left) entries.now }
+    ensures { result
+        ≡ list_any (is_open slices.now found.now (is_between least most)) entries.now }
 {
     for entry in entries {
         let slice = entry.slice as usize;
-        if !found[slice] && slices[slice].length <= left {
+        let length = slices[slice].length;
+        if !found[slice] && least <= length && length <= most {
             return true;
         }
     }

@@ -1,15 +1,17 @@
-ghost use Rattle.std.specs.Prelude.{◌≡◌, ◌<◌, ◌≤◌, ◌%◌, ◌↔◌, length, slice_get, IfOk, IfSome, IsTrue};
+ghost use Rattle.std.specs.Prelude.{◌≡◌, ◌<◌, ◌≤◌, ◌%◌, ◌↔◌, length, slice_get, slice_index, IfOk, IfSome, IsTrue};
 ghost use Rattle.std.specs.Option.{IsSomeAnd};
-ghost use Rattle.parwindow.specs.Index.{slice_set_of, slice_passes, has_sums, has_crc_of, set_has_crc, set_has_fit};
+ghost use Rattle.parwindow.specs.Index.{slice_set_of, slice_passes, has_own, has_sums, has_known_crc, set_has_crc, set_has_fit, set_has_own_crc, tails_of};
 ghost use Rattle.parwindow.specs.Indexed.{IsShortest};
 ghost use Rattle.parwindow.specs.Least.{IsLeastFrom};
 ghost use Rattle.parset.specs.Limits.{slice_size_limit, slice_limit};
-ghost use Rattle.parwindow.specs.Missing.{set_has_fit_crc, set_has_missing};
+ghost use Rattle.parwindow.specs.Missing.{set_has_fit_crc, set_has_missing, set_has_own_missing};
 ghost use Rattle.parwindow.specs.Slide.{HasRegister};
+ghost use Rattle.parwindow.specs.Window.{AreTails};
 
 use crate::bloom_filter::BloomFilter;
 use crate::entries::Entries;
 use crate::own_lengths::OwnLengths;
+use crate::tail_lengths::tail_lengths;
 use parfield::{Hash16, Sequence};
 use parset::{RecoverySet, SetSlice};
 use std::alloc::{AllocError, Global};
@@ -24,6 +26,7 @@ pub struct Index {
     entries: Entries,
     lengths: OwnLengths,
     shortest: Option<u64>,
+    tails: Sequence<usize>,
 }
 
 impl Model for Index {
@@ -44,6 +47,7 @@ impl Index {
         ensures { IfOk result (λ index. index ≡ slice_set_of set.now.size set.now.slices) }
     {
         let slices = Vec::from_slice(alloc, set.slices())?;
+        let tails = tail_lengths(alloc, set.size(), set.slices())?;
         Ok(Index {
             size: set.size(),
             slices: Sequence::from_vec(slices),
@@ -51,6 +55,7 @@ impl Index {
             entries: Entries::of(alloc, set.slices())?,
             lengths: OwnLengths::of(alloc, set.slices())?,
             shortest: shortest_of(set.slices()),
+            tails: Sequence::from_vec(tails),
         })
     }
 
@@ -89,6 +94,29 @@ impl Index {
         self.shortest.is_some_and(|least| least <= left)
     }
 
+    /// How many own lengths below the slice size there are, of slices with sums.
+    pub fn tails(&self) -> u32
+        ensures { result ≡ length (tails_of self.now) }
+    {
+        self.tails.len() as u32
+    }
+
+    /// Length `k` of these, from the least on.
+    pub fn tail(&self, k: u32) -> u64
+        requires { k < length (tails_of self.now) }
+        ensures { result ≡ slice_index (tails_of self.now) k }
+    {
+        self.tail_lengths()[k as usize] as u64
+    }
+
+    /// All of these lengths, from the least on.
+    pub fn tail_lengths(&self) -> &[usize]
+        ensures all { result.now ≡ tails_of self.now }
+        ensures tails { AreTails self.now.slice_size result.now }
+    {
+        self.tails.as_slice()
+    }
+
     /// Whether some slice has this CRC-32.
     pub fn has_crc(&self, crc: u32) -> bool
         ensures { result ≡ set_has_crc self.now crc }
@@ -103,6 +131,13 @@ impl Index {
         self.has_crc(crc) && self.lengths.has(crc, left)
     }
 
+    /// Whether some slice has this CRC-32 and so many bytes of its file.
+    pub fn has_crc_of(&self, crc: u32, own: u64) -> bool
+        ensures { result ≡ set_has_own_crc self.now crc own }
+    {
+        self.has_crc(crc) && self.lengths.has_exactly(crc, own)
+    }
+
     /// Whether some slice without a mark has this CRC-32 and at most so many bytes of its file;
     /// `found` has a mark for each slice, by number. Goes over the slices with this CRC-32 once.
     pub fn is_missing(&self, crc: u32, left: u64, found: &[bool]) -> bool
@@ -113,9 +148,18 @@ impl Index {
             .is_missing(self.slices.as_slice(), crc, left, found)
     }
 
+    /// Whether `is_missing` holds of the slices with so many bytes of their files alone.
+    pub fn is_missing_of(&self, crc: u32, own: u64, left: u64, found: &[bool]) -> bool
+        requires { length found.now ≡ length self.now.slices }
+        ensures { result ≡ set_has_own_missing self.now found.now crc own left }
+    {
+        self.entries
+            .is_missing_of(self.slices.as_slice(), crc, own, left, found)
+    }
+
     /// The first slice from a number on that has this CRC-32.
     pub fn next_crc(&self, crc: u32, from: u32) -> Option<u32>
-        ensures found { IsLeastFrom (slice_passes self.now.slices (has_crc_of crc)) from result }
+        ensures found { IsLeastFrom (slice_passes self.now.slices (has_known_crc crc)) from result }
         ensures there { IfSome result (λ n. n < length self.now.slices) }
     {
         self.entries.next_crc(crc, from)
@@ -138,6 +182,25 @@ impl Index {
         ensures few { length self.now.slices ≤ slice_limit }
     {
         self.entries.next_match(crc, digest, from)
+    }
+
+    /// The first slice from a number on that has both sums, and so many bytes of its file.
+    pub fn next_match_of(&self, crc: u32, digest: Hash16, own: u64, from: u32) -> Option<u32>
+        ensures found { IsLeastFrom
+            (slice_passes self.now.slices (has_own own (has_sums (digest, crc)))) from result }
+
+        // It is the number of a slice, of which there are few.
+        ensures there { IfSome result (λ n. n < length self.now.slices) }
+        ensures few { length self.now.slices ≤ slice_limit }
+    {
+        let mut next = from;
+        while let Some(slice) = self.next_match(crc, digest, next) {
+            if self.own_length(slice) == own {
+                return Some(slice);
+            }
+            next = slice + 1;
+        }
+        None
     }
 }
 

@@ -7,8 +7,10 @@
 //! that it is no slice's; `index` asks that filter first whether some slice has a CRC-32.
 //! `zero_run` makes, by squaring, the table of what a byte has left in a register once a window has
 //! followed it, and `tables` holds that. `slid` is how far a window slid, and `sliding` takes out
-//! of the register what goes as bytes come, so that it rolls. `window` is the ring with that
-//! register. `laws` says what CRC-32s and windows keep.
+//! of the register what goes as bytes come, so that it rolls. `tail_lengths` collects the lengths
+//! of slices that are shorter than a slice; `tail` is such a length with a register of its own,
+//! `tails` moves these registers along, and `zeros` fills up what is hashed. `window` is the ring
+//! with all registers. `laws` says what CRC-32s and windows keep.
 #![tactic(auto)]
 
 mod bit_set;
@@ -23,10 +25,14 @@ mod slid;
 mod sliding;
 mod table;
 mod tables;
+mod tail;
+mod tail_lengths;
+mod tails;
 mod window;
 mod zero_run;
+mod zeros;
 
 pub use crate::checksum::crc32;
 pub use crate::index::Index;
-pub use crate::laws::{crc_removal_law, push_until_law};
+pub use crate::laws::{crc_removal_law, no_tails_law, push_until_law, tails_law, zero_fill_law};
 pub use crate::window::Window;

@@ -1,7 +1,8 @@
 ghost use Rattle.std.specs.Prelude.{◌≡◌, List, IfOk, IsSorted};
 ghost use Rattle.std.specs.List.{list_any};
 ghost use Rattle.parset.specs.declared.recovery_set.SetSlice.{SetSlice};
-ghost use Rattle.parwindow.specs.OwnLengths.{length_cmp, AreLengthsOf, is_within};
+ghost use Rattle.parwindow.specs.OwnLengths.{length_cmp, AreExactlyOf, AreLengthsOf, is_exactly, is_within};
+ghost use Rattle.parwindow.specs.Index.{has_known_crc, has_own};
 ghost use Rattle.parwindow.specs.Missing.{has_fit_crc_of};
 
 use parset::SetSlice;
@@ -24,7 +25,8 @@ pub struct OwnLengths {
 impl OwnLengths {
     /// Those of these slices.
     pub fn of(alloc: Global, slices: &[SetSlice]) -> Result<OwnLengths, AllocError>
-        ensures { IfOk result (λ lengths. AreLengthsOf slices.now lengths.list.items) }
+        ensures within { IfOk result (λ lengths. AreLengthsOf slices.now lengths.list.items) }
+        ensures exactly { IfOk result (λ lengths. AreExactlyOf slices.now lengths.list.items) }
     {
         let mut list = listed(alloc, slices)?;
         list.sort_unstable();
@@ -38,11 +40,20 @@ impl OwnLengths {
     {
         has_within(&self.list, crc, left)
     }
+
+    /// Whether some slice has this CRC-32 and so many bytes of its file.
+    pub fn has_exactly(&self, crc: u32, length: u64) -> bool
+        ensures { (slices : List SetSlice) → AreExactlyOf slices self.now.list.items
+            → result ≡ list_any (has_own length (has_known_crc crc)) slices }
+    {
+        has_exact(&self.list, crc, length)
+    }
 }
 
 // Those of these slices, in the order of the slices.
 fn listed(alloc: Global, slices: &[SetSlice]) -> Result<Vec<OwnLength>, AllocError>
-    ensures { IfOk result (λ list. AreLengthsOf slices.now list.items) }
+    ensures within { IfOk result (λ list. AreLengthsOf slices.now list.items) }
+    ensures exactly { IfOk result (λ list. AreExactlyOf slices.now list.items) }
 {
     let mut list = Vec::with_capacity(alloc, slices.len())?;
     for slice in slices {
@@ -65,4 +76,13 @@ fn has_within(lengths: &[OwnLength], crc: u32, left: u64) -> bool
         Some(shortest) => shortest.crc == crc && shortest.length <= left,
         None => false,
     }
+}
+
+// Whether one of them has this CRC-32 and this length.
+fn has_exact(lengths: &[OwnLength], crc: u32, length: u64) -> bool
+    requires { IsSorted length_cmp lengths.now }
+    ensures { result ≡ list_any (is_exactly crc length) lengths.now }
+{
+    let wanted = OwnLength { crc, length };
+    lengths.binary_search(&wanted).is_ok()
 }

@@ -1,12 +1,15 @@
-ghost use Rattle.std.specs.Prelude.{◌≡◌, ◌+◌, ◌<◌, ◌≤◌, ◌↔◌, [], length, IfOk, IsTrue};
+ghost use Rattle.std.specs.Prelude.{◌≡◌, ◌+◌, ◌<◌, ◌≤◌, ◌↔◌, ◌++◌, [], length, replicate, slice_index, take, IfOk, IsTrue};
 ghost use Rattle.parfield.specs.Md5.{md5};
 ghost use Rattle.parwindow.specs.Crc32.{crc_of};
 ghost use Rattle.parset.specs.Limits.{slice_size_limit};
-ghost use Rattle.parwindow.specs.Until.{slid_content, PushesUntil};
-ghost use Rattle.parwindow.specs.Window.{content_after, empty_window, fallen_byte};
+ghost use Rattle.parwindow.specs.Until.{has_tail_slice, is_at_slice, slid_content, slid_window, PushesUntil};
+ghost use Rattle.parwindow.specs.Window.{content_after, empty_window, fallen_byte, tail_content, tail_limit, AreTails};
 
 use crate::index::Index;
 use crate::tables::SlideTables;
+use crate::tail::Tail;
+use crate::tails::{clear_tails, move_tails, tails_for};
+use crate::zeros::hash_zeros;
 use circular_buffer::HeapCircularBuffer;
 use md5::{Digest, Md5};
 use parfield::{Hash16, Tally};
@@ -19,6 +22,7 @@ pub struct Window {
     ring: HeapCircularBuffer<u8>,
     register: u32,
     tables: SlideTables,
+    tails: Vec<Tail>,
     digests: Tally,
 }
 
@@ -36,18 +40,31 @@ impl Model for Window {
 }
 
 impl Window {
-    /// An empty window for `size` bytes, from 1 to 268,435,456. No other call takes memory.
-    #[tactic(auto, unfolding(crate::specs::Crc32::register_of))]
+    /// An empty window for `size` bytes, from 1 to 268,435,456.
     pub fn new(alloc: Global, size: usize) -> Result<Window, AllocError>
         requires some { 0 < size }
         requires within { size ≤ slice_size_limit }
-        ensures { IfOk result (λ window. window ≡ empty_window size) }
+        ensures { IfOk result (λ window. window ≡ empty_window size []) }
+    {
+        Window::with_tails(alloc, size, &[])
+    }
+
+    /// An empty window for `size` bytes, of which the first ones are looked at too, by up to 256
+    /// shorter lengths. No call but this one and `new` takes memory.
+    #[tactic(auto, unfolding(crate::specs::Crc32::register_of))]
+    pub fn with_tails(alloc: Global, size: usize, tails: &[usize]) -> Result<Window, AllocError>
+        requires some { 0 < size }
+        requires within { size ≤ slice_size_limit }
+        requires few { length tails.now ≤ tail_limit }
+        requires tails { AreTails size tails.now }
+        ensures { IfOk result (λ window. window ≡ empty_window size tails.now) }
     {
         let ring = HeapCircularBuffer::with_capacity(alloc, size)?;
         Ok(Window {
             ring,
             register: 0xFFFF_FFFF,
             tables: SlideTables::new(size),
+            tails: tails_for(alloc, size, tails)?,
             digests: Tally::new(),
         })
     }
@@ -57,19 +74,35 @@ impl Window {
         ensures content { self.new ≡ record self.old { content = content_after self.old byte } }
         ensures answer { result ≡ fallen_byte self.old }
     {
+        move_tails(&mut self.tails, &self.ring, byte);
         let fallen = self.ring.push_back(byte);
         self.register = self.tables.moved(self.register, fallen, byte);
         fallen
     }
 
-    /// Pushes bytes into a full window until its CRC-32 is that of a slice, or they are used up;
-    /// the answer is how many. Where none is left, the last CRC-32 may be a slice's or not.
+    /// Pushes bytes into a full window until its CRC-32 is that of a slice, or that of one of its
+    /// tails is that of a slice of this own length, or they are used up; the answer is how many.
+    /// Where none is left, the last place may be such a one or not.
     pub fn push_until(&mut self, index: &Index, bytes: &[u8]) -> usize
         requires full { length self.old.content ≡ self.old.capacity }
         ensures content { self.new
             ≡ record self.old { content = slid_content self.old.content bytes.now result } }
         ensures full { length self.new.content ≡ self.new.capacity }
-        ensures until { PushesUntil index.now self.old.content bytes.now result }
+        ensures until { PushesUntil index.now self.old bytes.now result }
+    {
+        if self.tails.is_empty() {
+            self.slide_until(index, bytes)
+        } else {
+            self.push_each_until(index, bytes)
+        }
+    }
+
+    // The same without tails: the ring is written once, behind the loop.
+    fn slide_until(&mut self, index: &Index, bytes: &[u8]) -> usize
+        requires full { length self.old.content ≡ self.old.capacity }
+        requires none { self.old.tails ≡ [] }
+        ensures content { self.new ≡ slid_window self.old bytes.now result }
+        ensures until { PushesUntil index.now self.old bytes.now result }
     {
         let slid = {
             let (front, back) = self.ring.as_slices();
@@ -79,6 +112,44 @@ impl Window {
         self.register = slid.register;
         self.ring.extend_from_slice(&bytes[..slid.count]);
         slid.count
+    }
+
+    // The same with tails, byte by byte.
+    fn push_each_until(&mut self, index: &Index, bytes: &[u8]) -> usize
+        requires full { length self.old.content ≡ self.old.capacity }
+        ensures content { self.new ≡ slid_window self.old bytes.now result }
+        ensures until { PushesUntil index.now self.old bytes.now result }
+    {
+        for (i, &byte) in bytes.iter().enumerate() {
+            self.push(byte);
+            if self.is_at_slice(index) {
+                return i + 1;
+            }
+        }
+        bytes.len()
+    }
+
+    // Whether the content has the CRC-32 of a slice, or a tail that of one of its length.
+    fn is_at_slice(&self, index: &Index) -> bool
+        requires full { length self.now.content ≡ self.now.capacity }
+        ensures { result ≡ is_at_slice index.now self.now }
+    {
+        self.has_tail_slice(index) || index.has_crc(self.crc())
+    }
+
+    // Whether a tail has the CRC-32 of a slice of its length.
+    fn has_tail_slice(&self, index: &Index) -> bool
+        requires full { length self.now.content ≡ self.now.capacity }
+        ensures { result ≡ has_tail_slice index.now self.now }
+    {
+        for k in 0..self.tails.len() {
+            let crc = self.tail_crc(k);
+            let own = self.tails[k].length as u64;
+            if index.has_crc_of(crc, own) {
+                return true;
+            }
+        }
+        false
     }
 
     /// The CRC-32 of the content, full or not.
@@ -94,12 +165,54 @@ impl Window {
         ensures digest { result.0 ≡ md5 self.old.content }
         ensures counted { self.new ≡ record self.old { digests = self.old.digests + 1 } }
     {
+        let whole = self.len();
+        self.hash(whole, 0)
+    }
+
+    /// The CRC-32 of the first bytes, as many as tail `k` has, and of zeros up to the capacity.
+    pub fn tail_crc(&self, k: usize) -> u32
+        requires tail { k < length self.now.tails }
+        requires there { slice_index self.now.tails k ≤ length self.now.content }
+        ensures { result ≡ crc_of (tail_content self.now (slice_index self.now.tails k)) }
+    {
+        let tail = &self.tails[k];
+        tail.zeros.apply(tail.register) ^ 0xFFFF_FFFF
+    }
+
+    /// The MD5 of the same bytes.
+    pub fn tail_digest(&mut self, k: usize) -> Hash16
+        requires tail { k < length self.old.tails }
+        requires there { slice_index self.old.tails k ≤ length self.old.content }
+        ensures digest { result.0 ≡ md5 (tail_content self.old (slice_index self.old.tails k)) }
+        ensures counted { self.new ≡ record self.old { digests = self.old.digests + 1 } }
+    {
+        let tail = &self.tails[k];
+        let (own, zeros) = (tail.length, tail.zeros.len);
+        self.hash(own, zeros)
+    }
+
+    // The MD5 of the first `count` bytes and of zeros, so many.
+    fn hash(&mut self, count: usize, zeros: usize) -> Hash16
+        ensures digest { result.0 ≡ md5 (take count self.old.content ++ replicate zeros 0) }
+        ensures counted { self.new ≡ record self.old { digests = self.old.digests + 1 } }
+    {
         self.digests.add(1);
-        let (front, back) = self.ring.as_slices();
+        let (front, back) = self.first(count);
         let mut hasher = Md5::new();
         hasher.update(front);
         hasher.update(back);
+        hash_zeros(&mut hasher, zeros);
         Hash16(hasher.finalize())
+    }
+
+    // The first `count` bytes, in two parts.
+    fn first(&self, count: usize) -> (&[u8], &[u8])
+        ensures { result.0.now ++ result.1.now ≡ take count self.now.content }
+    {
+        let (front, back) = self.ring.as_slices();
+        let in_front = count.min(front.len());
+        let in_back = (count - in_front).min(back.len());
+        (&front[..in_front], &back[..in_back])
     }
 
     /// Whether the next byte makes one fall out.
@@ -131,5 +244,6 @@ impl Window {
     {
         self.ring.clear();
         self.register = 0xFFFF_FFFF;
+        clear_tails(&mut self.tails);
     }
 }

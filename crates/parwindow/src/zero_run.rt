@@ -15,8 +15,8 @@ pub struct ZeroRun {
 }
 
 impl ZeroRun {
-    // The run of this length, from that of half of it.
-    fn new(len: usize) -> Self
+    /// The run of this length, from that of half of it.
+    pub fn new(len: usize) -> Self
         ensures { result.len ≡ len }
     {
         if len == 0 {
@@ -71,15 +71,14 @@ impl ZeroRun {
         }
     }
 
-    // The register once the run has followed.
-    fn apply(&self, register: u32) -> u32
+    /// The register once the run has followed.
+    pub fn apply(&self, register: u32) -> u32
         ensures { result ≡ crc_steps (8 * self.now.len) register }
     {
         let mut out = 0;
         for i in 0..32usize {
-            if (register >> i) & 1 == 1 {
-                out ^= self.columns[i];
-            }
+            // No branch, since bits of registers go either way.
+            out ^= self.columns[i] * ((register >> i) & 1);
         }
         out
     }

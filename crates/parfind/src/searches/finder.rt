@@ -299,7 +299,7 @@ impl Finder {
         // Only the contract speaks of it.
         let _ = index;
         self.cursor = at;
-        self.track.enter(&mut self.window, at.file, at.offset);
+        self.track.enter_file(&mut self.window, at.file, at.offset);
         self.track.fill(&mut self.window, shelf)
     }
 
@@ -346,7 +346,7 @@ impl Finder {
         let most = left.unwrap_or(u64::MAX);
         let count = self
             .track
-            .slide_until_match(&mut self.window, index, shelf, most)?;
+            .slide_until_crc(&mut self.window, index, shelf, most)?;
         self.cursor = Cursor {
             file: at.file,
             offset: at.offset + count,

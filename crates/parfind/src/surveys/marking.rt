@@ -2,10 +2,10 @@ ghost use Rattle.std.specs.Prelude.{◌≡◌, length, IfSome};
 ghost use Rattle.parwindow.specs.Index.{slice_passes, sums_of};
 ghost use Rattle.parwindow.specs.Crc32.{crc_of};
 ghost use Rattle.parwindow.specs.Missing.{set_has_missing};
-ghost use Rattle.parfind.specs.Fitting.{is_fit};
+ghost use Rattle.parfind.specs.Fitting.{is_fitting_match};
 ghost use Rattle.parfind.specs.Marking.{MarksMore, TakesDigest, IsExhausted};
 
-use crate::tracks::first_fit;
+use crate::tracks::first_fitting_match;
 use parfield::Hash16;
 use parwindow::{Index, Window};
 
@@ -24,7 +24,7 @@ pub fn mark_seen(
     requires exhausted_crc { IfSome exhausted_crc.old (IsExhausted index.now found.old left) }
     ensures exhausted_crc { IfSome exhausted_crc.new (IsExhausted index.now found.new left) }
     ensures marks { MarksMore
-        (slice_passes index.now.slices (is_fit (sums_of window.old.content) left)) found.old found.new }
+        (slice_passes index.now.slices (is_fitting_match (sums_of window.old.content) left)) found.old found.new }
     ensures digest { TakesDigest
         (set_has_missing index.now found.old (crc_of window.old.content) left) window.old window.new }
 {
@@ -44,10 +44,10 @@ pub fn mark_seen(
 fn mark_matches(index: &Index, crc: u32, digest: Hash16, left: u64, found: &mut [bool])
     requires each { length found.old ≡ length index.now.slices }
     ensures marks { MarksMore
-        (slice_passes index.now.slices (is_fit (digest, crc) left)) found.old found.new }
+        (slice_passes index.now.slices (is_fitting_match (digest, crc) left)) found.old found.new }
 {
     let mut from = 0;
-    while let Some(slice) = first_fit(index, crc, digest, left, from) {
+    while let Some(slice) = first_fitting_match(index, crc, digest, left, from) {
         found[slice as usize] = true;
         from = slice + 1;
     }

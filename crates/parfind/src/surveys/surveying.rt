@@ -139,7 +139,7 @@ fn survey_files<H: Shelf>(
         let left = track.rest(shelf);
         if left == 0 || !index.fits(left) {
             let next = track.file() + 1;
-            track.enter(window, next, 0);
+            track.enter_file(window, next, 0);
             exhausted_crc = None;
             continue;
         }
@@ -149,7 +149,7 @@ fn survey_files<H: Shelf>(
         if missing == found.len() {
             break;
         }
-        track.slide_until_match(window, index, shelf, u64::MAX)?;
+        track.slide_until_crc(window, index, shelf, u64::MAX)?;
     }
     Ok(())
 }

@@ -10,7 +10,7 @@ use parwindow::{Index, Window};
 
 impl Track {
     /// Goes to an offset of another file, with an empty window. In the same file nothing changes.
-    pub fn enter(&mut self, window: &mut Window, file: u32, offset: u64)
+    pub fn enter_file(&mut self, window: &mut Window, file: u32, offset: u64)
         ensures same { self.old.file ≡ file → (self.new ≡ self.old) × (window.new ≡ window.old) }
         ensures other { self.old.file ≢ file → IsUnread file offset self.new
             × (window.new ≡ record window.old { content = [] }) }
@@ -49,8 +49,9 @@ impl Track {
     }
 
     /// Passes the place of a full window, and those after it up to the first whose CRC-32 is that
-    /// of a slice; at most so many, and only of this file. The answer is how many.
-    pub fn slide_until_match<H: Shelf>(
+    /// of a slice or whose window wants bytes that are not at hand; at most so many, and only of
+    /// this file. The answer is how many.
+    pub fn slide_until_crc<H: Shelf>(
         &mut self,
         window: &mut Window,
         index: &Index,

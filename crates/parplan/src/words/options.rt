@@ -1,7 +1,7 @@
 ghost use Rattle.std.specs.Prelude.{◌≡◌, ◌≢◌, ◌<◌, ◌≤◌, Some, IfOk, IfErr, IfSome, Ok, Err, option_map};
 ghost use Rattle.clap.specs.Words.{found_of, rows_of};
 ghost use Rattle.parplan.specs.Options.{set_option_of, base_option_of, limit_option_of, cursor_option_of, quiet_of, command_of};
-ghost use Rattle.parplan.specs.Commands.{HasLimit};
+ghost use Rattle.parplan.specs.Commands.{LimitIsNotZero};
 
 use crate::words::grammar::Verb;
 use crate::words::limit::read_limit;
@@ -14,7 +14,7 @@ use parfind::{Cursor, split_cursor};
 /// The command of a verb, with the options that it alone has.
 pub fn command_given(verb: Verb, matches: &ArgMatches<'_>) -> Result<Command, PlanFault>
     ensures command { result ≡ command_of verb (rows_of (found_of matches.now)) }
-    ensures limit { IfOk result HasLimit }
+    ensures limit { IfOk result LimitIsNotZero }
 {
     match verb {
         Verb::Packets => Ok(Command::Packets),

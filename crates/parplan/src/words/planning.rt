@@ -1,7 +1,7 @@
 ghost use Rattle.std.specs.Prelude.{◌≡◌, ◌≢◌, ◌≤◌, ◌<◌, map, length, string_bytes, IfOk, IfErr, Ok, Err};
 ghost use Rattle.clap.specs.Words.{found_of, rows_of};
 ghost use Rattle.parshelf.specs.Disk.{open_file_limit};
-ghost use Rattle.parplan.specs.Commands.{HasLimit};
+ghost use Rattle.parplan.specs.Commands.{LimitIsNotZero};
 ghost use Rattle.parplan.specs.Plans.{plan_of, plan_of_rows, verb_of, first_verb_of, files_of, AnswersPlan, TellsTaken};
 
 use crate::words::files::{packet_files, scanned_files};
@@ -23,7 +23,7 @@ pub fn plan(alloc: Global, words: &[String]) -> Result<Plan, PlanFault>
     ensures few { IfOk result (λ plan.
         (length plan.packets ≤ open_file_limit) × (length plan.scanned ≤ open_file_limit)) }
     ensures some_packets { IfOk result (λ plan. 0 < length plan.packets) }
-    ensures limit { IfOk result (λ plan. HasLimit plan.command) }
+    ensures limit { IfOk result (λ plan. LimitIsNotZero plan.command) }
 {
     let verb = first_verb(words)?;
     let matches = matches_for(alloc, verb, words)?;
@@ -37,7 +37,7 @@ fn plan_of_matches(alloc: Global, verb: Verb, matches: &ArgMatches<'_>) -> Resul
     ensures few { IfOk result (λ plan.
         (length plan.packets ≤ open_file_limit) × (length plan.scanned ≤ open_file_limit)) }
     ensures some_packets { IfOk result (λ plan. 0 < length plan.packets) }
-    ensures limit { IfOk result (λ plan. HasLimit plan.command) }
+    ensures limit { IfOk result (λ plan. LimitIsNotZero plan.command) }
 {
     let command = command_given(verb, matches)?;
     let set = set_given(matches)?;

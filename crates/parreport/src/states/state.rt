@@ -10,13 +10,13 @@ use std::alloc::{AllocError, Global};
 /// How the scanned files stand to a file of the recovery set.
 #[derive(Clone, Copy, Debug, PartialEq, Eq)]
 pub(crate) enum State {
-    /// A scanned file of this name has its length and its MD5.
+    /// A scanned file of this name has its content, by its length and its MD5.
     Complete,
-    /// None of this name has both, but others have; this is the number of the first of them.
+    /// None of this name has its content, but others have; this is the number of the first of them.
     Renamed(usize),
-    /// None has both, but one has this name.
+    /// None has its content, but one has this name.
     Damaged,
-    /// None has both, and none has this name.
+    /// None has its content, and none has this name.
     Missing,
 }
 

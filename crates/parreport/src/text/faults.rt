@@ -1,5 +1,5 @@
 ghost use Rattle.std.specs.Prelude.{◌≡◌};
-ghost use Rattle.parreport.specs.Faults.{cause_of, scanned_fault_of};
+ghost use Rattle.parreport.specs.Faults.{set_fault_of, scanned_fault_of};
 ghost use Rattle.parreport.specs.declared.text.faults.RunFault.TheVariants as run_fault;
 
 use parfield::Hash16;
@@ -64,7 +64,7 @@ impl From<Failed> for RunFault {
 }
 
 impl From<SetFault> for RunFault {
-    ghost from_gives = { λ why e. e ≡ cause_of why };
+    ghost from_gives = { λ why e. e ≡ set_fault_of why };
 
     fn from(why: SetFault) -> RunFault {
         match why {

@@ -1,7 +1,7 @@
 ghost use Rattle.std.specs.Prelude.{◌≡◌, ◌≢◌, IsTrue, false, IfErr, IsSomeAnd, Some};
 ghost use Rattle.parreport.specs.Faults.{OnScannedFault};
-ghost use Rattle.parreport.specs.FindText.{search_of, WritesLinesBefore};
-ghost use Rattle.parreport.specs.Outcomes.{is_packet_read, written, may_follow_text, Answers, EndsScanned, EndsSink};
+ghost use Rattle.parreport.specs.FindText.{find_search_of, WritesLinesBefore};
+ghost use Rattle.parreport.specs.Outcomes.{is_packet_file_fault, written, may_follow_text, Answers, LeavesScanned, LeavesSink};
 ghost use Rattle.parreport.specs.Report.{find_report, start_cursor_of};
 ghost use Rattle.parplan.specs.declared.command.Command.TheVariants as command;
 
@@ -43,15 +43,15 @@ pub(crate) fn write_find<Q: Shelf, W: Sink>(
         (W.state out.old) (W.state out.new) }
     ensures lines { IsTrue (Q.state scanned.old).is_steady → IfErr result (OnScannedFault (λ file.
         IsSomeAnd (start_cursor_of set.now query.cursor) (λ at. WritesLinesBefore
-        (search_of plan.now.scanned (Q.state scanned.old).files set.now at query.limit)
+        (find_search_of plan.now.scanned (Q.state scanned.old).files set.now at query.limit)
         file (W.state out.old) (W.state out.new)))) }
-    ensures no_packet { IfErr result (λ fault. is_packet_read fault ≡ false) }
+    ensures no_packet { IfErr result (λ fault. is_packet_file_fault fault ≡ false) }
     ensures nothing_written { IfErr result (λ fault.
         may_follow_text (command.Find query.limit query.cursor)
         (written (W.state out.old) (W.state out.new)) fault ≡ false
         → W.state out.new ≡ W.state out.old) }
-    ensures scanned { EndsScanned result (Q.state scanned.old) (Q.state scanned.new) }
-    ensures sink { EndsSink result (W.state out.old) (W.state out.new) }
+    ensures scanned { LeavesScanned result (Q.state scanned.old) (Q.state scanned.new) }
+    ensures sink { LeavesSink result (W.state out.old) (W.state out.new) }
 {
     let Some(at) = start(set, query.cursor) else {
         return Err(RunFault::OtherSet);

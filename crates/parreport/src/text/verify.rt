@@ -1,6 +1,6 @@
 ghost use Rattle.std.specs.Prelude.{◌≡◌, length, IsTrue, false, Ok, IfErr};
 ghost use Rattle.parreport.specs.Names.{names_of};
-ghost use Rattle.parreport.specs.Outcomes.{is_packet_read, is_read, written, may_follow_text, Answers, EndsScanned, EndsSink};
+ghost use Rattle.parreport.specs.Outcomes.{is_packet_file_fault, is_read_fault, written, may_follow_text, Answers, LeavesScanned, LeavesSink};
 ghost use Rattle.parreport.specs.Report.{verify_report};
 ghost use Rattle.parreport.specs.VerifyText.{status_of, findings_text};
 ghost use Rattle.parplan.specs.declared.command.Command.TheVariants as command;
@@ -8,10 +8,10 @@ ghost use Rattle.parplan.specs.declared.command.Command.TheVariants as command;
 use crate::states::{Findings, findings_on};
 use crate::text::block_writer::BlockWriter;
 use crate::text::faults::RunFault;
+use crate::text::rest::write_rest;
 use crate::text::status::Status;
 use crate::text::verify::lines::write_verify_text;
 use crate::text::verify::status::status_of;
-use crate::text::whole_text::write_whole;
 use parplan::{Plan, Scanned};
 use parset::RecoverySet;
 use parshelf::{Shelf, Sink};
@@ -34,12 +34,12 @@ pub(crate) fn write_verify<Q: Shelf, W: Sink>(
     ensures text { IsTrue (Q.state scanned.old).is_steady
         → Answers (verify_report plan.now quiet (Q.state scanned.old).files set.now) result
         (W.state out.old) (W.state out.new) }
-    ensures no_packet { IfErr result (λ fault. is_packet_read fault ≡ false) }
+    ensures no_packet { IfErr result (λ fault. is_packet_file_fault fault ≡ false) }
     ensures nothing_written { IfErr result (λ fault. may_follow_text (command.Verify quiet)
         (written (W.state out.old) (W.state out.new)) fault ≡ false
         → W.state out.new ≡ W.state out.old) }
-    ensures scanned { EndsScanned result (Q.state scanned.old) (Q.state scanned.new) }
-    ensures sink { EndsSink result (W.state out.old) (W.state out.new) }
+    ensures scanned { LeavesScanned result (Q.state scanned.old) (Q.state scanned.new) }
+    ensures sink { LeavesSink result (W.state out.old) (W.state out.new) }
 {
     let files = plan.scanned.as_slice();
     let findings = findings_on(alloc, files, set, scanned)?;
@@ -62,15 +62,15 @@ fn write_findings<W: Sink>(
       answer = Ok (status_of set.now findings.now);
     }) result
         (W.state out.old) (W.state out.new) }
-    ensures no_read { IfErr result (λ fault. is_read fault ≡ false) }
+    ensures no_read { IfErr result (λ fault. is_read_fault fault ≡ false) }
     ensures nothing_written { IfErr result (λ fault. may_follow_text (command.Verify quiet)
         (written (W.state out.old) (W.state out.new)) fault ≡ false
         → W.state out.new ≡ W.state out.old) }
-    ensures sink { EndsSink result (W.state out.old) (W.state out.new) }
+    ensures sink { LeavesSink result (W.state out.old) (W.state out.new) }
 {
     let mut writer = BlockWriter::new(alloc, out);
     let told = write_verify_text(alloc, quiet, files, set, findings, &mut writer);
     let BlockWriter { sink, buffer, .. } = writer;
     told?;
-    write_whole(sink, buffer.as_bytes(), status_of(set, findings))
+    write_rest(sink, buffer.as_bytes(), status_of(set, findings))
 }

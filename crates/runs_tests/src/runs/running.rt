@@ -1,5 +1,5 @@
 // Runs of command lines over files in memory.
-ghost use Rattle.parplan.specs.Commands.{HasLimit};
+ghost use Rattle.parplan.specs.Commands.{LimitIsNotZero};
 
 use crate::runs::archives::packet_file;
 use crate::runs::checks::must;
@@ -90,7 +90,7 @@ pub fn scanned_in(rt: &(impl Abort + AllocGlobal), row: &Row<'_>, reads: Reads) 
 
 // The plan of words, which are one.
 fn plan_of(rt: &(impl Abort + AllocGlobal), words: &str) -> Plan
-    ensures { HasLimit result.command }
+    ensures { LimitIsNotZero result.command }
 {
     plan(rt.alloc(), &words_of(rt, words)).expect(rt, "error")
 }
@@ -112,7 +112,7 @@ fn answer_of(
     scanned: &mut MemShelf,
     out: &mut MemSink,
 ) -> Result<Status, RunFault>
-    requires { HasLimit plan.now.command }
+    requires { LimitIsNotZero plan.now.command }
 {
     if packets.count() as usize != plan.packets.len() {
         rt.panic("another number of packet files");

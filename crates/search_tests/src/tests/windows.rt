@@ -2,6 +2,7 @@
 ghost use Rattle.std.specs.Prelude.{◌<◌, ◌≤◌};
 
 mod slices;
+mod tails;
 
 use crate::tests::fixtures::{is, must};
 use parwindow::{Window, crc32};

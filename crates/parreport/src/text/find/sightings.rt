@@ -2,8 +2,8 @@ ghost use Rattle.std.specs.Prelude.{◌≡◌, ◌≢◌, IsTrue, IfErr, Some};
 ghost use Rattle.parfind.specs.Finders.{BelongsTo};
 ghost use Rattle.parwindow.specs.Index.{slice_set_of};
 ghost use Rattle.parreport.specs.Faults.{listing_of, IsSearchFault, OnScannedFault};
-ghost use Rattle.parreport.specs.FindText.{find_text, limit_left, search_of, WritesLinesBefore};
-ghost use Rattle.parreport.specs.Outcomes.{Answers, EndsScanned, EndsSink};
+ghost use Rattle.parreport.specs.FindText.{find_text, limit_left, find_search_of, WritesLinesBefore};
+ghost use Rattle.parreport.specs.Outcomes.{Answers, LeavesScanned, LeavesSink};
 ghost use Rattle.parreport.specs.Report.{listed};
 
 use crate::text::faults::RunFault;
@@ -31,16 +31,16 @@ pub fn write_sightings<Q: Shelf, W: Sink>(
     // The text on a steady shelf.
     ensures text { IsTrue (Q.state shelf.old).is_steady
         → Answers (listed (find_text
-        (search_of files.now (Q.state shelf.old).files set.now at limit)))
+        (find_search_of files.now (Q.state shelf.old).files set.now at limit)))
         (listing_of result) (W.state out.old) (W.state out.new) }
     ensures lines { IsTrue (Q.state shelf.old).is_steady → IfErr result (OnScannedFault (λ file.
-        WritesLinesBefore (search_of files.now (Q.state shelf.old).files set.now at limit)
+        WritesLinesBefore (find_search_of files.now (Q.state shelf.old).files set.now at limit)
         file (W.state out.old) (W.state out.new))) }
 
     // On any shelf: the answer tells what failed.
     ensures fault { IfErr result IsSearchFault }
-    ensures reads { EndsScanned (listing_of result) (Q.state shelf.old) (Q.state shelf.new) }
-    ensures sink { EndsSink (listing_of result) (W.state out.old) (W.state out.new) }
+    ensures reads { LeavesScanned (listing_of result) (Q.state shelf.old) (Q.state shelf.new) }
+    ensures sink { LeavesSink (listing_of result) (W.state out.old) (W.state out.new) }
 {
     let index = Index::new(alloc, set)?;
     let mut finder = Finder::open(alloc, &index, shelf, at)?;
@@ -64,15 +64,15 @@ fn write_from<Q: Shelf, W: Sink>(
 
     ensures text { IsTrue (Q.state shelf.old).is_steady
         → Answers (listed (find_text
-        (search_of files.now (Q.state shelf.old).files set.now finder.old.cursor limit)))
+        (find_search_of files.now (Q.state shelf.old).files set.now finder.old.cursor limit)))
         (listing_of result) (W.state out.old) (W.state out.new) }
     ensures lines { IsTrue (Q.state shelf.old).is_steady → IfErr result (OnScannedFault (λ file.
         WritesLinesBefore
-        (search_of files.now (Q.state shelf.old).files set.now finder.old.cursor limit)
+        (find_search_of files.now (Q.state shelf.old).files set.now finder.old.cursor limit)
         file (W.state out.old) (W.state out.new))) }
     ensures fault { IfErr result IsSearchFault }
-    ensures reads { EndsScanned (listing_of result) (Q.state shelf.old) (Q.state shelf.new) }
-    ensures sink { EndsSink (listing_of result) (W.state out.old) (W.state out.new) }
+    ensures reads { LeavesScanned (listing_of result) (Q.state shelf.old) (Q.state shelf.new) }
+    ensures sink { LeavesSink (listing_of result) (W.state out.old) (W.state out.new) }
 {
     let mut left = limit;
     while left != Some(0) {

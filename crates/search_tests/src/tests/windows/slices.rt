@@ -43,6 +43,12 @@ enum Told {
     // The first slice with this CRC-32 from a number on, and with both sums.
     NextCrc(u32, u32, Option<u32>),
     NextMatch(u32, u128, u32, Option<u32>),
+    // How many shorter own lengths there are, and one of them by its number.
+    Tails(u32),
+    Tail(u32, u64),
+    // Whether some slice of this own length has this CRC-32, and the first that has both sums.
+    HasCrcOf(u32, u64, bool),
+    NextMatchOf(u32, u128, u64, Option<u32>),
     // Whether a slice fits in where so many bytes are left, and whether one with this CRC-32 does.
     Fits(u64, bool),
     FitsCrc(u32, u64, bool),
@@ -65,6 +71,12 @@ fn says(index: &Index, row: Told) -> bool {
         Told::HasCrc(crc, seen) => index.has_crc(crc) == seen,
         Told::NextCrc(crc, from, found) => index.next_crc(crc, from) == found,
         Told::NextMatch(crc, digest, from, found) => next_match(index, crc, digest, from) == found,
+        Told::Tails(count) => index.tails() == count,
+        Told::Tail(k, own) => k < index.tails() && index.tail(k) == own,
+        Told::HasCrcOf(crc, own, seen) => index.has_crc_of(crc, own) == seen,
+        Told::NextMatchOf(crc, digest, own, found) => {
+            index.next_match_of(crc, Hash16(digest.to_be_bytes()), own, 0) == found
+        }
         Told::Fits(left, fits) => index.fits(left) == fits,
         Told::FitsCrc(crc, left, fits) => index.has_fit_crc(crc, left) == fits,
         Told::Misses(crc, found, left, missing) => {
@@ -120,6 +132,23 @@ static EQUAL_SLICES: [Told; 11] = [
 #[test]
 fn equal_slices_are_found_by_number(rt: HostRuntime) {
     index_says(&rt, 10, &TEN_BYTES, &EQUAL_SLICES);
+}
+
+static OWN_LENGTHS: [Told; 9] = [
+    Told::Tails(1),
+    Told::Tail(0, 2),
+    Told::HasCrcOf(AB_CRC, 2, true),
+    Told::HasCrcOf(AB_CRC, 4, false),
+    Told::HasCrcOf(ABCD_CRC, 4, true),
+    Told::HasCrcOf(ABCD_CRC, 2, false),
+    Told::NextMatchOf(AB_CRC, AB, 2, Some(2)),
+    Told::NextMatchOf(AB_CRC, AB, 4, None),
+    Told::NextMatchOf(ABCD_CRC, ABCD, 4, Some(0)),
+];
+
+#[test]
+fn slices_are_found_among_those_of_one_own_length(rt: HostRuntime) {
+    index_says(&rt, 10, &TEN_BYTES, &OWN_LENGTHS);
 }
 
 static NO_SUMS: [Told; 3] = [

@@ -28,12 +28,12 @@ loop-missing-preserved-then-left-eq0 g c =
     let left : ℕ = c.rest-left.result in
     let at = missing_left set old now l.missing l.exhausted_crc left l.invariant (omega (arith, c.loop-missing-test.true)) l.auto.found
     c.requires.sized (omega (arith, c.if-file-count.true, c.count.ensures, c.file.ensures)) c.rest-left.ensures in
-    let entered = rw c.file-next.ensures at (c.enter.ensures.other (λ e. absurd (omega (arith, c.file-next.ensures)))) in
+    let entered = rw c.file-next.ensures at (c.enter_file.ensures.other (λ e. absurd (omega (arith, c.file-next.ensures)))) in
     let none : (left ≡ 0) ⊎ (set_has_fit set left ≡ false) = elim c.then-left-eq0.branch [
       | then-left-eq0-via-then-left-eq0 w ↦ inl (omega (arith, w.if-left-eq0))
       | then-left-eq0-via-else-left-eq0+then-not-fits w ↦ inr (search rules steps 600000)
     ] in
-    enters set old now shelf l.missing l.exhausted_crc left at none c.enter.new.window c.enter.new.self entered.0 entered.1
+    enters set old now shelf l.missing l.exhausted_crc left at none c.enter_file.new.window c.enter_file.new.self entered.0 entered.1
 
 pub returns-in_err-fill-clause-ends : goal.returns-in_err-fill-clause-ends
 returns-in_err-fill-clause-ends g c =
@@ -71,8 +71,8 @@ returns-in_err-fill-clause-shelf g c =
 pub mark_seen-requires-clause-exhausted_crc : goal.mark_seen-requires-clause-exhausted_crc
 mark_seen-requires-clause-exhausted_crc g c = rw c.rest-left.ensures c.loop-missing.invariant.exhausted_is
 
-pub slide_until_match-requires-clause-tied : goal.slide_until_match-requires-clause-tied
-slide_until_match-requires-clause-tied g c =
+pub slide_until_crc-requires-clause-tied : goal.slide_until_crc-requires-clause-tied
+slide_until_crc-requires-clause-tied g c =
     tied_digest (g.H.Shelf.state c.fill.new.shelf) c.fill.new.window c.mark_seen.new.window c.fill.new.self _ c.fill.ensures.tied c.mark_seen.ensures.digest
 
 pub loop-missing-preserved : goal.loop-missing-preserved
@@ -101,16 +101,16 @@ loop-missing-preserved g c =
       takes = c.mark_seen.ensures.digest;
       next = record { within = last.ensures.within; first = last.ensures.missing; marked = last.ensures.marked };
     } in
-    let p = c.in_ok-slide_until_match.ensures in
-    let s = c.slide_until_match.new in
+    let p = c.in_ok-slide_until_crc.ensures in
+    let s = c.slide_until_crc.new in
     let slid : SlidOn filled m.window (g.H.Shelf.state s.shelf) s.window s.self =
     record { tied = p.tied; window_is = p.window; file_is = p.same; hands = p.reads } in
     slides set old now shelf l.missing l.exhausted_crc left at fits filled fill r.shelf m.window m.found last.result look
     (omega (arith, last.ensures.within, c.if-missing-found.false)) (g.H.Shelf.state s.shelf) s.window s.self slid
-    c.in_ok-slide_until_match.field-0 _ p.passes p.shelf m.exhausted_crc c.mark_seen.ensures.exhausted_crc p.none
+    c.in_ok-slide_until_crc.field-0 _ p.passes p.shelf m.exhausted_crc c.mark_seen.ensures.exhausted_crc p.none
 
-pub returns-in_err-slide_until_match-clause-ends : goal.returns-in_err-slide_until_match-clause-ends
-returns-in_err-slide_until_match-clause-ends g c =
+pub returns-in_err-slide_until_crc-clause-ends : goal.returns-in_err-slide_until_crc-clause-ends
+returns-in_err-slide_until_crc-clause-ends g c =
     let set : SliceSet = c.args.index.now in
     let shelf = g.met.H.Shelf.well_formed c.args.shelf.now in
     let old : SurveyState = survey_at (g.H.Shelf.state c.args.shelf.now) c.args.window.now c.args.found.now c.args.track.now in
@@ -135,32 +135,32 @@ returns-in_err-slide_until_match-clause-ends g c =
       takes = c.mark_seen.ensures.digest;
       next = record { within = last.ensures.within; first = last.ensures.missing; marked = last.ensures.marked };
     } in
-    let p = c.in_err-slide_until_match.ensures in
-    let s = c.slide_until_match.new in
+    let p = c.in_err-slide_until_crc.ensures in
+    let s = c.slide_until_crc.new in
     let slid : SlidOn filled m.window (g.H.Shelf.state s.shelf) s.window s.self =
     record { tied = p.tied; window_is = p.window; file_is = p.same; hands = p.reads } in
-    let failed = err_from_is_err_and c.from_residual-in_err-slide_until_match.result c.from_residual-in_err-slide_until_match.ensures.1 in
+    let failed = err_from_is_err_and c.from_residual-in_err-slide_until_crc.result c.from_residual-in_err-slide_until_crc.ensures.1 in
     rw (failed.1, failed.2)
     (slide_fails set old now shelf l.missing l.exhausted_crc left at fits filled fill r.shelf m.window m.found last.result look
     (omega (arith, last.ensures.within, c.if-missing-found.false)) (g.H.Shelf.state s.shelf) s.window s.self slid
-    c.in_err-slide_until_match.field-0.0 p.stays.0.offset_is)
+    c.in_err-slide_until_crc.field-0.0 p.stays.0.offset_is)
 
-pub returns-in_err-slide_until_match-clause-none : goal.returns-in_err-slide_until_match-clause-none
-returns-in_err-slide_until_match-clause-none g c = λ all.
+pub returns-in_err-slide_until_crc-clause-none : goal.returns-in_err-slide_until_crc-clause-none
+returns-in_err-slide_until_crc-clause-none g c = λ all.
     let l = c.loop-missing in
     absurd (never_all c.args.index.now (survey_at (g.H.Shelf.state c.args.shelf.now) c.args.window.now c.args.found.now c.args.track.now)
     (survey_at (g.H.Shelf.state l.shelf) l.window l.found l.track) l.missing l.exhausted_crc l.invariant
     (omega (arith, c.loop-missing-test.true)) l.auto.found all)
 
-pub returns-in_err-slide_until_match-clause-shelf : goal.returns-in_err-slide_until_match-clause-shelf
-returns-in_err-slide_until_match-clause-shelf g c =
+pub returns-in_err-slide_until_crc-clause-shelf : goal.returns-in_err-slide_until_crc-clause-shelf
+returns-in_err-slide_until_crc-clause-shelf g c =
     let s : ShelfState = g.H.Shelf.state c.args.shelf.now in
     let full : ShelfState = g.H.Shelf.state c.fill.new.shelf in
     let only = ReadsOnly_more s (g.H.Shelf.state c.loop-missing.shelf) full c.loop-missing.invariant.reads c.in_ok-fill.ensures.shelf in
-    let failed = err_from_is_err_and c.from_residual-in_err-slide_until_match.result c.from_residual-in_err-slide_until_match.ensures.1 in
-    rw (failed.1, failed.2, c.in_err-slide_until_match.ensures.stays.0.file_is)
-    (faults_before s full (g.H.Shelf.state c.slide_until_match.new.shelf) c.fill.new.self.file c.in_err-slide_until_match.field-0.0 only
-    c.in_err-slide_until_match.ensures.shelf)
+    let failed = err_from_is_err_and c.from_residual-in_err-slide_until_crc.result c.from_residual-in_err-slide_until_crc.ensures.1 in
+    rw (failed.1, failed.2, c.in_err-slide_until_crc.ensures.stays.0.file_is)
+    (faults_before s full (g.H.Shelf.state c.slide_until_crc.new.shelf) c.fill.new.self.file c.in_err-slide_until_crc.field-0.0 only
+    c.in_err-slide_until_crc.ensures.shelf)
 
 pub returns-after-loop-missing-clause-ends : goal.returns-after-loop-missing-clause-ends
 returns-after-loop-missing-clause-ends g c =
@@ -210,11 +210,11 @@ loop-missing-smaller g c =
     let l = c.loop-missing in
     let mid : ShelfState = g.H.Shelf.state l.shelf in
     let r = c.in_ok-fill.ensures in
-    let p = c.in_ok-slide_until_match.ensures in
+    let p = c.in_ok-slide_until_crc.ensures in
     let counted : l.track.file < length mid.lengths = omega (arith, c.if-file-count.true, c.count.ensures, c.file.ensures) in
     let small : l.track.window_offset < 9223372036854775808 =
     omega (arith, l.invariant.inside counted, (g.met.H.Shelf.well_formed l.shelf).short l.track.file 0 counted) in
-    slid_nearer (length mid.lengths) l.track.file l.track.window_offset counted small _ _ _ c.in_ok-slide_until_match.field-0
+    slid_nearer (length mid.lengths) l.track.file l.track.window_offset counted small _ _ _ c.in_ok-slide_until_crc.field-0
     (ap (λ (u : ShelfState). length u.lengths) p.shelf ∙ ap (λ (u : ShelfState). length u.lengths) r.shelf) (p.same ∙ r.same.file_is)
     (omega (arith, p.passes.offset_is, r.same.offset_is)) p.passes.some
 
@@ -225,5 +225,5 @@ loop-missing-smaller-then-left-eq0 g c =
     let counted : l.track.file < length mid.lengths = omega (arith, c.if-file-count.true, c.count.ensures, c.file.ensures) in
     let small : l.track.window_offset < 9223372036854775808 =
     omega (arith, l.invariant.inside counted, (g.met.H.Shelf.well_formed l.shelf).short l.track.file 0 counted) in
-    let entered = rw c.file-next.ensures at (c.enter.ensures.other (λ e. absurd (omega (arith, c.file-next.ensures)))) in
+    let entered = rw c.file-next.ensures at (c.enter_file.ensures.other (λ e. absurd (omega (arith, c.file-next.ensures)))) in
     entered_nearer (length mid.lengths) l.track.file l.track.window_offset counted small _ _ entered.0.file_is entered.0.offset_is

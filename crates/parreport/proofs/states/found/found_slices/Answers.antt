@@ -104,10 +104,10 @@ pub returns-in_err-survey-clause-fault : goal.returns-in_err-survey-clause-fault
 returns-in_err-survey-clause-fault g c = grind (arith, common_steps) steps 1500000
 
 pub returns-clause-slices : goal.returns-clause-slices
-returns-clause-slices g c = grind (arith, common_steps) steps 400000
+returns-clause-slices g c = grind (arith, common_steps) steps 1500000
 
 pub returns-clause-handed : goal.returns-clause-handed
-returns-clause-handed g c = grind (arith, common_steps) steps 400000
+returns-clause-handed g c = grind (arith, common_steps) steps 1500000
 
 pub returns-clause-ok : goal.returns-clause-ok
 returns-clause-ok g c = grind (arith, common_steps) steps 400000

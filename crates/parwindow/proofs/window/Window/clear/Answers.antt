@@ -1,11 +1,18 @@
-use Rattle.std.proofs.Common.{rules, arith}
+use Rattle.std.proofs.Common.{refl, arith}
 use Rattle.parwindow.specs.Crc32.{register_of}
-use Rattle.std.proofs.lemmas.Grind.{common_steps}
+use Rattle.parwindow.proofs.TailMoveLaws.{refilled}
 use Rattle.parwindow.proofs.window.Window.clear.Goals as goal
-
-pub returns : goal.returns
-returns c = grind (arith, common_steps) steps 100000
 
 pub invariant_of-self : goal.invariant_of-self
 unfolding register_of
-invariant_of-self c = search rules steps 300000
+invariant_of-self c =
+    let w = c.self.inside in
+    let same = rw c.deref_mut.ensures.value at c.clear_tails.ensures.lengths in
+    rw c.clear.ensures (record {
+      within = omega arith;
+      room = c.self.invariant.room;
+      rolled = refl;
+      tails = rw (refilled w.tails.items c.clear_tails.new.tails w.tails.len w.tails.ok.0 same)
+          (c.clear_tails.ensures.each w.ring.capacity w.ring.items
+          (rw c.deref_mut.ensures.value c.self.invariant.tails));
+    })

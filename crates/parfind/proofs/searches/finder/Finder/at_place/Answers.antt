@@ -48,7 +48,7 @@ returns-in_err-count g c =
     let r = c.first_seen.ensures in
     let looked : Looked set s f c.rest_of-rest.result c.first_seen.result w.window w.self =
     record { rest_is = c.rest_of-rest.ensures; first = r.first; looks = r.looks; remembers = r.remembers; marked = r.marked } in
-    let v = c.slide_until_match.new in
+    let v = c.slide_until_crc.new in
     let e = c.in_err-count.ensures in
     let tried = fault_inside set s (g.met.H.Shelf.well_formed c.args.shelf.now) f c.args.self.now c.self.view_is there c.args.left q.left c.rest_of-rest.result
     c.first_seen.result w.window w.self looked (g.H.Shelf.state v.shelf) v.window v.self e.tied e.window e.reads
@@ -76,7 +76,7 @@ returns g c =
     let r = c.first_seen.ensures in
     let looked : Looked set s f c.rest_of-rest.result c.first_seen.result w.window w.self =
     record { rest_is = c.rest_of-rest.ensures; first = r.first; looks = r.looks; remembers = r.remembers; marked = r.marked } in
-    let v = c.slide_until_match.new in
+    let v = c.slide_until_crc.new in
     let e = c.in_ok-count.ensures in
     let tried = pass_inside set s (g.met.H.Shelf.well_formed c.args.shelf.now) f c.args.self.now c.self.view_is there c.args.left q.left c.rest_of-rest.result
     c.first_seen.result w.window w.self looked (g.H.Shelf.state v.shelf) v.window v.self e.tied e.window e.reads
@@ -119,20 +119,20 @@ first_seen-requires-clause-remembers g c = grind (arith, common_steps) steps 100
 pub first_seen-requires-clause-full : goal.first_seen-requires-clause-full
 first_seen-requires-clause-full g c = grind (arith, common_steps) steps 100000
 
-pub slide_until_match-requires-clause-some : goal.slide_until_match-requires-clause-some
-slide_until_match-requires-clause-some g c = grind (arith, common_steps) steps 100000
+pub slide_until_crc-requires-clause-some : goal.slide_until_crc-requires-clause-some
+slide_until_crc-requires-clause-some g c = grind (arith, common_steps) steps 100000
 
-pub slide_until_match-requires-clause-file : goal.slide_until_match-requires-clause-file
-slide_until_match-requires-clause-file g c = grind (arith, common_steps) steps 100000
+pub slide_until_crc-requires-clause-file : goal.slide_until_crc-requires-clause-file
+slide_until_crc-requires-clause-file g c = grind (arith, common_steps) steps 100000
 
-pub slide_until_match-requires-clause-inside : goal.slide_until_match-requires-clause-inside
-slide_until_match-requires-clause-inside g c = grind (arith, common_steps) steps 100000
+pub slide_until_crc-requires-clause-inside : goal.slide_until_crc-requires-clause-inside
+slide_until_crc-requires-clause-inside g c = grind (arith, common_steps) steps 100000
 
-pub slide_until_match-requires-clause-sized : goal.slide_until_match-requires-clause-sized
-slide_until_match-requires-clause-sized g c = grind (arith, common_steps) steps 100000
+pub slide_until_crc-requires-clause-sized : goal.slide_until_crc-requires-clause-sized
+slide_until_crc-requires-clause-sized g c = grind (arith, common_steps) steps 100000
 
-pub slide_until_match-requires-clause-full : goal.slide_until_match-requires-clause-full
-slide_until_match-requires-clause-full g c = grind (arith, common_steps) steps 100000
+pub slide_until_crc-requires-clause-full : goal.slide_until_crc-requires-clause-full
+slide_until_crc-requires-clause-full g c = grind (arith, common_steps) steps 100000
 
-pub slide_until_match-requires-clause-tied : goal.slide_until_match-requires-clause-tied
-slide_until_match-requires-clause-tied g c = grind (arith, common_steps) steps 400000
+pub slide_until_crc-requires-clause-tied : goal.slide_until_crc-requires-clause-tied
+slide_until_crc-requires-clause-tied g c = grind (arith, common_steps) steps 400000

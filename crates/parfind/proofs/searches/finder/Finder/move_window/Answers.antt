@@ -17,16 +17,16 @@ fill-requires-clause-tied g c =
     let track = ap (λ (f : FinderState). f.track) c.self.view_is in
     let window = ap (λ (f : FinderState). f.window) c.self.view_is in
     enter_tied c.args.self.now c.args.index.now s (g.met.H.Shelf.well_formed c.args.shelf.now) c.requires.belongs c.args.at c.requires.next c.requires.fits
-    c.enter.new.window c.enter.new.self (rw (track, window) at c.enter.ensures.same) (rw (track, window) at c.enter.ensures.other)
+    c.enter_file.new.window c.enter_file.new.self (rw (track, window) at c.enter_file.ensures.same) (rw (track, window) at c.enter_file.ensures.other)
 
 pub returns-clause-stands : goal.returns-clause-stands
 returns-clause-stands g c =
     let s : ShelfState = g.H.Shelf.state c.args.shelf.now in
     let track = ap (λ (f : FinderState). f.track) c.self.view_is in
     let window = ap (λ (f : FinderState). f.window) c.self.view_is in
-    let stands : StandsAt c.enter.new.self c.args.at =
+    let stands : StandsAt c.enter_file.new.self c.args.at =
     enter_stands c.args.self.now c.args.index.now s (g.met.H.Shelf.well_formed c.args.shelf.now) c.requires.belongs c.args.at c.requires.next c.requires.fits
-    c.enter.new.window c.enter.new.self (rw (track, window) at c.enter.ensures.same) (rw (track, window) at c.enter.ensures.other) in
+    c.enter_file.new.window c.enter_file.new.self (rw (track, window) at c.enter_file.ensures.same) (rw (track, window) at c.enter_file.ensures.other) in
     record {
       file_is = c.fill.ensures.same.file_is ∙ stands.file_is;
       offset_is = c.fill.ensures.same.offset_is ∙ stands.offset_is;
@@ -42,19 +42,19 @@ returns-clause-belongs g c =
     let window = ap (λ (f : FinderState). f.window) c.self.view_is in
     let r = c.fill.ensures in
     let file = enter_file c.args.self.now set s (g.met.H.Shelf.well_formed c.args.shelf.now) c.requires.belongs c.args.at c.requires.next c.requires.fits
-    c.enter.new.window c.enter.new.self (rw (track, window) at c.enter.ensures.same) (rw (track, window) at c.enter.ensures.other) in
+    c.enter_file.new.window c.enter_file.new.self (rw (track, window) at c.enter_file.ensures.same) (rw (track, window) at c.enter_file.ensures.other) in
     let held = enter_held c.args.self.now set s (g.met.H.Shelf.well_formed c.args.shelf.now) c.requires.belongs c.args.at c.requires.next c.requires.fits
-    c.enter.new.window c.enter.new.self (rw (track, window) at c.enter.ensures.same) (rw (track, window) at c.enter.ensures.other) in
+    c.enter_file.new.window c.enter_file.new.self (rw (track, window) at c.enter_file.ensures.same) (rw (track, window) at c.enter_file.ensures.other) in
     let sized = enter_sized c.args.self.now set s (g.met.H.Shelf.well_formed c.args.shelf.now) c.requires.belongs c.args.at c.requires.next c.requires.fits
-    c.enter.new.window c.enter.new.self (rw (track, window) at c.enter.ensures.same) (rw (track, window) at c.enter.ensures.other) in
+    c.enter_file.new.window c.enter_file.new.self (rw (track, window) at c.enter_file.ensures.same) (rw (track, window) at c.enter_file.ensures.other) in
     let onward = enter_onward c.args.self.now set s (g.met.H.Shelf.well_formed c.args.shelf.now) c.requires.belongs c.args.at c.requires.next c.requires.fits
-    c.enter.new.window c.enter.new.self (rw (track, window) at c.enter.ensures.same) (rw (track, window) at c.enter.ensures.other) in
+    c.enter_file.new.window c.enter_file.new.self (rw (track, window) at c.enter_file.ensures.same) (rw (track, window) at c.enter_file.ensures.other) in
     let digests = enter_digests c.args.self.now set s (g.met.H.Shelf.well_formed c.args.shelf.now) c.requires.belongs c.args.at c.requires.next c.requires.fits
-    c.enter.new.window c.enter.new.self (rw (track, window) at c.enter.ensures.same) (rw (track, window) at c.enter.ensures.other) in
+    c.enter_file.new.window c.enter_file.new.self (rw (track, window) at c.enter_file.ensures.same) (rw (track, window) at c.enter_file.ensures.other) in
     let f : FinderState = with_window (record c.args.self.now { opening = i.opening }) i.cursor i.window i.track in
     let is : f ≡ c.args.self.now = c.self.view_is in
-    arrives_belongs c.args.self.now set s t c.requires.belongs (call_files set s t c.enter.new.self.file c.fill.result r.shelf)
-    c.args.at c.enter.new.window c.enter.new.self c.fill.new.window c.fill.new.self r.tied r.window r.same sized digests onward file held
+    arrives_belongs c.args.self.now set s t c.requires.belongs (call_files set s t c.enter_file.new.self.file c.fill.result r.shelf)
+    c.args.at c.enter_file.new.window c.enter_file.new.self c.fill.new.window c.fill.new.self r.tied r.window r.same sized digests onward file held
     i.opening (ap (λ (x : FinderState). x.opening) is)
 
 pub returns-clause-along : goal.returns-clause-along
@@ -63,18 +63,18 @@ returns-clause-along g c =
     let track = ap (λ (f : FinderState). f.track) c.self.view_is in
     let window = ap (λ (f : FinderState). f.window) c.self.view_is in
     let counted = ap (λ (f : FinderState). f.digests) c.self.view_is in
-    let file : c.enter.new.self.file ≡ c.args.at.file =
+    let file : c.enter_file.new.self.file ≡ c.args.at.file =
     enter_file c.args.self.now c.args.index.now s (g.met.H.Shelf.well_formed c.args.shelf.now) c.requires.belongs c.args.at c.requires.next c.requires.fits
-    c.enter.new.window c.enter.new.self (rw (track, window) at c.enter.ensures.same) (rw (track, window) at c.enter.ensures.other) in
+    c.enter_file.new.window c.enter_file.new.self (rw (track, window) at c.enter_file.ensures.same) (rw (track, window) at c.enter_file.ensures.other) in
     let same = enter_digests c.args.self.now c.args.index.now s (g.met.H.Shelf.well_formed c.args.shelf.now) c.requires.belongs c.args.at c.requires.next c.requires.fits
-    c.enter.new.window c.enter.new.self (rw (track, window) at c.enter.ensures.same) (rw (track, window) at c.enter.ensures.other) in
+    c.enter_file.new.window c.enter_file.new.self (rw (track, window) at c.enter_file.ensures.same) (rw (track, window) at c.enter_file.ensures.other) in
     let filled = ap (λ (w : WindowState). w.digests) c.fill.ensures.window in
     record {
       shelf = subst (λ (n : ℕ). ReadsFile n s (g.H.Shelf.state c.fill.new.shelf) c.fill.result) file c.fill.ensures.shelf;
-      reads = hands_more s.lengths s.handed s.handed (g.H.Shelf.state c.fill.new.shelf).handed c.args.self.now.fetched (fetched_of c.enter.new.self)
+      reads = hands_more s.lengths s.handed s.handed (g.H.Shelf.state c.fill.new.shelf).handed c.args.self.now.fetched (fetched_of c.enter_file.new.self)
           (fetched_of c.fill.new.self)
           (enter_hands c.args.self.now c.args.index.now s (g.met.H.Shelf.well_formed c.args.shelf.now) c.requires.belongs c.args.at c.requires.next
-          c.requires.fits c.enter.new.window c.enter.new.self (rw (track, window) at c.enter.ensures.same) (rw (track, window) at c.enter.ensures.other))
+          c.requires.fits c.enter_file.new.window c.enter_file.new.self (rw (track, window) at c.enter_file.ensures.same) (rw (track, window) at c.enter_file.ensures.other))
           c.fill.ensures.reads;
       opening_is = ap (λ (f : FinderState). f.opening) c.self.view_is;
       no_fewer = omega (arith, counted, same, filled);

@@ -7,7 +7,7 @@ use Rattle.parshelf.proofs.ReadLaws.{ReadsOnly_more}
 use Rattle.parfind.specs.declared.cursors.cursor.Cursor.{Cursor}
 use Rattle.parfind.specs.Points.{search_at}
 use Rattle.parfind.specs.declared.searches.finder.Step.TheVariants.{Hit, Done}
-use Rattle.parreport.specs.FindText.{Search, search_of}
+use Rattle.parreport.specs.FindText.{Search, find_search_of}
 use Rattle.parshelf.specs.SinkState.{SinkState}
 use Rattle.parreport.proofs.FindLaws.{hands_front, hands_one, hands_refused, ends_text, ends_refused, stops_text, stops_refused, keeps_after_fault, gives_from}
 use Rattle.parreport.proofs.LineLaws.{fault_text, last_text, line_reads, line_sink, line_keeps, line_fault}
@@ -15,7 +15,7 @@ use Rattle.parreport.proofs.text.find.sightings.write_from.Goals as goal
 
 pub loop-left-preserved-in-Ok-Hit : goal.loop-left-preserved-in-Ok-Hit
 loop-left-preserved-in-Ok-Hit g c =
-    let s : Search = search_of c.args.files.now (g.Q.Shelf.state c.args.shelf.now).files c.args.set.now c.args.finder.now.cursor c.args.limit in
+    let s : Search = find_search_of c.args.files.now (g.Q.Shelf.state c.args.shelf.now).files c.args.set.now c.args.finder.now.cursor c.args.limit in
     let set : SetView = c.args.set.now in
     let old : ShelfState = g.Q.Shelf.state c.args.shelf.now in
     let mid : ShelfState = g.Q.Shelf.state c.loop-left.shelf in
@@ -37,7 +37,7 @@ loop-left-preserved-in-Ok-Hit g c =
 
 pub returns-in_err-write_sighting-in-Ok-Hit-clause-text : goal.returns-in_err-write_sighting-in-Ok-Hit-clause-text
 returns-in_err-write_sighting-in-Ok-Hit-clause-text g c = λ steady.
-    let s : Search = search_of c.args.files.now (g.Q.Shelf.state c.args.shelf.now).files c.args.set.now c.args.finder.now.cursor c.args.limit in
+    let s : Search = find_search_of c.args.files.now (g.Q.Shelf.state c.args.shelf.now).files c.args.set.now c.args.finder.now.cursor c.args.limit in
     let set : SetView = c.args.set.now in
     let old : ShelfState = g.Q.Shelf.state c.args.shelf.now in
     let mid : ShelfState = g.Q.Shelf.state c.loop-left.shelf in
@@ -58,7 +58,7 @@ returns-in_err-write_sighting-in-Ok-Hit-clause-text g c = λ steady.
 
 pub returns-in-Ok-Done-clause-text : goal.returns-in-Ok-Done-clause-text
 returns-in-Ok-Done-clause-text g c = λ steady.
-    let s : Search = search_of c.args.files.now (g.Q.Shelf.state c.args.shelf.now).files c.args.set.now c.args.finder.now.cursor c.args.limit in
+    let s : Search = find_search_of c.args.files.now (g.Q.Shelf.state c.args.shelf.now).files c.args.set.now c.args.finder.now.cursor c.args.limit in
     let set : SetView = c.args.set.now in
     let old : ShelfState = g.Q.Shelf.state c.args.shelf.now in
     let mid : ShelfState = g.Q.Shelf.state c.loop-left.shelf in
@@ -77,7 +77,7 @@ returns-in-Ok-Done-clause-text g c = λ steady.
 
 pub returns-clause-text : goal.returns-clause-text
 returns-clause-text g c = λ steady.
-    let s : Search = search_of c.args.files.now (g.Q.Shelf.state c.args.shelf.now).files c.args.set.now c.args.finder.now.cursor c.args.limit in
+    let s : Search = find_search_of c.args.files.now (g.Q.Shelf.state c.args.shelf.now).files c.args.set.now c.args.finder.now.cursor c.args.limit in
     let set : SetView = c.args.set.now in
     let old : ShelfState = g.Q.Shelf.state c.args.shelf.now in
     let now : Cursor = c.loop-left.finder.cursor in
@@ -94,7 +94,7 @@ returns-clause-text g c = λ steady.
 
 pub returns-in-Err-clause-lines : goal.returns-in-Err-clause-lines
 returns-in-Err-clause-lines g c = λ steady.
-    let s : Search = search_of c.args.files.now (g.Q.Shelf.state c.args.shelf.now).files c.args.set.now c.args.finder.now.cursor c.args.limit in
+    let s : Search = find_search_of c.args.files.now (g.Q.Shelf.state c.args.shelf.now).files c.args.set.now c.args.finder.now.cursor c.args.limit in
     let set : SetView = c.args.set.now in
     let old : ShelfState = g.Q.Shelf.state c.args.shelf.now in
     let handed = c.loop-left.invariant.handed steady in

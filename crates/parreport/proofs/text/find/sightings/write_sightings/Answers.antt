@@ -36,13 +36,13 @@ pub write_from-requires-clause-belongs : goal.write_from-requires-clause-belongs
 write_from-requires-clause-belongs g c = grind (arith, common_steps) steps 100000
 
 pub returns-clause-text : goal.returns-clause-text
-returns-clause-text g c = grind (arith, common_steps) steps 400000
+returns-clause-text g c = grind (arith, common_steps) steps 1500000
 
 pub returns-clause-lines : goal.returns-clause-lines
-returns-clause-lines g c = grind (arith, common_steps) steps 400000
+returns-clause-lines g c = grind (arith, common_steps) steps 1500000
 
 pub returns-clause-reads : goal.returns-clause-reads
-returns-clause-reads g c = grind (arith, common_steps) steps 400000
+returns-clause-reads g c = grind (arith, common_steps) steps 1500000
 
 pub returns-clause-sink : goal.returns-clause-sink
 returns-clause-sink g c = grind (arith, common_steps) steps 400000

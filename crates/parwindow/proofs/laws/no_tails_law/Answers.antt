@@ -1,0 +1,5 @@
+use Rattle.parwindow.proofs.UntilLaws.{no_tails}
+use Rattle.parwindow.proofs.laws.no_tails_law.Goals as goal
+
+pub returns : goal.returns
+returns c = no_tails

@@ -1,0 +1,5 @@
+use Rattle.parwindow.proofs.TailLaws.{zeros_fill}
+use Rattle.parwindow.proofs.laws.zero_fill_law.Goals as goal
+
+pub returns : goal.returns
+returns c = zeros_fill
