@@ -11,8 +11,8 @@ _parv() {
     fi
     case ${COMP_WORDS[1]} in
     packets | set) ;;
-    find) options+=' --limit --cursor' ;;
-    verify) options+=' -q' ;;
+    find) options+=' --limit --cursor --tails' ;;
+    verify) options+=' -q --tails' ;;
     *) return ;;
     esac
     # What is given leaves the options: each but -q stands once, and none behind `--`.
@@ -20,7 +20,7 @@ _parv() {
         case ${COMP_WORDS[i]} in
         --) ended=1 && break ;;
         -B* | --base) options=${options/--base -B/} ;;
-        --set | --limit | --cursor) options=${options/${COMP_WORDS[i]}/} ;;
+        --set | --limit | --cursor | --tails) options=${options/${COMP_WORDS[i]}/} ;;
         esac
     done
     if [ -z "$ended" ]; then

@@ -2,12 +2,18 @@
 # Searches large files for the slices of a PAR2 set, a part of LIMIT sightings at a time, and writes
 # all sightings at the end. Each part is a file in the folder PARTS, so a search that was stopped
 # goes on behind the last part that is whole, when it is called again with the same words.
-# Usage: search_in_parts.sh PARTS LIMIT FILES, the packet files among them
+# Usage: search_in_parts.sh [--tails] PARTS LIMIT FILES, the packet files among them
+# With --tails the last slice of a file, mostly a short one, is found before other bytes too.
 # Its exit status is that of parv; 3 also where PARTS is of a search with other words.
 set -euo pipefail
 parv=${PARV:-parv}
+tails=()
+if [ "${1-}" = --tails ]; then
+    tails=(--tails)
+    shift
+fi
 if [ $# -lt 3 ]; then
-    echo "usage: search_in_parts.sh PARTS LIMIT FILES" >&2
+    echo "usage: search_in_parts.sh [--tails] PARTS LIMIT FILES" >&2
     exit 3
 fi
 parts=${1%/}
@@ -20,7 +26,7 @@ esac
 
 # A cursor counts the scanned files in their order, so it holds for these words alone.
 mkdir -p "$parts"
-words=$(printf '%q\n' "$@")
+words=${tails:+find --tails$'\n'}$(printf '%q\n' "$@")
 if [ ! -e "$parts/words" ]; then
     printf '%s\n' "$words" > "$parts/words"
 elif [ "$words" != "$(cat "$parts/words")" ]; then
@@ -38,7 +44,7 @@ done
 while [ "$last" != end ]; do
     from=()
     [ -z "$last" ] || from=(--cursor "${last#cursor }")
-    "$parv" find --limit "$limit" "${from[@]}" -- "$@" > "$parts/new" || exit $?
+    "$parv" find "${tails[@]}" --limit "$limit" "${from[@]}" -- "$@" > "$parts/new" || exit $?
     count=$((count + 1))
     mv "$parts/new" "$parts/$count"
     last=$(tail -n 1 "$parts/$count")

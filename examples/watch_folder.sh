@@ -1,14 +1,20 @@
 #!/usr/bin/env bash
 # Checks a folder into which the files of a PAR2 set still come, again and again, until each file of
 # the set is complete, and prints a line for each check.
-# Usage: watch_folder.sh FOLDER [SECONDS [CHECKS]]
-# It waits SECONDS (60) between two checks and ends after CHECKS of them, if that is given. Its exit
+# Usage: watch_folder.sh [--tails] FOLDER [SECONDS [CHECKS]]
+# It waits SECONDS (60) between two checks and ends after CHECKS of them, if that is given. With
+# --tails the last slice of a file, mostly a short one, is found before other bytes too. Its exit
 # status is that of the last check: 0 complete, 1 a repair can be tried, 2 slices are missing for
 # one, 3 no packet file, 4 no set in the packet files, 6 a file can't be read; 8, no memory, ends
 # it. Each check reads all files of the folder.
 set -uo pipefail
 parv=${PARV:-parv}
-folder=${1:?usage: watch_folder.sh FOLDER [SECONDS [CHECKS]]}
+tails=()
+if [ "${1-}" = --tails ]; then
+    tails=(--tails)
+    shift
+fi
+folder=${1:?usage: watch_folder.sh [--tails] FOLDER [SECONDS [CHECKS]]}
 seconds=${2:-60}
 checks=${3:-}
 if ! cd -- "$folder" 2> /dev/null; then
@@ -31,7 +37,7 @@ for ((check = 1; ; check++)); do
         said='no packet file'
     else
         # `-B .` takes the ./ off, which a name that begins with a dash needs.
-        said=$("$parv" verify -q -B . "${files[@]}" 2>&1)
+        said=$("$parv" verify "${tails[@]}" -q -B . "${files[@]}" 2>&1)
         status=$?
     fi
     case $status in

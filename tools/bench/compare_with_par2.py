@@ -2,15 +2,21 @@
 """Compares the verdict of `parv verify` with that of `par2 verify` on sets that are damaged in many ways.
 
 usage: compare_with_par2.py [SLICE_SIZE ..]
+       compare_with_par2.py --sets N [--seed N] [--jobs N]
 
 Needs par2 (Debian package par2). With slices of 512 bytes, 64 KiB and 1 MiB, or of the sizes that are
 given, each case makes a set of three files of some thirty slices anew, damages the folder, and runs both
-over all that is there. Prints a line for each case; a case whose answers differ is one that EXPLAINED
-names, or the exit status is 1.
+over all that is there, parv without --tails and with it. Prints a line for each case; a case whose
+answers differ is one that EXPLAINED names and has no difference with --tails, or the exit status is 1.
+
+With --sets it takes N sets of damaged_sets.py instead, prints of each how many slices are needed by
+par2, by parv and by parv with --tails, and at last in how many each needs fewer. The exit status is 1
+where parv with --tails needs more in one.
 
 PARV is the program (crates/parv/out/parv).
 """
 
+import argparse
 import glob
 import hashlib
 import os
@@ -18,10 +24,12 @@ import re
 import subprocess
 import sys
 import tempfile
+from concurrent.futures import ProcessPoolExecutor
 
 sys.path[0] = os.path.dirname(os.path.dirname(os.path.realpath(__file__)))  # tools/, where imports begin
 
 from hostile.runs import PARV
+from make import damaged_sets
 from make.damage import cut, flip, in_file, insert, remove, swap
 
 VERDICTS = {0: "complete", 1: "possible", 2: "impossible", 4: "no set"}
@@ -29,7 +37,7 @@ SIZES = [512, 65536, 1048576]
 # Lengths, and below the places of damage, are those of slices of 512 bytes; larger ones multiply them.
 FILES = {"a.bin": 9000, "b.bin": 5120, "c.bin": 777}
 
-# The cases in which the two answer differently, and why.
+# The cases in which the two answer differently without --tails, and why.
 SHORT_SLICE = "par2 also sees a short last slice where other bytes follow it; parv where the file ends or goes on with zeros"
 EXPLAINED = {
     "bytes added at the end": (("possible", 1, 8), ("possible", 0, 8), SHORT_SLICE),
@@ -87,8 +95,8 @@ CASES = {
 }
 
 
-def by_parv(packet_files, files):
-    run = subprocess.run([PARV, "verify", *packet_files, *files], capture_output=True, text=True)
+def by_parv(packet_files, files, *options):
+    run = subprocess.run([PARV, "verify", *options, *packet_files, *files], capture_output=True, text=True)
     counts = re.search(r"^need (\d+) have (\d+)$", run.stdout, re.M)
     return VERDICTS.get(run.returncode, run.stderr.strip()), *(map(int, counts.groups()) if counts else (None, None))
 
@@ -109,6 +117,13 @@ def by_par2(packet_files, files):
     return verdict, need, int(have[1]) if have else recovery
 
 
+def answers():
+    """What parv says of the folder, without --tails and with it, and par2."""
+    files = sorted(name for name in os.listdir(".") if not name.endswith(".par2"))
+    packet_files = sorted(glob.glob("*.par2"))
+    return by_parv(packet_files, files), by_parv(packet_files, files, "--tails"), by_par2(packet_files, files)
+
+
 def compare(size, case, damage):
     """Prints what both say of a case, and whether that is as it should be."""
     times = size // 512
@@ -120,25 +135,53 @@ def compare(size, case, damage):
         subprocess.run(["par2", "create", "-q", "-q", f"-s{size}", "-c8", "set.par2", *FILES], check=True,
                        stdout=subprocess.DEVNULL)
         damage(times)
-        files = sorted(name for name in os.listdir(".") if not name.endswith(".par2"))
-        packet_files = sorted(glob.glob("*.par2"))
-        ours, theirs = by_parv(packet_files, files), by_par2(packet_files, files)
+        ours, tails, theirs = answers()
         os.chdir("/")
     explained = EXPLAINED.get(case, (ours, ours, "the same"))
-    same = explained[2] if (ours, theirs) == explained[:2] else "DIFFERENT"
-    print(f"slices of {size}, {case}: parv {ours[0]}, need {ours[1]} have {ours[2]}; "
-          f"par2 {theirs[0]}, need {theirs[1]} have {theirs[2]}; {same}")
+    same = explained[2] if (ours, theirs) == explained[:2] and tails == theirs else "DIFFERENT"
+    told = [f"{name} {verdict}, need {need} have {have}" for name, (verdict, need, have) in
+            [("parv", ours), ("parv --tails", tails), ("par2", theirs)]]
+    print(f"slices of {size}, {case}: {'; '.join(told)}; {same}", flush=True)
     return same != "DIFFERENT"
 
 
+def needs_of(seed, number):
+    """Of one damaged set what was done to it, and what each needs."""
+    with tempfile.TemporaryDirectory() as folder:
+        told = damaged_sets.make(folder, seed, number)
+        os.chdir(folder)
+        needs = [need for _, need, _ in answers()]
+        os.chdir("/")
+    return told, needs
+
+
+def compare_sets(count, seed, jobs):
+    """Prints what each needs of each damaged set, and in how many sets which needs fewer."""
+    all_needs = []
+    with ProcessPoolExecutor(jobs) as pool:
+        for number, (told, needs) in enumerate(pool.map(needs_of, [seed] * count, range(count))):
+            print(f"{number}, {told}: parv needs {needs[0]}, parv --tails {needs[1]}, par2 {needs[2]}", flush=True)
+            all_needs.append(needs)
+    for name, place in (("parv", 0), ("parv --tails", 1)):
+        more = [needs[2] - needs[place] for needs in all_needs]
+        ours, theirs = [by for by in more if by > 0], [-by for by in more if by < 0]
+        print(f"{name} finds more in {len(ours)} of {count} sets, {sum(ours)} slices; "
+              f"par2 in {len(theirs)}, {sum(theirs)} slices, at most {max(theirs, default=0)} in one")
+    return all(needs[1] <= needs[2] for needs in all_needs)
+
+
 def main():
-    agree = True
-    for size in map(int, sys.argv[1:]) if sys.argv[1:] else SIZES:
-        if size < 512 or size % 512:
-            sys.exit(__doc__)
-        for case, damage in CASES.items():
-            agree = compare(size, case, damage) and agree
-    return 0 if agree else 1
+    parser = argparse.ArgumentParser(usage=__doc__.split("\n\n")[1][7:])
+    parser.add_argument("sizes", nargs="*", type=int)
+    for option, value in [("--sets", 0), ("--seed", 1), ("--jobs", 1)]:
+        parser.add_argument(option, type=int, default=value)
+    asked = parser.parse_args()
+    if any(size < 512 or size % 512 for size in asked.sizes):
+        parser.error("slices have a multiple of 512 bytes")
+    if asked.sets:
+        return 0 if compare_sets(asked.sets, asked.seed, asked.jobs) else 1
+    agree = [compare(size, case, damage) for size in asked.sizes or SIZES for case, damage in CASES.items()]
+    return 0 if all(agree) else 1
 
 
 if __name__ == "__main__":

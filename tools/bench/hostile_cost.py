@@ -1,13 +1,14 @@
 #!/usr/bin/env python3
 """Measures what hostile packet files cost: memory and seconds of the processor.
 
-usage: hostile_cost.py [nested|headers|windows|sums|names ..]
+usage: hostile_cost.py [nested|headers|windows|sums|tails|names ..]
 
 nested   Creator packets, each in the body of the one before, 512 KiB in all.
 headers  A header every 16 bytes, whose length runs to the file's end and whose hash is wrong: each
          costs a hash of the rest. Beside it `par2 verify` on the same file, where there is a par2.
 windows  A set of the largest slice size, none of whose slices has sums: no window is made.
 sums     A slice of zeros with the right CRC-32 and a wrong MD5, in a file of zeros: an MD5 a place.
+tails    256 short slices such as that of `sums`, and --tails: 256 MD5s a place.
 names    Names of 4,096 bytes that are shown by 16,384 each, and one long name of a scanned file.
 
 PARV is the program (crates/parv/out/parv). A run is stopped after 1,000 seconds.
@@ -81,6 +82,18 @@ def cost_of_sums(runner):
                  [PARV, "find", "p.par2", "z.bin"], len(data))
 
 
+def cost_of_tails(runner):
+    for size in (KIB, 64 * KIB):
+        sums, ids = bytes(16) + struct.pack("<I", zlib.crc32(bytes(size))), ids_of(256, 1)
+        bodies = [body for length, owner in enumerate(ids, size - 256)
+                  for body in (("filedesc", desc_body(owner, b"%d" % length, b"", length)), ("ifsc", owner + sums))]
+        data = set_of(main_body(size, ids), *bodies)
+        runner.write("p.par2", data)
+        runner.write("z.bin", bytes(size + 99))
+        told(runner, f"tails, find in {size + 99} zeros, slices of {size // KIB} KiB",
+             [PARV, "find", "--tails", "p.par2", "z.bin"], len(data))
+
+
 def cost_of_names(runner):
     count = 4096
     ids = ids_of(count)
@@ -103,7 +116,7 @@ def cost_of_names(runner):
 
 def main():
     costs = {"nested": cost_of_nested, "headers": cost_of_headers, "windows": cost_of_windows,
-             "sums": cost_of_sums, "names": cost_of_names}
+             "sums": cost_of_sums, "tails": cost_of_tails, "names": cost_of_names}
     asked = sys.argv[1:] or list(costs)
     if not set(asked) <= set(costs):
         sys.exit(__doc__)

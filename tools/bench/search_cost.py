@@ -1,11 +1,15 @@
 #!/usr/bin/env python3
 """Measures what a search costs a byte, for slices of 4 bytes to 256 MiB and for 1 to 32,768 slices.
 
-usage: search_cost.py FOLDER
+usage: search_cost.py FOLDER [tails]
 
 FOLDER gets a packet file for each pair and the files that are searched: 65,536 bytes again and again,
 at least eight times the slice size. No slice has the CRC-32 of one of their windows, so no MD5 is
 taken: what is told is the search alone, in nanoseconds of the processor a byte, the best of three runs.
+
+With `tails` it measures what --tails costs, by the number of own lengths below slices of 64 KiB, those of
+about 1 KiB and those of about 60 KiB: a table in Markdown of the nanoseconds a byte, and in brackets how
+many each length takes more than a search without --tails.
 
 PARV is the program (crates/parv/out/parv).
 """
@@ -21,11 +25,13 @@ import zlib
 sys.path[0] = os.path.dirname(os.path.dirname(os.path.realpath(__file__)))  # tools/, where imports begin
 
 from hostile.runs import PARV
-from make.packets import main_body, md5, numbers, set_of
+from make.packets import ids_of, main_body, md5, numbers, set_of
 
 KIB, MIB = 1 << 10, 1 << 20
 SIZES = [4, 64, KIB, 64 * KIB, MIB, 16 * MIB, 256 * MIB]
 COUNTS = [1, 256, 32768]
+TAILED_SIZE, TAILS = 64 * KIB, [KIB, 60 * KIB]
+TAIL_COUNTS = [1, 4, 16, 64, 256]
 PERIOD = hashlib.shake_256(b"searched").digest(64 * KIB)
 
 
@@ -76,6 +82,21 @@ def packets_of(size, count, windows):
     return set_of(main_body(size, [owner]), ("filedesc", desc), ("ifsc", owner + b"".join(pairs)))
 
 
+def crc_of_none(size):
+    """A CRC-32 that no window of this size has."""
+    windows = window_sums(size)
+    return next(crc for crc in map(zlib.crc32, map(numbers, range(1 << 32))) if crc not in windows)
+
+
+def packets_with_tails(size, crcs):
+    """A set of one file for each of these lengths, whose only slice has this CRC-32 before the zeros that fill it."""
+    ids, bodies = ids_of(len(crcs), 1), []
+    for owner, (length, crc) in zip(ids, crcs):
+        sums = md5(numbers(length)) + struct.pack("<I", zlib.crc32(bytes(size - length), crc))
+        bodies += [("filedesc", owner + bytes(32) + numbers(length) + b"%08d" % length), ("ifsc", owner + sums)]
+    return set_of(main_body(size, ids), *bodies)
+
+
 def searched(folder, length):
     path = os.path.join(folder, f"{length // MIB}.bin")
     if not os.path.exists(path):
@@ -93,21 +114,48 @@ def seconds(words):
     return after.ru_utime + after.ru_stime - before.ru_utime - before.ru_stime
 
 
+def nanoseconds(packets, path, *options):
+    """The least of three searches, a byte."""
+    return min(seconds([PARV, "find", *options, packets, path]) for _ in range(3)) / os.path.getsize(path) * 1e9
+
+
+def written(folder, name, data):
+    path = os.path.join(folder, name + ".par2")
+    with open(path, "wb") as out:
+        out.write(data)
+    return path
+
+
+def cost_of_sizes(folder):
+    print(f"{'slices of':>12}" + "".join(f"{count:>10}" for count in COUNTS) + "   ns a byte, by their number")
+    for size in SIZES:
+        path, windows = searched(folder, max(128 * MIB, 8 * size)), window_sums(size)
+        row = f"{size:>12}"
+        for count in COUNTS:
+            packets = written(folder, f"{size}-{count}", packets_of(size, count, windows))
+            row += f"{nanoseconds(packets, path):10.2f}"
+        print(row, flush=True)
+
+
+def cost_of_tails(folder):
+    most = TAIL_COUNTS[-1]
+    print("| Own lengths | " + " | ".join(f"of about {length // KIB} KiB" for length in TAILS) + " |")
+    print("|---" * (len(TAILS) + 1) + "|", flush=True)
+    crcs = {length: [(tail, crc_of_none(tail)) for tail in range(length - most // 2, length + most // 2)]
+            for length in TAILS}
+    for count in TAIL_COUNTS:
+        path, row = searched(folder, 64 * MIB if count < 64 else 16 * MIB), f"| {count} |"
+        for length in TAILS:
+            packets = written(folder, f"{length}-{count}-tails", packets_with_tails(TAILED_SIZE, crcs[length][:count]))
+            plain, tailed = nanoseconds(packets, path), nanoseconds(packets, path, "--tails")
+            row += f" {tailed:.2f} ({(tailed - plain) / count:.2f}) |"
+        print(row, flush=True)
+
+
 def main():
     folder = sys.argv[1]
     os.makedirs(folder, exist_ok=True)
-    print(f"{'slices of':>12}" + "".join(f"{count:>10}" for count in COUNTS) + "   ns a byte, by their number")
-    for size in SIZES:
-        length = max(128 * MIB, 8 * size)
-        path, windows = searched(folder, length), window_sums(size)
-        row = f"{size:>12}"
-        for count in COUNTS:
-            packets = os.path.join(folder, f"{size}-{count}.par2")
-            with open(packets, "wb") as out:
-                out.write(packets_of(size, count, windows))
-            best = min(seconds([PARV, "find", packets, path]) for _ in range(3))
-            row += f"{best / length * 1e9:10.2f}"
-        print(row, flush=True)
+    (cost_of_tails if sys.argv[2:] == ["tails"] else cost_of_sizes)(folder)
 
 
 if __name__ == "__main__":

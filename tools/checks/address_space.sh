@@ -6,6 +6,7 @@ cd "$work" || exit 1
 cp "$top/crates/parv/data/v.par2" v.par2
 printf 'XXabcdefgh' > x.bin
 "$tools/make/many_packets.py" 400 many.par2
+"$tools/make/tail_sets.py" tails || exit 1
 
 # The exit status under a limit of so many KiB.
 limited() {
@@ -53,6 +54,8 @@ steps find v.par2 x.bin
 steps find --limit 1 --cursor 617cdc72ba53d94fe713fea2ae18f776:0:2:1 v.par2 x.bin
 steps verify v.par2 x.bin
 steps verify -q v.par2 x.bin
+steps verify --tails tails/two.par2 tails/turned
+steps find --tails tails/256.par2 tails/abcd
 
 # Neither recovery data nor a file's length is taken as memory: 64 MiB in one packet, a file of 1 GiB, and 64 MiB
 # to scan, in 4 MiB more than the least. Nor are bodies held more than once that lie in one another.

@@ -105,17 +105,22 @@ parv f|TAB|parv find
 parv |ALL|parv packets set find verify
 parv packets -|ALL|parv packets --set --base -B
 parv set -|ALL|parv set --set --base -B
-parv find -|ALL|parv find --set --base -B --limit --cursor
-parv verify -|ALL|parv verify --set --base -B -q
+parv find -|ALL|parv find --set --base -B --limit --cursor --tails
+parv verify -|ALL|parv verify --set --base -B -q --tails
 parv find --l|TAB|parv find --limit
 parv verify --c|TAB|parv verify --c
+parv find --t|TAB|parv find --tails
+parv verify --t|TAB|parv verify --tails
+parv packets --t|TAB|parv packets --t
+parv find --tails -|ALL|parv find --tails --set --base -B --limit --cursor
+parv verify --tails ph|TAB|parv verify --tails photos.par2
 parv packets --s|TAB|parv packets --set
 parv verify -B a|TAB|parv verify -B a\ folder/
 parv verify --base=a|TAB|parv verify --base=a\ folder/
 parv verify -B . --b|TAB|parv verify -B . --b
-parv verify --base . -|ALL|parv verify --base . --set -q
-parv verify -q -|ALL|parv verify -q --set --base -B -q
-parv find --limit 3 --|ALL|parv find --limit 3 --set --base --cursor
+parv verify --base . -|ALL|parv verify --base . --set -q --tails
+parv verify -q -|ALL|parv verify -q --set --base -B -q --tails
+parv find --limit 3 --|ALL|parv find --limit 3 --set --base --cursor --tails
 parv find --limit ph|TAB|parv find --limit ph
 parv verify ph|TAB|parv verify photos.par2
 parv verify a\ p|TAB|parv verify a\ picture.raw

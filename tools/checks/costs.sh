@@ -1,11 +1,13 @@
 #!/usr/bin/env bash
 # What a search costs, in processor time: sets whose slices are equal or nearly all filling, over files that are
-# full of them, and a large set over 64 MiB in which nothing stands, beside md5sum.
+# full of them, a large set over 64 MiB in which nothing stands, beside md5sum, and tails of 60 KiB beside such of
+# 1 KiB.
 . "$(dirname "$0")/wants.sh"
 cd "$work" || exit 1
 
 PYTHONPATH=$tools python3 - << 'END'
 import random
+from bench.search_cost import packets_with_tails
 from make.packets import desc_body, ids_of, ifsc_body, main_body, set_of
 
 def write(name, data):
@@ -35,6 +37,11 @@ owner, length = bytes(16), 64 * 32768
 write("many.par2", set_of(main_body(64, [owner]), ("filedesc", desc_body(owner, b"many", b"", length)),
                           ("ifsc", owner + chance.randbytes(20 * 32768))))
 write("random", chance.randbytes(64 << 20))
+
+# Four tails of about 1 KiB, and four of about 60 KiB, before zeros up to 64 KiB.
+for name, length in ("short", 1 << 10), ("long", 60 << 10):
+    write(name + ".par2", packets_with_tails(1 << 16, [(length + at, chance.getrandbits(32)) for at in range(4)]))
+write("sixteen", chance.randbytes(16 << 20))
 END
 
 # At most ten seconds of the processor.
@@ -44,6 +51,7 @@ result impossible" "" "${ten[@]}" verify -q equal.par2 zero one odd
 wants "the verdict on slices longer than a tail of zeros" 2 "need 2 have 0
 result impossible" "" "${ten[@]}" verify -q tail.par2 tail
 wants "no slice in a tail of zeros" 0 end "" "${ten[@]}" find tail.par2 tail
+wants "no slice in a tail of zeros, with --tails" 0 end "" "${ten[@]}" find --tails tail.par2 tail
 
 # The least time of three, in milliseconds of the processor.
 TIMEFORMAT='%U %S'
@@ -61,5 +69,16 @@ if [ "$found" -le $((8 * hashed + 300)) ]; then
     echo "ok: a search of 64 MiB takes $found ms, and their MD5 $hashed ms"
 else
     fails "a search of 64 MiB takes $found ms, and their MD5 $hashed ms"
+fi
+
+for name in short long; do
+    wants "no $name tail of four in 16 MiB" 0 end "" "${ten[@]}" find --tails $name.par2 sixteen
+done
+short=$(least_of_three "${ten[@]}" find --tails short.par2 sixteen)
+long=$(least_of_three "${ten[@]}" find --tails long.par2 sixteen)
+if [ "$long" -le $((2 * short + 100)) ]; then
+    echo "ok: a search of 16 MiB for four tails of 60 KiB takes $long ms, and for four of 1 KiB $short ms"
+else
+    fails "a search of 16 MiB for four tails of 60 KiB takes $long ms, and for four of 1 KiB $short ms"
 fi
 exit $failed

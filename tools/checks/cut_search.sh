@@ -2,7 +2,7 @@
 # Cuts one search into parts by every limit from 1 to the number of sightings, each part resumed from
 # the cursor that the one before has printed: each part but the last has as many lines as the limit
 # and its cursor, and together they have the lines of the whole search.
-# Usage: cut_search.sh FILES, in the folder of the files.
+# Usage: cut_search.sh [--tails] FILES, in the folder of the files.
 set -euo pipefail
 parv=${PARV:-$(cd "$(dirname "$0")/../.." && pwd)/crates/parv/out/parv}
 

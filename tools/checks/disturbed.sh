@@ -40,6 +40,14 @@ reads "$(about v.par2 z.bin x.bin)" verify z.bin x.bin v.par2
 # Without the sums of a.bin's one slice: all others are those of y.bin, and x.bin can't tell of that one.
 { head -c 236 sets/a_and_b.par2; tail -c +337 sets/a_and_b.par2; } > some_sums.par2
 reads "$(about some_sums.par2 y.bin)" verify x.bin y.bin some_sums.par2
+# Tails before other bytes, and three slices at one place.
+"$tools/make/tail_sets.py" tails || exit 1
+for words in "two.par2 turned" "three.par2 abcd"; do
+    named=$(about "tails/${words% *}" "tails/${words#* }")
+    for command in find verify; do
+        reads "$named" $command --tails "tails/${words% *}" "tails/${words#* }"
+    done
+done
 # Any error of the system is a fault: a call that was interrupted (4), want of memory (12), a file that is gone (116).
 for number in 4 12 116; do
     ERROR=$number names "$(about v.par2 x.bin)" FAIL_READ find v.par2 x.bin
@@ -58,7 +66,9 @@ for what in FAIL_OPEN FAIL_STAT; do
     ERROR=12 names "" $what find v.par2 x.bin w.par2 y.bin
 done
 disturb SHORT packets none.par2
-for words in "packets v.par2 w.par2" "set v.par2 w.par2" "find v.par2 x.bin y.bin" "verify v.par2 x.bin y.bin"; do
+for words in "packets v.par2 w.par2" "set v.par2 w.par2" "find v.par2 x.bin y.bin" "verify v.par2 x.bin y.bin" \
+    "find --tails tails/two.par2 tails/turned" "verify --tails tails/two.par2 tails/turned" \
+    "find --tails tails/three.par2 tails/abcd" "verify --tails tails/three.par2 tails/abcd"; do
     # shellcheck disable=SC2086
     disturb FAIL_WRITE $words
     # shellcheck disable=SC2086

@@ -66,7 +66,7 @@ for is_default in True, False:
 print(open("limited").read(), end="")' "$parv"
 
 # Words and the environment lie on the stack too.
-for words in "packets v.par2" "set v.par2" "find v.par2 x.bin" "verify v.par2 g.bin"; do
+for words in "packets v.par2" "set v.par2" "find v.par2 x.bin" "find --tails v.par2 x.bin" "verify v.par2 g.bin"; do
     # shellcheck disable=SC2086
     "$parv" $words > "$said/alone"
     gives "a stack of 128 KiB: $words" 0 "$said/alone" "" \

@@ -43,22 +43,33 @@ else
     fails "a folder that is checked: status $status, $(sort -u watched)"
 fi
 
+# Two files of the set, whose last slices are short, in one that begins with neither.
+mkdir joined
+cp "$demo/photos.par2" "$demo/harbour.raw" joined
+cat "$demo/notes.txt" "$demo/tower.raw" "$demo/beach.raw" "$demo/harbour.raw" > 'joined/disc image'
+wants "a folder with files that are joined" 2 "not enough for a repair: need 3 have 0" "" "$watch" joined 0 1
+wants "the same with --tails" 1 "a repair can be tried: need 0 have 0" "" "$watch" --tails joined 0 1
+
 # A long file: the files of the set, cut at other places and with bytes between.
 head -c 300000 /dev/zero > 'disc image'
 { cat "$demo/beach.raw"; printf 'x'; tail -c 9001 "$demo/harbour.raw"; } >> 'disc image'
 cat "$demo/tower.raw" "$demo/notes.txt" >> 'disc image'
 words=("$demo/photos.par2" 'disc image' "$demo/notes.txt")
-"$tools/models/find_slices.py" "${words[@]}" > wanted
-sed -i '$d' wanted
+"$tools/models/find_slices.py" "${words[@]}" | sed '$d' > wanted
+"$tools/models/find_slices.py" --tails "${words[@]}" | sed '$d' > wanted--tails
 [ "$(wc -l < wanted)" -gt 25 ] || fails "there is little to find"
-for limit in 7 1000; do
-    "$search" parts$limit $limit "${words[@]}" > found 2> told
-    if [ $? -eq 0 ] && cmp -s found wanted; then
-        parts=$(wc -l < told)
-        echo "ok: a search in $parts parts of $limit finds what the independent search finds"
-    else
-        fails "a search in parts of $limit: $(cmp found wanted 2>&1), $(tail -n 1 told)"
-    fi
+[ "$(wc -l < wanted--tails)" -gt "$(wc -l < wanted)" ] || fails "there is no tail to find"
+for tails in "" --tails; do
+    for limit in 7 1000; do
+        # shellcheck disable=SC2086
+        "$search" $tails parts$limit$tails $limit "${words[@]}" > found 2> told
+        if [ $? -eq 0 ] && cmp -s found wanted$tails; then
+            parts=$(wc -l < told)
+            echo "ok: a search in $parts parts of $limit${tails:+ with $tails} finds what the independent search finds"
+        else
+            fails "a search in parts of $limit $tails: $(cmp found wanted$tails 2>&1), $(tail -n 1 told)"
+        fi
+    done
 done
 # Stopped: the last part is gone, and of the one before there is a beginning.
 last=$(find parts7 -name '[0-9]*' | wc -l)
@@ -74,6 +85,10 @@ wants "a search that is over is told again" 0 "$(cat wanted)" "" "$search" parts
 wants "a search with other words" 3 "" \
     "search_in_parts.sh: ./parts7 is of a search with other words" \
     "$search" parts7 7 "${words[0]}" 'disc image'
+wants "a search with --tails where parts are without" 3 "" \
+    "search_in_parts.sh: ./parts7 is of a search with other words" "$search" --tails parts7 7 "${words[@]}"
+wants "a search without --tails where parts are with it" 3 "" \
+    "search_in_parts.sh: ./parts7--tails is of a search with other words" "$search" parts7--tails 7 "${words[@]}"
 wants "a search that can't begin" 6 "" "parv: cannot open none" \
     "$search" parts0 7 "${words[0]}" none
 exit $failed

@@ -29,14 +29,14 @@ else
     echo "not run: there is no man"
 fi
 
-for word in --set -B --base --limit --cursor -q; do
+for word in --set -B --base --limit --cursor --tails -q; do
     grep -q "^\.It.* Fl ${word#-}\b" "$page" || fails "the page has no $word"
 done
 grep -o '`parv: [^`]*`' "$top/docs/FORMATS.md" | tr -d '`\\' | sed 's/ <[A-Za-z]*>$//' > messages
 while IFS= read -r message; do
     grep -qF "It \"$message" "$page" || fails "the page has no '$message'"
 done < messages
-[ "$(wc -l < messages)" -eq 12 ] || fails "there are $(wc -l < messages) messages"
+[ "$(wc -l < messages)" -eq 13 ] || fails "there are $(wc -l < messages) messages"
 
 # Each example is a file: its commands without `$ `, as bash reads them.
 mkdir examples
@@ -50,7 +50,7 @@ furnish() {
     mkdir photos
     cp "$top"/demo/{beach,harbour,tower}.raw "$top"/demo/notes.txt photos
     cp "$top"/demo/photos.{par2,vol00+1.par2} photos
-    { head -c 40000 /dev/zero; cat "$top/demo/beach.raw"; } > photos/disc.img
+    { head -c 40000 /dev/zero; cat "$top/demo/beach.raw"; printf 'more'; } > photos/disc.img
     printf 'odd' > photos/-odd.raw
     cd photos || exit 1
 }
@@ -108,7 +108,7 @@ example 8 "the names of files with slices" 0 "./a\b c.raw
 ./harbour.raw
 ./tower.raw
 ./disc.img"
-"$tools/models/find_slices.py" photos.par2 disc.img > ../found
+"$tools/models/find_slices.py" --tails photos.par2 disc.img > ../found
 example 9 "a search from a cursor on" 0 "$(cat ../found; awk '$1 == "end" || $2 > 51200' ../found)"
 sed -i 's/1000/3/' ../examples/10
 example 10 "a search in parts" 0 "$(sed '$d' ../found)"

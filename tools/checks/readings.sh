@@ -16,18 +16,33 @@ wants "the set of the damaged volume alone" 0 \
     "$parv" set ./photos.vol03+4.damaged.par2
 
 scanned=(beach.raw harbour.raw tower.raw notes.txt)
-{ printf 'Text before a cut picture. '; head -c 7000 harbour.raw; printf 'x'; tail -c 2000 tower.raw; } > "$work/cut.bin"
-wants "the slices in the files of the set are those that the independent search finds" 0 \
-    "$("$tools/models/find_slices.py" ./*.par2 "${scanned[@]}")" "" "$parv" find ./*.par2 "${scanned[@]}"
-wants "the slices in a file that was cut and put together" 0 \
-    "$("$tools/models/find_slices.py" ./*.par2 "$work/cut.bin")" "" "$parv" find ./*.par2 "$work/cut.bin"
-for files in "${scanned[*]}" "notes.txt $work/cut.bin"; do
+{
+    printf 'Text before a cut picture. '
+    head -c 7000 harbour.raw
+    printf 'x'
+    tail -c 2000 tower.raw
+    cat notes.txt
+    tail -c 544 beach.raw
+} > "$work/cut.bin"
+for tails in "" --tails; do
+    with=${tails:+, with $tails}
     # shellcheck disable=SC2086
-    states=$("$tools/models/tell_states.py" ./*.par2 $files)
+    wants "the slices in the files of the set are those that the independent search finds$with" 0 \
+        "$("$tools/models/find_slices.py" $tails ./*.par2 "${scanned[@]}")" "" \
+        "$parv" find $tails ./*.par2 "${scanned[@]}"
     # shellcheck disable=SC2086
-    wants "the states of the set are those of the independent reading" $? "$states" "" \
-        "$parv" verify ./*.par2 $files
+    wants "the slices in a file that was cut and put together$with" 0 \
+        "$("$tools/models/find_slices.py" $tails ./*.par2 "$work/cut.bin")" "" \
+        "$parv" find $tails ./*.par2 "$work/cut.bin"
+    for files in "${scanned[*]}" "notes.txt $work/cut.bin"; do
+        # shellcheck disable=SC2086
+        states=$("$tools/models/tell_states.py" $tails ./*.par2 $files)
+        # shellcheck disable=SC2086
+        wants "the states of the set are those of the independent reading$with" $? "$states" "" \
+            "$parv" verify $tails ./*.par2 $files
+    done
 done
 
 "$tools/checks/cut_search.sh" ./*.par2 notes.txt "$work/cut.bin" || failed=1
+"$tools/checks/cut_search.sh" --tails ./*.par2 notes.txt "$work/cut.bin" || failed=1
 exit $failed

@@ -34,8 +34,9 @@ MIB = 1 << 20
 PACKET, SLICE = 256, 128                      # bytes for a packet in the list, and for a slice
 COMMANDS = ["packets", "set", "find", "verify"]
 ODD_WORDS = ["", "-", "--", "-x", "--help", "-h", "--version", "--limit", "--cursor=", "-B", "-q",
-             "-qqq", "--set=", "--bas", "pack", "help", "./", "\u00e9", "a\nb", "none.par2",
-             "none.bin", ".par2", b"\xff", b"\xff.par2", "/dev/null", "--quiet", "--limit=1", "-B="]
+             "-qqq", "--set=", "--bas", "--tail", "--tails=1", "pack", "help", "./", "\u00e9", "a\nb",
+             "none.par2", "none.bin", ".par2", b"\xff", b"\xff.par2", "/dev/null", "--quiet",
+             "--limit=1", "-B="]
 ODD_NUMBERS = ["0", "1", "01", "+1", "-1", " 1", "1 ", "0x1", "18446744073709551615", "", "x",
                "18446744073709551616", "4294967296", "9" * 300]
 
@@ -88,8 +89,10 @@ def option(chance, command, owners):
         options += [["--limit", limit], ["--limit=" + limit], ["--cursor", cursor]] * 2
     if command == "verify" or odd:
         options += [["-q"], ["-q", "-q"], ["-qq"]]
+    if command in ("find", "verify") or odd:
+        options += [["--tails"]] * 3
     if odd:
-        options += [[chance.choice(ODD_WORDS)], ["--set", owner[1:]], ["-B", ""]] * 2
+        options += [[chance.choice(ODD_WORDS)], ["--set", owner[1:]], ["-B", ""], ["--tails"] * 2] * 2
     return chance.choice(options)
 
 

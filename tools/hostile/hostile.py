@@ -4,10 +4,11 @@
 usage: hostile.py [--seed N] [--cases N] [--jobs N] [--keep FOLDER]
 
 Each case is made by the grammar of hostile_files.py from the seed and its own number. `packets` and
-`set`, one of them with --set too, and `find` and `verify` where there is a set, now and then also
-where there is none, must give the status, standard output and standard error that list_packets.py,
-describe_set.py, find_slices.py and tell_states.py have by their own reading. FOLDER gets the files
-of the first case that differs. From 1,000 cases on each reason, cause, state and result must come.
+`set`, one of them with --set too, and `find` and `verify`, without --tails and with it, where there
+is a set, now and then also where there is none, must give the status, standard output and standard
+error that list_packets.py, describe_set.py, find_slices.py and tell_states.py have by their own
+reading. FOLDER gets the files of the first case that differs. From 1,000 cases on each reason,
+cause, state and result must come, a tail before other bytes, and more tails than may be looked for.
 
 PARV is the program (crates/parv/out/parv).
 """
@@ -24,17 +25,17 @@ sys.path[0] = os.path.dirname(os.path.dirname(os.path.realpath(__file__)))  # to
 from hostile.hostile_files import case
 from hostile.runs import Runner, as_text
 from models.describe_set import NoSet, description, packets_of, set_of
-from models.find_slices import line_of, sightings, slices_of
+from models.find_slices import TOO_MANY_TAILS, has_too_many_tails, line_of, sightings, slices_of, wanted_of
 from models.list_packets import listing, shown
 from models.tell_states import verdict
 
 CHUNK = 100             # cases that one process makes at once
-DEAR = 4 << 20          # bytes of windows that the model hashes in a case; slices may have 256 MiB
+DEAR = 128 << 20        # bytes of windows that the model hashes in a search; slices may have 256 MiB
 
 WANTED = """packets 0,set 0,find 0,find 3,verify 0,verify 1,verify 2,no main,no description,
 name twice,too many slices,main 1,main 2,main 3,main 4,main 7,filedesc 1,filedesc 5,filedesc 7,
 ifsc 1,ifsc 7,recvslic 1,recvslic 7,creator 7,complete,renamed,damaged,missing,cursor,creator,
-unknown"""
+unknown,tail before other bytes,find too many tails,verify too many tails"""
 
 
 class Case:
@@ -103,31 +104,43 @@ def set_run(made, choice):
     return words, (0, text(description(found)), b"")
 
 
-def cursor_of(made, found, slices, seen):
-    """A cursor near a sighting or anywhere, of this set or, rarely, of another."""
-    near = made.chance.choice(seen or [(0, 0, 0)])
-    parts = [max(0, part + made.chance.choice([0, 0, 0, 1, -1])) for part in near]
+def cursor_of(made, found, slices, near):
+    """A cursor near one of these sightings or anywhere, of this set or, now and then, of another."""
+    parts = [max(0, part + made.chance.choice([0, 0, 0, 1, -1]))
+             for part in made.chance.choice(near or [(0, 0, 0)])]
     if made.chance.randrange(6) == 0:
         greatest = [2**32 - 1, 2**64 - 1]
         parts = [*(made.chance.choice([0, most]) for most in greatest), len(slices)]
-    other = made.chance.randrange(8) == 0
+    other = made.chance.randrange(5) == 0
     return "0" * 32 if other else found.id, tuple(parts)
 
 
-def find_run(made, found, line, seen):
-    options, owner, start, limit = [], None, (0, 0, 0), None
+def refusal(made, command, found, line, tails):
+    """What a run must give where there is no set, or one of too many tails; else nothing."""
+    if found is None:
+        return 4, b"", text([line])
+    if tails and has_too_many_tails(found):
+        made.met[f"{command} too many tails"] += 1
+        return 4, b"", text([TOO_MANY_TAILS])
+    return None
+
+
+def find_run(made, found, line, tails, seen, near):
+    """A search whose sightings are `seen`, from a cursor near one of `near` or from the beginning."""
+    options, owner, start, limit = ["--tails"] * tails, None, (0, 0, 0), None
     slices = [] if found is None else slices_of(found)
     if found is not None and made.chance.randrange(2):
-        owner, start = cursor_of(made, found, slices, seen)
+        owner, start = cursor_of(made, found, slices, near)
         options += ["--cursor", ":".join(map(str, (owner, *start)))]
     if made.chance.randrange(2):
         limit = made.chance.choice([1, 1, 2, 3, max(1, len(seen)), 2**64 - 1])
-        options += ["--limit", str(limit)]
+        options = ["--limit", str(limit), *options]
     words, names = words_of("find", options, made)
-    if found is None:
-        return words, (4, b"", text([line]))
-    if owner not in (None, found.id):
+    if found is not None and owner not in (None, found.id):
         return words, (3, b"", b"parv: cursor of another set\n")
+    refused = refusal(made, "find", found, line, tails)
+    if refused:
+        return words, refused
     left = [sighting for sighting in seen if sighting >= start]
     lines = [line_of(names[place], offset, slices[at]) for place, offset, at in left[:limit]]
     if limit is not None and len(left) >= limit:
@@ -139,29 +152,41 @@ def find_run(made, found, line, seen):
     return words, (0, text(lines), b"")
 
 
-def verify_run(made, found, line, seen):
+def verify_run(made, found, line, tails, seen):
     quiet = made.chance.choice([0, 0, 0, 1, 2, 3])
-    words, names = words_of("verify", ["-q"] * quiet, made)
-    if found is None:
-        return words, (4, b"", text([line]))
+    words, names = words_of("verify", ["-q"] * quiet + ["--tails"] * tails, made)
+    refused = refusal(made, "verify", found, line, tails)
+    if refused:
+        return words, refused
     status, lines = verdict(found, list(zip(names, [data for _, data in made.scanned])), seen)
     made.met.update(line.split()[0] for line in lines[1:-2])
     lines = lines if quiet == 0 else lines[-2:] if quiet == 1 else []
     return words, (status, text(lines), b"")
 
 
+def searches_of(made):
+    """The runs of `find` and `verify`."""
+    found, line = made.set(None)
+    if found is None and made.chance.randrange(5):
+        return []
+    contents, runs, near = [data for _, data in made.scanned], [], []
+    for tails in (False, True):
+        seen = []
+        if found is not None and not (tails and has_too_many_tails(found)):
+            if found.size * sum(map(len, contents)) * len(wanted_of(found, tails)) > DEAR:
+                continue
+            seen = list(sightings(found, contents, tails))
+            made.met["tail before other bytes"] += tails and not set(seen) <= set(near)
+            near = near + seen
+        runs += [find_run(made, found, line, tails, seen, near), verify_run(made, found, line, tails, seen)]
+    return runs
+
+
 def runs_of(made):
     """The words of each run, and the status, output and errors that it must have."""
     choice = made.choice()
-    runs = [packets_run(made, None), set_run(made, None),
-            made.chance.choice([packets_run, set_run])(made, choice)]
-    found, line = made.set(None)
-    total = sum(len(data) for _, data in made.scanned)
-    known = found is not None and any(file.sums for file in found.files)
-    if found is None and made.chance.randrange(5) or known and found.size * total > DEAR:
-        return runs
-    seen = [] if found is None else list(sightings(found, [data for _, data in made.scanned]))
-    return [*runs, find_run(made, found, line, seen), verify_run(made, found, line, seen)]
+    return [packets_run(made, None), set_run(made, None),
+            made.chance.choice([packets_run, set_run])(made, choice), *searches_of(made)]
 
 
 def chunk(seed, numbers, keep):

@@ -6,7 +6,7 @@ and are cut, changed, repeated, laid over and put into one another. A hash that 
 made anew more often than not, so that a change comes as far as what reads the bodies.
 """
 
-from hostile.hostile_packets import K32, K63, K64, OTHER_TYPES, packets_of, some_bytes
+from hostile.hostile_packets import K32, K63, K64, MANY, OTHER_TYPES, packets_of, some_bytes
 from make import damage
 from make.packets import MAGIC, TYPES, md5, numbers
 
@@ -129,14 +129,16 @@ def is_file_name(name):
 
 
 def scanned_of(chance, members):
-    """Files to scan: those of the set as they are or damaged, some of another name, and others."""
+    """Files to scan: some of the set as they are or damaged, some of another name, and others."""
+    members = members if len(members) < MANY else chance.sample(members, 4)
     files = []
     for _, name, content in members:
         name = name if is_file_name(name) and chance.randrange(3) else chance.choice(SCANNED)
         damaged = bytearray(content)
         chance.choice([other_bytes, cut, take_out, put_in])(chance, damaged)
         if chance.randrange(4):
-            contents = [content, content, content[1:], b"X" + content, bytes(damaged)]
+            behind = content + some_bytes(chance, chance.choice([1, 2, 9]))
+            contents = [content, content, content[1:], b"X" + content, behind, bytes(damaged)]
             files.append((name, chance.choice(contents)))
     joined = b"".join(content for _, _, content in members)
     more = [b"", joined, bytes(20), some_bytes(chance, 50), joined[::-1]]

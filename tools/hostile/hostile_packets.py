@@ -12,6 +12,9 @@ from make.packets import (MAGIC, desc_body, file_id, filled, ids_of, ifsc_body, 
 K32, K63, K64 = 1 << 32, 1 << 63, 1 << 64
 MOST, LIMIT = 32768, 1048576
 SIZES = [4, 4, 4, 4, 8, 8, 12, 20, 64]
+SIZES_FOR_TAILS = [264, 264, 300, 512]
+TAILS = [8, 255, 256, 257, 257, 258]
+MANY = 12                                     # files of a set, of which few are wrong
 SIZES_AT_BOUNDS = [0, 1, 2, 3, 5, 6, 268435452, 268435456, 268435457, 268435460, 536870908,
                    536870912, K32, K63, K64 - 4, K64 - 1]
 FILE_LENGTHS = [0, 1, K32 - 1, K32, K63 - 4, K63 - 1, K63, K63 + 8, K64 - 1]
@@ -133,11 +136,19 @@ def members_of(chance, size):
     return members
 
 
+def members_with_tails(chance, size):
+    """Files of one slice each, of about as many lengths below the slice size as may be looked for."""
+    lengths = chance.sample(range(1, size), chance.choice(TAILS))
+    lengths += chance.choice([[], lengths[:2], [size], [size, size]])
+    contents = [some_bytes(chance, length) for length in lengths]
+    return [(file_id(b"%d" % at, content), b"%d" % at, content) for at, content in enumerate(contents)]
+
+
 def bodies_of(chance, size, members):
     """The bodies of a set, Main first; each may be changed, left out or there twice."""
     others = ids_of(chance.choice([0, 0, 1, 3]), 7)
     ids = [owner for owner, _, _ in members]
-    wrong = chance.choice([0, 0, 0.1, 0.3])
+    wrong = chance.choice([0, 0, 0.1, 0.3] if len(members) < MANY else [0, 0.001, 0.003])
 
     def is_wrong():
         return chance.random() < wrong
@@ -170,6 +181,9 @@ def packets_of(chance):
     for _ in range(chance.choice([1, 1, 1, 1, 2])):
         size = chance.choice(SIZES)
         members = members_of(chance, size)
+        if chance.randrange(30) == 0:
+            size = chance.choice(SIZES_FOR_TAILS)
+            members = members_with_tails(chance, size)
         is_large = chance.randrange(40) == 0
         bodies = large_bodies(chance, size, bytes(16)) if is_large else \
             bodies_of(chance, size, members)

@@ -20,6 +20,16 @@ def cut(data, length):
     del data[length:]
 
 
+def zero(data, at, count):
+    """So many bytes become zeros, as far as there are any."""
+    data[at:at + count] = bytes(len(data[at:at + count]))
+
+
+def turn(data, at):
+    """What stands before this place stands at the end."""
+    data[:] = data[at:] + data[:at]
+
+
 def swap(data, at, size):
     """Two parts of this size, one behind the other, change places."""
     data[at:at + 2 * size] = data[at + size:at + 2 * size] + data[at:at + size]

@@ -133,6 +133,10 @@ def other_sets():
         "a_with_a_slice": whole_set([(1, b"a.bin", b"abcdef", True)], [0]),
         "a_with_a_slice_twice": whole_set([(1, b"a.bin", b"abcdef", True)], [0, 0]),
         "z": whole_set([(1, b"z.bin", b"", False)]),
+        # Short slices: one of two bytes, one whose second byte is a zero, and two beside a whole one.
+        "ij": whole_set([(1, b"ij", b"ij", True)]),
+        "i_and_zero": whole_set([(1, b"i", b"i\0", True)]),
+        "ab_abcd_a": whole_set([(1, b"ab", b"ab", True), (2, b"abcd", b"abcd", True), (3, b"a", b"a", True)]),
     }
 
 

@@ -1,10 +1,12 @@
 #!/usr/bin/env python3
 """Looks for the slices of a PAR2 recovery set at every offset of files, by its own reading.
 
-usage: find_slices.py FILE...
+usage: find_slices.py [--tails] FILE...
 
 Prints what `parv find` prints where the packet files (those that end in .par2) give a set. Each
-window is filled with zeros and hashed anew.
+window is filled with zeros and hashed anew. With --tails that of a slice has the slice's own length
+before the zeros, so that a short one is seen before other bytes too; of more than 256 own lengths
+below the slice size nothing is told but that, on standard error.
 """
 
 import hashlib
@@ -17,6 +19,9 @@ sys.path[0] = os.path.dirname(os.path.dirname(os.path.realpath(__file__)))  # to
 from models.describe_set import number, packets_of, set_of
 from models.list_packets import is_packet_file, shown, with_bytes
 
+MOST_TAILS = 256
+TOO_MANY_TAILS = "parv: no usable set: too many tails"
+
 
 def slices_of(found):
     """Every slice in order: its file ID, its number in the file, its own length and its sums."""
@@ -25,22 +30,36 @@ def slices_of(found):
             for file in found.files for at in range(file.slices)]
 
 
-def sightings(found, contents):
-    """Every sighting in these contents by file, offset and slice: the three numbers."""
-    slices, by_sums = slices_of(found), {}
-    for at, (_, _, own, sums) in enumerate(slices):
+def has_too_many_tails(found):
+    """Whether the slices with sums have more own lengths below the slice size than may be looked for."""
+    return len({own for _, _, own, sums in slices_of(found) if sums and own < found.size}) > MOST_TAILS
+
+
+def wanted_of(found, tails):
+    """Of each length that is looked at, the slices of each pair of sums: their numbers and own lengths."""
+    wanted = {}
+    for at, (_, _, own, sums) in enumerate(slices_of(found)):
         if sums is not None:
-            by_sums.setdefault(sums, []).append((at, own))
-    crcs = {crc for _, crc in by_sums}
-    for place, data in enumerate(contents if crcs else []):
+            looked = own if tails else found.size
+            wanted.setdefault(looked, {}).setdefault(sums, []).append((at, own))
+    return wanted
+
+
+def sightings(found, contents, tails=False):
+    """Every sighting in these contents by file, offset and slice: the three numbers."""
+    wanted = wanted_of(found, tails)
+    crcs = {looked: {crc for _, crc in by_sums} for looked, by_sums in wanted.items()}
+    for place, data in enumerate(contents if wanted else []):
         for offset in range(len(data)):
-            window = data[offset:offset + found.size].ljust(found.size, b"\0")
-            crc = zlib.crc32(window)
-            if crc not in crcs:
-                continue
-            for at, own in by_sums.get((hashlib.md5(window).digest(), crc), []):
-                if offset + own <= len(data):
-                    yield place, offset, at
+            seen = []
+            for looked, by_sums in wanted.items():
+                window = data[offset:offset + looked].ljust(found.size, b"\0")
+                crc = zlib.crc32(window)
+                if crc in crcs[looked]:
+                    same = by_sums.get((hashlib.md5(window).digest(), crc), [])
+                    seen += [at for at, own in same if offset + own <= len(data)]
+            for at in sorted(seen):
+                yield place, offset, at
 
 
 def line_of(name, offset, entry):
@@ -48,12 +67,20 @@ def line_of(name, offset, entry):
     return f"{shown(name)} {offset} {entry[0].hex()} {entry[1]}"
 
 
+def tails_and_files(words):
+    """Whether the words begin with --tails, and the names of the files."""
+    tails = words[:1] == ["--tails"]
+    return tails, [os.fsencode(word) for word in words[tails:]]
+
+
 def main():
-    words = [os.fsencode(word) for word in sys.argv[1:]]
-    found = set_of(packets_of(with_bytes(filter(is_packet_file, words))))
-    scanned = with_bytes(word for word in words if not is_packet_file(word))
+    tails, names = tails_and_files(sys.argv[1:])
+    found = set_of(packets_of(with_bytes(filter(is_packet_file, names))))
+    if tails and has_too_many_tails(found):
+        sys.exit(TOO_MANY_TAILS)
+    scanned = with_bytes(name for name in names if not is_packet_file(name))
     slices = slices_of(found)
-    for place, offset, at in sightings(found, [data for _, data in scanned]):
+    for place, offset, at in sightings(found, [data for _, data in scanned], tails):
         print(line_of(scanned[place][0], offset, slices[at]))
     print("end")
 

@@ -1,10 +1,10 @@
 #!/usr/bin/env python3
 """Tells the states of the files of a PAR2 recovery set, by its own reading of the same bytes.
 
-usage: tell_states.py FILE...
+usage: tell_states.py [--tails] FILE...
 
 Prints what `parv verify` prints where the packet files (those that end in .par2) give a set, and
-ends with the same status.
+ends with the same status. With --tails it finds what find_slices.py finds with it.
 """
 
 import hashlib
@@ -14,7 +14,7 @@ import sys
 sys.path[0] = os.path.dirname(os.path.dirname(os.path.realpath(__file__)))  # tools/, where imports begin
 
 from models.describe_set import packets_of, set_line, set_of
-from models.find_slices import sightings, slices_of
+from models.find_slices import TOO_MANY_TAILS, has_too_many_tails, sightings, slices_of, tails_and_files
 from models.list_packets import is_packet_file, shown, with_bytes
 
 RESULTS = ["complete", "possible", "impossible"]
@@ -31,9 +31,8 @@ def state_of(file, scanned):
     return ("damaged" if file.name in [name for name, _ in scanned] else "missing"), None
 
 
-def verdict(found, scanned, seen=None):
-    """The exit status and the lines; seen are the sightings, where they are known."""
-    seen = sightings(found, [data for _, data in scanned]) if seen is None else seen
+def verdict(found, scanned, seen):
+    """The exit status and the lines by these sightings."""
     have = {at for _, _, at in seen}
     lines, first, complete = [set_line(found)], 0, True
     for file in found.files:
@@ -53,9 +52,14 @@ def verdict(found, scanned, seen=None):
 
 
 def main():
-    words = [os.fsencode(word) for word in sys.argv[1:]]
-    found = set_of(packets_of(with_bytes(filter(is_packet_file, words))))
-    status, lines = verdict(found, with_bytes(word for word in words if not is_packet_file(word)))
+    tails, names = tails_and_files(sys.argv[1:])
+    found = set_of(packets_of(with_bytes(filter(is_packet_file, names))))
+    if tails and has_too_many_tails(found):
+        print(TOO_MANY_TAILS, file=sys.stderr)
+        return 4
+    scanned = with_bytes(name for name in names if not is_packet_file(name))
+    seen = sightings(found, [data for _, data in scanned], tails)
+    status, lines = verdict(found, scanned, seen)
     print("\n".join(lines))
     return status
 

@@ -29,11 +29,12 @@ reads_before old mid new file (Err fault) reads more = faults_before old mid new
 
 -- nothing was read, and nothing hashed
 pub goes_still : {A : Type 0} (s : ShelfState) (f g : FinderState) (x : A) → g.fetched ≡ f.fetched → g.opening ≡ f.opening
-    → g.digests ≡ f.digests → GoesAlong s s f g (Ok x)
-goes_still s f g x fetched opening digests = record {
+    → g.mode ≡ f.mode → g.digests ≡ f.digests → GoesAlong s s f g (Ok x)
+goes_still s f g x fetched opening mode digests = record {
   shelf = refl;
   reads = rw fetched (hands_none s.lengths s.handed f.fetched);
   opening_is = opening;
+  mode_is = mode;
   no_fewer = omega (arith, digests);
 }
 
@@ -45,6 +46,7 @@ goes_more s mid t f g h x answer first next = record {
   reads = hands_more s.lengths s.handed mid.handed t.handed f.fetched g.fetched h.fetched first.reads
       (rw (ap (λ (u : ShelfState). u.lengths) first.shelf) at next.reads);
   opening_is = next.opening_is ∙ first.opening_is;
+  mode_is = next.mode_is ∙ first.mode_is;
   no_fewer = omega (arith, first.no_fewer, next.no_fewer);
 }
 
@@ -54,5 +56,6 @@ goes_as s t f g x y along = record {
   shelf = along.shelf;
   reads = along.reads;
   opening_is = along.opening_is;
+  mode_is = along.mode_is;
   no_fewer = along.no_fewer;
 }

@@ -1,32 +1,38 @@
 -- What is tried at a place whose window is there: the first slice that is seen, or the way to the next match.
-use Rattle.std.proofs.Common.{◌≡◌, ◌≢◌, ℕ, ◌+◌, ◌<◌, ◌≤◌, length, slice_index, refl, sym, ap, ◌∙◌, subst, arith, IsTrue, Option, Some, None, Ok, Err}
+use Rattle.std.proofs.Common.{◌≡◌, ◌≢◌, ℕ, ◌+◌, ◌<◌, ◌≤◌, List, length, map, replicate, slice_index, refl, sym, ap, ◌∙◌, subst, arith, IsTrue, Option, Some, None, Result, Ok, Err}
 use Rattle.std.specs.Option.{unwrap_or}
 use Rattle.parshelf.specs.Shelf.{ShelfState, IsShelf, file_of}
 use Rattle.parshelf.specs.Reads.{ReadsOnly, FaultsIn}
 use Rattle.parshelf.specs.declared.shelves.reading.ReadFault.{ReadFault}
-use Rattle.parwindow.specs.Crc32.{crc_of}
-use Rattle.parwindow.specs.Index.{SliceSet, slice_passes, sums_of}
+use Rattle.parwindow.specs.Index.{SliceSet, slice_passes}
 use Rattle.parwindow.specs.Least.{IsLeastFrom}
-use Rattle.parwindow.specs.Missing.{set_has_fit_crc}
 use Rattle.parwindow.specs.Window.{WindowState}
 use Rattle.parfind.specs.declared.cursors.sighting.Sighting.{Sighting}
 use Rattle.parfind.specs.declared.searches.finder.Visit.TheVariants.{Hit, Passed}
 use Rattle.parfind.specs.declared.tracks.track.Track.{Track}
 use Rattle.parfind.specs.Fetched.{Place, ReadsUpTo}
-use Rattle.parfind.specs.Finders.{FinderState, BelongsTo, StandsAt}
-use Rattle.parfind.specs.Fitting.{is_fitting_match}
+use Rattle.parfind.specs.Finders.{FinderState, BelongsTo, StandsAt, sought_for}
+use Rattle.parfind.specs.Looks.{Keeps, Looks}
+use Rattle.parfind.specs.Sought.{Sought, IsWindowFor, looked_lengths, sought_of}
+use Rattle.parfind.specs.declared.searches.finder.Visit.{Visit}
+use Rattle.parfind.specs.declared.tracks.mode.Mode.{Mode}
+use Rattle.parfield.specs.declared.hash16.Hash16.{Hash16}
+use Rattle.parfind.specs.Fitting.{is_fitting_look}
 use Rattle.parfind.specs.NextPlace.{IsAtPlace, IsNextPlace, rest_of}
 use Rattle.parfind.specs.Order.{cursor_after}
+use Rattle.parfind.specs.Places.{cursor_past, place_at}
+use Rattle.parfind.specs.declared.cursors.cursor.Cursor.{Cursor}
 use Rattle.parfind.specs.Sightings.{is_slice_seen}
-use Rattle.parfind.specs.Tracks.{IsTied, HasNoCrc, Looks, Passes, Remembers, SameTrack, fetched_of, remembered}
+use Rattle.parfind.specs.Tracks.{IsTied, HaveNoLookedCrc, Passes, SameTrack, cursor_of_track, fetched_of}
 use Rattle.parfind.proofs.AdvanceLaws.{fewer_after, fewer_past, no_more}
 use Rattle.parfind.proofs.AlongLaws.{goes_still}
-use Rattle.parfind.proofs.BelongsLaws.{with_window, look_belongs, goes_on_belongs, fault_files, read_files}
-use Rattle.parfind.proofs.LookLaws.{look_seen, within_left, one_within}
-use Rattle.parfind.proofs.MarkLaws.{From-further, remembered-most}
+use Rattle.parfind.proofs.BelongsLaws.{with_window, moves_belongs, stays_belongs, fault_files, read_files, same_files}
+use Rattle.parfind.proofs.KeptLaws.{tied_digest}
+use Rattle.parfind.proofs.LookLaws.{look_seen, none_there, within_left, one_within}
+use Rattle.parfind.proofs.OrderLaws.{From}
 use Rattle.parfind.proofs.PassLaws.{cursor_on, next_here, passes_some, many_unseen, From-on}
 use Rattle.parfind.proofs.TryLaws.{Tried}
-use Rattle.parfind.proofs.VisitLaws.{visit_hit, visit_stopped, visit_hits, visit_stays}
+use Rattle.parfind.proofs.VisitLaws.{same_lengths, visit_hit, visit_stopped, visit_hits, visit_stays}
 
 -- a finder at a place, whose window is there
 pub record IsThere (set : SliceSet) (s : ShelfState) (f : FinderState) : Type 0 where
@@ -38,41 +44,56 @@ pub record IsThere (set : SliceSet) (s : ShelfState) (f : FinderState) : Type 0 
 
 -- the first slice is looked for in its window, where so much of the file is left
 pub record Looked
-    (set : SliceSet) (s : ShelfState) (f : FinderState) (rest : ℕ) (found : Option ℕ) (w : WindowState) (b : Track) : Type 0 where
+    (set : SliceSet) (s : ShelfState) (f : FinderState) (rest : ℕ) (found : Option ℕ) (w : WindowState) (kept : List (Option Hash16)) : Type 0 where
   pub rest_is : rest ≡ rest_of s.lengths f.cursor
-  pub first : IsLeastFrom (slice_passes set.slices (is_fitting_match (sums_of f.window.content) rest)) f.cursor.slice found
-  pub looks : Looks f.window f.track w b
-  pub remembers : Remembers w b
-  pub marked : remembered f.track.digest < remembered b.digest → IsTrue (set_has_fit_crc set (crc_of f.window.content) rest)
+  pub first : IsLeastFrom (slice_passes set.slices (is_fitting_look f.mode f.window.content rest)) f.cursor.slice found
+  pub looks : Looks f.window f.kept w kept
+  pub keeps : Keeps (sought_for set f) w kept
 
 module _ (set : SliceSet) (s : ShelfState) (shelf : IsShelf s) (f : FinderState) (at : IsThere set s f) (left : Option ℕ) (some : left ≢ Some 0)
-    (rest : ℕ) (found : Option ℕ) (w : WindowState) (b : Track) (looked : Looked set s f rest found w b) where
+    (rest : ℕ) (found : Option ℕ) (w : WindowState) (kept : List (Option Hash16)) (looked : Looked set s f rest found w kept) where
+  abbrev sought : Sought
+  sought = sought_for set f
+
   here : IsNextPlace s.lengths f.cursor f.cursor
   here = next_here s.lengths f.cursor at.counted at.there
 
-  seen : IsTrue s.is_steady → IsLeastFrom (is_slice_seen set (file_of s f.cursor.file) f.cursor.offset) f.cursor.slice found
+  seen : IsTrue s.is_steady → IsLeastFrom (is_slice_seen sought (file_of s f.cursor.file) f.cursor.offset) f.cursor.slice found
   seen steady =
-      look_seen f set s at.belongs shelf steady at.stands at.full rest at.there (omega (arith, at.there, looked.rest_is)) found looked.first
+      look_seen f set s at.belongs steady at.stands shelf at.full rest at.there (omega (arith, at.there, looked.rest_is)) found looked.first
 
-  fetched : fetched_of b ≡ f.fetched
-  fetched = ap fetched_of looked.looks.track_is ∙ sym at.belongs.fetched_is
+  fetched : fetched_of f.track ≡ f.fetched
+  fetched = sym at.belongs.fetched_is
 
   more_digests : f.digests ≤ w.digests
   more_digests =
       let looks = looked.looks in
       omega (arith, at.belongs.digests_are, looks.counted, looks.kept)
 
-  file : b.file ≡ f.cursor.file
-  file = ap (λ (t : Track). t.file) looked.looks.track_is ∙ at.stands.file_is
+  tied : IsTied s w f.track
+  tied = tied_digest s f.window w f.track w.digests at.belongs.tied looked.looks.window_is
 
-  offset : b.window_offset ≡ f.cursor.offset
-  offset = ap (λ (t : Track). t.window_offset) looked.looks.track_is ∙ at.stands.offset_is
+  made : IsWindowFor sought w
+  made =
+      let window = looked.looks.window_is in
+      record {
+        sized = ap (λ (v : WindowState). v.capacity) window ∙ at.belongs.made.sized;
+        tails_are = λ mode. ap (λ (v : WindowState). v.tails) window ∙ at.belongs.made.tails_are mode;
+        few = at.belongs.made.few;
+      }
 
-  -- the digest is taken, and the cursor stays at the place
-  at_belongs : (slice : ℕ) → BelongsTo (with_window f (record f.cursor { slice = slice }) w b) set s
+  -- the window is at a place of the files
+  place_there : IsTrue s.is_steady → IsAtPlace (map length s.files) (cursor_of_track f.track)
+  place_there steady =
+      let lengths : map length s.files ≡ s.lengths = same_lengths sought s shelf steady in
+      rw (lengths, at.stands.file_is, at.stands.offset_is) at.there
+
+  -- digests are taken, and the cursor stays at the place
+  at_belongs : (slice : ℕ) → BelongsTo (with_window f (record f.cursor { slice = slice }) w f.track kept) set s
   at_belongs slice =
-      look_belongs f set s shelf at.belongs at.stands at.full at.counted at.there w b looked.looks looked.remembers rest looked.marked
-      (record f.cursor { slice = slice }) refl refl
+      stays_belongs f set s s at.belongs (same_files s) (record f.cursor { slice = slice }) w f.track kept tied looked.keeps
+      looked.looks.window_is looked.looks.counted (record { file_is = refl; offset_is = refl }) (λ steady _. place_there steady)
+      (omega (arith, at.stands.file_is)) (λ _. at.stands.offset_is)
 
   module _ (n : ℕ) (is : found ≡ Some n) (few : n < length set.slices) where
     abbrev x : Sighting
@@ -81,108 +102,134 @@ module _ (set : SliceSet) (s : ShelfState) (shelf : IsShelf s) (f : FinderState)
     low : f.cursor.slice ≤ n
     low = let least = rw is at looked.first in least.at_or_above
 
-    hit_tried : Tried set left s s f (with_window f (cursor_after x) w b) (Ok (Hit x))
+    hit_tried : Tried sought left s s f (with_window f (cursor_after x) w f.track kept) (Ok (Hit x))
     hit_tried = record {
-      sees = λ steady. visit_hit set s shelf steady f.cursor f.cursor here n (rw is at (seen steady));
+      sees = λ steady. visit_hit sought s shelf steady f.cursor f.cursor here n (rw is at (seen steady));
       moves = visit_hits s.lengths f.cursor f.cursor here n low;
       advances = (at.counted, few, fewer_after set s.lengths f.cursor f.cursor here n low few);
       within = one_within left some;
       along = record {
         shelf = refl;
-        reads = let along = goes_still {A = Unit {0}} s f (record f { fetched = fetched_of b }) tt fetched refl refl in along.reads;
+        reads = let along = goes_still {A = Unit {0}} s f (record f { fetched = fetched_of f.track }) tt fetched refl refl refl in along.reads;
         opening_is = refl;
+        mode_is = refl;
         no_fewer = more_digests;
       };
     }
 
   -- then the window slides, or a read fails
-  module _ (t : ShelfState) (v : WindowState) (a : Track) (tied : IsTied t v a) (window : v ≡ record w { content = v.content })
-      (reads : ReadsUpTo s t (fetched_of b) (fetched_of a)) where
+  module _ (t : ShelfState) (v : WindowState) (a : Track) (next_tied : IsTied t v a) (window : v ≡ record w { content = v.content })
+      (reads : ReadsUpTo s t (fetched_of f.track) (fetched_of a)) where
     slid_reads : ReadsUpTo s t f.fetched (fetched_of a)
     slid_reads = subst (λ (p : Place). ReadsUpTo s t p (fetched_of a)) fetched reads
 
     slid_digests : f.digests ≤ v.digests
     slid_digests = omega (arith, more_digests, ap (λ (u : WindowState). u.digests) window)
 
-    module _ (fault : ReadFault) (faults : FaultsIn s t b.file fault) (same : SameTrack b a) where
-      stays : a.file ≡ f.cursor.file
-      stays = same.file_is ∙ file
-
-      fault_tried : Tried set left s t f (with_window f f.cursor v a) (Err fault)
+    module _ (fault : ReadFault) (faults : FaultsIn s t f.track.file fault) (same : SameTrack f.track a) (still : v ≡ w) where
+      fault_tried : Tried sought left s t f (with_window f f.cursor v a kept) (Err fault)
       fault_tried = record {
-        sees = λ steady. visit_stopped set s shelf steady f.cursor f.cursor here;
+        sees = λ steady. visit_stopped sought s shelf steady f.cursor f.cursor here;
         moves = visit_stays s.lengths f.cursor f.cursor here;
         advances = tt;
         within = one_within left some;
         along = record {
-          shelf = subst (λ (k : ℕ). FaultsIn s t k fault) file faults;
+          shelf = subst (λ (k : ℕ). FaultsIn s t k fault) at.stands.file_is faults;
           reads = slid_reads;
           opening_is = refl;
+          mode_is = refl;
           no_fewer = slid_digests;
         };
       }
 
-      fault_belongs : BelongsTo (with_window f f.cursor v a) set t
+      fault_belongs : BelongsTo (with_window f f.cursor v a kept) set t
       fault_belongs =
-          goes_on_belongs (with_window f f.cursor w b) set s t (at_belongs f.cursor.slice) (fault_files set s t b.file fault faults) f.cursor v a
-          tied window (From-further b a (sym same.file_is) (omega (arith, same.offset_is, ap remembered same.digest_is)))
-          (omega (arith, stays)) (λ e. same.offset_is ∙ offset)
+          stays_belongs f set s t at.belongs (fault_files s t f.track.file fault faults) f.cursor v a kept next_tied
+          (rw still looked.keeps) (rw still looked.looks.window_is) (rw still looked.looks.counted) same (λ steady _. place_there steady)
+          (omega (arith, same.file_is, at.stands.file_is)) (λ _. same.offset_is ∙ at.stands.offset_is)
 
-    module _ (n most : ℕ) (only : ReadsOnly s t) (same : a.file ≡ b.file) (passes : Passes (slice_index s.lengths b.file) b a most n) where
+    module _ (n most : ℕ) (none_kept : List (Option Hash16)) (none_is : none_kept ≡ replicate (length (looked_lengths sought)) None)
+        (only : ReadsOnly s t) (same : a.file ≡ f.track.file) (passes : Passes (slice_index s.lengths f.track.file) f.track a most n) where
       pass_tried : found ≡ None → most ≤ unwrap_or left 18446744073709551615
-          → (IsTrue s.is_steady → HasNoCrc set (file_of s b.file) b.window_offset n)
-          → Tried set left s t f (with_window f (cursor_on f.cursor n) v a) (Ok (Passed n))
+          → (IsTrue s.is_steady → HaveNoLookedCrc sought (file_of s f.track.file) f.track.window_offset n)
+          → Tried sought left s t f (with_window f (cursor_on f.cursor n) v a none_kept) (Ok (Passed n))
       pass_tried is budget none = record {
-        sees = λ steady. many_unseen set s shelf steady f.cursor here n passes.some (rw is at (seen steady)) (rw (file, offset) at (none steady));
-        moves = passes_some s.lengths f.cursor n passes.some at.counted (let inside = rw (offset, file) at passes.inside in inside);
+        sees = λ steady. many_unseen sought s shelf steady f.cursor here n passes.some (rw is at (seen steady))
+            (none_there f set s at.belongs steady at.stands n (none steady));
+        moves = passes_some s.lengths f.cursor n passes.some at.counted
+            (let inside = rw (at.stands.offset_is, at.stands.file_is) at passes.inside in inside);
         advances =
             let past = no_more set s.lengths (cursor_on f.cursor 1) (cursor_on f.cursor n) (From-on f.cursor 1 n passes.some) in
             omega (arith, fewer_past set s.lengths f.cursor f.cursor here, past);
         within = within_left left n 18446744073709551615 (omega (arith, passes.within, budget));
-        along = record { shelf = only; reads = slid_reads; opening_is = refl; no_fewer = slid_digests };
+        along = record { shelf = only; reads = slid_reads; opening_is = refl; mode_is = refl; no_fewer = slid_digests };
       }
 
-      pass_belongs : BelongsTo (with_window f (cursor_on f.cursor n) v a) set t
-      pass_belongs =
-          goes_on_belongs (with_window f f.cursor w b) set s t (at_belongs f.cursor.slice) (read_files set s t only) (cursor_on f.cursor n) v a
-          tied window
-          (From-further b a (sym same) (omega (arith, passes.offset_is, passes.some, remembered-most b.digest)))
-          (omega (arith, same, file)) (λ e. passes.offset_is ∙ ap (λ (o : ℕ). o + n) offset)
+      pass_onward : (c : Cursor) → c.file ≡ f.track.file → c.offset ≤ f.track.window_offset + 1 → c.slice ≡ 0 → From c (cursor_of_track a)
+      pass_onward c file offset first = record {
+        by_file = omega (arith, file, same);
+        by_offset = λ _. omega (arith, offset, passes.offset_is, passes.some);
+        by_slice = λ _ _. omega (arith, first);
+      }
 
--- the same of the finder that a call was handed, which it sees from inside
+      pass_belongs : BelongsTo (with_window f (cursor_on f.cursor n) v a none_kept) set t
+      pass_belongs =
+          moves_belongs (with_window f f.cursor w f.track kept) set s t (at_belongs f.cursor.slice) (read_files s t only) (cursor_on f.cursor n) v a
+          none_kept next_tied none_is window
+          (pass_onward (cursor_of_track f.track) refl (omega arith) refl)
+          (λ _. pass_onward (cursor_past (place_at (cursor_of_track f.track))) refl (omega arith) refl)
+          (omega (arith, same, at.stands.file_is))
+          (λ _. passes.offset_is ∙ ap (λ (o : ℕ). o + n) at.stands.offset_is)
+
+-- what holds of a finder holds of it in the same mode
+in_mode : (P : FinderState → Type 0) (g : FinderState) (mode : Mode) → mode ≡ g.mode → P g → P (record g { mode = mode })
+in_mode P g mode same h = subst (λ (m : Mode). P (record g { mode = m })) (sym same) h
+
+-- the same of the finder that a call was handed, which it sees from inside, and leaves in the same mode
 module _ (set : SliceSet) (s : ShelfState) (shelf : IsShelf s) (f handed : FinderState) (is : f ≡ handed) (there : IsThere set s handed)
-    (left : Option ℕ) (some : left ≢ Some 0) (rest : ℕ) (found : Option ℕ) (w : WindowState) (b : Track)
-    (looked : Looked set s f rest found w b) where
+    (left : Option ℕ) (some : left ≢ Some 0) (rest : ℕ) (found : Option ℕ) (w : WindowState) (kept : List (Option Hash16))
+    (looked : Looked set s f rest found w kept) (mode : Mode) (in_same : mode ≡ f.mode) where
   at : IsThere set s f
   at = subst (IsThere set s) (sym is) there
 
+  -- a finder that a try leaves
+  abbrev pub TryLeaves : ShelfState → Result Visit ReadFault → FinderState → Type 0
+  TryLeaves t tried g = BelongsTo g set t × Tried (sought_for set handed) left s t handed g tried
+
+  leaves_as : (t : ShelfState) (tried : Result Visit ReadFault) (g : FinderState) → g.mode ≡ f.mode → BelongsTo g set t
+      → Tried (sought_for set f) left s t f g tried → TryLeaves t tried (record g { mode = mode })
+  leaves_as t tried g same belongs gives =
+      in_mode (TryLeaves t tried) g mode (in_same ∙ sym same)
+      (belongs, subst (λ (y : FinderState). Tried (sought_for set y) left s t y g tried) is gives)
+
   pub hit_inside : (n : ℕ) → found ≡ Some n → n < length set.slices
       → let x : Sighting = record { file = f.cursor.file; offset = f.cursor.offset; slice = n } in
-      BelongsTo (with_window f (cursor_after x) w b) set s × Tried set left s s handed (with_window f (cursor_after x) w b) (Ok (Hit x))
+      TryLeaves s (Ok (Hit x)) (record (with_window f (cursor_after x) w f.track kept) { mode = mode })
   hit_inside n hit few =
-      let x : Sighting = record { file = f.cursor.file; offset = f.cursor.offset; slice = n } in (
-        at_belongs set s shelf f at left some rest found w b looked (n + 1),
-        subst (λ (y : FinderState). Tried set left s s y (with_window f (cursor_after x) w b) (Ok (Hit x))) is
-            (hit_tried set s shelf f at left some rest found w b looked n hit few),
-      )
+      let x : Sighting = record { file = f.cursor.file; offset = f.cursor.offset; slice = n } in
+      leaves_as s (Ok (Hit x)) (with_window f (cursor_after x) w f.track kept) refl
+      (at_belongs set s shelf f at left some rest found w kept looked (n + 1))
+      (hit_tried set s shelf f at left some rest found w kept looked n hit few)
 
   module _ (t : ShelfState) (v : WindowState) (a : Track) (tied : IsTied t v a) (window : v ≡ record w { content = v.content })
-      (reads : ReadsUpTo s t (fetched_of b) (fetched_of a)) where
-    pub fault_inside : (fault : ReadFault) → FaultsIn s t b.file fault → SameTrack b a
-        → BelongsTo (with_window f f.cursor v a) set t × Tried set left s t handed (with_window f f.cursor v a) (Err fault)
-    fault_inside fault faults same = (
-      fault_belongs set s shelf f at left some rest found w b looked t v a tied window reads fault faults same,
-      subst (λ (y : FinderState). Tried set left s t y (with_window f f.cursor v a) (Err fault)) is
-          (fault_tried set s shelf f at left some rest found w b looked t v a tied window reads fault faults same),
-    )
+      (reads : ReadsUpTo s t (fetched_of f.track) (fetched_of a)) where
+    pub fault_inside : (fault : ReadFault) → FaultsIn s t f.track.file fault → SameTrack f.track a → v ≡ w
+        → TryLeaves t (Err fault) (record (with_window f f.cursor v a kept) { mode = mode })
+    fault_inside fault faults same still =
+        leaves_as t (Err fault) (with_window f f.cursor v a kept) refl
+        (fault_belongs set s shelf f at left some rest found w kept looked t v a tied window reads fault faults same still)
+        (fault_tried set s shelf f at left some rest found w kept looked t v a tied window reads fault faults same still)
 
-    pub pass_inside : (n most : ℕ) → ReadsOnly s t → a.file ≡ b.file → Passes (slice_index s.lengths b.file) b a most n → found ≡ None
+    pub pass_inside : (n most : ℕ) → (none_kept : List (Option Hash16)) → none_kept ≡ replicate (length kept) None → ReadsOnly s t
+        → a.file ≡ f.track.file → Passes (slice_index s.lengths f.track.file) f.track a most n → found ≡ None
         → most ≤ unwrap_or left 18446744073709551615
-        → (IsTrue s.is_steady → HasNoCrc set (file_of s b.file) b.window_offset n)
-        → BelongsTo (with_window f (cursor_on f.cursor n) v a) set t
-        × Tried set left s t handed (with_window f (cursor_on f.cursor n) v a) (Ok (Passed n))
-    pass_inside n most only same passes miss budget none = (
-      pass_belongs set s shelf f at left some rest found w b looked t v a tied window reads n most only same passes,
-      subst (λ (y : FinderState). Tried set left s t y (with_window f (cursor_on f.cursor n) v a) (Ok (Passed n))) is
-          (pass_tried set s shelf f at left some rest found w b looked t v a tied window reads n most only same passes miss budget none),
-    )
+        → ((m : Mode) → IsWindowFor (sought_of set m) w → IsTrue s.is_steady
+        → HaveNoLookedCrc (sought_of set m) (file_of s f.track.file) f.track.window_offset n)
+        → TryLeaves t (Ok (Passed n)) (record (with_window f (cursor_on f.cursor n) v a none_kept) { mode = mode })
+    pass_inside n most none_kept none_is only same passes miss budget none =
+        let is_none : none_kept ≡ replicate (length (looked_lengths (sought_for set f))) None =
+        none_is ∙ ap (λ (k : ℕ). replicate k None) looked.keeps.room in
+        leaves_as t (Ok (Passed n)) (with_window f (cursor_on f.cursor n) v a none_kept) refl
+        (pass_belongs set s shelf f at left some rest found w kept looked t v a tied window reads n most none_kept is_none only same passes)
+        (pass_tried set s shelf f at left some rest found w kept looked t v a tied window reads n most none_kept is_none only same passes
+        miss budget (none f.mode (made set s shelf f at left some rest found w kept looked)))

@@ -6,13 +6,14 @@ use Rattle.parshelf.specs.declared.shelves.reading.ReadFault.{ReadFault}
 use Rattle.parshelf.specs.declared.shelves.reading.ReadFault.TheVariants.{Failed, Ended}
 use Rattle.parwindow.specs.Index.{SliceSet}
 use Rattle.parfind.specs.Fetched.{Place}
-use Rattle.parfind.specs.Finders.{FinderState, BelongsTo, GoesAlong, search_of, hashed_of}
+use Rattle.parfind.specs.Finders.{FinderState, BelongsTo, GoesAlong, search_of, sought_for}
 use Rattle.parfind.specs.Marks.{marks}
 use Rattle.parfind.specs.OnePass.{CallReads, IsNear}
-use Rattle.parfind.specs.Places.{cursor_past, place_at, start_of}
+use Rattle.parfind.specs.Places.{cursor_past, place_at}
 use Rattle.parfind.specs.Steps.{scan_of}
-use Rattle.parfind.proofs.MarkLaws.{marked_rises, remembered-most}
-use Rattle.parfind.proofs.OrderLaws.{From, From-by_test}
+use Rattle.parfind.specs.Tracks.{cursor_of_track}
+use Rattle.parfind.proofs.BelongsLaws.{few_until}
+use Rattle.parfind.proofs.OrderLaws.{From}
 
 call_lengths : {A : Type 0} (s t : ShelfState) (file : ℕ) (answer : Result A ReadFault) → ReadsFile file s t answer → t.lengths ≡ s.lengths
 call_lengths s t file (Ok x) reads = ap (λ (u : ShelfState). u.lengths) reads
@@ -27,7 +28,7 @@ near_cursor f set s belongs =
     let t = belongs.tied in
     record {
       file_is = omega (arith, file, belongs.not_ahead);
-      offset_is = λ same. omega (arith, offset, belongs.not_past (sym file ∙ same), t.not_ahead, t.within, t.buffer_fits, belongs.sized);
+      offset_is = λ same. omega (arith, offset, belongs.not_past (sym file ∙ same), t.not_ahead, t.within, t.buffer_fits, belongs.made.sized);
     }
 
 -- what a call reads, whatever it answers
@@ -41,17 +42,16 @@ reads_near set s t f g answer along belongs = record {
 
 -- the digests are no more than the marks up to the cursor
 pub few_digests : (f : FinderState) (set : SliceSet) (s : ShelfState) → BelongsTo f set s → IsTrue s.is_steady
-    → f.digests ≤ marks (scan_of set s) f.opening f.cursor
+    → f.digests ≤ marks (scan_of (sought_for set f) s) f.opening f.cursor
 few_digests f set s belongs steady =
-    let on : From (start_of f.opening) (hashed_of f.track) = From-by_test (start_of f.opening) (hashed_of f.track) belongs.onward in
-    let next : From (hashed_of f.track) (cursor_past (place_at f.cursor)) = record {
+    let past : From (cursor_past (place_at (cursor_of_track f.track))) (cursor_past (place_at f.cursor)) = record {
       by_file = belongs.not_ahead;
-      by_offset = λ same. omega (arith, belongs.not_past same, remembered-most f.track.digest);
+      by_offset = λ same. omega (arith, belongs.not_past same);
       by_slice = λ _ _. omega arith;
     } in
-    omega (
-      arith,
-      belongs.digests_are,
-      belongs.counted steady,
-      marked_rises (scan_of set s) f.opening (hashed_of f.track) (cursor_past (place_at f.cursor)) on next,
-    )
+    let next : From (cursor_of_track f.track) (cursor_past (place_at f.cursor)) = record {
+      by_file = belongs.not_ahead;
+      by_offset = λ same. omega (arith, belongs.not_past same);
+      by_slice = λ _ _. omega arith;
+    } in
+    omega (arith, belongs.digests_are, few_until f set s belongs steady (cursor_past (place_at f.cursor)) next (λ _. past))

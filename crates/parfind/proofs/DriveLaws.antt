@@ -5,7 +5,7 @@ use Rattle.std.proofs.Math.Seq.{drop-cons}
 use Rattle.std.proofs.lemmas.Grind.{common_steps}
 use Rattle.parshelf.specs.Shelf.{ShelfState, IsShelf}
 use Rattle.parshelf.specs.declared.shelves.reading.ReadFault.{ReadFault}
-use Rattle.parwindow.specs.Index.{SliceSet}
+use Rattle.parfind.specs.Sought.{Sought}
 use Rattle.parfind.specs.declared.cursors.cursor.Cursor.{Cursor}
 use Rattle.parfind.specs.Order.{is_from}
 use Rattle.parfind.proofs.OrderLaws.{From-by_test, is_from-true, From-trans}
@@ -27,9 +27,9 @@ use Rattle.parfind.specs.AnswersToldOf.{TellsOf}
 use Rattle.parfind.proofs.ToldLaws.{tells_same, tells_step}
 
 -- whatever the later calls give, all calls give it after these answers
-abbrev pub GivesBefore : SliceSet → SearchPoint → List Call → SearchPoint → List Call → List Answer → Type 0
-GivesBefore set old calls now later answers =
-    (tail : List Answer) (new : SearchPoint) → CallsGive set now later tail new → CallsGive set old calls (answers ++ tail) new
+abbrev pub GivesBefore : Sought → SearchPoint → List Call → SearchPoint → List Call → List Answer → Type 0
+GivesBefore sought old calls now later answers =
+    (tail : List Answer) (new : SearchPoint) → CallsGive sought now later tail new → CallsGive sought old calls (answers ++ tail) new
 
 abbrev pub EachBefore : List Call → List Call → List Answer → Type 0
 EachBefore calls later answers =
@@ -38,11 +38,11 @@ EachBefore calls later answers =
 joined : (xs ys tail : List Answer) (a : Answer) → ys ≡ xs ++ a ∷ [] → xs ++ a ∷ tail ≡ ys ++ tail
 joined xs ys tail a items = sym (ap (λ (zs : List Answer). zs ++ tail) items ∙ append_assoc xs (a ∷ []) tail)
 
-gives_more : (set : SliceSet) (old now next : SearchPoint) (calls later : List Call) (k : Call) (a : Answer) (xs ys : List Answer)
-    → GivesBefore set old calls now (k ∷ later) xs → CallGives set now k a next → ys ≡ xs ++ a ∷ []
-    → GivesBefore set old calls next (left_after a later) ys
-gives_more set old now next calls later k a xs ys before one items tail new h =
-    subst (λ (zs : List Answer). CallsGive set old calls zs new) (joined xs ys tail a items)
+gives_more : (sought : Sought) (old now next : SearchPoint) (calls later : List Call) (k : Call) (a : Answer) (xs ys : List Answer)
+    → GivesBefore sought old calls now (k ∷ later) xs → CallGives sought now k a next → ys ≡ xs ++ a ∷ []
+    → GivesBefore sought old calls next (left_after a later) ys
+gives_more sought old now next calls later k a xs ys before one items tail new h =
+    subst (λ (zs : List Answer). CallsGive sought old calls zs new) (joined xs ys tail a items)
     (before (a ∷ tail) new (next, (one, h)))
 
 each_more : (calls later : List Call) (k : Call) (a : Answer) (xs ys : List Answer) → EachBefore calls (k ∷ later) xs → MayAnswer k a
@@ -67,97 +67,101 @@ pub record KeptSoFar (size : ℕ) (old now : ShelfState) (start : Cursor) (finde
 
 -- what the answers so far came to, and where the search stands
 pub record DriveSoFar
-    (set : SliceSet) (old now : ShelfState) (start : Cursor) (finder : FinderState) (calls later : List Call) (answers : List Answer)
+    (sought : Sought) (old now : ShelfState) (start : Cursor) (finder : FinderState) (calls later : List Call) (answers : List Answer)
     : Type 0 where
   pub told : TellsOf old now answers
-  pub gives : IsTrue old.is_steady → GivesBefore set (search_at old start) calls (search_at now finder.cursor) later answers
+  pub gives : IsTrue old.is_steady → GivesBefore sought (search_at old start) calls (search_at now finder.cursor) later answers
   pub each : EachBefore calls later answers
   pub onward : IsTrue (is_from start finder.cursor)
-  pub kept : ¬ Contains calls call.Reopen → KeptSoFar set.slice_size old now start finder
+  pub mode_is : finder.mode ≡ sought.mode
+  pub kept : ¬ Contains calls call.Reopen → KeptSoFar sought.set.slice_size old now start finder
 
 -- the call of a step with this budget
 pub record Asks (k : Call) (budget : Option ℕ) : Type 0 where
-  pub gives : (set : SliceSet) (old new : SearchPoint) (r : Result Step ReadFault) → StepGives set budget old r new
-      → CallGives set old k (answer.Step r) new
+  pub gives : (sought : Sought) (old new : SearchPoint) (r : Result Step ReadFault) → StepGives sought budget old r new
+      → CallGives sought old k (answer.Step r) new
   pub answers : (r : Result Step ReadFault) → MayAnswer k (answer.Step r)
 
 pub asks_step : (n : ℕ) → Asks (call.Step n) (Some n)
-asks_step n = record { gives = λ set old new r h. h; answers = λ r. tt }
+asks_step n = record { gives = λ sought old new r h. h; answers = λ r. tt }
 
 pub asks_next : Asks call.Next None
-asks_next = record { gives = λ set old new r h. h; answers = λ r. tt }
+asks_next = record { gives = λ sought old new r h. h; answers = λ r. tt }
 
-pub drive_steps : (set : SliceSet) (old s t : ShelfState) (start : Cursor) (before after : FinderState) (calls later : List Call)
+pub drive_steps : (sought : Sought) (old s t : ShelfState) (start : Cursor) (before after : FinderState) (calls later : List Call)
     (k : Call) (budget : Option ℕ) (r : Result Step ReadFault) (xs ys : List Answer) → Asks k budget → IsShelf s
-    → DriveSoFar set old s start before calls (k ∷ later) xs → StepMade set budget s t before after r
-    → CallReads set.slice_size (search_of s before) (search_of t after)
-    → ys ≡ xs ++ answer.Step r ∷ [] → DriveSoFar set old t start after calls later ys
-drive_steps set old s t start before after calls later k budget r xs ys asks shelf so_far made reads items = record {
+    → DriveSoFar sought old s start before calls (k ∷ later) xs → StepMade sought budget s t before after r
+    → CallReads sought.set.slice_size (search_of s before) (search_of t after)
+    → ys ≡ xs ++ answer.Step r ∷ [] → DriveSoFar sought old t start after calls later ys
+drive_steps sought old s t start before after calls later k budget r xs ys asks shelf so_far made reads items = record {
   told = rw items (tells_step old s t xs r after.cursor.file shelf so_far.told made.along.shelf);
-  gives = λ h. gives_more set (search_at old start) (search_at s before.cursor) (search_at t after.cursor) calls later k (answer.Step r) xs ys
+  gives = λ h. gives_more sought (search_at old start) (search_at s before.cursor) (search_at t after.cursor) calls later k (answer.Step r) xs ys
       (so_far.gives h)
-      (asks.gives set (search_at s before.cursor) (search_at t after.cursor) r (made.answer (so_far.told.steady_is ∙ h))) items;
+      (asks.gives sought (search_at s before.cursor) (search_at t after.cursor) r (made.answer (so_far.told.steady_is ∙ h))) items;
   each = each_more calls later k (answer.Step r) xs ys so_far.each (asks.answers r) items;
   onward =
       let on = moves_onward s.lengths budget before.cursor after.cursor r made.moves in
       is_from-true start after.cursor
       (From-trans start before.cursor after.cursor (From-by_test start before.cursor so_far.onward) on);
+  mode_is = made.along.mode_is ∙ so_far.mode_is;
   kept = λ none.
       let kept = so_far.kept none in record {
         states = kept.states ++ search_of t after ∷ [];
-        read = reads_more set.slice_size (opened_at old start) (search_of s before) (search_of t after) kept.states kept.read reads;
+        read = reads_more sought.set.slice_size (opened_at old start) (search_of s before) (search_of t after) kept.states kept.read reads;
         opening = made.along.opening_is ∙ kept.opening;
       };
 }
 
 -- another finder was opened at the cursor
-pub drive_reopens : (set : SliceSet) (old s : ShelfState) (start : Cursor) (before after : FinderState) (calls later : List Call)
+pub drive_reopens : (sought : Sought) (old s : ShelfState) (start : Cursor) (before after : FinderState) (calls later : List Call)
     (xs ys : List Answer) → Contains calls call.Reopen
-    → DriveSoFar set old s start before calls (call.Reopen ∷ later) xs → after.cursor ≡ before.cursor
-    → ys ≡ xs ++ answer.Reopened ∷ [] → DriveSoFar set old s start after calls later ys
-drive_reopens set old s start before after calls later xs ys there so_far cursor items = record {
+    → DriveSoFar sought old s start before calls (call.Reopen ∷ later) xs → after.cursor ≡ before.cursor → after.mode ≡ sought.mode
+    → ys ≡ xs ++ answer.Reopened ∷ [] → DriveSoFar sought old s start after calls later ys
+drive_reopens sought old s start before after calls later xs ys there so_far cursor mode items = record {
   told = rw items (tells_same old s xs answer.Reopened so_far.told refl refl);
-  gives = λ h. gives_more set (search_at old start) (search_at s before.cursor) (search_at s after.cursor) calls later call.Reopen answer.Reopened
+  gives = λ h. gives_more sought (search_at old start) (search_at s before.cursor) (search_at s after.cursor) calls later call.Reopen answer.Reopened
       xs ys (so_far.gives h) (ap (search_at s) cursor) items;
   each = each_more calls later call.Reopen answer.Reopened xs ys so_far.each tt items;
   onward = rw cursor so_far.onward;
+  mode_is = mode;
   kept = λ none. absurd (none there);
 }
 
 -- no other finder could be opened
-pub drive_stops : (set : SliceSet) (old s : ShelfState) (start : Cursor) (before : FinderState) (calls later : List Call)
+pub drive_stops : (sought : Sought) (old s : ShelfState) (start : Cursor) (before : FinderState) (calls later : List Call)
     (xs ys : List Answer) → Contains calls call.Reopen
-    → DriveSoFar set old s start before calls (call.Reopen ∷ later) xs
-    → ys ≡ xs ++ answer.NoMemory ∷ [] → DriveSoFar set old s start before calls [] ys
-drive_stops set old s start before calls later xs ys there so_far items = record {
+    → DriveSoFar sought old s start before calls (call.Reopen ∷ later) xs
+    → ys ≡ xs ++ answer.NoMemory ∷ [] → DriveSoFar sought old s start before calls [] ys
+drive_stops sought old s start before calls later xs ys there so_far items = record {
   told = rw items (tells_same old s xs answer.NoMemory so_far.told refl refl);
-  gives = λ h. gives_more set (search_at old start) (search_at s before.cursor) (search_at s before.cursor) calls later call.Reopen answer.NoMemory
+  gives = λ h. gives_more sought (search_at old start) (search_at s before.cursor) (search_at s before.cursor) calls later call.Reopen answer.NoMemory
       xs ys (so_far.gives h) refl items;
   each = each_more calls later call.Reopen answer.NoMemory xs ys so_far.each tt items;
   onward = so_far.onward;
+  mode_is = so_far.mode_is;
   kept = λ none. absurd (none there);
 }
 
 -- what holds at last
 pub record DriveGave
-    (set : SliceSet) (old new : ShelfState) (start d : Cursor) (calls : List Call) (answers : List Answer) : Type 0 where
-  pub answer : IsTrue old.is_steady → CallsGive set (search_at old start) calls answers (search_at new d)
+    (sought : Sought) (old new : ShelfState) (start d : Cursor) (calls : List Call) (answers : List Answer) : Type 0 where
+  pub answer : IsTrue old.is_steady → CallsGive sought (search_at old start) calls answers (search_at new d)
   pub each : AnswersEach calls answers
   pub onward : IsTrue (is_from start d)
   pub told : TellsOf old new answers
-  pub reads : ¬ Contains calls call.Reopen → HandsWithin set.slice_size (search_at old start) (search_at new d)
+  pub reads : ¬ Contains calls call.Reopen → HandsWithin sought.set.slice_size (search_at old start) (search_at new d)
 
-pub drive_ends : (set : SliceSet) (old new : ShelfState) (start d : Cursor) (finder : FinderState) (calls : List Call) (answers : List Answer)
-    → DriveSoFar set old new start finder calls [] answers → d ≡ finder.cursor → DriveGave set old new start d calls answers
-drive_ends set old new start d finder calls answers so_far cursor = rw cursor (record {
-  answer = λ h. subst (λ (zs : List Answer). CallsGive set (search_at old start) calls zs (search_at new finder.cursor))
+pub drive_ends : (sought : Sought) (old new : ShelfState) (start d : Cursor) (finder : FinderState) (calls : List Call) (answers : List Answer)
+    → DriveSoFar sought old new start finder calls [] answers → d ≡ finder.cursor → DriveGave sought old new start d calls answers
+drive_ends sought old new start d finder calls answers so_far cursor = rw cursor (record {
+  answer = λ h. subst (λ (zs : List Answer). CallsGive sought (search_at old start) calls zs (search_at new finder.cursor))
       (append-nil answers) (so_far.gives h [] (search_at new finder.cursor) refl);
   each = subst (AnswersEach calls) (append-nil answers) (so_far.each [] tt);
   onward = so_far.onward;
   told = so_far.told;
   reads = λ none.
       let kept = so_far.kept none in
-      reach_adds_up set.slice_size (opened_at old start) (search_of new finder) kept.states refl kept.read;
+      reach_adds_up sought.set.slice_size (opened_at old start) (search_of new finder) kept.states refl kept.read;
 })
 
 -- the call at an index, and those after it

@@ -1,5 +1,5 @@
 -- A finder that goes to the next place: its window stays with its file, or begins anew in another.
-use Rattle.std.proofs.Common.{◌≡◌, ◌≢◌, ℕ, ◌<◌, ◌≤◌, ◌^◌, [], slice_index, sym, ap, ◌∙◌, subst, arith, inl, inr}
+use Rattle.std.proofs.Common.{◌≡◌, ◌≢◌, ℕ, ◌<◌, ◌≤◌, ◌^◌, List, [], length, replicate, slice_index, Option, None, refl, sym, ap, ◌∙◌, subst, arith, inl, inr}
 use Rattle.std.proofs.lemmas.Bool.{cases_eq}
 use Rattle.parshelf.specs.Shelf.{ShelfState, IsShelf, file_of}
 use Rattle.parset.specs.Limits.{slice_size_limit}
@@ -8,10 +8,15 @@ use Rattle.parwindow.specs.Window.{WindowState}
 use Rattle.parfind.specs.declared.cursors.cursor.Cursor.{Cursor}
 use Rattle.parfind.specs.declared.tracks.track.Track.{Track}
 use Rattle.parfind.specs.Fetched.{Place, HandsUpTo, ReadsUpTo}
-use Rattle.parfind.specs.Tracks.{IsTied, IsUnread, fetched_of}
+use Rattle.parfind.specs.Tracks.{IsTied, IsUnread, SameTrack, cursor_of_track, fetched_of}
+use Rattle.parfind.specs.Sought.{looked_lengths}
+use Rattle.parfield.specs.declared.hash16.Hash16.{Hash16}
+use Rattle.parfind.specs.Places.{cursor_past, place_at}
+use Rattle.parfind.proofs.BelongsLaws.{SameFiles, same_files, with_window, moves_belongs, stays_belongs}
+use Rattle.parfind.proofs.KeptLaws.{kept_full, same_cursor}
 use Rattle.parfind.proofs.FetchedLaws.{hands_none, hands_enter}
 use Rattle.parfind.proofs.TrackLaws.{no_bytes}
-use Rattle.parfind.specs.Finders.{FinderState, BelongsTo, StandsAt, hashed_of}
+use Rattle.parfind.specs.Finders.{FinderState, BelongsTo, StandsAt, sought_for}
 use Rattle.parfind.specs.NextPlace.{HasFit, IsNextPlace}
 use Rattle.parfind.proofs.OrderLaws.{From, From-by_test, From-refl, is_from-true}
 
@@ -26,7 +31,6 @@ unread_follows s v w file offset t small few unread empty =
       small = omega (arith, unread.buffer_offset_is, unread.buffer_len_is);
       not_ahead = omega (arith, unread.buffer_offset_is, unread.offset_is);
       reached = λ _. omega (arith, unread.buffer_offset_is, unread.offset_is, unread.buffer_len_is);
-      remembers = rw unread.digest_is tt;
       content = λ _. no_bytes (file_of s t.file) t.window_offset;
       ahead = λ _. rw unread.buffer_len_is (no_bytes (file_of s t.file) t.buffer_offset);
     })
@@ -43,6 +47,21 @@ module _ (f : FinderState) (set : SliceSet) (s : ShelfState) (shelf : IsShelf s)
       From-by_test at f.cursor (next.least f.cursor (is_from-true f.cursor f.cursor (From-refl f.cursor)) inside) in
       omega (arith, on.by_offset same, back.by_offset (sym same))
 
+  -- where the window is there, it stays with the digests that are kept
+  pub stands_there : f.track.file ≡ at.file → StandsAt f.track at
+  stands_there same =
+      let on : From f.cursor at = From-by_test f.cursor at next.onward in
+      let files : f.cursor.file ≡ at.file = omega (arith, on.by_file, belongs.not_ahead) in
+      let offset : f.cursor.offset ≡ at.offset = next_offset_same files in
+      let room : HasFit set s.lengths f.cursor = rw (files, offset) fits in
+      record { file_is = same; offset_is = belongs.here (same ∙ sym files) room ∙ offset }
+
+  pub stays_there : f.track.file ≡ at.file → BelongsTo (with_window f at f.window f.track f.kept) set s
+  stays_there same =
+      let stands : StandsAt f.track at = stands_there same in
+      stays_belongs f set s s belongs (same_files s) at f.window f.track f.kept belongs.tied belongs.keeps refl refl
+      (record { file_is = refl; offset_is = refl }) belongs.kept_there (omega (arith, same)) (λ _. stands.offset_is)
+
   module _ (w : WindowState) (t : Track) (stays : f.track.file ≡ at.file → (t ≡ f.track) × (w ≡ f.window))
       (enters : f.track.file ≢ at.file → IsUnread at.file at.offset t × (w ≡ record f.window { content = [] })) where
     small_offset : at.offset < 2 ^ 63
@@ -56,12 +75,6 @@ module _ (f : FinderState) (set : SliceSet) (s : ShelfState) (shelf : IsShelf s)
       | inr other ↦
           let there = enters other in
           unread_follows s f.window w at.file at.offset t small_offset belongs.tied.few there.0 there.1
-    ]
-
-    pub enter_sized : w.capacity ≡ set.slice_size
-    enter_sized = elim (cases_eq f.track.file at.file) [
-      | inl same ↦ ap (λ (x : WindowState). x.capacity) (stays same).1 ∙ belongs.sized
-      | inr other ↦ ap (λ (x : WindowState). x.capacity) (enters other).1 ∙ belongs.sized
     ]
 
     pub enter_file : t.file ≡ at.file
@@ -97,23 +110,46 @@ module _ (f : FinderState) (set : SliceSet) (s : ShelfState) (shelf : IsShelf s)
               (omega (arith, ap (λ (p : Place). p.file) from, (enters other).0.file_is, on.by_file, belongs.not_ahead))
         ]
 
-    pub enter_onward : From (hashed_of f.track) (hashed_of t)
-    enter_onward = elim (cases_eq f.track.file at.file) [
-      | inl same ↦
-          let here = ap hashed_of (stays same).0 in
-          subst (From (hashed_of f.track)) (sym here) (From-refl (hashed_of f.track))
-      | inr other ↦
-          let on : From f.cursor at = From-by_test f.cursor at next.onward in
-          let file : t.file ≡ at.file = (enters other).0.file_is in
-          record {
-            by_file = omega (arith, belongs.not_ahead, on.by_file);
-            by_offset = λ e. absurd (other (e ∙ file));
-            by_slice = λ e _. absurd (other (e ∙ file));
-          }
+    enter_window : w ≡ record f.window { content = w.content }
+    enter_window = elim (cases_eq f.track.file at.file) [
+      | inl same ↦ rw (stays same).1 refl
+      | inr other ↦ rw (enters other).1 refl
     ]
 
     pub enter_digests : w.digests ≡ f.window.digests
-    enter_digests = elim (cases_eq f.track.file at.file) [
-      | inl same ↦ ap (λ (x : WindowState). x.digests) (stays same).1
-      | inr other ↦ ap (λ (x : WindowState). x.digests) (enters other).1
+    enter_digests = ap (λ (x : WindowState). x.digests) enter_window
+
+    -- from any place of the file that is left
+    further : f.track.file ≢ at.file → (c : Cursor) → c.file ≡ f.track.file → From c (cursor_of_track t)
+    further other c is =
+        let on : From f.cursor at = From-by_test f.cursor at next.onward in
+        let file : t.file ≡ at.file = (enters other).0.file_is in
+        record {
+          by_file = omega (arith, is, belongs.not_ahead, on.by_file, file);
+          by_offset = λ e. absurd (other (sym is ∙ e ∙ file));
+          by_slice = λ e _. absurd (other (sym is ∙ e ∙ file));
+        }
+
+    enter_onward : From (cursor_of_track f.track) (cursor_of_track t)
+    enter_onward = elim (cases_eq f.track.file at.file) [
+      | inl same ↦
+          let here = ap cursor_of_track (stays same).0 in
+          subst (From (cursor_of_track f.track)) (sym here) (From-refl (cursor_of_track f.track))
+      | inr other ↦ further other (cursor_of_track f.track) refl
     ]
+
+    -- it is filled, and belongs there
+    pub enter_belongs : (f.track.file ≡ at.file → ¬ (length f.window.content ≡ f.window.capacity)) → (u : ShelfState) → SameFiles s u
+        → (kept : List (Option Hash16)) → kept ≡ replicate (length (looked_lengths (sought_for set f))) None
+        → (v : WindowState) (a : Track) → IsTied u v a → v ≡ record w { content = v.content } → SameTrack t a
+        → BelongsTo (with_window f at v a kept) set u
+    enter_belongs unfilled u files kept none v a tied filled same =
+        let stands : cursor_of_track a ≡ cursor_of_track t = same_cursor t a same in
+        moves_belongs f set s u belongs files at v a kept tied none
+        (filled ∙ ap (λ (x : WindowState). record x { content = v.content }) enter_window)
+        (rw stands enter_onward)
+        (λ some. rw stands (elim (cases_eq f.track.file at.file) [
+          | inl here ↦ absurd (unfilled here (kept_full (sought_for set f) f.window f.kept belongs.keeps some))
+          | inr other ↦ further other (cursor_past (place_at (cursor_of_track f.track))) refl
+        ]))
+        (omega (arith, same.file_is, enter_file)) (λ _. same.offset_is ∙ enter_held)

@@ -16,6 +16,7 @@ use Rattle.parfind.specs.declared.searches.finder.Visit.TheVariants.{Passed}
 use Rattle.parfind.specs.Order.{cursor_of}
 use Rattle.parfind.specs.Sightings.{Scan, content_of, is_seen, is_slice_seen, sightings_of, sightings_between}
 use Rattle.parfind.specs.NextPlace.{HasFit, IsNextPlace, rest_of}
+use Rattle.parfind.specs.Sought.{Sought, looked_window}
 use Rattle.parfind.specs.Moves.{PassesAll, steps_left}
 use Rattle.parfind.specs.Finders.{FinderState, BelongsTo}
 use Rattle.parfind.specs.Steps.{scan_of}
@@ -47,32 +48,32 @@ fits_more set less more up fits =
     slice.sums) set.slices fits
 
 -- a slice that is seen fits
-pub seen_fits : (set : SliceSet) (file : List ℕ) (offset n : ℕ) → is_slice_seen set file offset n ≡ true
-    → set_has_fit set (length file - offset) ≡ true
-seen_fits set file offset n seen =
-    let sums : Hash16 × ℕ = sums_of (window_at set.slice_size file offset) in
-    let slice = passing (is_seen set.slice_size file offset) (slice_get set.slices n) seen in
+pub seen_fits : (sought : Sought) (file : List ℕ) (offset n : ℕ) → is_slice_seen sought file offset n ≡ true
+    → set_has_fit sought.set (length file - offset) ≡ true
+seen_fits sought file offset n seen =
+    let slice = passing (is_seen sought.mode sought.set.slice_size file offset) (slice_get sought.set.slices n) seen in
+    let sums : Hash16 × ℕ = sums_of (looked_window sought.mode (window_at sought.set.slice_size file offset) slice.0) in
     let ends : Bool = nat_le (offset + slice.0.length) (length file) in
     let known : Bool = has_sums sums slice.0 in
     let parts : (ends ≡ true) × (known ≡ true) = and_parts ends known (and_parts (nat_lt offset (length file)) (ends && known) slice.2).1 in
     let inside : offset + slice.0.length ≤ length file = leb-true (offset + slice.0.length) (length file) parts.0 in
     let fits : nat_le slice.0.length (length file - offset) ≡ true = le-leb slice.0.length (length file - offset) (omega arith) in
-    passing_has (has_fit_of (length file - offset)) set.slices n slice.0 slice.1
+    passing_has (has_fit_of (length file - offset)) sought.set.slices n slice.0 slice.1
     (known_weaker (λ known. known.1 == sums.1 && bytes_eq known.0.0 sums.0.0) (λ known. nat_le slice.0.length (length file - offset))
     (λ known h. fits) slice.0.sums parts.1)
 
 -- no sighting lies at or after a place where no slice fits, in its file
-pub on_unfit : (scan : Scan) (d : Cursor) (n : ℕ) → ¬ IsTrue (set_has_fit scan.set (length (content_of scan d.file) - d.offset))
+pub on_unfit : (scan : Scan) (d : Cursor) (n : ℕ) → ¬ IsTrue (set_has_fit scan.sought.set (length (content_of scan d.file) - d.offset))
     → sightings_between scan d (cursor_on d n) ≡ []
 on_unfit scan d n none =
     none_between cursor_of d (cursor_on d n) (sightings_of scan)
     (λ y has after. elim (cases_eq d.file y.file) [
       | inl f ↦
           let low : d.offset ≤ y.offset = after.by_offset f in
-          let fits = seen_fits scan.set (content_of scan y.file) y.offset y.slice (sighting_seen scan y has) in
+          let fits = seen_fits scan.sought (content_of scan y.file) y.offset y.slice (sighting_seen scan y has) in
           let rest : length (content_of scan y.file) - y.offset ≤ length (content_of scan d.file) - d.offset =
           omega (arith, low, ap (λ (k : ℕ). length (content_of scan k)) f) in
-          absurd (none (fits_more scan.set _ _ rest fits))
+          absurd (none (fits_more scan.sought.set _ _ rest fits))
       | inr other ↦ record { by_file = after.by_file; by_offset = λ e. absurd (other e); by_slice = λ e _. absurd (other e) }
     ])
 
@@ -83,7 +84,9 @@ module _ (f : FinderState) (set : SliceSet) (s : ShelfState) (belongs : BelongsT
   unfit_belongs n =
       let on : From f.cursor d = From-by_test f.cursor d next.onward in
       record {
-        sized = belongs.sized;
+        made = belongs.made;
+        keeps = belongs.keeps;
+        kept_there = belongs.kept_there;
         tied = belongs.tied;
         not_ahead = omega (arith, belongs.not_ahead, on.by_file);
         not_past = λ there.
@@ -107,13 +110,13 @@ module _ (lengths : List ℕ) (c d : Cursor) (next : IsNextPlace lengths c d) (n
   unfit_advances set =
       omega (arith, fewer_past set lengths c d next, no_more set lengths (cursor_on d 1) (cursor_on d n) (From-on d 1 n some))
 
-pub unfit_sees : (set : SliceSet) (s : ShelfState) → IsShelf s → IsTrue s.is_steady → (c d : Cursor) → IsNextPlace s.lengths c d
-    → ¬ HasFit set s.lengths d → (n : ℕ) → 0 < n → sightings_between (scan_of set s) c (cursor_on d n) ≡ []
-unfit_sees set s shelf steady c d next none n some =
+pub unfit_sees : (sought : Sought) (s : ShelfState) → IsShelf s → IsTrue s.is_steady → (c d : Cursor) → IsNextPlace s.lengths c d
+    → ¬ HasFit sought.set s.lengths d → (n : ℕ) → 0 < n → sightings_between (scan_of sought s) c (cursor_on d n) ≡ []
+unfit_sees sought s shelf steady c d next none n some =
     let whole : length (file_of s d.file) ≡ slice_index s.lengths d.file = length-file_of s d.file shelf steady in
-    let unfit : ¬ IsTrue (set_has_fit set (length (content_of (scan_of set s) d.file) - d.offset)) = rw whole none in
+    let unfit : ¬ IsTrue (set_has_fit sought.set (length (content_of (scan_of sought s) d.file) - d.offset)) = rw whole none in
     let on : From d (cursor_on d n) = record { by_file = omega arith; by_offset = λ _. omega arith; by_slice = λ _ e. absurd (omega arith) } in
-    next_place_sees s.lengths c d (cursor_on d n) next set s refl shelf steady (Ok Spent) on (on_unfit (scan_of set s) d n unfit)
+    next_place_sees s.lengths c d (cursor_on d n) next sought s refl shelf steady (Ok Spent) on (on_unfit (scan_of sought s) d n unfit)
 
 -- of a budget of places as many as are ahead: some are
 some_within : (left : Option ℕ) (rest most : ℕ) → left ≢ Some 0 → 0 < rest → 0 < most → 0 < min rest (unwrap_or left most)

@@ -31,8 +31,8 @@ handed scan budget c d (Ok Done) moves sees = ap (λ xs. filter (λ y. is_before
 handed scan budget c d (Err fault) moves sees = sees
 
 pub step_hands_out : StepHandsOut
-step_hands_out set budget old new answer gives = (
+step_hands_out sought budget old new answer gives = (
   is_from-true old.cursor new.cursor
-      (moves_onward (lengths_of (scan_of set old.shelf)) budget old.cursor new.cursor answer gives.moves),
-  handed (scan_of set old.shelf) budget old.cursor new.cursor answer gives.moves gives.sees,
+      (moves_onward (lengths_of (scan_of sought old.shelf)) budget old.cursor new.cursor answer gives.moves),
+  handed (scan_of sought old.shelf) budget old.cursor new.cursor answer gives.moves gives.sees,
 )

@@ -1,4 +1,7 @@
 pub mod FetchedLaws
+pub mod LookedLaws
+pub mod EachLengthLaws
+pub mod DigestLaws
 pub mod FittingLaws
 pub mod TrackLaws
 pub mod SlideLaws
@@ -13,6 +16,9 @@ pub mod ListLaws
 pub mod RisingLaws
 pub mod SightingLaws
 pub mod SeenLaws
+pub mod KeptLaws
+pub mod OpenLaws
+pub mod ModeLaws
 pub mod PlaceLaws
 pub mod MoveLaws
 pub mod WalkLaws
@@ -31,6 +37,8 @@ pub mod BelongsLaws
 pub mod CallLaws
 pub mod FitLaws
 pub mod MarkingLaws
+pub mod ExhaustedLaws
+pub mod MarkSeenLaws
 pub mod SightedLaws
 pub mod SurveyLaws
 pub mod SweepLaws

@@ -1,17 +1,15 @@
 -- The marks that a survey sets at one place, one slice after another, and the slices that have none.
-use Rattle.std.proofs.Common.{◌≡◌, ℕ, ◌+◌, ◌<◌, ◌≤◌, Bool, true, false, ◌||◌, ◌&&◌, ◌==◌, not, nat_lt, List, [], ◌∷◌, length, refl, sym, ap, ◌∙◌, arith, IfSome, Option, Some, None, inl, inr, get_or-set_same, get_or-set_other, slice_set}
+use Rattle.std.proofs.Common.{◌≡◌, ℕ, ◌+◌, ◌<◌, Bool, true, false, ◌||◌, ◌&&◌, ◌==◌, not, nat_lt, List, [], ◌∷◌, length, refl, sym, ap, ◌∙◌, arith, Some, None, inl, inr, get_or-set_same, get_or-set_other, slice_set}
 use Rattle.std.specs.List.{list_any, range_with_len}
 use Rattle.std.proofs.lemmas.Bool.{cases_Bool, cases_eq, cases_lt, eq-eqb, ne_eqb, or_cases, or_left, or_right, lt-ltb, le-ltb, false_from_ne_true, and_parts, and_from, not-true, not_from_false}
 use Rattle.std.proofs.Math.Bool.{or-false, or_assoc}
-use Rattle.parfind.specs.Fitting.{is_fitting_match}
-use Rattle.parfind.proofs.FittingLaws.{fit_passes}
+use Rattle.parset.specs.declared.recovery_set.SetSlice.{SetSlice}
 use Rattle.parfind.proofs.ListLaws.{Has, Has-range}
-use Rattle.parfind.proofs.SeenLaws.{passes_there, fits_on}
+use Rattle.parfind.proofs.SeenLaws.{passes_there}
 use Rattle.parwindow.specs.Index.{SliceSet, slice_passes}
-use Rattle.parwindow.specs.Missing.{has_fit_crc_of, set_has_missing, mark_of}
+use Rattle.parwindow.specs.Missing.{has_unmarked, mark_of}
 use Rattle.parwindow.specs.Least.{IsLeastFrom}
-use Rattle.parfield.specs.declared.hash16.Hash16.{Hash16}
-use Rattle.parfind.specs.Marking.{MarksMore, IsExhausted}
+use Rattle.parfind.specs.Marking.{MarksMore}
 
 -- two tests that pass alike
 pub same_truth : (a b : Bool) → (a ≡ true → b ≡ true) → (b ≡ true → a ≡ true) → a ≡ b
@@ -39,71 +37,79 @@ has_any p (y ∷ ys) x has h = elim has [
 none_range : (p : ℕ → Bool) (n : ℕ) → ((k : ℕ) → p k ≡ true → ⊥) → list_any p (range_with_len 0 n) ≡ false
 none_range p n f = false_from_ne_true _ (λ h. let some = any_has p (range_with_len 0 n) h in f some.0 some.2)
 
--- the slices with a CRC-32 that fit and have no mark
+-- the slices that pass a test and have no mark
 
-missing_some : (set : SliceSet) (found : List Bool) (crc left n : ℕ) → slice_passes set.slices (has_fit_crc_of crc left) n ≡ true
-    → mark_of found n ≡ false → set_has_missing set found crc left ≡ true
-missing_some set found crc left n has none =
-    let there : n < length set.slices = passes_there set (has_fit_crc_of crc left) n has in
-    has_any (λ k. slice_passes set.slices (has_fit_crc_of crc left) k && not (mark_of found k)) (range_with_len 0 (length set.slices)) n
+missing_some : (set : SliceSet) (found : List Bool) (test : SetSlice → Bool) (n : ℕ) → slice_passes set.slices test n ≡ true
+    → mark_of found n ≡ false → has_unmarked set.slices found test ≡ true
+missing_some set found test n has none =
+    let there : n < length set.slices = passes_there set test n has in
+    has_any (λ k. slice_passes set.slices test k && not (mark_of found k)) (range_with_len 0 (length set.slices)) n
     (Has-range 0 (length set.slices) n (omega arith) (omega arith)) (and_from _ _ has (not_from_false _ none))
 
-missing_none : (set : SliceSet) (found : List Bool) (crc left : ℕ)
-    → ((k : ℕ) → slice_passes set.slices (has_fit_crc_of crc left) k ≡ true → mark_of found k ≡ true) → set_has_missing set found crc left ≡ false
-missing_none set found crc left all =
-    none_range (λ k. slice_passes set.slices (has_fit_crc_of crc left) k && not (mark_of found k)) (length set.slices) (λ k h.
-    let parts = and_parts (slice_passes set.slices (has_fit_crc_of crc left) k) (not (mark_of found k)) h in
+missing_none : (set : SliceSet) (found : List Bool) (test : SetSlice → Bool)
+    → ((k : ℕ) → slice_passes set.slices test k ≡ true → mark_of found k ≡ true) → has_unmarked set.slices found test ≡ false
+missing_none set found test all =
+    none_range (λ k. slice_passes set.slices test k && not (mark_of found k)) (length set.slices) (λ k h.
+    let parts = and_parts (slice_passes set.slices test k) (not (mark_of found k)) h in
     let both : true ≡ false = sym (all k parts.0) ∙ not-true (mark_of found k) parts.1 in cc)
 
--- a slice that has no mark had none before, as no mark is taken away
-pub missing_was : (set : SliceSet) (was now : List Bool) (crc left : ℕ) → ((k : ℕ) → mark_of was k ≡ true → mark_of now k ≡ true)
-    → set_has_missing set now crc left ≡ true → set_has_missing set was crc left ≡ true
-missing_was set was now crc left kept missing = elim (cases_Bool (set_has_missing set was crc left)) [
+-- those that pass have their marks, where none is without
+pub passing_marked : (set : SliceSet) (found : List Bool) (test : SetSlice → Bool) → has_unmarked set.slices found test ≡ false
+    → (k : ℕ) → slice_passes set.slices test k ≡ true → mark_of found k ≡ true
+passing_marked set found test known k has = elim (cases_Bool (mark_of found k)) [
+  | inl marked ↦ marked
+  | inr none ↦ let both : true ≡ false = sym (missing_some set found test k has none) ∙ known in cc
+]
+
+-- where those that pass a test and have no mark pass another and have none in other marks, one is missing there too
+pub missing_there : (set : SliceSet) (was now : List Bool) (first second : SetSlice → Bool)
+    → ((k : ℕ) → slice_passes set.slices first k ≡ true → mark_of now k ≡ false
+    → (slice_passes set.slices second k ≡ true) × (mark_of was k ≡ false))
+    → has_unmarked set.slices now first ≡ true → has_unmarked set.slices was second ≡ true
+missing_there set was now first second there missing = elim (cases_Bool (has_unmarked set.slices was second)) [
   | inl is ↦ is
   | inr known ↦
-      let nowhere : set_has_missing set now crc left ≡ false = missing_none set now crc left (λ k has. elim (cases_Bool (mark_of was k)) [
-        | inl marked ↦ kept k marked
-        | inr none ↦ let both : true ≡ false = sym (missing_some set was crc left k has none) ∙ known in cc
+      let nowhere : has_unmarked set.slices now first ≡ false = missing_none set now first (λ k has. elim (cases_Bool (mark_of now k)) [
+        | inl marked ↦ marked
+        | inr none ↦
+            let held = there k has none in
+            let both : true ≡ false = sym (missing_some set was second k held.0 held.1) ∙ known in cc
       ]) in
       let both : true ≡ false = sym missing ∙ nowhere in cc
 ]
 
--- where each of them has its mark, none of the slices that fit is without
-pub fits_marked : (set : SliceSet) (found : List Bool) (sums : Hash16 × ℕ) (left : ℕ) → set_has_missing set found sums.1 left ≡ false
-    → MarksMore (slice_passes set.slices (is_fitting_match sums left)) found found
-fits_marked set found sums left known n =
-    let fit : Bool = slice_passes set.slices (is_fitting_match sums left) n in
-    same_truth (mark_of found n) (mark_of found n || fit) (λ h. or_left (mark_of found n) fit h) (λ h.
-    elim (or_cases (mark_of found n) fit h) [
+-- a slice that has no mark had none before, as no mark is taken away
+was_none : (was now : List Bool) (k : ℕ) → (mark_of was k ≡ true → mark_of now k ≡ true) → mark_of now k ≡ false → mark_of was k ≡ false
+was_none was now k kept none = false_from_ne_true (mark_of was k) (λ marked. let both : true ≡ false = sym (kept marked) ∙ none in cc)
+
+pub missing_was : (set : SliceSet) (was now : List Bool) (test : SetSlice → Bool) → ((k : ℕ) → mark_of was k ≡ true → mark_of now k ≡ true)
+    → has_unmarked set.slices now test ≡ true → has_unmarked set.slices was test ≡ true
+missing_was set was now test kept =
+    missing_there set was now test test (λ k has none. (has, was_none was now k (kept k) none))
+
+-- where each of some slices has its mark, none of those that are among them is without
+pub fits_marked : (set : SliceSet) (found : List Bool) (fit test : SetSlice → Bool)
+    → ((n : ℕ) → slice_passes set.slices fit n ≡ true → slice_passes set.slices test n ≡ true) → has_unmarked set.slices found test ≡ false
+    → MarksMore (slice_passes set.slices fit) found found
+fits_marked set found fit test among known n =
+    same_truth (mark_of found n) (mark_of found n || slice_passes set.slices fit n) (or_left (mark_of found n) (slice_passes set.slices fit n)) (λ h.
+    elim (or_cases (mark_of found n) (slice_passes set.slices fit n) h) [
       | inl marked ↦ marked
-      | inr fits ↦ elim (cases_Bool (mark_of found n)) [
-        | inl marked ↦ marked
-        | inr none ↦
-            let missing : set_has_missing set found sums.1 left ≡ true =
-            missing_some set found sums.1 left n (fit_passes set sums left n fits) none in
-            let both : true ≡ false = sym missing ∙ known in cc
-      ]
+      | inr fits ↦ passing_marked set found test known n (among n fits)
     ])
 
--- what is exhausted stays so as marks are set
-pub exhausted_more : (set : SliceSet) (was now : List Bool) (left : ℕ) (test : ℕ → Bool) (exhausted_crc : Option ℕ) → MarksMore test was now
-    → IfSome exhausted_crc (IsExhausted set was left) → IfSome exhausted_crc (IsExhausted set now left)
-exhausted_more set was now left test None marks h = tt
-exhausted_more set was now left test (Some crc) marks h =
-    false_from_ne_true (set_has_missing set now crc left) (λ missing.
-    let before : set_has_missing set was crc left ≡ true =
-    missing_was set was now crc left (λ k marked. marks k ∙ or_left (mark_of was k) (test k) marked) missing in
-    let both : true ≡ false = sym before ∙ h in cc)
+-- marks that are set one after another
+pub marks_kept : (test : ℕ → Bool) (was now : List Bool) → MarksMore test was now → (n : ℕ) → mark_of was n ≡ true → mark_of now n ≡ true
+marks_kept test was now marks n marked = marks n ∙ or_left (mark_of was n) (test n) marked
 
--- and as less is left of the file
-pub exhausted_on : (set : SliceSet) (found : List Bool) (more less : ℕ) (exhausted_crc : Option ℕ) → less ≤ more
-    → IfSome exhausted_crc (IsExhausted set found more) → IfSome exhausted_crc (IsExhausted set found less)
-exhausted_on set found more less None up h = tt
-exhausted_on set found more less (Some crc) up h =
-    missing_none set found crc less (λ k has. elim (cases_Bool (mark_of found k)) [
-      | inl marked ↦ marked
-      | inr none ↦ let both : true ≡ false = sym (missing_some set found crc more k (fits_on set crc less more k up has) none) ∙ h in cc
-    ])
+pub marks_on : (first second both : ℕ → Bool) (was mid now : List Bool) → ((n : ℕ) → (first n || second n) ≡ both n)
+    → MarksMore first was mid → MarksMore second mid now → MarksMore both was now
+marks_on first second both was mid now are one other n =
+    other n ∙ ap (λ (b : Bool). b || second n) (one n) ∙ or_assoc (mark_of was n) (first n) (second n)
+    ∙ ap (λ (b : Bool). mark_of was n || b) (are n)
+
+pub marks_none : (test : ℕ → Bool) (found : List Bool) → ((n : ℕ) → test n ≡ false) → MarksMore test found found
+marks_none test found none n = rw (none n) (sym (or-false (mark_of found n)))
 
 -- one more mark
 

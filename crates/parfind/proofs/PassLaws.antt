@@ -3,10 +3,10 @@ use Rattle.std.proofs.Common.{◌≡◌, ℕ, zero, suc, ◌+◌, ◌-◌, ◌<�
 use Rattle.std.proofs.lemmas.Bool.{cases_eq, cases_lt}
 use Rattle.parshelf.specs.Shelf.{ShelfState, IsShelf, file_of}
 use Rattle.parshelf.specs.declared.shelves.reading.ReadFault.{ReadFault}
-use Rattle.parwindow.specs.Index.{SliceSet}
+use Rattle.parfind.specs.Sought.{Sought}
 use Rattle.parwindow.specs.Least.{IsLeastFrom}
 use Rattle.parfind.specs.declared.cursors.cursor.Cursor.{Cursor}
-use Rattle.parfind.specs.Tracks.{HasNoCrc}
+use Rattle.parfind.specs.Tracks.{HaveNoLookedCrc}
 use Rattle.parfind.specs.declared.searches.finder.Step.{Step}
 use Rattle.parfind.specs.declared.searches.finder.Step.TheVariants.{Hit, Spent, Done}
 use Rattle.parfind.specs.Order.{cursor_of}
@@ -20,7 +20,7 @@ use Rattle.parfind.specs.declared.searches.finder.Visit.{Visit}
 use Rattle.parfind.proofs.OrderLaws.{From, is_from-true, From-by_test, From-refl}
 use Rattle.parfind.proofs.RisingLaws.{between_and_between, none_between}
 use Rattle.parfind.proofs.SightingLaws.{Rises-sightings_of}
-use Rattle.parfind.proofs.SeenLaws.{seen_has_crc}
+use Rattle.parfind.proofs.SeenLaws.{seen_looked}
 use Rattle.parfind.proofs.PlaceLaws.{sighting_seen, next_over}
 use Rattle.parfind.proofs.MoveLaws.{PassedTo, passed_by, more_moves, more_spent}
 use Rattle.parfind.proofs.WalkLaws.{more_sees}
@@ -60,7 +60,7 @@ passes_some lengths d zero some counted inside = absurd (omega arith)
 passes_some lengths d (suc n) some counted inside = passes_many lengths d n counted inside
 
 -- no sighting lies between places without a slice's CRC-32
-pub on_unseen : (scan : Scan) (d : Cursor) (n : ℕ) → 0 < n → HasNoCrc scan.set (content_of scan d.file) d.offset n
+pub on_unseen : (scan : Scan) (d : Cursor) (n : ℕ) → 0 < n → HaveNoLookedCrc scan.sought (content_of scan d.file) d.offset n
     → sightings_between scan (cursor_on d 1) (cursor_on d n) ≡ []
 on_unseen scan d n some none =
     none_between cursor_of (cursor_on d 1) (cursor_on d n) (sightings_of scan)
@@ -71,8 +71,8 @@ on_unseen scan d n some none =
           | inl less ↦
               let low : d.offset + 1 ≤ y.offset = omega (arith, after.by_offset f) in
               let place : d.offset + (y.offset - d.offset) ≡ y.offset = omega arith in
-              absurd (none (y.offset - d.offset) (omega arith) (omega arith)
-              (rw (place, f) (seen_has_crc scan.set (content_of scan y.file) y.offset y.slice (sighting_seen scan y has))))
+              absurd (seen_looked scan.sought (content_of scan y.file) y.offset y.slice (sighting_seen scan y has)
+              (rw (place, f) at (none (y.offset - d.offset) (omega arith) (omega arith))))
           | inr more ↦ more
         ];
         by_slice = λ _ _. omega arith;
@@ -80,15 +80,15 @@ on_unseen scan d n some none =
       | inr other ↦ record { by_file = after.by_file; by_offset = λ e. absurd (other e); by_slice = λ _ _. omega arith }
     ])
 
-module _ (set : SliceSet) (s : ShelfState) (shelf : IsShelf s) (steady : IsTrue s.is_steady) (d : Cursor) (next : IsNextPlace s.lengths d d) where
+module _ (sought : Sought) (s : ShelfState) (shelf : IsShelf s) (steady : IsTrue s.is_steady) (d : Cursor) (next : IsNextPlace s.lengths d d) where
   -- after n places of which no window but the first may have the CRC-32 of a slice, and there no slice is seen
-  pub many_unseen : (n : ℕ) → 0 < n → IsLeastFrom (is_slice_seen set (file_of s d.file) d.offset) d.slice None
-      → HasNoCrc set (file_of s d.file) d.offset n → sightings_between (scan_of set s) d (cursor_on d n) ≡ []
+  pub many_unseen : (n : ℕ) → 0 < n → IsLeastFrom (is_slice_seen sought (file_of s d.file) d.offset) d.slice None
+      → HaveNoLookedCrc sought (file_of s d.file) d.offset n → sightings_between (scan_of sought s) d (cursor_on d n) ≡ []
   many_unseen n some unseen none =
-      let here : sightings_between (scan_of set s) d (cursor_on d 1) ≡ [] = visit_past set s shelf steady d d next unseen in
+      let here : sightings_between (scan_of sought s) d (cursor_on d 1) ≡ [] = visit_past sought s shelf steady d d next unseen in
       let to : From d (cursor_on d 1) = record { by_file = omega arith; by_offset = λ _. omega arith; by_slice = λ _ e. absurd (omega arith) } in
-      sym (between_and_between cursor_of d (cursor_on d 1) (cursor_on d n) to (From-on d 1 n (omega arith)) (sightings_of (scan_of set s)) (Rises-sightings_of (scan_of set s)))
-      ∙ (rw here (on_unseen (scan_of set s) d n some none))
+      sym (between_and_between cursor_of d (cursor_on d 1) (cursor_on d n) to (From-on d 1 n (omega arith)) (sightings_of (scan_of sought s)) (Rises-sightings_of (scan_of sought s)))
+      ∙ (rw here (on_unseen (scan_of sought s) d n some none))
 
 -- a step from the next place is a step from before it
 module _ (lengths : List ℕ) (c d e : Cursor) (next : IsNextPlace lengths c d) where
@@ -109,8 +109,8 @@ module _ (lengths : List ℕ) (c d e : Cursor) (next : IsNextPlace lengths c d) 
       → StepMoves lengths (Some (count_of tried)) c (answer_of tried) e
   next_place_moves tried moves = moves_next (answer_of tried) (count_of tried) moves
 
-  pub next_place_sees : (set : SliceSet) (s : ShelfState) → s.lengths ≡ lengths → IsShelf s → IsTrue s.is_steady
-      → (answer : Result Step ReadFault) → From d e → StepSees (scan_of set s) d answer e → StepSees (scan_of set s) c answer e
-  next_place_sees set s same shelf steady answer on sees =
-      more_sees (scan_of set s) c d (From-by_test c d next.onward)
-      (visit_stopped set s shelf steady c d (subst (λ (ns : List ℕ). IsNextPlace ns c d) (sym same) next)) answer e on sees
+  pub next_place_sees : (sought : Sought) (s : ShelfState) → s.lengths ≡ lengths → IsShelf s → IsTrue s.is_steady
+      → (answer : Result Step ReadFault) → From d e → StepSees (scan_of sought s) d answer e → StepSees (scan_of sought s) c answer e
+  next_place_sees sought s same shelf steady answer on sees =
+      more_sees (scan_of sought s) c d (From-by_test c d next.onward)
+      (visit_stopped sought s shelf steady c d (subst (λ (ns : List ℕ). IsNextPlace ns c d) (sym same) next)) answer e on sees

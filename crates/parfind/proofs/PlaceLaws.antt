@@ -51,12 +51,12 @@ pub sighting_seen : (scan : Scan) (x : Sighting) → Has (sightings_of scan) x �
 unfolding sightings_of
 sighting_seen scan x has =
     Each-has (λ y. is_sighting scan y ≡ true) (sightings_of scan) x
-    (Each-passes (is_sighting scan) (triples_of scan.set (lengths_of scan))) has
+    (Each-passes (is_sighting scan) (triples_of scan.sought.set (lengths_of scan))) has
 
 pub sighting_at_place : (scan : Scan) (x : Sighting) → Has (sightings_of scan) x → IsAtPlace (lengths_of scan) (cursor_of x)
 sighting_at_place scan x has =
     rw (length-content_of scan x.file)
-    (seen_inside scan.set (content_of scan x.file) x.offset x.slice (sighting_seen scan x has))
+    (seen_inside scan.sought (content_of scan x.file) x.offset x.slice (sighting_seen scan x has))
 
 pub Has-triples_of : (set : SliceSet) (lengths : List ℕ) (x : Sighting) → x.file < length lengths
     → x.offset < slice_index lengths x.file → x.slice < length set.slices → Has (triples_of set lengths) x
@@ -66,15 +66,15 @@ Has-triples_of set lengths x counted inside few =
     (Has-map at (range_with_len 0 (length set.slices)) x.slice
     (Has-range 0 (length set.slices) x.slice (omega arith) (omega arith)))
 
-pub Has-sightings_of : (scan : Scan) (x : Sighting) → x.file < length scan.contents → x.slice < length scan.set.slices
+pub Has-sightings_of : (scan : Scan) (x : Sighting) → x.file < length scan.contents → x.slice < length scan.sought.set.slices
     → is_sighting scan x ≡ true → Has (sightings_of scan) x
 unfolding sightings_of
 Has-sightings_of scan x counted few seen =
     let inside : x.offset < slice_index (lengths_of scan) x.file =
-    rw (length-content_of scan x.file) (seen_inside scan.set (content_of scan x.file) x.offset x.slice seen) in
+    rw (length-content_of scan x.file) (seen_inside scan.sought (content_of scan x.file) x.offset x.slice seen) in
     let counted' : x.file < length (lengths_of scan) = rw (length-map scan.contents length) counted in
-    Has-filter (is_sighting scan) (triples_of scan.set (lengths_of scan)) x
-    (Has-triples_of scan.set (lengths_of scan) x counted' inside few) seen
+    Has-filter (is_sighting scan) (triples_of scan.sought.set (lengths_of scan)) x
+    (Has-triples_of scan.sought.set (lengths_of scan) x counted' inside few) seen
 
 -- from a cursor to another
 

@@ -7,7 +7,7 @@ use Rattle.parshelf.specs.Shelf.{ShelfState, failure_count}
 use Rattle.parshelf.specs.Reads.{ReadsOnly, FailsOnce}
 use Rattle.parshelf.specs.declared.shelves.reading.ReadFault.{ReadFault}
 use Rattle.parshelf.specs.declared.shelves.reading.ReadFault.TheVariants.{Failed, Ended}
-use Rattle.parwindow.specs.Index.{SliceSet}
+use Rattle.parfind.specs.Sought.{Sought}
 use Rattle.parfind.specs.declared.cursors.cursor.Cursor.{Cursor}
 use Rattle.parfind.specs.declared.cursors.sighting.Sighting.{Sighting}
 use Rattle.parfind.specs.Order.{is_from}
@@ -53,11 +53,11 @@ leaves_failed old new file there same = record {
   told = λ each. ap failure_count same ∙ sum-added_at old.failures file 1 (omega (arith, each, there));
 }
 
-pub step_leaves : (set : SliceSet) (budget : Option ℕ) (old new : SearchPoint) (r : Result Step ReadFault)
-    → StepGives set budget old r new → Leaves old.shelf new.shelf (told_failures (answer.Step r))
-step_leaves set budget old new (Ok step) h = leaves_read old.shelf new.shelf h.counts
-step_leaves set budget old new (Err Failed) h = leaves_failed old.shelf new.shelf new.cursor.file h.counts.0 h.counts.1
-step_leaves set budget old new (Err Ended) h = absurd h.counts
+pub step_leaves : (sought : Sought) (budget : Option ℕ) (old new : SearchPoint) (r : Result Step ReadFault)
+    → StepGives sought budget old r new → Leaves old.shelf new.shelf (told_failures (answer.Step r))
+step_leaves sought budget old new (Ok step) h = leaves_read old.shelf new.shelf h.counts
+step_leaves sought budget old new (Err Failed) h = leaves_failed old.shelf new.shelf new.cursor.file h.counts.0 h.counts.1
+step_leaves sought budget old new (Err Ended) h = absurd h.counts
 
 -- a call goes on over exactly the sighting of its answer
 abbrev HandsOut : Scan → Cursor → Cursor → List Sighting → Type 0
@@ -80,60 +80,60 @@ hands_join scan c e d xs ys first next = (
       ∙ (ap (λ zs. zs ++ sightings_between scan e d) first.1 ∙ ap (λ zs. xs ++ zs) next.1),
 )
 
-call_leaves : (set : SliceSet) (old new : SearchPoint) (k : Call) (a : Answer) → CallGives set old k a new
+call_leaves : (sought : Sought) (old new : SearchPoint) (k : Call) (a : Answer) → CallGives sought old k a new
     → Leaves old.shelf new.shelf (told_failures a)
-call_leaves set old new (call.Step n) (answer.Step r) h = step_leaves set (Some n) old new r h
-call_leaves set old new (call.Step n) answer.Reopened h = absurd h
-call_leaves set old new (call.Step n) answer.NoMemory h = absurd h
-call_leaves set old new call.Next (answer.Step r) h = step_leaves set None old new r h
-call_leaves set old new call.Next answer.Reopened h = absurd h
-call_leaves set old new call.Next answer.NoMemory h = absurd h
-call_leaves set old new call.Reopen (answer.Step r) h = absurd h
-call_leaves set old new call.Reopen answer.Reopened h = rw h (leaves_same old.shelf)
-call_leaves set old new call.Reopen answer.NoMemory h = rw h (leaves_same old.shelf)
+call_leaves sought old new (call.Step n) (answer.Step r) h = step_leaves sought (Some n) old new r h
+call_leaves sought old new (call.Step n) answer.Reopened h = absurd h
+call_leaves sought old new (call.Step n) answer.NoMemory h = absurd h
+call_leaves sought old new call.Next (answer.Step r) h = step_leaves sought None old new r h
+call_leaves sought old new call.Next answer.Reopened h = absurd h
+call_leaves sought old new call.Next answer.NoMemory h = absurd h
+call_leaves sought old new call.Reopen (answer.Step r) h = absurd h
+call_leaves sought old new call.Reopen answer.Reopened h = rw h (leaves_same old.shelf)
+call_leaves sought old new call.Reopen answer.NoMemory h = rw h (leaves_same old.shelf)
 
-call_hands : (set : SliceSet) (old new : SearchPoint) (k : Call) (a : Answer) → CallGives set old k a new
-    → HandsOut (scan_of set old.shelf) old.cursor new.cursor (answer_hit a)
-call_hands set old new (call.Step n) (answer.Step r) h = step_hands_out set (Some n) old new r h
-call_hands set old new (call.Step n) answer.Reopened h = absurd h
-call_hands set old new (call.Step n) answer.NoMemory h = absurd h
-call_hands set old new call.Next (answer.Step r) h = step_hands_out set None old new r h
-call_hands set old new call.Next answer.Reopened h = absurd h
-call_hands set old new call.Next answer.NoMemory h = absurd h
-call_hands set old new call.Reopen (answer.Step r) h = absurd h
-call_hands set old new call.Reopen answer.Reopened h = rw h (hands_none (scan_of set old.shelf) old.cursor)
-call_hands set old new call.Reopen answer.NoMemory h = rw h (hands_none (scan_of set old.shelf) old.cursor)
+call_hands : (sought : Sought) (old new : SearchPoint) (k : Call) (a : Answer) → CallGives sought old k a new
+    → HandsOut (scan_of sought old.shelf) old.cursor new.cursor (answer_hit a)
+call_hands sought old new (call.Step n) (answer.Step r) h = step_hands_out sought (Some n) old new r h
+call_hands sought old new (call.Step n) answer.Reopened h = absurd h
+call_hands sought old new (call.Step n) answer.NoMemory h = absurd h
+call_hands sought old new call.Next (answer.Step r) h = step_hands_out sought None old new r h
+call_hands sought old new call.Next answer.Reopened h = absurd h
+call_hands sought old new call.Next answer.NoMemory h = absurd h
+call_hands sought old new call.Reopen (answer.Step r) h = absurd h
+call_hands sought old new call.Reopen answer.Reopened h = rw h (hands_none (scan_of sought old.shelf) old.cursor)
+call_hands sought old new call.Reopen answer.NoMemory h = rw h (hands_none (scan_of sought old.shelf) old.cursor)
 
 pub calls_hand_out : CallsHandOut
-calls_hand_out set old new [] [] h = rw h (hands_none (scan_of set old.shelf) old.cursor)
-calls_hand_out set old new [] (a ∷ answers) h = absurd h
-calls_hand_out set old new (k ∷ calls) [] h = absurd h
-calls_hand_out set old new (k ∷ calls) (a ∷ answers) h =
+calls_hand_out sought old new [] [] h = rw h (hands_none (scan_of sought old.shelf) old.cursor)
+calls_hand_out sought old new [] (a ∷ answers) h = absurd h
+calls_hand_out sought old new (k ∷ calls) [] h = absurd h
+calls_hand_out sought old new (k ∷ calls) (a ∷ answers) h =
     let mid : SearchPoint = h.0 in
-    let leaves = call_leaves set old mid k a h.1.0 in
-    let same : scan_of set mid.shelf ≡ scan_of set old.shelf =
-    ap (λ (files : List (List ℕ)). record { set = set; contents = files }) leaves.files_are in
-    let rest : HandsOut (scan_of set mid.shelf) mid.cursor new.cursor (hits_of answers) =
-    calls_hand_out set mid new (left_after a calls) answers h.1.1 in
-    hands_join (scan_of set old.shelf) old.cursor mid.cursor new.cursor (answer_hit a) (hits_of answers) (call_hands set old mid k a h.1.0)
+    let leaves = call_leaves sought old mid k a h.1.0 in
+    let same : scan_of sought mid.shelf ≡ scan_of sought old.shelf =
+    ap (λ (files : List (List ℕ)). record { sought = sought; contents = files }) leaves.files_are in
+    let rest : HandsOut (scan_of sought mid.shelf) mid.cursor new.cursor (hits_of answers) =
+    calls_hand_out sought mid new (left_after a calls) answers h.1.1 in
+    hands_join (scan_of sought old.shelf) old.cursor mid.cursor new.cursor (answer_hit a) (hits_of answers) (call_hands sought old mid k a h.1.0)
     (subst (λ (scan : Scan). HandsOut scan mid.cursor new.cursor (hits_of answers)) same rest)
 
-tells : (set : SliceSet) (old new : SearchPoint) (calls : List Call) (answers : List Answer)
-    → length old.shelf.failures ≡ length old.shelf.lengths → CallsGive set old calls answers new
+tells : (sought : Sought) (old new : SearchPoint) (calls : List Call) (answers : List Answer)
+    → length old.shelf.failures ≡ length old.shelf.lengths → CallsGive sought old calls answers new
     → failure_count new.shelf ≡ failure_count old.shelf + sum (map told_failures answers)
-tells set old new [] [] each h = omega (arith, ap (λ (p : SearchPoint). failure_count p.shelf) h)
-tells set old new [] (a ∷ answers) each h = absurd h
-tells set old new (k ∷ calls) [] each h = absurd h
-tells set old new (k ∷ calls) (a ∷ answers) each h =
+tells sought old new [] [] each h = omega (arith, ap (λ (p : SearchPoint). failure_count p.shelf) h)
+tells sought old new [] (a ∷ answers) each h = absurd h
+tells sought old new (k ∷ calls) [] each h = absurd h
+tells sought old new (k ∷ calls) (a ∷ answers) each h =
     let mid : SearchPoint = h.0 in
-    let leaves = call_leaves set old mid k a h.1.0 in
+    let leaves = call_leaves sought old mid k a h.1.0 in
     let still : length mid.shelf.failures ≡ length mid.shelf.lengths = rw leaves.lengths_are (leaves.each ∙ each) in
     omega (
       arith,
       leaves.told each,
-      tells set mid new (left_after a calls) answers still h.1.1,
+      tells sought mid new (left_after a calls) answers still h.1.1,
       sum_by-cons (λ (n : ℕ). n) (told_failures a) (map told_failures answers),
     )
 
 pub calls_tell_failures : CallsTellFailures
-calls_tell_failures set old new calls answers is_shelf h = tells set old new calls answers (is_shelf.failures_each) h
+calls_tell_failures sought old new calls answers is_shelf h = tells sought old new calls answers (is_shelf.failures_each) h

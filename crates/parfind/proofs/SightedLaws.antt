@@ -58,7 +58,7 @@ module _ (scan : Scan) where
   -- after a place there are those that are seen there too
   module _ (c : Cursor) (first : c.slice ≡ 0) (counted : c.file < length scan.contents) where
     abbrev pub seen_here : ℕ → Bool
-    seen_here n = is_slice_seen scan.set (content_of scan c.file) c.offset n
+    seen_here n = is_slice_seen scan.sought (content_of scan c.file) c.offset n
 
     here_or_before : (x : Sighting) → From c (cursor_of x) → Before (cursor_of x) (cursor_past (place_at c))
         → (x.file ≡ c.file) × (x.offset ≡ c.offset)
@@ -73,7 +73,7 @@ module _ (scan : Scan) where
         )
 
     same_seen : (x : Sighting) (n : ℕ) → x.file ≡ c.file → x.offset ≡ c.offset → x.slice ≡ n
-        → is_slice_seen scan.set (content_of scan x.file) x.offset x.slice ≡ true → seen_here n ≡ true
+        → is_slice_seen scan.sought (content_of scan x.file) x.offset x.slice ≡ true → seen_here n ≡ true
     same_seen x n file offset slice seen = rw (file, offset, slice) at seen
 
     pub here_more : (n : ℕ) → (is_sighted_before scan c n || seen_here n)
@@ -90,7 +90,7 @@ module _ (scan : Scan) where
           | inr seen ↦
               let x : Sighting = record { file = c.file; offset = c.offset; slice = n } in
               one_sighted (cursor_past (place_at c)) n x (record {
-                has = Has-sightings_of scan x counted (seen_there scan.set (content_of scan c.file) c.offset n seen) seen;
+                has = Has-sightings_of scan x counted (seen_there scan.sought (content_of scan c.file) c.offset n seen) seen;
                 slice_is = refl;
                 before = record { by_file = omega arith; by_offset = λ _. omega arith; by_slice = λ _ e. absurd (omega arith) };
               })
@@ -104,7 +104,7 @@ module _ (scan : Scan) where
           }))
           | inr later ↦
               let here = here_or_before one.0 (From-by_not_before (cursor_of one.0) c later) one.1.before in
-              let seen : is_slice_seen scan.set (content_of scan one.0.file) one.0.offset one.0.slice ≡ true = sighting_seen scan one.0 one.1.has in
+              let seen : is_slice_seen scan.sought (content_of scan one.0.file) one.0.offset one.0.slice ≡ true = sighting_seen scan one.0 one.1.has in
               or_right (is_sighted_before scan c n) (seen_here n) (same_seen one.0 n here.0 here.1 one.1.slice_is seen)
         ])
 

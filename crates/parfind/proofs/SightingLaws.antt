@@ -51,7 +51,7 @@ pub Rises-sightings_of : (scan : Scan) → Rises cursor_of (sightings_of scan)
 unfolding sightings_of
 Rises-sightings_of scan =
     Pairs-filter (λ x y. Before (cursor_of x) (cursor_of y)) (is_sighting scan)
-    (triples_of scan.set (map length scan.contents)) (Rises-triples_of scan.set (map length scan.contents))
+    (triples_of scan.sought.set (map length scan.contents)) (Rises-triples_of scan.sought.set (map length scan.contents))
 
 pub sightings_rise : SightingsRise
 sightings_rise scan =

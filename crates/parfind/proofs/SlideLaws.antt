@@ -1,19 +1,23 @@
 -- A window that goes along a file: more bytes come into it, and a full one moves on.
-use Rattle.std.proofs.Common.{◌≡◌, ℕ, ◌+◌, ◌<◌, ◌≤◌, Bool, List, ◌++◌, length, ap, ◌∙◌, arith, IsTrue, Option, None, Some, IfSome, length-append}
-use Rattle.parfield.specs.declared.hash16.Hash16.{Hash16}
-use Rattle.std.proofs.lemmas.Bool.{or_right}
+use Rattle.std.proofs.Common.{◌≡◌, ℕ, ◌+◌, ◌<◌, ◌≤◌, ◌==◌, Bool, true, eqb, eq-eqb, List, ◌++◌, length, get_or, slice_get, refl, ap, ◌∙◌, arith, inl, inr, IsTrue, Some, length-append}
+use Rattle.std.specs.Prelude.{Contains}
+use Rattle.std.proofs.lemmas.Bool.{and_from, cases_lt, or_left, or_right}
+use Rattle.std.proofs.lemmas.List.Folds.{list_any-from_Any}
+use Rattle.std.proofs.lemmas.Option.{slice_get-get_or}
+use Rattle.parset.specs.declared.recovery_set.SetSlice.{SetSlice}
 use Rattle.parwindow.specs.Crc32.{crc_of}
-use Rattle.parwindow.specs.Index.{SliceSet, set_has_crc}
-use Rattle.parwindow.specs.Until.{slid_content, slid_window, has_tail_slice, PushesUntil}
-use Rattle.parwindow.specs.Window.{WindowState, window_at}
+use Rattle.parwindow.specs.Index.{SliceSet, IsSliceSet, has_own, has_known_crc, has_known_sums, set_has_crc, set_has_own_crc, tails_of}
+use Rattle.parwindow.specs.Until.{slid_content, slid_window, has_tail_slice, is_at_slice, PushesUntil}
+use Rattle.parwindow.specs.Window.{WindowState, tail_content, window_at, zero_filled}
+use Rattle.parwindow.proofs.TailLaws.{zeros_fill}
+use Rattle.parfind.specs.Sought.{sought_of, looked_window, HasNoLookedCrc, IsWindowFor}
+use Rattle.parfind.specs.declared.tracks.mode.Mode.{Mode}
+use Rattle.parfind.specs.declared.tracks.mode.Mode.TheVariants.{Plain, Tails}
 use Rattle.parfind.specs.declared.tracks.track.Track.{Track}
-use Rattle.parfind.specs.Tracks.{HasBytes, Follows, HasNoCrc, IsPieceOf, next_offset}
+use Rattle.parfind.specs.Tracks.{HasBytes, Follows, HaveNoLookedCrc, IsPieceOf, next_offset}
+use Rattle.parfind.proofs.EachLengthLaws.{known_some, own_within, tail_there}
+use Rattle.parfind.proofs.FittingLaws.{passing_has}
 use Rattle.parfind.proofs.TrackLaws.{more_bytes, slid_bytes, length-slid_content, whole_window}
-
--- of what can't be there nothing has to be shown
-nothing_there : (found : Option Hash16) (P Q : Hash16 → Type 0) → ((d : Hash16) → P d → ⊥) → IfSome found P → IfSome found Q
-nothing_there None P Q never has = tt
-nothing_there (Some d) P Q never has = absurd (never d has)
 
 -- a window whose bytes alone changed, twice
 pub kept_window : (u v w : WindowState) (bytes : List ℕ) → v ≡ record u { content = v.content } → w ≡ record v { content = bytes }
@@ -24,6 +28,48 @@ kept_window u v w bytes before next =
     let digests : w.digests ≡ u.digests = ap (λ (x : WindowState). x.digests) next ∙ ap (λ (x : WindowState). x.digests) before in
     ap (λ (n : ℕ). record w { capacity = n }) capacity ∙ ap (λ (ns : List ℕ). record w { capacity = u.capacity; tails = ns }) tails
     ∙ ap (λ (n : ℕ). record u { content = w.content; digests = n }) digests
+
+-- where a full window is at no slice, what is looked at of it for a slice does not have its CRC-32
+module _ (set : SliceSet) (w : WindowState) (full : length w.content ≡ w.capacity) (never : is_at_slice set w ≡ true → ⊥) where
+  no_whole : (n : ℕ) (slice : SetSlice) → slice_get set.slices n ≡ Some slice
+      → has_known_crc (crc_of (zero_filled (length w.content) (length w.content) w.content)) slice ≡ true → ⊥
+  no_whole n slice at has =
+      let whole : zero_filled (length w.content) (length w.content) w.content ≡ w.content = zeros_fill.whole (length w.content) w.content refl in
+      never (or_right (has_tail_slice set w) (set_has_crc set (crc_of w.content))
+      (passing_has (has_known_crc (crc_of w.content)) set.slices n slice at (rw whole at has)))
+
+  no_tail : (n : ℕ) (slice : SetSlice) → slice_get set.slices n ≡ Some slice → Contains w.tails slice.length
+      → has_known_crc (crc_of (zero_filled (length w.content) slice.length w.content)) slice ≡ true → ⊥
+  no_tail n slice at there has =
+      let crc : ℕ = crc_of (tail_content w slice.length) in
+      let known : has_known_crc crc slice ≡ true = rw full at has in
+      let some : set_has_own_crc set crc slice.length ≡ true =
+      passing_has (has_own slice.length (has_known_crc crc)) set.slices n slice at
+      (and_from (eqb slice.length slice.length) (has_known_crc crc slice) (eq-eqb slice.length slice.length refl) known) in
+      never (or_left (has_tail_slice set w) (set_has_crc set (crc_of w.content))
+      (list_any-from_Any (λ own. set_has_own_crc set (crc_of (tail_content w own)) own) w.tails (there.0, slice.length, there.1, there.2, some)))
+
+no_looked_at : (set : SliceSet) (mode : Mode) (w : WindowState) → IsSliceSet set → IsWindowFor (sought_of set mode) w
+    → length w.content ≡ w.capacity → (is_at_slice set w ≡ true → ⊥) → (n : ℕ) (slice : SetSlice) → slice_get set.slices n ≡ Some slice
+    → has_known_crc (crc_of (looked_window mode w.content slice)) slice ≡ true → ⊥
+no_looked_at set Plain w good made full never n slice at has = no_whole set w full never n slice at has
+no_looked_at set Tails w good made full never n slice at has =
+    let own = own_within set good n slice at in
+    let known : has_known_sums slice ≡ true =
+    known_some (λ known. known.1 == crc_of (looked_window Tails w.content slice)) slice.sums has in
+    elim (cases_lt slice.length set.slice_size) [
+      | inl short ↦
+          let there : Contains (tails_of set) slice.length = tail_there set n slice at known own.0 short in
+          no_tail set w full never n slice at (rw (made.tails_are refl) there) has
+      | inr whole ↦
+          let same : slice.length ≡ length w.content = omega (arith, own.1, full, made.sized) in
+          no_whole set w full never n slice at (rw same at has)
+    ]
+
+no_looked : (set : SliceSet) (mode : Mode) (w : WindowState) → IsSliceSet set → IsWindowFor (sought_of set mode) w
+    → length w.content ≡ w.capacity → (is_at_slice set w ≡ true → ⊥) → HasNoLookedCrc (sought_of set mode) w.content
+no_looked set mode w good made full never n default below =
+    no_looked_at set mode w good made full never n (get_or set.slices n default) (slice_get-get_or set.slices n default below)
 
 module _ (size : ℕ) (steady : Bool) (file : List ℕ) (w : WindowState) (t : Track) (follows : Follows size steady file w t)
     (ends : IsTrue steady → length file ≡ size) (piece : List ℕ) (is_piece : IsPieceOf w t size piece)
@@ -43,7 +89,6 @@ module _ (size : ℕ) (steady : Bool) (file : List ℕ) (w : WindowState) (t : T
         small = follows.small;
         not_ahead = omega (arith, follows.not_ahead);
         reached = λ before. omega (arith, hand (omega arith));
-        remembers = nothing_there t.digest _ _ (λ d has. absurd (omega (arith, has.0))) follows.remembers;
         content = λ is_steady. more_bytes file t.window_offset w.content piece (follows.content is_steady) (comes_next is_steady);
         ahead = follows.ahead;
       }
@@ -54,7 +99,7 @@ module _ (size : ℕ) (steady : Bool) (file : List ℕ) (w : WindowState) (t : T
     slid_has is_steady = slid_bytes file t.window_offset k w.content piece fits (follows.content is_steady) (comes_next is_steady)
 
     pub follows_on : Follows size steady file (record w { content = slid_content w.content piece k })
-        (record t { window_offset = t.window_offset + k; digest = None })
+        (record t { window_offset = t.window_offset + k })
     follows_on =
         let same : length (slid_content w.content piece k) ≡ length w.content = length-slid_content w.content piece k fits in
         record {
@@ -64,18 +109,20 @@ module _ (size : ℕ) (steady : Bool) (file : List ℕ) (w : WindowState) (t : T
           small = follows.small;
           not_ahead = omega (arith, follows.not_ahead);
           reached = λ before. omega (arith, hand (omega arith));
-          remembers = tt;
           content = slid_has;
           ahead = follows.ahead;
         }
 
   -- the windows on the way
-  pub none_on : (set : SliceSet) (n : ℕ) → w.capacity ≡ set.slice_size → length w.content ≡ w.capacity → PushesUntil set w piece n
-      → IsTrue steady → HasNoCrc set file t.window_offset n
-  none_on set n sized full until is_steady k some less has =
+  pub none_on : (set : SliceSet) (mode : Mode) (n : ℕ) → IsSliceSet set → IsWindowFor (sought_of set mode) w → length w.content ≡ w.capacity
+      → PushesUntil set w piece n → IsTrue steady → HaveNoLookedCrc (sought_of set mode) file t.window_offset n
+  none_on set mode n good made full until is_steady k some less =
       let fits : k ≤ length piece = omega (arith, until.within) in
+      let same : length (slid_content w.content piece k) ≡ length w.content = length-slid_content w.content piece k fits in
       let whole : slid_content w.content piece k ≡ window_at set.slice_size file (t.window_offset + k) =
       whole_window file set.slice_size (t.window_offset + k) (slid_content w.content piece k)
-      (length-slid_content w.content piece k fits ∙ full ∙ sized) (slid_has k fits is_steady) in
-      until.before k some less
-      (or_right (has_tail_slice set (slid_window w piece k)) (set_has_crc set (crc_of (slid_content w.content piece k))) (rw whole has))
+      (same ∙ full ∙ made.sized) (slid_has k fits is_steady) in
+      let none : HasNoLookedCrc (sought_of set mode) (slid_content w.content piece k) =
+      no_looked set mode (slid_window w piece k) good (record { sized = made.sized; tails_are = made.tails_are; few = made.few }) (same ∙ full)
+      (until.before k some less) in
+      rw whole at none

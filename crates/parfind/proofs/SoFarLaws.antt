@@ -1,29 +1,30 @@
 -- What a survey has come to on its way over the files, at its beginning and at its end.
-use Rattle.std.proofs.Common.{◌≡◌, ℕ, ◌<◌, ◌≤◌, ◌⊎◌, Bool, true, false, List, [], length, refl, ap, arith, IfSome, Option, None, Ok, inl, inr, slice_index}
+use Rattle.std.proofs.Common.{◌≡◌, ℕ, ◌<◌, ◌≤◌, ◌⊎◌, Bool, true, false, List, [], length, replicate, refl, ap, arith, Option, None, Ok, inl, inr, slice_index}
 use Rattle.parshelf.specs.Reads.{ReadsOnly}
 use Rattle.parset.specs.Limits.{slice_size_limit}
-use Rattle.parwindow.specs.Index.{SliceSet}
-use Rattle.parfind.specs.Marking.{IsExhausted}
+use Rattle.parfind.specs.Sought.{Sought}
+use Rattle.parfind.specs.Marking.{AreExhausted}
 use Rattle.parfind.specs.NextPlace.{rest_of}
 use Rattle.parfind.specs.Surveying.{SurveyState, Surveyed, SurveyEnds}
 use Rattle.parfind.specs.Surveys.{IsAllMarked}
 use Rattle.parwindow.specs.Missing.{mark_of}
 use Rattle.parfind.specs.Tracks.{IsTied, IsUnread, cursor_of_track}
 use Rattle.parfind.proofs.EnterLaws.{unread_follows}
+use Rattle.parfind.proofs.ExhaustedLaws.{exhausted_none}
 use Rattle.parfind.proofs.SurveyLaws.{surveyed_none, not_all}
 
--- what a survey has come to, which looks for the marks from this number on, and for no slice with this CRC-32
-pub record SurveySoFar (set : SliceSet) (old now : SurveyState) (missing : ℕ) (exhausted : Option ℕ) : Type 0 where
+-- what a survey has come to, which looks for the marks from this number on, and for no slice with one of these CRC-32s
+pub record SurveySoFar (sought : Sought) (old now : SurveyState) (missing : ℕ) (exhausted : List (Option ℕ)) : Type 0 where
   pub reads : ReadsOnly old.shelf now.shelf
   pub tied : IsTied now.shelf now.window now.track
   pub inside : now.track.file < length now.shelf.lengths → now.track.window_offset ≤ slice_index now.shelf.lengths now.track.file
   pub within : missing ≤ length now.found
   pub first : missing < length now.found → mark_of now.found missing ≡ false
   pub marked : (n : ℕ) → n < missing → mark_of now.found n ≡ true
-  pub exhausted_is : IfSome exhausted (IsExhausted set now.found (rest_of now.shelf.lengths (cursor_of_track now.track)))
+  pub exhausted_is : AreExhausted sought now.found (rest_of now.shelf.lengths (cursor_of_track now.track)) exhausted
   pub none : IsAllMarked old.found → now.shelf ≡ old.shelf
   pub window_is : now.window ≡ record old.window { content = now.window.content; digests = now.window.digests }
-  pub surveyed : Surveyed set old now (cursor_of_track now.track)
+  pub surveyed : Surveyed sought old now (cursor_of_track now.track)
 
 -- the next mark that is missing
 pub record IsNextMissing (marks : List Bool) (from missing : ℕ) : Type 0 where
@@ -31,9 +32,9 @@ pub record IsNextMissing (marks : List Bool) (from missing : ℕ) : Type 0 where
   pub first : missing < length marks → mark_of marks missing ≡ false
   pub marked : (n : ℕ) → from ≤ n → n < missing → mark_of marks n ≡ true
 
-pub begins : (set : SliceSet) (old : SurveyState) (missing : ℕ) → old.window.capacity ≤ slice_size_limit → old.window.content ≡ [] → IsUnread 0 0 old.track
-    → IsNextMissing old.found 0 missing → SurveySoFar set old old missing None
-begins set old missing few empty unread next = record {
+pub begins : (sought : Sought) (old : SurveyState) (missing : ℕ) → old.window.capacity ≤ slice_size_limit → old.window.content ≡ [] → IsUnread 0 0 old.track
+    → IsNextMissing old.found 0 missing → SurveySoFar sought old old missing (replicate 257 None)
+begins sought old missing few empty unread next = record {
   reads = refl;
   tied = unread_follows old.shelf old.window old.window 0 0 old.track (omega arith) few unread
       (ap (λ (xs : List ℕ). record old.window { content = xs }) empty);
@@ -41,16 +42,16 @@ begins set old missing few empty unread next = record {
   within = next.within;
   first = next.first;
   marked = λ n less. next.marked n (omega arith) less;
-  exhausted_is = tt;
+  exhausted_is = exhausted_none sought old.found (rest_of old.shelf.lengths (cursor_of_track old.track)) 257;
   none = λ _. refl;
   window_is = refl;
-  surveyed = surveyed_none set old unread;
+  surveyed = surveyed_none sought old unread;
 }
 
 -- the marks are all there, or all files are passed
-pub ends_all : (set : SliceSet) (old now : SurveyState) (missing : ℕ) (exhausted : Option ℕ) → SurveySoFar set old now missing exhausted
-    → (length now.found ≤ missing) ⊎ (length old.shelf.lengths ≤ now.track.file) → SurveyEnds set old now (Ok tt)
-ends_all set old now missing exhausted so_far all = record {
+pub ends_all : (sought : Sought) (old now : SurveyState) (missing : ℕ) (exhausted : List (Option ℕ)) → SurveySoFar sought old now missing exhausted
+    → (length now.found ≤ missing) ⊎ (length old.shelf.lengths ≤ now.track.file) → SurveyEnds sought old now (Ok tt)
+ends_all sought old now missing exhausted so_far all = record {
   cursor = cursor_of_track now.track;
   surveyed = so_far.surveyed;
   first = refl;
@@ -62,7 +63,7 @@ ends_all set old now missing exhausted so_far all = record {
 }
 
 -- where a mark is missing, not each slice had its mark at the beginning
-pub never_all : (set : SliceSet) (old now : SurveyState) (missing : ℕ) (exhausted : Option ℕ) → SurveySoFar set old now missing exhausted
+pub never_all : (sought : Sought) (old now : SurveyState) (missing : ℕ) (exhausted : List (Option ℕ)) → SurveySoFar sought old now missing exhausted
     → missing < length now.found → length now.found ≡ length old.found → IsAllMarked old.found → ⊥
-never_all set old now missing exhausted so_far some each all =
-    not_all set old now (cursor_of_track now.track) so_far.surveyed missing (omega (arith, some, each)) (so_far.first some) all
+never_all sought old now missing exhausted so_far some each all =
+    not_all sought old now (cursor_of_track now.track) so_far.surveyed missing (omega (arith, some, each)) (so_far.first some) all

@@ -9,7 +9,7 @@ use Rattle.parshelf.specs.Reads.{ReadsOnly, ReadsFile}
 use Rattle.parshelf.specs.declared.shelves.reading.ReadFault.{ReadFault}
 use Rattle.parshelf.specs.declared.shelves.reading.ReadFault.TheVariants.{Failed, Ended}
 use Rattle.parshelf.proofs.ReadLaws.{ReadsOnly_more}
-use Rattle.parwindow.specs.Index.{SliceSet}
+use Rattle.parfind.specs.Sought.{Sought}
 use Rattle.parfind.specs.declared.cursors.cursor.Cursor.{Cursor}
 use Rattle.parfind.specs.declared.cursors.sighting.Sighting.{Sighting}
 use Rattle.parfind.specs.Fetched.{Place}
@@ -33,8 +33,8 @@ From-start_at e x on = record { by_file = on.by_file; by_offset = on.by_offset; 
 
 -- a budget that is spent over no sighting
 pub spent_sees_none : SpentSeesNone
-spent_sees_none set n old new gives =
-    let scan : Scan = scan_of set old.shelf in
+spent_sees_none sought n old new gives =
+    let scan : Scan = scan_of sought old.shelf in
     let c : Cursor = old.cursor in
     let d : Cursor = new.cursor in
     let front : List Place = take n (places_ahead (lengths_of scan) c) in
@@ -61,21 +61,21 @@ counts_of old new steady (Err Failed) reads = reads
 counts_of old new steady (Err Ended) reads = reads.2 steady
 
 -- where it goes is said by the shelf's lengths, which are those of its files
-pub gives_by : (set : SliceSet) (budget : Option ℕ) (old new : SearchPoint) → IsShelf old.shelf → IsTrue old.shelf.is_steady
+pub gives_by : (sought : Sought) (budget : Option ℕ) (old new : SearchPoint) → IsShelf old.shelf → IsTrue old.shelf.is_steady
     → (answer : Result Step ReadFault) → StepMoves old.shelf.lengths budget old.cursor answer new.cursor
-    → StepSees (scan_of set old.shelf) old.cursor answer new.cursor
-    → ReadsFile new.cursor.file old.shelf new.shelf answer → StepGives set budget old answer new
-gives_by set budget old new shelf steady answer moves sees reads = record {
-  moves = subst (λ (ns : List ℕ). StepMoves ns budget old.cursor answer new.cursor) (sym (same_lengths set old.shelf shelf steady)) moves;
+    → StepSees (scan_of sought old.shelf) old.cursor answer new.cursor
+    → ReadsFile new.cursor.file old.shelf new.shelf answer → StepGives sought budget old answer new
+gives_by sought budget old new shelf steady answer moves sees reads = record {
+  moves = subst (λ (ns : List ℕ). StepMoves ns budget old.cursor answer new.cursor) (sym (same_lengths sought old.shelf shelf steady)) moves;
   sees = sees;
   counts = counts_of old new steady answer reads;
 }
 
 -- over a shelf of which nothing changed meanwhile but how much was handed over
 
-module _ (set : SliceSet) (old mid : ShelfState) (reads : ReadsOnly old mid) where
-  same_scan : scan_of set mid ≡ scan_of set old
-  same_scan = ap (scan_of set) reads
+module _ (sought : Sought) (old mid : ShelfState) (reads : ReadsOnly old mid) where
+  same_scan : scan_of sought mid ≡ scan_of sought old
+  same_scan = ap (scan_of sought) reads
 
   pub still_steady : IsTrue old.is_steady → IsTrue mid.is_steady
   still_steady steady = ap (λ (s : ShelfState). s.is_steady) reads ∙ steady
@@ -85,19 +85,19 @@ module _ (set : SliceSet) (old mid : ShelfState) (reads : ReadsOnly old mid) whe
   moves_before budget c d answer moves =
       subst (λ (ns : List ℕ). StepMoves ns budget c answer d) (ap (λ (s : ShelfState). s.lengths) reads) moves
 
-  pub sees_before : (c d : Cursor) (answer : Result Step ReadFault) → StepSees (scan_of set mid) c answer d → StepSees (scan_of set old) c answer d
+  pub sees_before : (c d : Cursor) (answer : Result Step ReadFault) → StepSees (scan_of sought mid) c answer d → StepSees (scan_of sought old) c answer d
   sees_before c d answer sees = subst (λ scan. StepSees scan c answer d) same_scan sees
 
   -- the search comes nearer to its end
-  module _ (c d e : Cursor) (near : steps_left set old.lengths d ≤ steps_left set old.lengths c) where
-    pub nearer : Advances set (Some 1) (search_at mid d) Spent e → steps_left set old.lengths e < steps_left set old.lengths c
+  module _ (c d e : Cursor) (near : steps_left sought.set old.lengths d ≤ steps_left sought.set old.lengths c) where
+    pub nearer : Advances sought.set (Some 1) (search_at mid d) Spent e → steps_left sought.set old.lengths e < steps_left sought.set old.lengths c
     nearer next =
         let same : mid.lengths ≡ old.lengths = ap (λ (s : ShelfState). s.lengths) reads in
-        let now : steps_left set old.lengths e < steps_left set old.lengths d = rw same at next in
+        let now : steps_left sought.set old.lengths e < steps_left sought.set old.lengths d = rw same at next in
         omega arith
 
-    pub advances : (budget : Option ℕ) (step : Step) → (step ≡ Spent → ⊥) → Advances set (Some 1) (search_at mid d) step e
-        → Advances set budget (search_at old c) step e
+    pub advances : (budget : Option ℕ) (step : Step) → (step ≡ Spent → ⊥) → Advances sought.set (Some 1) (search_at mid d) step e
+        → Advances sought.set budget (search_at old c) step e
     advances budget (Hit x) other next =
         (rw (ap (λ (s : ShelfState). length s.lengths) reads) at next.0, next.1, nearer next.2)
     advances budget Spent other next = absurd (other refl)
@@ -164,45 +164,45 @@ counts_before old mid c new (Err Failed) reads counts = faults_before old mid ne
 counts_before old mid c new (Err Ended) reads counts = counts
 
 -- a step over a shelf of which only bytes had been handed over before
-pub gives_before : (set : SliceSet) (budget : Option ℕ) (old mid : ShelfState) → ReadsOnly old mid → (c : Cursor) (new : SearchPoint)
-    (answer : Result Step ReadFault) → StepGives set budget (search_at mid c) answer new → StepGives set budget (search_at old c) answer new
-gives_before set budget old mid reads c new answer gives = record {
-  moves = subst (λ scan. StepMoves (lengths_of scan) budget c answer new.cursor) (same_scan set old mid reads) gives.moves;
-  sees = sees_before set old mid reads c new.cursor answer gives.sees;
+pub gives_before : (sought : Sought) (budget : Option ℕ) (old mid : ShelfState) → ReadsOnly old mid → (c : Cursor) (new : SearchPoint)
+    (answer : Result Step ReadFault) → StepGives sought budget (search_at mid c) answer new → StepGives sought budget (search_at old c) answer new
+gives_before sought budget old mid reads c new answer gives = record {
+  moves = subst (λ scan. StepMoves (lengths_of scan) budget c answer new.cursor) (same_scan sought old mid reads) gives.moves;
+  sees = sees_before sought old mid reads c new.cursor answer gives.sees;
   counts = counts_before old mid c new answer reads gives.counts;
 }
 
 -- a step of m places, once k places were passed of a budget
-module _ (set : SliceSet) (old mid : ShelfState) (reads : ReadsOnly old mid) (budget left : Option ℕ) (c d : Cursor) (k : ℕ)
+module _ (sought : Sought) (old mid : ShelfState) (reads : ReadsOnly old mid) (budget left : Option ℕ) (c d : Cursor) (k : ℕ)
     (leaves : Leaves budget left k) (w : PassedTo old.lengths c d k) (e : Cursor) (m : ℕ) (within : IsWithin m left) where
   pub then_moves : (answer : Result Step ReadFault) → (answer ≡ Ok Spent → ⊥) → StepMoves mid.lengths (Some m) d answer e
       → StepMoves old.lengths budget c answer e
   then_moves answer other moves =
       more_moves old.lengths c d k w budget m answer e (leaves_within budget left k m leaves within) other
-      (moves_before set old mid reads (Some m) d e answer moves)
+      (moves_before sought old mid reads (Some m) d e answer moves)
 
   pub then_spent : budget_left left m ≡ Some 0 → StepMoves mid.lengths (Some m) d (Ok Spent) e → StepMoves old.lengths budget c (Ok Spent) e
   then_spent none moves =
       rw (leaves_none budget left k m leaves within none)
-      (more_spent old.lengths c d k w (k + m) m e refl (moves_before set old mid reads (Some m) d e (Ok Spent) moves))
+      (more_spent old.lengths c d k w (k + m) m e refl (moves_before sought old mid reads (Some m) d e (Ok Spent) moves))
 
-  pub then_advances : budget_left left m ≡ Some 0 → steps_left set old.lengths d ≤ steps_left set old.lengths c
-      → Advances set (Some 1) (search_at mid d) Spent e → Advances set budget (search_at old c) Spent e
-  then_advances none near next = rw (leaves_none budget left k m leaves within none) (nearer set old mid reads c d e near next)
+  pub then_advances : budget_left left m ≡ Some 0 → steps_left sought.set old.lengths d ≤ steps_left sought.set old.lengths c
+      → Advances sought.set (Some 1) (search_at mid d) Spent e → Advances sought.set budget (search_at old c) Spent e
+  then_advances none near next = rw (leaves_none budget left k m leaves within none) (nearer sought old mid reads c d e near next)
 
   pub then_passed : StepMoves mid.lengths (Some m) d (Ok Spent) e → PassedTo old.lengths c e (k + m)
   then_passed moves =
       passed_more old.lengths c d e k m w
-      (passed_by old.lengths m d e (moves_before set old mid reads (Some m) d e (Ok Spent) moves))
+      (passed_by old.lengths m d e (moves_before sought old mid reads (Some m) d e (Ok Spent) moves))
 
-  module _ (unseen : sightings_between (scan_of set old) c d ≡ []) (answer : Result Step ReadFault)
-      (moves : StepMoves mid.lengths (Some m) d answer e) (sees : StepSees (scan_of set mid) d answer e) where
-    pub then_sees : StepSees (scan_of set old) c answer e
+  module _ (unseen : sightings_between (scan_of sought old) c d ≡ []) (answer : Result Step ReadFault)
+      (moves : StepMoves mid.lengths (Some m) d answer e) (sees : StepSees (scan_of sought mid) d answer e) where
+    pub then_sees : StepSees (scan_of sought old) c answer e
     then_sees =
-        let on : From d e = moves_onward old.lengths (Some m) d e answer (moves_before set old mid reads (Some m) d e answer moves) in
-        more_sees (scan_of set old) c d w.onward unseen answer e on (sees_before set old mid reads d e answer sees)
+        let on : From d e = moves_onward old.lengths (Some m) d e answer (moves_before sought old mid reads (Some m) d e answer moves) in
+        more_sees (scan_of sought old) c d w.onward unseen answer e on (sees_before sought old mid reads d e answer sees)
 
     pub then_gives : (new : ShelfState) → IsShelf old → IsTrue old.is_steady → StepMoves old.lengths budget c answer e
-        → ReadsFile e.file old new answer → StepGives set budget (search_at old c) answer (search_at new e)
+        → ReadsFile e.file old new answer → StepGives sought budget (search_at old c) answer (search_at new e)
     then_gives new shelf steady all more =
-        gives_by set budget (search_at old c) (search_at new e) shelf steady answer all then_sees more
+        gives_by sought budget (search_at old c) (search_at new e) shelf steady answer all then_sees more

@@ -1,42 +1,43 @@
 -- A survey on its way over the files: it enters the next one, fills its window, marks what is seen there, and slides on.
-use Rattle.std.proofs.Common.{◌≡◌, ℕ, ◌+◌, ◌<◌, ◌≤◌, ◌⊎◌, Bool, true, false, List, [], length, refl, sym, ap, ◌∙◌, arith, IsTrue, IfSome, Option, None, Ok, Err, inl, inr, slice_index}
+use Rattle.std.proofs.Common.{◌≡◌, ℕ, ◌+◌, ◌<◌, ◌≤◌, ◌⊎◌, Bool, true, false, List, [], length, replicate, refl, sym, ap, ◌∙◌, arith, IsTrue, Option, None, Ok, Err, inl, inr, slice_index}
 use Rattle.std.proofs.lemmas.Bool.{cases_lt, or_left}
 use Rattle.parshelf.specs.Shelf.{ShelfState, IsShelf, file_of}
 use Rattle.parshelf.specs.Reads.{ReadsOnly}
 use Rattle.parshelf.specs.declared.shelves.reading.ReadFault.{ReadFault}
 use Rattle.parshelf.proofs.ReadLaws.{ReadsOnly_more}
-use Rattle.parwindow.specs.Crc32.{crc_of}
-use Rattle.parwindow.specs.Index.{SliceSet, slice_passes, sums_of, set_has_fit}
-use Rattle.parwindow.specs.Missing.{set_has_missing, mark_of}
+use Rattle.parwindow.specs.Index.{slice_passes, set_has_fit}
+use Rattle.parwindow.specs.Missing.{mark_of}
 use Rattle.parwindow.specs.Window.{WindowState}
 use Rattle.parfind.specs.Fetched.{ReadsUpTo}
-use Rattle.parfind.specs.Fitting.{is_fitting_match}
-use Rattle.parfind.specs.Marking.{MarksMore, TakesDigest, IsExhausted}
+use Rattle.parfind.specs.Fitting.{is_fitting_look}
+use Rattle.parfind.specs.Marking.{MarksMore, TakesDigests, AreExhausted}
+use Rattle.parfind.specs.Marks.{count_missing}
+use Rattle.parfind.specs.Sought.{Sought}
 use Rattle.parfind.specs.NextPlace.{rest_of}
 use Rattle.parfind.specs.Surveying.{SurveyState, Surveyed, SurveyEnds, survey_at}
 use Rattle.parfind.specs.declared.tracks.track.Track.{Track}
 use Rattle.parfind.specs.Surveys.{IsAllMarked}
-use Rattle.parfind.specs.Tracks.{IsTied, IsUnread, HasNoCrc, Passes, SameTrack, cursor_of_track, fetched_of}
+use Rattle.parfind.specs.Tracks.{IsTied, IsUnread, HaveNoLookedCrc, Passes, SameTrack, cursor_of_track, fetched_of}
 use Rattle.parfind.proofs.EnterLaws.{unread_follows}
-use Rattle.parfind.proofs.MarkingLaws.{exhausted_on}
+use Rattle.parfind.proofs.ExhaustedLaws.{exhausted_none, exhausted_on}
 use Rattle.parfind.proofs.PassLaws.{cursor_on}
 use Rattle.parfind.proofs.SoFarLaws.{SurveySoFar, IsNextMissing, never_all}
 use Rattle.parfind.proofs.SweepLaws.{swept_enter, swept_fill, swept_look, swept_pass, swept_read, kept_capacity}
 
 -- a mark is missing, and so much of a file is left
-pub record Missing (set : SliceSet) (old now : SurveyState) (missing : ℕ) (exhausted : Option ℕ) (left : ℕ) : Type 0 where
-  pub so_far : SurveySoFar set old now missing exhausted
+pub record Missing (sought : Sought) (old now : SurveyState) (missing : ℕ) (exhausted : List (Option ℕ)) (left : ℕ) : Type 0 where
+  pub so_far : SurveySoFar sought old now missing exhausted
   pub open_is : missing < length now.found
   pub each : length now.found ≡ length old.found
-  pub capacity_is : old.window.capacity ≡ set.slice_size
+  pub capacity_is : old.window.capacity ≡ sought.set.slice_size
   pub counted : now.track.file < length now.shelf.lengths
   pub left_is : left ≡ rest_of now.shelf.lengths (cursor_of_track now.track)
 
-pub missing_left : (set : SliceSet) (old now : SurveyState) (missing : ℕ) (exhausted : Option ℕ) (left : ℕ) → SurveySoFar set old now missing exhausted
-    → missing < length now.found → length now.found ≡ length old.found → old.window.capacity ≡ set.slice_size
+pub missing_left : (sought : Sought) (old now : SurveyState) (missing : ℕ) (exhausted : List (Option ℕ)) (left : ℕ) → SurveySoFar sought old now missing exhausted
+    → missing < length now.found → length now.found ≡ length old.found → old.window.capacity ≡ sought.set.slice_size
     → now.track.file < length now.shelf.lengths → left ≡ rest_of now.shelf.lengths (cursor_of_track now.track)
-    → Missing set old now missing exhausted left
-missing_left set old now missing exhausted left so_far open_ each capacity counted left_is =
+    → Missing sought old now missing exhausted left
+missing_left sought old now missing exhausted left so_far open_ each capacity counted left_is =
     record { so_far = so_far; open_is = open_; each = each; capacity_is = capacity; counted = counted; left_is = left_is }
 
 -- the window was read on
@@ -49,12 +50,12 @@ pub record ReadOn (now filled : SurveyState) : Type 0 where
 
 -- in the full window of a state the slices that are seen were marked, and the next mark was looked for
 pub record LookedAt
-    (set : SliceSet) (filled : SurveyState) (left : ℕ) (w : WindowState) (more : List Bool) (missing last : ℕ) : Type 0 where
+    (sought : Sought) (filled : SurveyState) (left : ℕ) (w : WindowState) (more : List Bool) (missing last : ℕ) : Type 0 where
   pub full : length filled.window.content ≡ filled.window.capacity
   pub some : 0 < left
   pub each : length more ≡ length filled.found
-  pub marks : MarksMore (slice_passes set.slices (is_fitting_match (sums_of filled.window.content) left)) filled.found more
-  pub takes : TakesDigest (set_has_missing set filled.found (crc_of filled.window.content) left) filled.window w
+  pub marks : MarksMore (slice_passes sought.set.slices (is_fitting_look sought.mode filled.window.content left)) filled.found more
+  pub takes : TakesDigests (count_missing sought filled.found filled.window.content left) filled.window w
   pub next : IsNextMissing more missing last
 
 -- the window slid on, or a read failed
@@ -64,8 +65,8 @@ pub record SlidOn (filled : SurveyState) (w : WindowState) (t : ShelfState) (v :
   pub file_is : a.file ≡ filled.track.file
   pub hands : ReadsUpTo filled.shelf t (fetched_of filled.track) (fetched_of a)
 
-module _ (set : SliceSet) (old now : SurveyState) (shelf : IsShelf old.shelf) (missing : ℕ) (exhausted : Option ℕ) (left : ℕ)
-    (at : Missing set old now missing exhausted left) where
+module _ (sought : Sought) (old now : SurveyState) (shelf : IsShelf old.shelf) (missing : ℕ) (exhausted : List (Option ℕ)) (left : ℕ)
+    (at : Missing sought old now missing exhausted left) where
   there : missing < length old.found
   there = omega (arith, at.open_is, at.each)
 
@@ -77,16 +78,16 @@ module _ (set : SliceSet) (old now : SurveyState) (shelf : IsShelf old.shelf) (m
       let so_far = at.so_far in
       omega (arith, at.left_is, so_far.inside at.counted, ap (λ (u : ShelfState). slice_index u.lengths now.track.file) so_far.reads)
 
-  sized : now.window.capacity ≡ set.slice_size
+  sized : now.window.capacity ≡ sought.set.slice_size
   sized = let so_far = at.so_far in so_far.surveyed.capacity ∙ at.capacity_is
 
   -- then not each slice had its mark
   some_missing : IsAllMarked old.found → ⊥
-  some_missing = never_all set old now missing exhausted at.so_far at.open_is at.each
+  some_missing = never_all sought old now missing exhausted at.so_far at.open_is at.each
 
   -- no slice fits, and the next file is entered
-  pub enters : (left ≡ 0) ⊎ (set_has_fit set left ≡ false) → (w : WindowState) (t : Track) → IsUnread (now.track.file + 1) 0 t
-      → w ≡ record now.window { content = [] } → SurveySoFar set old (survey_at now.shelf w now.found t) missing None
+  pub enters : (left ≡ 0) ⊎ (set_has_fit sought.set left ≡ false) → (w : WindowState) (t : Track) → IsUnread (now.track.file + 1) 0 t
+      → w ≡ record now.window { content = [] } → SurveySoFar sought old (survey_at now.shelf w now.found t) missing (replicate 257 None)
   enters full w t unread window =
       let so_far = at.so_far in
       record {
@@ -96,22 +97,22 @@ module _ (set : SliceSet) (old now : SurveyState) (shelf : IsShelf old.shelf) (m
         within = so_far.within;
         first = so_far.first;
         marked = so_far.marked;
-        exhausted_is = tt;
+        exhausted_is = exhausted_none sought now.found (rest_of now.shelf.lengths (cursor_of_track t)) 257;
         none = so_far.none;
         window_is = kept_capacity old.window now.window w so_far.window_is (ap (λ (x : WindowState). x.capacity) window)
             (ap (λ (x : WindowState). x.tails) window);
-        surveyed = swept_enter set old now shelf so_far.reads missing there unmarked left room full so_far.surveyed
+        surveyed = swept_enter sought old now shelf so_far.reads missing there unmarked left room full so_far.surveyed
             (survey_at now.shelf w now.found t) refl refl unread window;
       }
 
   -- the window is filled
-  module _ (fits : set_has_fit set left ≡ true) (filled : SurveyState) (fill : ReadOn now filled) where
-    pub fill_fails : (fault : ReadFault) → SurveyEnds set old filled (Err fault)
+  module _ (fits : set_has_fit sought.set left ≡ true) (filled : SurveyState) (fill : ReadOn now filled) where
+    pub fill_fails : (fault : ReadFault) → SurveyEnds sought old filled (Err fault)
     fill_fails fault =
         let so_far = at.so_far in
         record {
           cursor = cursor_of_track filled.track;
-          surveyed = swept_fill set old now shelf so_far.reads missing there unmarked left fits room sized so_far.surveyed filled fill.found_is
+          surveyed = swept_fill sought old now shelf so_far.reads missing there unmarked left fits room sized so_far.surveyed filled fill.found_is
               fill.tied fill.window_is fill.same fill.hands;
           first = refl;
           file_is = refl;
@@ -120,14 +121,14 @@ module _ (set : SliceSet) (old now : SurveyState) (shelf : IsShelf old.shelf) (m
 
     -- the slices that are seen in it are marked
     module _ (only : ReadsOnly now.shelf filled.shelf) (w : WindowState) (more : List Bool) (last : ℕ)
-        (look : LookedAt set filled left w more missing last) where
+        (look : LookedAt sought filled left w more missing last) where
       abbrev seen : SurveyState
       seen = survey_at filled.shelf w more filled.track
 
-      looked : Surveyed set old seen (cursor_on (cursor_of_track filled.track) 1)
+      looked : Surveyed sought old seen (cursor_on (cursor_of_track filled.track) 1)
       looked =
           let so_far = at.so_far in
-          swept_look set old now shelf so_far.reads missing there unmarked left fits room sized so_far.surveyed filled fill.found_is
+          swept_look sought old now shelf so_far.reads missing there unmarked left fits room sized so_far.surveyed filled fill.found_is
           fill.tied fill.window_is fill.same fill.hands only look.full
           (omega (arith, at.counted, ap (λ (u : ShelfState). length u.lengths) so_far.reads)) look.some seen refl refl look.marks look.takes
 
@@ -148,7 +149,7 @@ module _ (set : SliceSet) (old now : SurveyState) (shelf : IsShelf old.shelf) (m
       tails : w.tails ≡ now.window.tails
       tails = ap (λ (x : WindowState). x.tails) look.takes ∙ ap (λ (x : WindowState). x.tails) fill.window_is
 
-      pub look_ends : length more ≤ last → SurveyEnds set old seen (Ok tt)
+      pub look_ends : length more ≤ last → SurveyEnds sought old seen (Ok tt)
       look_ends over = record {
         cursor = cursor_on (cursor_of_track filled.track) 1;
         surveyed = looked;
@@ -171,10 +172,10 @@ module _ (set : SliceSet) (old now : SurveyState) (shelf : IsShelf old.shelf) (m
         within_file : left ≤ slice_index old.shelf.lengths filled.track.file
         within_file = let same = fill.same in omega (arith, room, ap (λ (f : ℕ). slice_index old.shelf.lengths f) same.file_is)
 
-        pub slide_fails : (fault : ReadFault) → a.window_offset ≡ filled.track.window_offset → SurveyEnds set old on (Err fault)
+        pub slide_fails : (fault : ReadFault) → a.window_offset ≡ filled.track.window_offset → SurveyEnds sought old on (Err fault)
         slide_fails fault stays = record {
           cursor = cursor_on (cursor_of_track filled.track) 1;
-          surveyed = swept_read set old seen shelf all_read last still_there still_unmarked left
+          surveyed = swept_read sought old seen shelf all_read last still_there still_unmarked left
               (cursor_on (cursor_of_track filled.track) 1) looked on refl slid.tied slid.window_is (capacity ∙ sized) slid.file_is
               (omega (arith, stays)) slid.file_is slid.hands fits within_file;
           first = refl;
@@ -196,10 +197,10 @@ module _ (set : SliceSet) (old now : SurveyState) (shelf : IsShelf old.shelf) (m
             ap (λ (f : ℕ). slice_index old.shelf.lengths f) same.file_is,
           )
 
-          pub slides : (crc : Option ℕ) → IfSome crc (IsExhausted set more left)
-              → (IsTrue filled.shelf.is_steady → HasNoCrc set (file_of filled.shelf filled.track.file) filled.track.window_offset n)
-              → SurveySoFar set old on last crc
-          slides crc exhausted_is none =
+          pub slides : (crcs : List (Option ℕ)) → AreExhausted sought more left crcs
+              → (IsTrue filled.shelf.is_steady → HaveNoLookedCrc sought (file_of filled.shelf filled.track.file) filled.track.window_offset n)
+              → SurveySoFar sought old on last crcs
+          slides crcs exhausted_is none =
               let so_far = at.so_far in
               let next = look.next in
               record {
@@ -215,11 +216,11 @@ module _ (set : SliceSet) (old now : SurveyState) (shelf : IsShelf old.shelf) (m
                 within = next.within;
                 first = next.first;
                 marked = all_marked;
-                exhausted_is = exhausted_on set more left (rest_of t.lengths (cursor_of_track a)) crc less_left exhausted_is;
+                exhausted_is = exhausted_on sought left crcs more (rest_of t.lengths (cursor_of_track a)) less_left exhausted_is;
                 none = λ all. absurd (some_missing all);
                 window_is = kept_capacity old.window now.window v so_far.window_is
                     (ap (λ (x : WindowState). x.capacity) slid.window_is ∙ capacity)
                     (ap (λ (x : WindowState). x.tails) slid.window_is ∙ tails);
-                surveyed = swept_pass set old seen shelf all_read last still_there still_unmarked left n passes.some looked on refl
+                surveyed = swept_pass sought old seen shelf all_read last still_there still_unmarked left n passes.some looked on refl
                     slid.tied slid.window_is (capacity ∙ sized) slid.file_is passes.offset_is slid.hands none fits within_file;
               }

@@ -1,5 +1,5 @@
 -- What a survey has done once it is at a cursor, and how it goes on.
-use Rattle.std.proofs.Common.{◌≡◌, ℕ, ◌+◌, ◌<◌, ◌≤◌, Bool, true, false, ◌||◌, List, [], length, refl, sym, ap, ◌∙◌, subst, arith, IsTrue, inl, inr, slice_index, if◌then◌else◌}
+use Rattle.std.proofs.Common.{◌≡◌, ℕ, ◌+◌, ◌<◌, ◌≤◌, Bool, true, false, ◌||◌, List, [], length, refl, sym, ap, ◌∙◌, subst, arith, IsTrue, inl, inr, slice_index}
 use Rattle.std.proofs.lemmas.Bool.{cases_eq, cases_lt, or_cases, or_left, or_right}
 use Rattle.std.proofs.lemmas.List.{length-map}
 use Rattle.std.proofs.Math.Bool.{or-false, or_assoc}
@@ -12,8 +12,9 @@ use Rattle.parfind.specs.Fetched.{Place, upto, HandsUpTo}
 use Rattle.parfind.specs.Tracks.{IsTied, IsUnread, fetched_of}
 use Rattle.parfind.proofs.FetchedLaws.{upto-before, upto-here, upto-after, upto-most, upto-rises, hands_none, hands_more}
 use Rattle.parfind.specs.NextPlace.{IsAtPlace}
-use Rattle.parfind.specs.Marking.{MarksMore, TakesDigest}
-use Rattle.parfind.specs.Marks.{is_missing_at, missing_places}
+use Rattle.parfind.specs.Marking.{MarksMore, TakesDigests}
+use Rattle.parfind.specs.Marks.{missing_at, missing_count}
+use Rattle.parfind.specs.Sought.{Sought}
 use Rattle.parfind.specs.Order.{origin}
 use Rattle.parfind.specs.Places.{cursor_at, cursor_past, place_at}
 use Rattle.parfind.specs.OnePass.{IsNear}
@@ -27,7 +28,6 @@ use Rattle.parfind.specs.Tracks.{cursor_of_track}
 use Rattle.parfind.proofs.FitLaws.{fits_more}
 use Rattle.parfind.proofs.MarkLaws.{counted_rises, counted_more, counted_most}
 use Rattle.parfind.proofs.OrderLaws.{From}
-use Rattle.parfind.proofs.PlaceLaws.{From-past}
 use Rattle.parfind.proofs.SightedLaws.{none_more, here_more, none_first, before_sighted, all_before, still_missing}
 use Rattle.parfind.proofs.VisitLaws.{same_lengths}
 
@@ -73,34 +73,34 @@ near_first size q c first = record {
   offset_is = λ _. omega (arith, ap (λ (p : Place). p.offset) first);
 }
 
-surveyed_first : (set : SliceSet) (now : SurveyState) → fetched_of now.track ≡ start → Surveyed set now now origin
-surveyed_first set now fetched = record {
-  marks = λ _ n. sym (ap (λ b. mark_of now.found n || b) (none_first (scan_of set now.shelf) n) ∙ or-false (mark_of now.found n));
+surveyed_first : (sought : Sought) (now : SurveyState) → fetched_of now.track ≡ start → Surveyed sought now now origin
+surveyed_first sought now fetched = record {
+  marks = λ _ n. sym (ap (λ b. mark_of now.found n || b) (none_first (scan_of sought now.shelf) n) ∙ or-false (mark_of now.found n));
   kept = λ n marked. marked;
   hands = subst (HandsUpTo now.shelf.lengths now.shelf.handed now.shelf.handed start) (sym fetched) (hands_none now.shelf.lengths now.shelf.handed start);
   unfit = λ f none. omega arith;
-  near = near_first set.slice_size (fetched_of now.track) origin fetched;
-  stops = λ _ p _. near_first set.slice_size (fetched_of now.track) (cursor_at p) fetched;
+  near = near_first sought.set.slice_size (fetched_of now.track) origin fetched;
+  stops = λ _ p _. near_first sought.set.slice_size (fetched_of now.track) (cursor_at p) fetched;
   digests = λ _. omega arith;
   capacity = refl;
 }
 
-pub surveyed_none : (set : SliceSet) (now : SurveyState) → IsUnread 0 0 now.track → Surveyed set now now (cursor_of_track now.track)
-surveyed_none set now unread =
+pub surveyed_none : (sought : Sought) (now : SurveyState) → IsUnread 0 0 now.track → Surveyed sought now now (cursor_of_track now.track)
+surveyed_none sought now unread =
     let fetched : fetched_of now.track ≡ start =
     ap (λ (f : ℕ). record { file = f; offset = now.track.buffer_offset + now.track.buffer_len }) unread.file_is
     ∙ ap (λ (o : ℕ). record { file = 0; offset = o }) (omega (arith, unread.buffer_offset_is, unread.buffer_len_is)) in
     let at : cursor_of_track now.track ≡ origin =
     ap (λ (f : ℕ). record { file = f; offset = now.track.window_offset; slice = 0 }) unread.file_is
     ∙ ap (λ (o : ℕ). record { file = 0; offset = o; slice = 0 }) unread.offset_is in
-    subst (Surveyed set now now) (sym at) (surveyed_first set now fetched)
+    subst (Surveyed sought now now) (sym at) (surveyed_first sought now fetched)
 
 from_origin : (c : Cursor) → From origin c
 from_origin c = record { by_file = omega arith; by_offset = λ _. omega arith; by_slice = λ _ _. omega arith }
 
-module _ (set : SliceSet) (old now : SurveyState) (c : Cursor) (so_far : Surveyed set old now c) where
+module _ (sought : Sought) (old now : SurveyState) (c : Cursor) (so_far : Surveyed sought old now c) where
   scan : Scan
-  scan = scan_of set old.shelf
+  scan = scan_of sought old.shelf
 
   -- a slice without a mark had none at the beginning
   pub not_all : (m : ℕ) → m < length old.found → mark_of now.found m ≡ false → IsAllMarked old.found → ⊥
@@ -108,18 +108,18 @@ module _ (set : SliceSet) (old now : SurveyState) (c : Cursor) (so_far : Surveye
 
   -- to a cursor before which no other slice has a sighting, while a slice has no mark
   module _ (next : SurveyState) (d : Cursor) (same : next.found ≡ now.found) (on : From c d)
-      (none : IsTrue old.shelf.is_steady → sightings_between (scan_of set old.shelf) c d ≡ []) where
+      (none : IsTrue old.shelf.is_steady → sightings_between (scan_of sought old.shelf) c d ≡ []) where
     moved_marks : IsTrue old.shelf.is_steady → (n : ℕ)
-        → mark_of next.found n ≡ (mark_of old.found n || is_sighted_before (scan_of set old.shelf) d n)
+        → mark_of next.found n ≡ (mark_of old.found n || is_sighted_before (scan_of sought old.shelf) d n)
     moved_marks steady n =
         ap (λ marks. mark_of marks n) same ∙ so_far.marks steady n
-        ∙ ap (λ b. mark_of old.found n || b) (none_more (scan_of set old.shelf) c d on (none steady) n)
+        ∙ ap (λ b. mark_of old.found n || b) (none_more (scan_of sought old.shelf) c d on (none steady) n)
 
     pub surveyed_on : (m : ℕ) → m < length old.found → mark_of now.found m ≡ false
         → HandsUpTo old.shelf.lengths now.shelf.handed next.shelf.handed (fetched_of now.track) (fetched_of next.track)
-        → ((f : ℕ) → set_has_fit set (slice_index old.shelf.lengths f) ≡ false → slice_index next.shelf.handed f ≤ slice_index now.shelf.handed f)
-        → IsNear set.slice_size (fetched_of next.track) d → next.window.digests ≡ now.window.digests
-        → next.window.capacity ≡ now.window.capacity → Surveyed set old next d
+        → ((f : ℕ) → set_has_fit sought.set (slice_index old.shelf.lengths f) ≡ false → slice_index next.shelf.handed f ≤ slice_index now.shelf.handed f)
+        → IsNear sought.set.slice_size (fetched_of next.track) d → next.window.digests ≡ now.window.digests
+        → next.window.capacity ≡ now.window.capacity → Surveyed sought old next d
     surveyed_on m there unmarked hands unfit near digests capacity = record {
       marks = moved_marks;
       kept = λ n marked. ap (λ marks. mark_of marks n) same ∙ so_far.kept n marked;
@@ -129,43 +129,36 @@ module _ (set : SliceSet) (old now : SurveyState) (c : Cursor) (so_far : Surveye
       near = near;
       stops = λ steady p all.
           let open_ = sym (moved_marks steady m) ∙ (ap (λ marks. mark_of marks m) same ∙ unmarked) in
-          let before = still_missing (scan_of set old.shelf) old.found d m p there open_ all in
-          near_further set.slice_size (fetched_of next.track) d (cursor_at p) before.0 before.1 near;
+          let before = still_missing (scan_of sought old.shelf) old.found d m p there open_ all in
+          near_further sought.set.slice_size (fetched_of next.track) d (cursor_at p) before.0 before.1 near;
       digests = λ steady. omega (
         arith,
         so_far.digests steady,
-        counted_rises (is_missing_at (scan_of set old.shelf) old.found) (lengths_of (scan_of set old.shelf)) origin c d (from_origin c) on,
+        counted_rises (missing_at (scan_of sought old.shelf) old.found) (lengths_of (scan_of sought old.shelf)) origin c d (from_origin c) on,
       );
       capacity = capacity ∙ so_far.capacity;
     }
 
   -- past its place, once the slices that are seen there are marked
   module _ (first : c.slice ≡ 0) (shelf : IsShelf old.shelf) (counted : c.file < length old.shelf.lengths) (there : IsAtPlace old.shelf.lengths c)
-      (next : SurveyState) (same : next.shelf ≡ now.shelf) (track : next.track ≡ now.track) (test : ℕ → Bool) (wanted : Bool)
-      (seen : IsTrue old.shelf.is_steady → (n : ℕ) → test n ≡ is_slice_seen set (file_of old.shelf c.file) c.offset n)
-      (want : IsTrue old.shelf.is_steady → wanted ≡ true → is_missing_at (scan_of set old.shelf) old.found (place_at c) ≡ true)
-      (marks : MarksMore test now.found next.found) (takes : TakesDigest wanted now.window next.window) where
-    digests_more : IsTrue old.shelf.is_steady → (b : Bool) → wanted ≡ b
-        → next.window.digests ≤ old.window.digests + missing_between (scan_of set old.shelf) old.found origin (cursor_past (place_at c))
-    digests_more steady true is =
-        let lengths : lengths_of (scan_of set old.shelf) ≡ old.shelf.lengths = same_lengths set old.shelf shelf steady in
-        let counts = counted_more (is_missing_at (scan_of set old.shelf) old.found) (lengths_of (scan_of set old.shelf)) origin c (from_origin c)
-        first (rw lengths counted) (rw lengths there) (want steady is) in
-        let all : next.window.digests ≡ now.window.digests + (if wanted then 1 else 0) = ap (λ (x : WindowState). x.digests) takes in
-        let one : next.window.digests ≡ now.window.digests + 1 = rw is at all in
-        omega (arith, so_far.digests steady, counts)
-    digests_more steady false is =
-        let rises = counted_rises (is_missing_at (scan_of set old.shelf) old.found) (lengths_of (scan_of set old.shelf)) origin c (cursor_past (place_at c))
-        (from_origin c) (From-past c) in
-        let all : next.window.digests ≡ now.window.digests + (if wanted then 1 else 0) = ap (λ (x : WindowState). x.digests) takes in
-        let none : next.window.digests ≡ now.window.digests + 0 = rw is at all in
-        omega (arith, so_far.digests steady, rises)
+      (next : SurveyState) (same : next.shelf ≡ now.shelf) (track : next.track ≡ now.track) (test : ℕ → Bool) (count : ℕ)
+      (seen : IsTrue old.shelf.is_steady → (n : ℕ) → test n ≡ is_slice_seen sought (file_of old.shelf c.file) c.offset n)
+      (most : IsTrue old.shelf.is_steady → count ≤ missing_at (scan_of sought old.shelf) old.found (place_at c))
+      (marks : MarksMore test now.found next.found) (takes : TakesDigests count now.window next.window) where
+    digests_more : IsTrue old.shelf.is_steady
+        → next.window.digests ≤ old.window.digests + missing_between (scan_of sought old.shelf) old.found origin (cursor_past (place_at c))
+    digests_more steady =
+        let lengths : lengths_of (scan_of sought old.shelf) ≡ old.shelf.lengths = same_lengths sought old.shelf shelf steady in
+        let counts = counted_more (missing_at (scan_of sought old.shelf) old.found) (lengths_of (scan_of sought old.shelf)) origin c (from_origin c)
+        (rw lengths counted) (rw lengths there) in
+        let all : next.window.digests ≡ now.window.digests + count = ap (λ (x : WindowState). x.digests) takes in
+        omega (arith, so_far.digests steady, counts, most steady)
 
-    pub surveyed_here : Surveyed set old next (cursor_past (place_at c))
+    pub surveyed_here : Surveyed sought old next (cursor_past (place_at c))
     surveyed_here = record {
       marks = λ steady n.
-          let s : Scan = scan_of set old.shelf in
-          let lengths : lengths_of s ≡ old.shelf.lengths = same_lengths set old.shelf shelf steady in
+          let s : Scan = scan_of sought old.shelf in
+          let lengths : lengths_of s ≡ old.shelf.lengths = same_lengths sought old.shelf shelf steady in
           let few : length (lengths_of s) ≡ length s.contents = length-map s.contents length in
           let counted' : c.file < length s.contents = omega (arith, counted, few, ap length lengths) in
           marks n ∙ ap (λ b. b || test n) (so_far.marks steady n)
@@ -175,9 +168,9 @@ module _ (set : SliceSet) (old now : SurveyState) (c : Cursor) (so_far : Surveye
       kept = λ n had. marks n ∙ or_left (mark_of now.found n) (test n) (so_far.kept n had);
       hands = rw (same, track) so_far.hands;
       unfit = rw same so_far.unfit;
-      near = rw track (near_further set.slice_size (fetched_of now.track) c (cursor_past (place_at c)) (omega arith) (λ _. omega arith) so_far.near);
+      near = rw track (near_further sought.set.slice_size (fetched_of now.track) c (cursor_past (place_at c)) (omega arith) (λ _. omega arith) so_far.near);
       stops = rw track so_far.stops;
-      digests = λ steady. digests_more steady wanted refl;
+      digests = digests_more;
       capacity = ap (λ (x : WindowState). x.capacity) takes ∙ so_far.capacity;
     }
 
@@ -186,32 +179,32 @@ module _ (set : SliceSet) (old now : SurveyState) (c : Cursor) (so_far : Surveye
   pub surveyed_kept : KeepsMarks old.found now.found
   surveyed_kept n there marked = so_far.kept n marked
 
-  pub surveyed_no_other : IsTrue old.shelf.is_steady → MarksNoOther (scan_of set old.shelf) old.found now.found
+  pub surveyed_no_other : IsTrue old.shelf.is_steady → MarksNoOther (scan_of sought old.shelf) old.found now.found
   surveyed_no_other steady n there marked =
-      elim (or_cases (mark_of old.found n) (is_sighted_before (scan_of set old.shelf) c n) (sym (so_far.marks steady n) ∙ marked)) [
-        | inl before ↦ or_left (mark_of old.found n) (is_sighted (scan_of set old.shelf) n) before
-        | inr h ↦ or_right (mark_of old.found n) (is_sighted (scan_of set old.shelf) n) (before_sighted (scan_of set old.shelf) c n h)
+      elim (or_cases (mark_of old.found n) (is_sighted_before (scan_of sought old.shelf) c n) (sym (so_far.marks steady n) ∙ marked)) [
+        | inl before ↦ or_left (mark_of old.found n) (is_sighted (scan_of sought old.shelf) n) before
+        | inr h ↦ or_right (mark_of old.found n) (is_sighted (scan_of sought old.shelf) n) (before_sighted (scan_of sought old.shelf) c n h)
       ]
 
-  pub surveyed_full : IsTrue old.shelf.is_steady → ((n : ℕ) → n < length now.found → mark_of now.found n ≡ true) → MarksSighted (scan_of set old.shelf) old.found now.found
+  pub surveyed_full : IsTrue old.shelf.is_steady → ((n : ℕ) → n < length now.found → mark_of now.found n ≡ true) → MarksSighted (scan_of sought old.shelf) old.found now.found
   surveyed_full steady all n there = all n there ∙ sym (surveyed_no_other steady n there (all n there))
 
-  pub surveyed_end : IsShelf old.shelf → IsTrue old.shelf.is_steady → length old.shelf.lengths ≤ c.file → MarksSighted (scan_of set old.shelf) old.found now.found
+  pub surveyed_end : IsShelf old.shelf → IsTrue old.shelf.is_steady → length old.shelf.lengths ≤ c.file → MarksSighted (scan_of sought old.shelf) old.found now.found
   surveyed_end shelf steady past n there =
       so_far.marks steady n ∙ ap (λ b. mark_of old.found n || b)
-      (all_before (scan_of set old.shelf) c (rw (same_lengths set old.shelf shelf steady) past) n)
+      (all_before (scan_of sought old.shelf) c (rw (same_lengths sought old.shelf shelf steady) past) n)
 
-  pub surveyed_digests : IsTrue old.shelf.is_steady → now.window.digests ≤ old.window.digests + missing_places (scan_of set old.shelf) old.found
+  pub surveyed_digests : IsTrue old.shelf.is_steady → now.window.digests ≤ old.window.digests + missing_count (scan_of sought old.shelf) old.found
   surveyed_digests steady =
-      omega (arith, so_far.digests steady, counted_most (is_missing_at (scan_of set old.shelf) old.found) (lengths_of (scan_of set old.shelf)) origin c)
+      omega (arith, so_far.digests steady, counted_most (missing_at (scan_of sought old.shelf) old.found) (lengths_of (scan_of sought old.shelf)) origin c)
 
   pub surveyed_once : HandsEachOnce old.shelf now.shelf
   surveyed_once f = omega (arith, so_far.hands.handed f, upto-most old.shelf.lengths (fetched_of now.track) f)
 
-  around : (p : Place) → IsNear set.slice_size (fetched_of now.track) (cursor_at p) → HandsAround set.slice_size old.shelf now.shelf p
+  around : (p : Place) → IsNear sought.set.slice_size (fetched_of now.track) (cursor_at p) → HandsAround sought.set.slice_size old.shelf now.shelf p
   around p near f =
       let q : Place = fetched_of now.track in
-      let r : Place = record p { offset = p.offset + set.slice_size + 4096 } in
+      let r : Place = record p { offset = p.offset + sought.set.slice_size + 4096 } in
       let less : upto old.shelf.lengths q f ≤ upto old.shelf.lengths r f = elim (cases_eq q.file p.file) [
         | inl same ↦ elim (cases_eq f p.file) [
           | inl here ↦ omega (arith, near.offset_is same, upto-here old.shelf.lengths q f (here ∙ sym same), upto-here old.shelf.lengths r f here)
@@ -224,13 +217,13 @@ module _ (set : SliceSet) (old now : SurveyState) (c : Cursor) (so_far : Surveye
       ] in
       omega (arith, so_far.hands.handed f, less)
 
-  pub surveyed_stops : IsTrue old.shelf.is_steady → StopsOnceFound set old.shelf now.shelf old.found
+  pub surveyed_stops : IsTrue old.shelf.is_steady → StopsOnceFound sought old.shelf now.shelf old.found
   surveyed_stops steady p all = around p (so_far.stops steady p all)
 
-  pub surveyed_fault : IsTrue old.shelf.is_steady → c.slice ≡ 0 → (file : ℕ) → c.file ≡ file → MarksUpToFault set (marked_at old.shelf old.found) (marked_at now.shelf now.found) file
+  pub surveyed_fault : IsTrue old.shelf.is_steady → c.slice ≡ 0 → (file : ℕ) → c.file ≡ file → MarksUpToFault sought (marked_at old.shelf old.found) (marked_at now.shelf now.found) file
   surveyed_fault steady first file is = record {
     place = place_at c;
     file_is = is;
-    sighted = λ n there. so_far.marks steady n ∙ ap (λ (k : ℕ). mark_of old.found n || is_sighted_before (scan_of set old.shelf) (record { file = c.file; offset = c.offset; slice = k }) n) first;
+    sighted = λ n there. so_far.marks steady n ∙ ap (λ (k : ℕ). mark_of old.found n || is_sighted_before (scan_of sought old.shelf) (record { file = c.file; offset = c.offset; slice = k }) n) first;
     around = around (place_at c) (record { file_is = so_far.near.file_is; offset_is = so_far.near.offset_is });
   }

@@ -5,25 +5,25 @@ use Rattle.parshelf.specs.Shelf.{ShelfState, IsShelf, file_of}
 use Rattle.parshelf.specs.Reads.{ReadsOnly}
 use Rattle.parshelf.proofs.ReadLaws.{ReadsOnly_more}
 use Rattle.parshelf.proofs.ShelfLaws.{length-file_of}
-use Rattle.parwindow.specs.Crc32.{crc_of}
-use Rattle.parwindow.specs.Index.{SliceSet, slice_passes, sums_of, set_has_fit}
-use Rattle.parwindow.specs.Missing.{set_has_missing, mark_of}
+use Rattle.parwindow.specs.Index.{slice_passes, set_has_fit}
+use Rattle.parwindow.specs.Missing.{mark_of}
 use Rattle.parwindow.specs.Window.{WindowState, window_at}
 use Rattle.parfind.specs.declared.cursors.cursor.Cursor.{Cursor}
-use Rattle.parfind.specs.declared.tracks.track.Track.{Track}
-use Rattle.parfind.specs.Fitting.{is_fitting_match}
+use Rattle.parfind.specs.Fitting.{is_fitting_look}
 use Rattle.parfind.specs.Fetched.{ReadsUpTo}
-use Rattle.parfind.specs.Tracks.{IsTied, SameTrack, IsUnread, HasNoCrc, fetched_of}
+use Rattle.parfind.specs.Tracks.{IsTied, SameTrack, IsUnread, HaveNoLookedCrc, fetched_of}
 use Rattle.parfind.proofs.FetchedLaws.{hands_enter}
 use Rattle.parfind.proofs.TrackLaws.{whole_window}
-use Rattle.parfind.specs.Marking.{MarksMore, TakesDigest}
+use Rattle.parfind.specs.Marking.{MarksMore, TakesDigests}
+use Rattle.parfind.specs.Marks.{count_missing}
+use Rattle.parfind.specs.Sought.{Sought, IsWindowFor}
 use Rattle.parfind.specs.Order.{cursor_of}
 use Rattle.parfind.specs.Sightings.{is_slice_seen, sightings_of, sightings_between}
 use Rattle.parfind.specs.Steps.{scan_of}
 use Rattle.parfind.specs.Surveying.{SurveyState, Surveyed}
 use Rattle.parfind.specs.Tracks.{cursor_of_track}
 use Rattle.parfind.proofs.FitLaws.{fits_more, seen_fits}
-use Rattle.parfind.proofs.MarkingLaws.{missing_was}
+use Rattle.parfind.proofs.MarkSeenLaws.{count_was}
 use Rattle.parfind.proofs.OrderLaws.{From-refl}
 use Rattle.parfind.proofs.PassLaws.{cursor_on, on_unseen, From-on}
 use Rattle.parfind.proofs.PlaceLaws.{sighting_seen}
@@ -32,37 +32,37 @@ use Rattle.parfind.proofs.SeenLaws.{fit_seen, seen_inside}
 use Rattle.parfind.proofs.SurveyLaws.{surveyed_on, surveyed_here, others_unread, tied_near}
 
 -- no sighting lies between a cursor and itself
-none_here : (set : SliceSet) (s : ShelfState) (c : Cursor) → sightings_between (scan_of set s) c c ≡ []
-none_here set s c = none_between cursor_of c c (sightings_of (scan_of set s)) (λ y has from. from)
+none_here : (sought : Sought) (s : ShelfState) (c : Cursor) → sightings_between (scan_of sought s) c c ≡ []
+none_here sought s c = none_between cursor_of c c (sightings_of (scan_of sought s)) (λ y has from. from)
 
-module _ (set : SliceSet) (old now : SurveyState) (shelf : IsShelf old.shelf) (reads : ReadsOnly old.shelf now.shelf) where
+module _ (sought : Sought) (old now : SurveyState) (shelf : IsShelf old.shelf) (reads : ReadsOnly old.shelf now.shelf) where
   same_file : (f : ℕ) → file_of now.shelf f ≡ file_of old.shelf f
   same_file f = ap (λ (s : ShelfState). file_of s f) reads
 
   -- while a slice has no mark
   module _ (m : ℕ) (there : m < length old.found) (unmarked : mark_of now.found m ≡ false) (left : ℕ) where
     -- over a read of the file in which the window is
-    pub swept_read : (c : Cursor) → Surveyed set old now c → (next : SurveyState) → next.found ≡ now.found → IsTied next.shelf next.window next.track
-        → next.window ≡ record now.window { content = next.window.content } → now.window.capacity ≡ set.slice_size
+    pub swept_read : (c : Cursor) → Surveyed sought old now c → (next : SurveyState) → next.found ≡ now.found → IsTied next.shelf next.window next.track
+        → next.window ≡ record now.window { content = next.window.content } → now.window.capacity ≡ sought.set.slice_size
         → next.track.file ≡ c.file → next.track.window_offset ≤ c.offset → next.track.file ≡ now.track.file
         → ReadsUpTo now.shelf next.shelf (fetched_of now.track) (fetched_of next.track)
-        → set_has_fit set left ≡ true → left ≤ slice_index old.shelf.lengths now.track.file → Surveyed set old next c
+        → set_has_fit sought.set left ≡ true → left ≤ slice_index old.shelf.lengths now.track.file → Surveyed sought old next c
     swept_read c so_far next same tied window sized file held stays hands fits room =
         let lengths : now.shelf.lengths ≡ old.shelf.lengths = ap (λ (s : ShelfState). s.lengths) reads in
         let hands' = rw lengths at hands in
         let capacity : next.window.capacity ≡ now.window.capacity = ap (λ (w : WindowState). w.capacity) window in
-        surveyed_on set old now c so_far next c same (From-refl c) (λ _. none_here set old.shelf c) m there unmarked hands'
-        (others_unread set old.shelf.lengths now.shelf.handed next.shelf.handed (fetched_of now.track) (fetched_of next.track) left (sym stays) hands' fits room)
-        (tied_near next.shelf next.window next.track set.slice_size c tied (capacity ∙ sized) file held)
+        surveyed_on sought old now c so_far next c same (From-refl c) (λ _. none_here sought old.shelf c) m there unmarked hands'
+        (others_unread sought.set old.shelf.lengths now.shelf.handed next.shelf.handed (fetched_of now.track) (fetched_of next.track) left (sym stays) hands' fits room)
+        (tied_near next.shelf next.window next.track sought.set.slice_size c tied (capacity ∙ sized) file held)
         (ap (λ (w : WindowState). w.digests) window) capacity
 
     -- past places whose windows have no CRC-32 of a slice
-    pub swept_pass : (n : ℕ) → 0 < n → Surveyed set old now (cursor_on (cursor_of_track now.track) 1) → (next : SurveyState) → next.found ≡ now.found
+    pub swept_pass : (n : ℕ) → 0 < n → Surveyed sought old now (cursor_on (cursor_of_track now.track) 1) → (next : SurveyState) → next.found ≡ now.found
         → IsTied next.shelf next.window next.track → next.window ≡ record now.window { content = next.window.content }
-        → now.window.capacity ≡ set.slice_size → next.track.file ≡ now.track.file → next.track.window_offset ≡ now.track.window_offset + n
+        → now.window.capacity ≡ sought.set.slice_size → next.track.file ≡ now.track.file → next.track.window_offset ≡ now.track.window_offset + n
         → ReadsUpTo now.shelf next.shelf (fetched_of now.track) (fetched_of next.track)
-        → (IsTrue now.shelf.is_steady → HasNoCrc set (file_of now.shelf now.track.file) now.track.window_offset n)
-        → set_has_fit set left ≡ true → left ≤ slice_index old.shelf.lengths now.track.file → Surveyed set old next (cursor_of_track next.track)
+        → (IsTrue now.shelf.is_steady → HaveNoLookedCrc sought (file_of now.shelf now.track.file) now.track.window_offset n)
+        → set_has_fit sought.set left ≡ true → left ≤ slice_index old.shelf.lengths now.track.file → Surveyed sought old next (cursor_of_track next.track)
     swept_pass n some so_far next same tied window sized stays held hands none fits room =
         let lengths : now.shelf.lengths ≡ old.shelf.lengths = ap (λ (s : ShelfState). s.lengths) reads in
         let steady : now.shelf.is_steady ≡ old.shelf.is_steady = ap (λ (s : ShelfState). s.is_steady) reads in
@@ -73,48 +73,48 @@ module _ (set : SliceSet) (old now : SurveyState) (shelf : IsShelf old.shelf) (r
         let at : d ≡ cursor_of_track next.track =
         ap (λ (f : ℕ). record { file = f; offset = c.offset + n; slice = 0 }) (sym stays)
         ∙ ap (λ (o : ℕ). record { file = next.track.file; offset = o; slice = 0 }) (sym held) in
-        subst (Surveyed set old next) at
-        (surveyed_on set old now (cursor_on c 1) so_far next d same (From-on c 1 n some)
-        (λ is_steady. on_unseen (scan_of set old.shelf) c n some
-        (subst (λ (file : List ℕ). HasNoCrc set file now.track.window_offset n) (same_file now.track.file) (none (steady ∙ is_steady))))
+        subst (Surveyed sought old next) at
+        (surveyed_on sought old now (cursor_on c 1) so_far next d same (From-on c 1 n some)
+        (λ is_steady. on_unseen (scan_of sought old.shelf) c n some
+        (subst (λ (file : List ℕ). HaveNoLookedCrc sought file now.track.window_offset n) (same_file now.track.file) (none (steady ∙ is_steady))))
         m there unmarked hands'
-        (others_unread set old.shelf.lengths now.shelf.handed next.shelf.handed (fetched_of now.track) (fetched_of next.track) left (sym stays) hands' fits room)
-        (tied_near next.shelf next.window next.track set.slice_size d tied (capacity ∙ sized) stays (omega (arith, held)))
+        (others_unread sought.set old.shelf.lengths now.shelf.handed next.shelf.handed (fetched_of now.track) (fetched_of next.track) left (sym stays) hands' fits room)
+        (tied_near next.shelf next.window next.track sought.set.slice_size d tied (capacity ∙ sized) stays (omega (arith, held)))
         (ap (λ (w : WindowState). w.digests) window) capacity)
 
     -- to the next file, where no slice fits into what is left of this one
     module _ (room : now.track.window_offset + left ≡ slice_index old.shelf.lengths now.track.file)
-        (full : (left ≡ 0) ⊎ (set_has_fit set left ≡ false)) where
+        (full : (left ≡ 0) ⊎ (set_has_fit sought.set left ≡ false)) where
       unfit_here : IsTrue old.shelf.is_steady → (o n : ℕ) → now.track.window_offset ≤ o
-          → is_slice_seen set (file_of old.shelf now.track.file) o n ≡ true → ⊥
+          → is_slice_seen sought (file_of old.shelf now.track.file) o n ≡ true → ⊥
       unfit_here steady o n later seen =
           let file : List ℕ = file_of old.shelf now.track.file in
           let whole : length file ≡ slice_index old.shelf.lengths now.track.file = length-file_of old.shelf now.track.file shelf steady in
-          let inside : o < length file = seen_inside set file o n seen in
+          let inside : o < length file = seen_inside sought file o n seen in
           elim full [
             | inl none ↦ omega arith
             | inr none ↦
-                let fits : set_has_fit set left ≡ true = fits_more set (length file - o) left (omega arith) (seen_fits set file o n seen) in
+                let fits : set_has_fit sought.set left ≡ true = fits_more sought.set (length file - o) left (omega arith) (seen_fits sought file o n seen) in
                 let both : true ≡ false = sym fits ∙ none in cc
           ]
 
-      pub swept_enter : Surveyed set old now (cursor_of_track now.track) → (next : SurveyState) → next.found ≡ now.found → next.shelf ≡ now.shelf
-          → IsUnread (now.track.file + 1) 0 next.track → next.window ≡ record now.window { content = [] } → Surveyed set old next (cursor_of_track next.track)
+      pub swept_enter : Surveyed sought old now (cursor_of_track now.track) → (next : SurveyState) → next.found ≡ now.found → next.shelf ≡ now.shelf
+          → IsUnread (now.track.file + 1) 0 next.track → next.window ≡ record now.window { content = [] } → Surveyed sought old next (cursor_of_track next.track)
       swept_enter so_far next same still unread window =
           let c : Cursor = cursor_of_track now.track in
           let d : Cursor = cursor_of_track next.track in
           let handed : next.shelf.handed ≡ now.shelf.handed = ap (λ (s : ShelfState). s.handed) still in
-          surveyed_on set old now c so_far next d same
+          surveyed_on sought old now c so_far next d same
           (record {
             by_file = omega (arith, unread.file_is);
             by_offset = λ e. absurd (omega (arith, unread.file_is));
             by_slice = λ e _. absurd (omega (arith, unread.file_is));
           })
-          (λ steady. none_between cursor_of c d (sightings_of (scan_of set old.shelf)) (λ y has from. elim (cases_eq now.track.file y.file) [
+          (λ steady. none_between cursor_of c d (sightings_of (scan_of sought old.shelf)) (λ y has from. elim (cases_eq now.track.file y.file) [
             | inl e ↦
-                let seen : is_slice_seen set (file_of old.shelf y.file) y.offset y.slice ≡ true = sighting_seen (scan_of set old.shelf) y has in
+                let seen : is_slice_seen sought (file_of old.shelf y.file) y.offset y.slice ≡ true = sighting_seen (scan_of sought old.shelf) y has in
                 absurd (unfit_here steady y.offset y.slice (from.by_offset e)
-                (subst (λ (f : ℕ). is_slice_seen set (file_of old.shelf f) y.offset y.slice ≡ true) (sym e) seen))
+                (subst (λ (f : ℕ). is_slice_seen sought (file_of old.shelf f) y.offset y.slice ≡ true) (sym e) seen))
             | inr other ↦ record {
               by_file = omega (arith, unread.file_is, from.by_file);
               by_offset = λ _. omega (arith, unread.offset_is);
@@ -131,37 +131,40 @@ module _ (set : SliceSet) (old now : SurveyState) (shelf : IsShelf old.shelf) (r
           (ap (λ (w : WindowState). w.digests) window) (ap (λ (w : WindowState). w.capacity) window)
 
   -- past the place of a full window, once the slices that fit are marked
-  module _ (tied : IsTied now.shelf now.window now.track) (sized : now.window.capacity ≡ set.slice_size)
-      (full : length now.window.content ≡ now.window.capacity) (so_far : Surveyed set old now (cursor_of_track now.track))
+  module _ (tied : IsTied now.shelf now.window now.track) (sized : now.window.capacity ≡ sought.set.slice_size)
+      (full : length now.window.content ≡ now.window.capacity) (so_far : Surveyed sought old now (cursor_of_track now.track))
       (counted : now.track.file < length old.shelf.lengths) (left : ℕ) (some : 0 < left)
       (room : now.track.window_offset + left ≡ slice_index old.shelf.lengths now.track.file) where
     whole_there : IsTrue old.shelf.is_steady
-        → now.window.content ≡ window_at set.slice_size (file_of old.shelf now.track.file) now.track.window_offset
+        → now.window.content ≡ window_at sought.set.slice_size (file_of old.shelf now.track.file) now.track.window_offset
     whole_there steady =
         let was_steady : IsTrue now.shelf.is_steady = ap (λ (s : ShelfState). s.is_steady) reads ∙ steady in
-        let there : now.window.content ≡ window_at set.slice_size (file_of now.shelf now.track.file) now.track.window_offset =
-        whole_window (file_of now.shelf now.track.file) set.slice_size now.track.window_offset now.window.content (full ∙ sized) (tied.content was_steady) in
-        there ∙ ap (λ (file : List ℕ). window_at set.slice_size file now.track.window_offset) (same_file now.track.file)
+        let there : now.window.content ≡ window_at sought.set.slice_size (file_of now.shelf now.track.file) now.track.window_offset =
+        whole_window (file_of now.shelf now.track.file) sought.set.slice_size now.track.window_offset now.window.content (full ∙ sized) (tied.content was_steady) in
+        there ∙ ap (λ (file : List ℕ). window_at sought.set.slice_size file now.track.window_offset) (same_file now.track.file)
 
     pub swept_here : (next : SurveyState) → next.shelf ≡ now.shelf → next.track ≡ now.track
-        → MarksMore (slice_passes set.slices (is_fitting_match (sums_of now.window.content) left)) now.found next.found
-        → TakesDigest (set_has_missing set now.found (crc_of now.window.content) left) now.window next.window
-        → Surveyed set old next (cursor_on (cursor_of_track now.track) 1)
+        → MarksMore (slice_passes sought.set.slices (is_fitting_look sought.mode now.window.content left)) now.found next.found
+        → TakesDigests (count_missing sought now.found now.window.content left) now.window next.window
+        → Surveyed sought old next (cursor_on (cursor_of_track now.track) 1)
     swept_here next still track marks takes =
-        surveyed_here set old now (cursor_of_track now.track) so_far refl shelf counted (omega arith) next still track
-        (slice_passes set.slices (is_fitting_match (sums_of now.window.content) left)) (set_has_missing set now.found (crc_of now.window.content) left)
+        surveyed_here sought old now (cursor_of_track now.track) so_far refl shelf counted (omega arith) next still track
+        (slice_passes sought.set.slices (is_fitting_look sought.mode now.window.content left)) (count_missing sought now.found now.window.content left)
         (λ steady n.
         let file : List ℕ = file_of old.shelf now.track.file in
         let whole : length file ≡ slice_index old.shelf.lengths now.track.file = length-file_of old.shelf now.track.file shelf steady in
-        fit_seen set file now.track.window_offset left (sums_of now.window.content) (omega arith) (omega arith) (ap sums_of (whole_there steady)) n)
-        (λ steady wanted.
+        fit_seen sought file now.track.window_offset left now.window.content (omega arith) (omega arith) (whole_there steady) n)
+        (λ steady.
         let file : List ℕ = file_of old.shelf now.track.file in
         let whole : length file ≡ slice_index old.shelf.lengths now.track.file = length-file_of old.shelf now.track.file shelf steady in
         let rest : left ≡ length file - now.track.window_offset = omega (arith, room) in
-        let here = missing_was set old.found now.found (crc_of now.window.content) left so_far.kept wanted in
-        let there : set_has_missing set old.found (crc_of (window_at set.slice_size file now.track.window_offset)) left ≡ true =
-        subst (λ (content : List ℕ). set_has_missing set old.found (crc_of content) left ≡ true) (whole_there steady) here in
-        subst (λ (n : ℕ). set_has_missing set old.found (crc_of (window_at set.slice_size file now.track.window_offset)) n ≡ true) rest there)
+        let fewer = count_was sought old.found now.found now.window.content left so_far.kept in
+        let there : count_missing sought now.found now.window.content left
+        ≤ count_missing sought old.found (window_at sought.set.slice_size file now.track.window_offset) left =
+        subst (λ (content : List ℕ). count_missing sought now.found now.window.content left ≤ count_missing sought old.found content left)
+        (whole_there steady) fewer in
+        subst (λ (n : ℕ). count_missing sought now.found now.window.content left
+        ≤ count_missing sought old.found (window_at sought.set.slice_size file now.track.window_offset) n) rest there)
         marks takes
 
 -- the way that is left: less of it, once the window slid on or went to the next file
@@ -181,45 +184,35 @@ kept_capacity u v w before same tails =
     ap (λ (n : ℕ). record w { capacity = n }) (same ∙ ap (λ (x : WindowState). x.capacity) before)
     ∙ ap (λ (ns : List ℕ). record w { capacity = u.capacity; tails = ns }) (tails ∙ ap (λ (x : WindowState). x.tails) before)
 
--- a digest changes nothing of where a window goes
-pub tied_digest : (s : ShelfState) (w y : WindowState) (t : Track) (n : ℕ) → IsTied s w t → y ≡ record w { digests = n } → IsTied s y t
-tied_digest s w y t n tied takes =
-    subst (λ (x : WindowState). IsTied s x t) (sym takes) (record {
-      within = tied.within;
-      few = tied.few;
-      buffer_fits = tied.buffer_fits;
-      small = tied.small;
-      not_ahead = tied.not_ahead;
-      reached = tied.reached;
-      remembers = tied.remembers;
-      content = tied.content;
-      ahead = tied.ahead;
-    })
+-- so it stays made for what is searched for
+pub made_same : (sought : Sought) (u v : WindowState) → v.capacity ≡ u.capacity → v.tails ≡ u.tails → IsWindowFor sought u → IsWindowFor sought v
+made_same sought u v capacity tails made =
+    record { sized = capacity ∙ made.sized; tails_are = λ mode. tails ∙ made.tails_are mode; few = made.few }
 
-module _ (set : SliceSet) (old now : SurveyState) (shelf : IsShelf old.shelf) (reads : ReadsOnly old.shelf now.shelf)
-    (m : ℕ) (there : m < length old.found) (unmarked : mark_of now.found m ≡ false) (left : ℕ) (fits : set_has_fit set left ≡ true)
-    (room : now.track.window_offset + left ≡ slice_index old.shelf.lengths now.track.file) (sized : now.window.capacity ≡ set.slice_size)
-    (so_far : Surveyed set old now (cursor_of_track now.track)) (next : SurveyState) (found : next.found ≡ now.found)
+module _ (sought : Sought) (old now : SurveyState) (shelf : IsShelf old.shelf) (reads : ReadsOnly old.shelf now.shelf)
+    (m : ℕ) (there : m < length old.found) (unmarked : mark_of now.found m ≡ false) (left : ℕ) (fits : set_has_fit sought.set left ≡ true)
+    (room : now.track.window_offset + left ≡ slice_index old.shelf.lengths now.track.file) (sized : now.window.capacity ≡ sought.set.slice_size)
+    (so_far : Surveyed sought old now (cursor_of_track now.track)) (next : SurveyState) (found : next.found ≡ now.found)
     (tied : IsTied next.shelf next.window next.track) (window : next.window ≡ record now.window { content = next.window.content })
     (same : SameTrack now.track next.track)
     (hands : ReadsUpTo now.shelf next.shelf (fetched_of now.track) (fetched_of next.track)) where
   -- the window is filled
-  pub swept_fill : Surveyed set old next (cursor_of_track next.track)
+  pub swept_fill : Surveyed sought old next (cursor_of_track next.track)
   swept_fill =
       let at : cursor_of_track now.track ≡ cursor_of_track next.track =
       ap (λ (f : ℕ). record { file = f; offset = now.track.window_offset; slice = 0 }) (sym same.file_is)
       ∙ ap (λ (o : ℕ). record { file = next.track.file; offset = o; slice = 0 }) (sym same.offset_is) in
-      subst (Surveyed set old next) at
-      (swept_read set old now shelf reads m there unmarked left (cursor_of_track now.track) so_far next found tied window sized
+      subst (Surveyed sought old next) at
+      (swept_read sought old now shelf reads m there unmarked left (cursor_of_track now.track) so_far next found tied window sized
       same.file_is (omega (arith, same.offset_is)) same.file_is hands fits (omega arith))
 
   -- and the slices that are seen in it are marked
   pub swept_look : ReadsOnly now.shelf next.shelf → length next.window.content ≡ next.window.capacity → now.track.file < length old.shelf.lengths
       → 0 < left → (last : SurveyState) → last.shelf ≡ next.shelf → last.track ≡ next.track
-      → MarksMore (slice_passes set.slices (is_fitting_match (sums_of next.window.content) left)) next.found last.found
-      → TakesDigest (set_has_missing set next.found (crc_of next.window.content) left) next.window last.window
-      → Surveyed set old last (cursor_on (cursor_of_track next.track) 1)
+      → MarksMore (slice_passes sought.set.slices (is_fitting_look sought.mode next.window.content left)) next.found last.found
+      → TakesDigests (count_missing sought next.found next.window.content left) next.window last.window
+      → Surveyed sought old last (cursor_on (cursor_of_track next.track) 1)
   swept_look only full counted some last still track marks takes =
-      swept_here set old next shelf (ReadsOnly_more old.shelf now.shelf next.shelf reads only) tied
+      swept_here sought old next shelf (ReadsOnly_more old.shelf now.shelf next.shelf reads only) tied
       (ap (λ (w : WindowState). w.capacity) window ∙ sized) full swept_fill (omega (arith, same.file_is)) left some
       (rw (same.file_is, same.offset_is) room) last still track marks takes

@@ -75,7 +75,7 @@ module _ (file : List ℕ) where
       (more_bytes offset content (take k bytes) has (front_bytes (offset + length content) k bytes fits next))
 
   -- as many bytes as the window of an offset has are that window
-  length-window_at : (size offset : ℕ) → length (window_at size file offset) ≡ size
+  pub length-window_at : (size offset : ℕ) → length (window_at size file offset) ≡ size
   length-window_at size offset =
       length-take-le size (drop offset file ++ replicate size 0)
       (omega (arith, length-append (drop offset file) (replicate size 0), length-replicate {A = ℕ} size 0))

@@ -2,7 +2,7 @@
 use Rattle.std.proofs.Common.{◌≡◌, ◌≢◌, ℕ, ◌+◌, ◌≤◌, [], refl, subst, arith, IsTrue, Option, Some, Result, Ok, Err, IfOk}
 use Rattle.parshelf.specs.Shelf.{ShelfState, IsShelf}
 use Rattle.parshelf.specs.declared.shelves.reading.ReadFault.{ReadFault}
-use Rattle.parwindow.specs.Index.{SliceSet}
+use Rattle.parfind.specs.Sought.{Sought}
 use Rattle.parfind.specs.declared.searches.finder.Step.{Step}
 use Rattle.parfind.specs.declared.searches.finder.Step.TheVariants.{Spent}
 use Rattle.parfind.specs.declared.searches.finder.Visit.{Visit}
@@ -24,58 +24,58 @@ use Rattle.parfind.proofs.WalkLaws.{none_seen}
 
 -- what is said of a step that was made, with its budget
 pub record StepMade
-    (set : SliceSet) (budget : Option ℕ) (old new : ShelfState) (f g : FinderState) (r : Result Step ReadFault) : Type 0 where
-  pub answer : IsTrue old.is_steady → StepGives set budget (search_at old f.cursor) r (search_at new g.cursor)
+    (sought : Sought) (budget : Option ℕ) (old new : ShelfState) (f g : FinderState) (r : Result Step ReadFault) : Type 0 where
+  pub answer : IsTrue old.is_steady → StepGives sought budget (search_at old f.cursor) r (search_at new g.cursor)
   pub moves : StepMoves old.lengths budget f.cursor r g.cursor
-  pub advances : IfOk r (λ step. Advances set budget (search_at old f.cursor) step g.cursor)
+  pub advances : IfOk r (λ step. Advances sought.set budget (search_at old f.cursor) step g.cursor)
   pub along : GoesAlong old new f g r
 
 -- what is said of a place that was tried, with what is left of a budget
 pub record Tried
-    (set : SliceSet) (left : Option ℕ) (old new : ShelfState) (f g : FinderState) (r : Result Visit ReadFault) : Type 0 where
-  pub sees : IsTrue old.is_steady → StepSees (scan_of set old) f.cursor (answer_of r) g.cursor
+    (sought : Sought) (left : Option ℕ) (old new : ShelfState) (f g : FinderState) (r : Result Visit ReadFault) : Type 0 where
+  pub sees : IsTrue old.is_steady → StepSees (scan_of sought old) f.cursor (answer_of r) g.cursor
   pub moves : StepMoves old.lengths (Some (count_of r)) f.cursor (answer_of r) g.cursor
-  pub advances : IfOk r (λ visit. Advances set (Some 1) (search_at old f.cursor) (step_of visit) g.cursor)
+  pub advances : IfOk r (λ visit. Advances sought.set (Some 1) (search_at old f.cursor) (step_of visit) g.cursor)
   pub within : IsWithin (count_of r) left
   pub along : GoesAlong old new f g r
 
-pub tried_is : (set : SliceSet) (left : Option ℕ) (old new : ShelfState) (f g : FinderState) (v w : Visit) → v ≡ w
-    → Tried set left old new f g (Ok v) → Tried set left old new f g (Ok w)
-tried_is set left old new f g v w is tried = subst (λ (x : Visit). Tried set left old new f g (Ok x)) is tried
+pub tried_is : (sought : Sought) (left : Option ℕ) (old new : ShelfState) (f g : FinderState) (v w : Visit) → v ≡ w
+    → Tried sought left old new f g (Ok v) → Tried sought left old new f g (Ok w)
+tried_is sought left old new f g v w is tried = subst (λ (x : Visit). Tried sought left old new f g (Ok x)) is tried
 
 -- a call that answered
 abbrev pub answered : Result (Unit {0}) ReadFault
 answered = Ok tt
 
 -- some places of a budget were passed, with no sighting, and so many are left
-pub record PassedSoFar (set : SliceSet) (budget left : Option ℕ) (old mid : ShelfState) (f g : FinderState) : Type 0 where
+pub record PassedSoFar (sought : Sought) (budget left : Option ℕ) (old mid : ShelfState) (f g : FinderState) : Type 0 where
   pub count : ℕ
   pub leaves : Leaves budget left count
   pub passed : PassedTo old.lengths f.cursor g.cursor count
-  pub nearer_is : steps_left set old.lengths g.cursor ≤ steps_left set old.lengths f.cursor
-  pub unseen : IsTrue old.is_steady → sightings_between (scan_of set old) f.cursor g.cursor ≡ []
+  pub nearer_is : steps_left sought.set old.lengths g.cursor ≤ steps_left sought.set old.lengths f.cursor
+  pub unseen : IsTrue old.is_steady → sightings_between (scan_of sought old) f.cursor g.cursor ≡ []
   pub along : GoesAlong old mid f g answered
 
-pub none_so_far : (set : SliceSet) (budget : Option ℕ) → budget ≢ Some 0 → (s : ShelfState) (f : FinderState)
-    → PassedSoFar set budget budget s s f f
-none_so_far set budget some s f = record {
+pub none_so_far : (sought : Sought) (budget : Option ℕ) → budget ≢ Some 0 → (s : ShelfState) (f : FinderState)
+    → PassedSoFar sought budget budget s s f f
+none_so_far sought budget some s f = record {
   count = 0;
   leaves = leaves_all budget some;
   passed = passed_none s.lengths f.cursor;
   nearer_is = omega arith;
-  unseen = λ _. none_seen (scan_of set s) f.cursor;
-  along = goes_still {A = Unit {0}} s f f tt refl refl refl;
+  unseen = λ _. none_seen (scan_of sought s) f.cursor;
+  along = goes_still {A = Unit {0}} s f f tt refl refl refl refl;
 }
 
 -- a place is tried then
 
-module _ (set : SliceSet) (budget left : Option ℕ) (old mid new : ShelfState) (f g h : FinderState)
-    (so_far : PassedSoFar set budget left old mid f g) where
+module _ (sought : Sought) (budget left : Option ℕ) (old mid new : ShelfState) (f g h : FinderState)
+    (so_far : PassedSoFar sought budget left old mid f g) where
   ends_advances : (r : Result Visit ReadFault) → (answer_of r ≡ Ok Spent → ⊥)
-      → IfOk r (λ visit. Advances set (Some 1) (search_at mid g.cursor) (step_of visit) h.cursor)
-      → IfOk (answer_of r) (λ step. Advances set budget (search_at old f.cursor) step h.cursor)
+      → IfOk r (λ visit. Advances sought.set (Some 1) (search_at mid g.cursor) (step_of visit) h.cursor)
+      → IfOk (answer_of r) (λ step. Advances sought.set budget (search_at old f.cursor) step h.cursor)
   ends_advances (Ok (Hit x)) other next =
-      advances set old mid so_far.along.shelf f.cursor g.cursor h.cursor so_far.nearer_is budget (step_of (Hit x)) (λ e. cc) next
+      advances sought old mid so_far.along.shelf f.cursor g.cursor h.cursor so_far.nearer_is budget (step_of (Hit x)) (λ e. cc) next
   ends_advances (Ok (Passed n)) other next = absurd (other refl)
   ends_advances (Ok End) other next = tt
   ends_advances (Err fault) other next = tt
@@ -84,20 +84,20 @@ module _ (set : SliceSet) (budget left : Option ℕ) (old mid new : ShelfState) 
   goes_with (Ok visit) along = goes_as old new f h visit (step_of visit) (goes_more {A = Unit {0}} old mid new f g h tt (Ok visit) so_far.along along)
   goes_with (Err fault) along =
       let all = goes_more {A = Unit {0}} old mid new f g h tt (Err fault) so_far.along along in
-      record { shelf = all.shelf; reads = all.reads; opening_is = all.opening_is; no_fewer = all.no_fewer }
+      record { shelf = all.shelf; reads = all.reads; opening_is = all.opening_is; mode_is = all.mode_is; no_fewer = all.no_fewer }
 
   -- any answer but that places were passed ends the step
-  pub tried_ends : IsShelf old → (r : Result Visit ReadFault) → (answer_of r ≡ Ok Spent → ⊥) → Tried set left mid new g h r
-      → StepMade set budget old new f h (answer_of r)
+  pub tried_ends : IsShelf old → (r : Result Visit ReadFault) → (answer_of r ≡ Ok Spent → ⊥) → Tried sought left mid new g h r
+      → StepMade sought budget old new f h (answer_of r)
   tried_ends shelf r other tried =
       let reads = so_far.along.shelf in
-      let all = then_moves set old mid reads budget left f.cursor g.cursor so_far.count so_far.leaves so_far.passed h.cursor (count_of r)
+      let all = then_moves sought old mid reads budget left f.cursor g.cursor so_far.count so_far.leaves so_far.passed h.cursor (count_of r)
       tried.within (answer_of r) other tried.moves in
       let along = goes_with r tried.along in
       record {
         answer = λ steady.
-            then_gives set old mid reads budget left f.cursor g.cursor so_far.count so_far.leaves so_far.passed h.cursor (count_of r)
-            tried.within (so_far.unseen steady) (answer_of r) tried.moves (tried.sees (still_steady set old mid reads steady))
+            then_gives sought old mid reads budget left f.cursor g.cursor so_far.count so_far.leaves so_far.passed h.cursor (count_of r)
+            tried.within (so_far.unseen steady) (answer_of r) tried.moves (tried.sees (still_steady sought old mid reads steady))
             new shelf steady all along.shelf;
         moves = all;
         advances = ends_advances r other tried.advances;
@@ -105,71 +105,71 @@ module _ (set : SliceSet) (budget left : Option ℕ) (old mid new : ShelfState) 
       }
 
   -- the places that were passed use the budget up
-  pub tried_spends : IsShelf old → (m : ℕ) → budget_left left m ≡ Some 0 → Tried set left mid new g h (Ok (Passed m))
-      → StepMade set budget old new f h (Ok Spent)
+  pub tried_spends : IsShelf old → (m : ℕ) → budget_left left m ≡ Some 0 → Tried sought left mid new g h (Ok (Passed m))
+      → StepMade sought budget old new f h (Ok Spent)
   tried_spends shelf m none tried =
       let reads = so_far.along.shelf in
-      let all = then_spent set old mid reads budget left f.cursor g.cursor so_far.count so_far.leaves so_far.passed h.cursor m
+      let all = then_spent sought old mid reads budget left f.cursor g.cursor so_far.count so_far.leaves so_far.passed h.cursor m
       tried.within none tried.moves in
       let along = goes_with (Ok (Passed m)) tried.along in
       record {
         answer = λ steady.
-            then_gives set old mid reads budget left f.cursor g.cursor so_far.count so_far.leaves so_far.passed h.cursor m
-            tried.within (so_far.unseen steady) (Ok Spent) tried.moves (tried.sees (still_steady set old mid reads steady))
+            then_gives sought old mid reads budget left f.cursor g.cursor so_far.count so_far.leaves so_far.passed h.cursor m
+            tried.within (so_far.unseen steady) (Ok Spent) tried.moves (tried.sees (still_steady sought old mid reads steady))
             new shelf steady all along.shelf;
         moves = all;
-        advances = then_advances set old mid reads budget left f.cursor g.cursor so_far.count so_far.leaves so_far.passed h.cursor m
+        advances = then_advances sought old mid reads budget left f.cursor g.cursor so_far.count so_far.leaves so_far.passed h.cursor m
             tried.within none so_far.nearer_is tried.advances;
         along = along;
       }
 
   -- the places that were passed leave some of the budget
-  pub tried_passes : (m : ℕ) → budget_left left m ≢ Some 0 → Tried set left mid new g h (Ok (Passed m))
-      → PassedSoFar set budget (budget_left left m) old new f h
+  pub tried_passes : (m : ℕ) → budget_left left m ≢ Some 0 → Tried sought left mid new g h (Ok (Passed m))
+      → PassedSoFar sought budget (budget_left left m) old new f h
   tried_passes m some tried =
       let reads = so_far.along.shelf in
       record {
         count = so_far.count + m;
         leaves = leaves_more budget left so_far.count m so_far.leaves tried.within some;
-        passed = then_passed set old mid reads budget left f.cursor g.cursor so_far.count so_far.leaves so_far.passed h.cursor m
+        passed = then_passed sought old mid reads budget left f.cursor g.cursor so_far.count so_far.leaves so_far.passed h.cursor m
             tried.within tried.moves;
         nearer_is =
-            let less = nearer set old mid reads f.cursor g.cursor h.cursor so_far.nearer_is tried.advances in
+            let less = nearer sought old mid reads f.cursor g.cursor h.cursor so_far.nearer_is tried.advances in
             omega (arith, less);
         unseen = λ steady.
-            then_sees set old mid reads budget left f.cursor g.cursor so_far.count so_far.leaves so_far.passed h.cursor m
-            tried.within (so_far.unseen steady) (Ok Spent) tried.moves (tried.sees (still_steady set old mid reads steady));
+            then_sees sought old mid reads budget left f.cursor g.cursor so_far.count so_far.leaves so_far.passed h.cursor m
+            tried.within (so_far.unseen steady) (Ok Spent) tried.moves (tried.sees (still_steady sought old mid reads steady));
         along = goes_as {B = Unit {0}} old new f h (Passed m) tt
             (goes_more {A = Unit {0}} old mid new f g h tt (Ok (Passed m)) so_far.along tried.along);
       }
 
 -- what is tried at the next place, once the window is there, is tried from before it
-module _ {A : Type 0} (set : SliceSet) (left : Option ℕ) (old mid new : ShelfState) (f g h : FinderState) (x : A)
+module _ {A : Type 0} (sought : Sought) (left : Option ℕ) (old mid new : ShelfState) (f g h : FinderState) (x : A)
     (along : GoesAlong old mid f g (Ok x)) (next : IsNextPlace old.lengths f.cursor g.cursor) where
   next_moves : (r : Result Visit ReadFault) → StepMoves mid.lengths (Some (count_of r)) g.cursor (answer_of r) h.cursor
       → StepMoves old.lengths (Some (count_of r)) f.cursor (answer_of r) h.cursor
   next_moves r moves =
       next_place_moves old.lengths f.cursor g.cursor h.cursor next r
-      (moves_before set old mid along.shelf (Some (count_of r)) g.cursor h.cursor (answer_of r) moves)
+      (moves_before sought old mid along.shelf (Some (count_of r)) g.cursor h.cursor (answer_of r) moves)
 
   next_advances : (r : Result Visit ReadFault)
-      → IfOk r (λ visit. Advances set (Some 1) (search_at mid g.cursor) (step_of visit) h.cursor)
-      → IfOk r (λ visit. Advances set (Some 1) (search_at old f.cursor) (step_of visit) h.cursor)
+      → IfOk r (λ visit. Advances sought.set (Some 1) (search_at mid g.cursor) (step_of visit) h.cursor)
+      → IfOk r (λ visit. Advances sought.set (Some 1) (search_at old f.cursor) (step_of visit) h.cursor)
   next_advances (Ok (Hit y)) less =
-      let fewer = no_more set old.lengths f.cursor g.cursor (From-by_test f.cursor g.cursor next.onward) in
-      advances set old mid along.shelf f.cursor g.cursor h.cursor fewer (Some 1) (step_of (Hit y)) (λ e. cc) less
+      let fewer = no_more sought.set old.lengths f.cursor g.cursor (From-by_test f.cursor g.cursor next.onward) in
+      advances sought old mid along.shelf f.cursor g.cursor h.cursor fewer (Some 1) (step_of (Hit y)) (λ e. cc) less
   next_advances (Ok (Passed n)) less =
-      let fewer = no_more set old.lengths f.cursor g.cursor (From-by_test f.cursor g.cursor next.onward) in
-      nearer set old mid along.shelf f.cursor g.cursor h.cursor fewer less
+      let fewer = no_more sought.set old.lengths f.cursor g.cursor (From-by_test f.cursor g.cursor next.onward) in
+      nearer sought old mid along.shelf f.cursor g.cursor h.cursor fewer less
   next_advances (Ok End) less = tt
   next_advances (Err fault) less = tt
 
-  pub tried_next : IsShelf old → (r : Result Visit ReadFault) → Tried set left mid new g h r → Tried set left old new f h r
+  pub tried_next : IsShelf old → (r : Result Visit ReadFault) → Tried sought left mid new g h r → Tried sought left old new f h r
   tried_next shelf r tried = record {
     sees = λ steady.
         let on : From g.cursor h.cursor = moves_onward mid.lengths (Some (count_of r)) g.cursor h.cursor (answer_of r) tried.moves in
-        next_place_sees old.lengths f.cursor g.cursor h.cursor next set old refl shelf steady (answer_of r) on
-        (sees_before set old mid along.shelf g.cursor h.cursor (answer_of r) (tried.sees (still_steady set old mid along.shelf steady)));
+        next_place_sees old.lengths f.cursor g.cursor h.cursor next sought old refl shelf steady (answer_of r) on
+        (sees_before sought old mid along.shelf g.cursor h.cursor (answer_of r) (tried.sees (still_steady sought old mid along.shelf steady)));
     moves = next_moves r tried.moves;
     advances = next_advances r tried.advances;
     within = tried.within;

@@ -1,7 +1,7 @@
 -- A visit of the next place is a step with a budget of one place: where it goes, and what it sees on a steady shelf.
 use Rattle.std.proofs.Common.{◌≤◌, refl, arith, false, ◌≡◌, ℕ, List, [], ◌∷◌, sym, subst, IsTrue, Some, None}
 use Rattle.parshelf.specs.Shelf.{ShelfState, IsShelf, file_of}
-use Rattle.parwindow.specs.Index.{SliceSet}
+use Rattle.parfind.specs.Sought.{Sought}
 use Rattle.parwindow.specs.Least.{IsLeastFrom}
 use Rattle.parfind.specs.declared.cursors.cursor.Cursor.{Cursor}
 use Rattle.parfind.specs.declared.cursors.sighting.Sighting.{Sighting}
@@ -19,29 +19,29 @@ use Rattle.parfind.proofs.WalkLaws.{next_unseen, end_unseen, past_unseen, hit_se
 
 -- what it sees on a steady shelf
 
-module _ (set : SliceSet) (s : ShelfState) (shelf : IsShelf s) (steady : IsTrue s.is_steady) where
-  pub same_lengths : lengths_of (scan_of set s) ≡ s.lengths
+module _ (sought : Sought) (s : ShelfState) (shelf : IsShelf s) (steady : IsTrue s.is_steady) where
+  pub same_lengths : lengths_of (scan_of sought s) ≡ s.lengths
   same_lengths = shelf.files_each steady
 
   module _ (c : Cursor) where
-    pub visit_ended : NoPlaceFrom s.lengths c → sightings_from (scan_of set s) c ≡ []
-    visit_ended none = end_unseen (scan_of set s) c (subst (λ (ns : List ℕ). NoPlaceFrom ns c) (sym same_lengths) none)
+    pub visit_ended : NoPlaceFrom s.lengths c → sightings_from (scan_of sought s) c ≡ []
+    visit_ended none = end_unseen (scan_of sought s) c (subst (λ (ns : List ℕ). NoPlaceFrom ns c) (sym same_lengths) none)
 
     module _ (d : Cursor) (next : IsNextPlace s.lengths c d) where
-      next_of_scan : IsNextPlace (lengths_of (scan_of set s)) c d
+      next_of_scan : IsNextPlace (lengths_of (scan_of sought s)) c d
       next_of_scan = subst (λ (ns : List ℕ). IsNextPlace ns c d) (sym same_lengths) next
 
-      pub visit_hit : (n : ℕ) → IsLeastFrom (is_slice_seen set (file_of s d.file) d.offset) d.slice (Some n)
+      pub visit_hit : (n : ℕ) → IsLeastFrom (is_slice_seen sought (file_of s d.file) d.offset) d.slice (Some n)
           → let x : Sighting = record { file = d.file; offset = d.offset; slice = n } in
-          sightings_from (scan_of set s) c ≡ x ∷ sightings_from (scan_of set s) (cursor_after x)
-      visit_hit n first = hit_seen (scan_of set s) c d n next_of_scan first
+          sightings_from (scan_of sought s) c ≡ x ∷ sightings_from (scan_of sought s) (cursor_after x)
+      visit_hit n first = hit_seen (scan_of sought s) c d n next_of_scan first
 
-      pub visit_past : IsLeastFrom (is_slice_seen set (file_of s d.file) d.offset) d.slice None
-          → sightings_between (scan_of set s) c (cursor_past (place_at d)) ≡ []
-      visit_past none = past_unseen (scan_of set s) c d next_of_scan none
+      pub visit_past : IsLeastFrom (is_slice_seen sought (file_of s d.file) d.offset) d.slice None
+          → sightings_between (scan_of sought s) c (cursor_past (place_at d)) ≡ []
+      visit_past none = past_unseen (scan_of sought s) c d next_of_scan none
 
-      pub visit_stopped : sightings_between (scan_of set s) c d ≡ []
-      visit_stopped = next_unseen (scan_of set s) c d next_of_scan
+      pub visit_stopped : sightings_between (scan_of sought s) c d ≡ []
+      visit_stopped = next_unseen (scan_of sought s) c d next_of_scan
 
 -- where it goes on any shelf
 

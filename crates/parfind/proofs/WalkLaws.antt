@@ -53,7 +53,7 @@ end_unseen scan c none =
     (λ x has. false_from_ne_true _ (λ after. none (cursor_of x) after (sighting_at_place scan x has))))
 
 -- where no slice is seen at d, a sighting from d on is after the place
-past_from : (scan : Scan) (d : Cursor) (y : Sighting) → IsLeastFrom (is_slice_seen scan.set (content_of scan d.file) d.offset) d.slice None
+past_from : (scan : Scan) (d : Cursor) (y : Sighting) → IsLeastFrom (is_slice_seen scan.sought (content_of scan d.file) d.offset) d.slice None
     → is_sighting scan y ≡ true → From d (cursor_of y) → From (cursor_past (place_at d)) (cursor_of y)
 past_from scan d y unseen seen after = elim (cases_eq d.file y.file) [
   | inl f ↦ elim (cases_eq d.offset y.offset) [
@@ -69,7 +69,7 @@ past_from scan d y unseen seen after = elim (cases_eq d.file y.file) [
 
 -- after a place at which no slice is seen
 pub past_unseen : (scan : Scan) (c d : Cursor) → IsNextPlace (lengths_of scan) c d
-    → IsLeastFrom (is_slice_seen scan.set (content_of scan d.file) d.offset) d.slice None
+    → IsLeastFrom (is_slice_seen scan.sought (content_of scan d.file) d.offset) d.slice None
     → sightings_between scan c (cursor_past (place_at d)) ≡ []
 past_unseen scan c d next unseen =
     let past : Cursor = cursor_past (place_at d) in
@@ -78,7 +78,7 @@ past_unseen scan c d next unseen =
     same_between scan c d (From-by_test c d next.onward) (next_unseen scan c d next) past (From-past d) ∙ here
 
 -- where n is the first slice that is seen at d, no sighting from d on is before it
-first_at : (scan : Scan) (d : Cursor) (n : ℕ) (y : Sighting) → IsLeastFrom (is_slice_seen scan.set (content_of scan d.file) d.offset) d.slice (Some n)
+first_at : (scan : Scan) (d : Cursor) (n : ℕ) (y : Sighting) → IsLeastFrom (is_slice_seen scan.sought (content_of scan d.file) d.offset) d.slice (Some n)
     → is_sighting scan y ≡ true → From d (cursor_of y) → From (record { file = d.file; offset = d.offset; slice = n }) (cursor_of y)
 first_at scan d n y first seen after = record {
   by_file = after.by_file;
@@ -91,13 +91,13 @@ first_at scan d n y first seen after = record {
 
 -- the first slice that is seen at the next place is the first sighting
 pub hit_seen : (scan : Scan) (c d : Cursor) (n : ℕ) → IsNextPlace (lengths_of scan) c d
-    → IsLeastFrom (is_slice_seen scan.set (content_of scan d.file) d.offset) d.slice (Some n)
+    → IsLeastFrom (is_slice_seen scan.sought (content_of scan d.file) d.offset) d.slice (Some n)
     → let x : Sighting = record { file = d.file; offset = d.offset; slice = n } in
     sightings_from scan c ≡ x ∷ sightings_from scan (cursor_after x)
 hit_seen scan c d n next first =
     let x : Sighting = record { file = d.file; offset = d.offset; slice = n } in
     let xs : List Sighting = sightings_of scan in
-    let few : n < length scan.set.slices = seen_there scan.set (content_of scan d.file) d.offset n first.passes in
+    let few : n < length scan.sought.set.slices = seen_there scan.sought (content_of scan d.file) d.offset n first.passes in
     let counted : d.file < length scan.contents = omega (arith, next.counted, length-map scan.contents length) in
     let on : From c d = From-by_test c d next.onward in
     let to : From d (cursor_of x) = record { by_file = omega arith; by_offset = λ _. omega arith; by_slice = λ _ _. first.at_or_above } in

@@ -1,5 +1,5 @@
 -- A search that stands at a cursor.
-use Rattle.std.specs.Prelude.{◌≡◌, ◌≤◌, ◌+◌, ℕ, Result, IsTrue}
+use Rattle.std.specs.Prelude.{◌≡◌, ◌≤◌, ◌<◌, ◌+◌, ℕ, List, length, map, Option, Result, IsTrue}
 use Rattle.parshelf.specs.Shelf.{ShelfState}
 use Rattle.parshelf.specs.declared.shelves.reading.ReadFault.{ReadFault}
 use Rattle.parwindow.specs.Index.{SliceSet}
@@ -8,17 +8,17 @@ use Rattle.parfind.specs.declared.cursors.cursor.Cursor.{Cursor}
 use Rattle.parfind.specs.declared.tracks.track.Track.{Track}
 use Rattle.parfind.specs.Fetched.{Place, ReadsUpTo}
 use Rattle.parshelf.specs.Reads.{ReadsFile}
-use Rattle.parfind.specs.Tracks.{IsTied, fetched_of, remembered}
-use Rattle.parfind.specs.NextPlace.{HasFit}
+use Rattle.parfind.specs.Tracks.{IsTied, cursor_of_track, fetched_of}
+use Rattle.parfind.specs.Looks.{Keeps, kept_count}
+use Rattle.parfind.specs.Sought.{Sought, IsWindowFor, sought_of}
+use Rattle.parfind.specs.declared.tracks.mode.Mode.{Mode}
+use Rattle.parfield.specs.declared.hash16.Hash16.{Hash16}
+use Rattle.parfind.specs.NextPlace.{HasFit, IsAtPlace}
 use Rattle.parfind.specs.Marks.{marked_between}
 use Rattle.parfind.specs.Order.{is_from}
 use Rattle.parfind.specs.Places.{start_of}
 use Rattle.parfind.specs.Points.{SearchState}
 use Rattle.parfind.specs.Steps.{scan_of}
-
--- the cursor after the places whose windows may have been hashed
-abbrev pub hashed_of : Track → Cursor
-hashed_of t = record { file = t.file; offset = t.window_offset + remembered t.digest; slice = 0 }
 
 -- the window is that of the cursor's place, or is being filled for it
 pub record StandsAt (t : Track) (c : Cursor) : Type 0 where
@@ -35,19 +35,29 @@ pub record FinderState : Type 0 where
   pub fetched : Place
   -- how many digests it took of its window
   pub digests : ℕ
-  -- its window, and where that goes along a file
+  -- how it looks for short slices
+  pub mode : Mode
+  -- its window, where that goes along a file, and the digests that are kept of it
   pub window : WindowState
   pub track : Track
+  pub kept : List (Option Hash16)
 
 -- how far a finder is, and how far its shelf was read
 abbrev pub search_of : ShelfState → FinderState → SearchState
 search_of shelf finder = record { shelf = shelf; fetched = finder.fetched; cursor = finder.cursor }
 
--- the finder searches for these slices in these files: its window has their size and goes along a
+-- these slices, as a finder looks for them
+abbrev pub sought_for : SliceSet → FinderState → Sought
+sought_for set finder = sought_of set finder.mode
+
+-- the finder searches for these slices in these files: its window is made for them and goes along a
 -- file, not past the cursor, and at it where a slice fits into what is left of that file; on a
--- steady shelf it was hashed no more often than there are marked places
+-- steady shelf it was hashed no more often than there are marks before it, and for what is kept
 pub record BelongsTo (finder : FinderState) (set : SliceSet) (shelf : ShelfState) : Type 0 where
-  pub sized : finder.window.capacity ≡ set.slice_size
+  pub made : IsWindowFor (sought_for set finder) finder.window
+  pub keeps : Keeps (sought_for set finder) finder.window finder.kept
+  pub kept_there : IsTrue shelf.is_steady → 0 < kept_count finder.kept
+      → IsAtPlace (map length shelf.files) (cursor_of_track finder.track)
   pub tied : IsTied shelf finder.window finder.track
   pub not_ahead : finder.track.file ≤ finder.cursor.file
   pub not_past :
@@ -56,17 +66,19 @@ pub record BelongsTo (finder : FinderState) (set : SliceSet) (shelf : ShelfState
       → finder.track.window_offset ≡ finder.cursor.offset
   pub fetched_is : finder.fetched ≡ fetched_of finder.track
   pub digests_are : finder.digests ≡ finder.window.digests
-  pub onward : IsTrue (is_from (start_of finder.opening) (hashed_of finder.track))
+  pub onward : IsTrue (is_from (start_of finder.opening) (cursor_of_track finder.track))
   pub counted : IsTrue shelf.is_steady
       → finder.window.digests
-      ≤ marked_between (scan_of set shelf) finder.opening (hashed_of finder.track)
+      ≤ marked_between (scan_of (sought_for set finder) shelf) finder.opening
+      (cursor_of_track finder.track) + kept_count finder.kept
 
 -- what a call leaves of a finder and its shelf, whatever it answers: it only reads, or a fault is
--- one of the file where the finder is left; it reads on from where it was, stays opened where it
--- was, and forgets no digest
+-- one of the file where the finder is left; it reads on from where it was, stays opened where and
+-- in the mode in which it was, and forgets no digest
 pub record GoesAlong {A : Type 0}
     (before after : ShelfState) (old new : FinderState) (answer : Result A ReadFault) : Type 0 where
   pub shelf : ReadsFile new.cursor.file before after answer
   pub reads : ReadsUpTo before after old.fetched new.fetched
   pub opening_is : new.opening ≡ old.opening
+  pub mode_is : new.mode ≡ old.mode
   pub no_fewer : old.digests ≤ new.digests

@@ -1,4 +1,7 @@
 pub mod Fetched
+pub mod Sought
+pub mod Looks
+pub mod Starts
 pub mod Fitting
 pub mod Tracks
 pub mod Runs
@@ -13,6 +16,7 @@ pub mod Steps
 pub mod OnePass
 pub mod Handover
 pub mod Marks
+pub mod PlainMode
 pub mod Finders
 pub mod NextPlace
 pub mod PlaceVisit

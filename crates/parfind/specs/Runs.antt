@@ -3,7 +3,7 @@ use Rattle.std.specs.Prelude.{◌≡◌, ℕ, ◌+◌, ◌<◌, List, [], ◌∷
 use Rattle.std.specs.List.{flat_map}
 use Rattle.parshelf.specs.Shelf.{IsShelf, failure_count}
 use Rattle.parshelf.specs.declared.shelves.reading.ReadFault.TheVariants.{Failed, Ended}
-use Rattle.parwindow.specs.Index.{SliceSet}
+use Rattle.parfind.specs.Sought.{Sought}
 use Rattle.parfind.specs.declared.cursors.sighting.Sighting.{Sighting}
 use Rattle.parfind.specs.Order.{is_from}
 use Rattle.parfind.specs.Points.{SearchPoint}
@@ -27,21 +27,21 @@ left_after answer.Reopened calls = calls
 left_after answer.NoMemory calls = []
 
 -- a call over a steady shelf, its answer, and what it leaves
-abbrev pub CallGives : SliceSet → SearchPoint → Call → Answer → SearchPoint → Type 0
-CallGives set old (call.Step n) (answer.Step r) new = StepGives set (Some n) old r new
-CallGives set old call.Next (answer.Step r) new = StepGives set None old r new
-CallGives set old call.Reopen answer.Reopened new = new ≡ old
-CallGives set old call.Reopen answer.NoMemory new = new ≡ old
-CallGives set old _ _ new = ⊥
+abbrev pub CallGives : Sought → SearchPoint → Call → Answer → SearchPoint → Type 0
+CallGives sought old (call.Step n) (answer.Step r) new = StepGives sought (Some n) old r new
+CallGives sought old call.Next (answer.Step r) new = StepGives sought None old r new
+CallGives sought old call.Reopen answer.Reopened new = new ≡ old
+CallGives sought old call.Reopen answer.NoMemory new = new ≡ old
+CallGives sought old _ _ new = ⊥
 
 -- these calls give these answers, each from where the one before it left the shelf and the cursor;
 -- both lists end together, or at a reopening that was refused
-abbrev pub CallsGive : SliceSet → SearchPoint → List Call → List Answer → SearchPoint → Type 0
-CallsGive set old [] [] new = new ≡ old
-CallsGive set old (call ∷ calls) (a ∷ answers) new =
+abbrev pub CallsGive : Sought → SearchPoint → List Call → List Answer → SearchPoint → Type 0
+CallsGive sought old [] [] new = new ≡ old
+CallsGive sought old (call ∷ calls) (a ∷ answers) new =
     (mid : SearchPoint)
-    × (CallGives set old call a mid × CallsGive set mid (left_after a calls) answers new)
-CallsGive set old _ _ new = ⊥
+    × (CallGives sought old call a mid × CallsGive sought mid (left_after a calls) answers new)
+CallsGive sought old _ _ new = ⊥
 
 -- an answer that a call may have
 abbrev pub MayAnswer : Call → Answer → Type 0
@@ -79,13 +79,13 @@ told_failures answer.NoMemory = 0
 -- calls go on, and hand out exactly the sightings that they pass
 abbrev pub CallsHandOut : Type 0
 CallsHandOut =
-    (set : SliceSet) (old new : SearchPoint) (calls : List Call) (answers : List Answer)
-    → CallsGive set old calls answers new → IsTrue (is_from old.cursor new.cursor)
-    × (sightings_between (scan_of set old.shelf) old.cursor new.cursor ≡ hits_of answers)
+    (sought : Sought) (old new : SearchPoint) (calls : List Call) (answers : List Answer)
+    → CallsGive sought old calls answers new → IsTrue (is_from old.cursor new.cursor)
+    × (sightings_between (scan_of sought old.shelf) old.cursor new.cursor ≡ hits_of answers)
 
 -- in calls over a steady shelf as many reads failed as answers tell of
 abbrev pub CallsTellFailures : Type 0
 CallsTellFailures =
-    (set : SliceSet) (old new : SearchPoint) (calls : List Call) (answers : List Answer)
-    → IsShelf old.shelf → CallsGive set old calls answers new
+    (sought : Sought) (old new : SearchPoint) (calls : List Call) (answers : List Answer)
+    → IsShelf old.shelf → CallsGive sought old calls answers new
     → failure_count new.shelf ≡ failure_count old.shelf + sum (map told_failures answers)

@@ -9,29 +9,32 @@ use Rattle.parfind.specs.declared.cursors.sighting.Sighting.{Sighting}
 use Rattle.parfind.specs.Order.{is_before, is_from, origin, cursor_of, cursor_after}
 use Rattle.parfind.specs.Fetched.{Place}
 use Rattle.parfind.specs.Places.{places_of}
+use Rattle.parfind.specs.Sought.{Sought, looked_window}
+use Rattle.parfind.specs.declared.tracks.mode.Mode.{Mode}
 
--- the slices that are looked for, and the contents of the files that are scanned for them
+-- what is searched for, and the contents of the files that are scanned for it
 pub record Scan : Type 0 where
-  pub set : SliceSet
+  pub sought : Sought
   pub contents : List (List ℕ)
 
 -- the content of a scanned file
 abbrev pub content_of : Scan → ℕ → List ℕ
 content_of scan file = slice_index_or scan.contents file []
 
--- the offset and the slice's own bytes lie in the file, and the window there has both sums of the
--- slice
-abbrev pub is_seen : ℕ → List ℕ → ℕ → SetSlice → Bool
-is_seen size file offset slice =
+-- the offset and the slice's own bytes lie in the file, and what is looked at of the window there
+-- has both sums of the slice
+abbrev pub is_seen : Mode → ℕ → List ℕ → ℕ → SetSlice → Bool
+is_seen mode size file offset slice =
     nat_lt offset (length file) && (nat_le (offset + slice.length) (length file)
-    && has_sums (sums_of (window_at size file offset)) slice)
+    && has_sums (sums_of (looked_window mode (window_at size file offset) slice)) slice)
 
 -- the same of slice n of a set, which is there
-abbrev pub is_slice_seen : SliceSet → List ℕ → ℕ → ℕ → Bool
-is_slice_seen set file offset n = slice_passes set.slices (is_seen set.slice_size file offset) n
+abbrev pub is_slice_seen : Sought → List ℕ → ℕ → ℕ → Bool
+is_slice_seen sought file offset n =
+    slice_passes sought.set.slices (is_seen sought.mode sought.set.slice_size file offset) n
 
 abbrev pub is_sighting : Scan → Sighting → Bool
-is_sighting scan x = is_slice_seen scan.set (content_of scan x.file) x.offset x.slice
+is_sighting scan x = is_slice_seen scan.sought (content_of scan x.file) x.offset x.slice
 
 -- a place with each slice of the set
 abbrev pub triples_at : SliceSet → Place → List Sighting
@@ -45,7 +48,7 @@ triples_of set lengths = flat_map (triples_at set) (places_of lengths)
 
 -- all sightings, in order
 unfoldable pub sightings_of : Scan → List Sighting
-sightings_of scan = filter (is_sighting scan) (triples_of scan.set (map length scan.contents))
+sightings_of scan = filter (is_sighting scan) (triples_of scan.sought.set (map length scan.contents))
 
 -- those that are not before a cursor
 abbrev pub sightings_from : Scan → Cursor → List Sighting

@@ -4,7 +4,7 @@ use Rattle.parshelf.specs.Shelf.{ShelfState}
 use Rattle.parshelf.specs.Reads.{ReadsOnly, FaultsIn}
 use Rattle.parshelf.specs.declared.shelves.reading.ReadFault.{ReadFault}
 use Rattle.parshelf.specs.declared.shelves.reading.ReadFault.TheVariants.{Failed, Ended}
-use Rattle.parwindow.specs.Index.{SliceSet}
+use Rattle.parfind.specs.Sought.{Sought}
 use Rattle.parfind.specs.declared.cursors.cursor.Cursor.{Cursor}
 use Rattle.parfind.specs.declared.cursors.sighting.Sighting.{Sighting}
 use Rattle.parfind.specs.declared.searches.finder.Step.{Step}
@@ -15,9 +15,9 @@ use Rattle.parfind.specs.Points.{SearchPoint}
 use Rattle.parfind.specs.Sightings.{Scan, sightings_from, sightings_between}
 use Rattle.parfind.specs.Moves.{StepMoves}
 
--- these slices, looked for in the files of a steady shelf
-abbrev pub scan_of : SliceSet → ShelfState → Scan
-scan_of set shelf = record { set = set; contents = shelf.files }
+-- a search in the files of a steady shelf
+abbrev pub scan_of : Sought → ShelfState → Scan
+scan_of sought shelf = record { sought = sought; contents = shelf.files }
 
 -- the lengths of the scanned files
 abbrev pub lengths_of : Scan → List ℕ
@@ -40,10 +40,10 @@ StepCounts old (Err Ended) new = ⊥
 
 -- a step over a steady shelf, with a budget of places or with none
 pub record StepGives
-    (set : SliceSet) (budget : Option ℕ) (old : SearchPoint) (answer : Result Step ReadFault)
+    (sought : Sought) (budget : Option ℕ) (old : SearchPoint) (answer : Result Step ReadFault)
     (new : SearchPoint) : Type 0 where
-  pub moves : StepMoves (lengths_of (scan_of set old.shelf)) budget old.cursor answer new.cursor
-  pub sees : StepSees (scan_of set old.shelf) old.cursor answer new.cursor
+  pub moves : StepMoves (lengths_of (scan_of sought old.shelf)) budget old.cursor answer new.cursor
+  pub sees : StepSees (scan_of sought old.shelf) old.cursor answer new.cursor
   pub counts : StepCounts old answer new
 
 -- the sighting of an answer, where it is a hit
@@ -56,14 +56,14 @@ hit_of (Err fault) = []
 -- a step goes on, and hands out exactly the sightings that it passes
 abbrev pub StepHandsOut : Type 0
 StepHandsOut =
-    (set : SliceSet) (budget : Option ℕ) (old new : SearchPoint) (answer : Result Step ReadFault)
-    → StepGives set budget old answer new → IsTrue (is_from old.cursor new.cursor)
-    × (sightings_between (scan_of set old.shelf) old.cursor new.cursor ≡ hit_of answer)
+    (sought : Sought) (budget : Option ℕ) (old new : SearchPoint) (answer : Result Step ReadFault)
+    → StepGives sought budget old answer new → IsTrue (is_from old.cursor new.cursor)
+    × (sightings_between (scan_of sought old.shelf) old.cursor new.cursor ≡ hit_of answer)
 
 -- where a budget of n places is spent, no sighting from the cursor on is at one of them
 abbrev pub SpentSeesNone : Type 0
 SpentSeesNone =
-    (set : SliceSet) (n : ℕ) (old new : SearchPoint) → StepGives set (Some n) old (Ok Spent) new
-    → let scan : Scan = scan_of set old.shelf in
+    (sought : Sought) (n : ℕ) (old new : SearchPoint) → StepGives sought (Some n) old (Ok Spent) new
+    → let scan : Scan = scan_of sought old.shelf in
     All (λ x. ¬ Contains (take n (places_ahead (lengths_of scan) old.cursor)) (place_of x))
     (sightings_from scan old.cursor)

@@ -1,15 +1,16 @@
 -- A survey on its way: what it has marked, read and hashed once it is at a cursor.
-use Rattle.std.specs.Prelude.{◌≡◌, ℕ, ◌+◌, ◌≤◌, ◌||◌, ◌⊎◌, Bool, true, List, length, map, filter, IsTrue, Result, OnOk}
+use Rattle.std.specs.Prelude.{◌≡◌, ℕ, ◌+◌, ◌≤◌, ◌||◌, ◌⊎◌, Bool, true, List, length, map, IsTrue, Result, OnOk}
+use Rattle.std.specs.List.{sum_by}
 use Rattle.parshelf.specs.Shelf.{ShelfState}
 use Rattle.parshelf.specs.declared.shelves.reading.ReadFault.{ReadFault}
-use Rattle.parwindow.specs.Index.{SliceSet}
+use Rattle.parfind.specs.Sought.{Sought}
 use Rattle.parwindow.specs.Window.{WindowState}
 use Rattle.parfind.specs.declared.cursors.cursor.Cursor.{Cursor}
 use Rattle.parfind.specs.declared.tracks.track.Track.{Track}
 use Rattle.parfind.specs.Fetched.{Place, ReadsUpTo}
 use Rattle.parfind.specs.Tracks.{fetched_of}
 use Rattle.parfind.specs.Handover.{SkipsUnfit}
-use Rattle.parfind.specs.Marks.{is_missing_at}
+use Rattle.parfind.specs.Marks.{missing_at}
 use Rattle.parfind.specs.Order.{origin}
 use Rattle.parfind.specs.Places.{cursor_at, places_between}
 use Rattle.parfind.specs.OnePass.{IsNear}
@@ -29,34 +30,34 @@ abbrev pub survey_at : ShelfState → WindowState → List Bool → Track → Su
 survey_at shelf window found track =
     record { shelf = shelf; window = window; found = found; track = track }
 
--- how many places from one cursor to another have the CRC-32 of a slice that fits there and has no
--- mark
+-- how many looked lengths of windows from one cursor to another have the CRC-32 of a slice that fits
+-- there and has no mark
 abbrev pub missing_between : Scan → List Bool → Cursor → Cursor → ℕ
 missing_between scan found c d =
-    length (filter (is_missing_at scan found) (places_between (map length scan.contents) c d))
+    sum_by (missing_at scan found) (places_between (map length scan.contents) c d)
 
 -- from the beginning of all files it has come to a cursor
-pub record Surveyed (set : SliceSet) (old now : SurveyState) (c : Cursor) : Type 0 where
+pub record Surveyed (sought : Sought) (old now : SurveyState) (c : Cursor) : Type 0 where
   pub marks : IsTrue old.shelf.is_steady → (n : ℕ)
-      → mark_of now.found n ≡ (mark_of old.found n || is_sighted_before (scan_of set old.shelf) c n)
+      → mark_of now.found n ≡ (mark_of old.found n || is_sighted_before (scan_of sought old.shelf) c n)
   pub kept : (n : ℕ) → mark_of old.found n ≡ true → mark_of now.found n ≡ true
   pub hands :
       ReadsUpTo old.shelf now.shelf (record { file = 0; offset = 0 }) (fetched_of now.track)
-  pub unfit : SkipsUnfit set old.shelf now.shelf
-  pub near : IsNear set.slice_size (fetched_of now.track) c
+  pub unfit : SkipsUnfit sought.set old.shelf now.shelf
+  pub near : IsNear sought.set.slice_size (fetched_of now.track) c
   pub stops : IsTrue old.shelf.is_steady → (p : Place)
-      → AllSightedBy (scan_of set old.shelf) old.found p
-      → IsNear set.slice_size (fetched_of now.track) (cursor_at p)
+      → AllSightedBy (scan_of sought old.shelf) old.found p
+      → IsNear sought.set.slice_size (fetched_of now.track) (cursor_at p)
   pub digests : IsTrue old.shelf.is_steady → now.window.digests
-      ≤ old.window.digests + missing_between (scan_of set old.shelf) old.found origin c
+      ≤ old.window.digests + missing_between (scan_of sought old.shelf) old.found origin c
   pub capacity : now.window.capacity ≡ old.window.capacity
 
 -- it ends at a cursor: each slice has its mark there, or all files are before it, or a file could
 -- not be read
 pub record SurveyEnds
-    (set : SliceSet) (old new : SurveyState) (result : Result Unit ReadFault) : Type 0 where
+    (sought : Sought) (old new : SurveyState) (result : Result Unit ReadFault) : Type 0 where
   pub cursor : Cursor
-  pub surveyed : Surveyed set old new cursor
+  pub surveyed : Surveyed sought old new cursor
   pub first : cursor.slice ≡ 0
   pub file_is : cursor.file ≡ new.track.file
   pub all : OnOk result (IsAllMarked new.found ⊎ (length old.shelf.lengths ≤ cursor.file))

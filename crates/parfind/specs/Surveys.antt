@@ -1,15 +1,15 @@
 -- Which slices of a set have a sighting, as marks by slice number.
-use Rattle.std.specs.Prelude.{◌≡◌, ℕ, ◌==◌, ◌&&◌, ◌||◌, Bool, false, List, Result, Ok, Err, EachIndex, IsTrue}
+use Rattle.std.specs.Prelude.{◌≡◌, ℕ, ◌==◌, ◌&&◌, ◌||◌, Bool, List, Result, Ok, Err, EachIndex, IsTrue}
 use Rattle.std.specs.List.{list_any}
 use Rattle.parshelf.specs.Shelf.{ShelfState}
 use Rattle.parshelf.specs.Reads.{ReadsOnly, FaultsIn}
 use Rattle.parshelf.specs.declared.shelves.reading.ReadFault.{ReadFault}
-use Rattle.parwindow.specs.Index.{SliceSet}
+use Rattle.parfind.specs.Sought.{Sought, HasFewTails}
 use Rattle.parwindow.specs.Missing.{mark_of}
 use Rattle.parfind.specs.declared.cursors.cursor.Cursor.{Cursor}
 use Rattle.parfind.specs.Fetched.{Place}
 use Rattle.parfind.specs.declared.surveys.surveying.SurveyFault.{SurveyFault}
-use Rattle.parfind.specs.declared.surveys.surveying.SurveyFault.TheVariants.{Read, Memory}
+use Rattle.parfind.specs.declared.surveys.surveying.SurveyFault.TheVariants.{Read, Memory, TooManyTails}
 use Rattle.parfind.specs.Order.{is_before, cursor_of}
 use Rattle.parfind.specs.Places.{cursor_at, cursor_past}
 use Rattle.parfind.specs.Handover.{HandsAround}
@@ -59,9 +59,9 @@ AllSightedBy scan marks p =
     EachIndex marks (λ n. IsTrue (mark_of marks n || is_sighted_before scan (cursor_past p) n))
 
 -- from the place on by which each slice is found, no more is handed over than around it
-abbrev pub StopsOnceFound : SliceSet → ShelfState → ShelfState → List Bool → Type 0
-StopsOnceFound set old new was =
-    (p : Place) → AllSightedBy (scan_of set old) was p → HandsAround set.slice_size old new p
+abbrev pub StopsOnceFound : Sought → ShelfState → ShelfState → List Bool → Type 0
+StopsOnceFound sought old new was =
+    (p : Place) → AllSightedBy (scan_of sought old) was p → HandsAround sought.set.slice_size old new p
 
 -- a shelf, and the marks of a survey of its files
 pub record SurveyPoint : Type 0 where
@@ -73,20 +73,28 @@ marked_at shelf marks = record { shelf = shelf; marks = marks }
 
 -- what a fault of a file leaves: the marks of all sightings before a place of that file, and no
 -- more was handed over than around it
-pub record MarksUpToFault (set : SliceSet) (old new : SurveyPoint) (file : ℕ) : Type 0 where
+pub record MarksUpToFault (sought : Sought) (old new : SurveyPoint) (file : ℕ) : Type 0 where
   pub place : Place
   pub file_is : place.file ≡ file
-  pub sighted : MarksBefore (scan_of set old.shelf) (cursor_at place) old.marks new.marks
-  pub around : HandsAround set.slice_size old.shelf new.shelf place
+  pub sighted : MarksBefore (scan_of sought old.shelf) (cursor_at place) old.marks new.marks
+  pub around : HandsAround sought.set.slice_size old.shelf new.shelf place
 
 -- an answer only reads, and a fault is one of the file that it names
 abbrev pub ReadsNamed : {A : Type 0} → ShelfState → ShelfState → Result A (ℕ × ReadFault) → Type 0
 ReadsNamed old new (Ok answer) = ReadsOnly old new
 ReadsNamed old new (Err named) = FaultsIn old new named.0 named.1
 
--- an answer only reads, a read fault is one of the file that it names, and where memory is refused,
--- nothing was read
-abbrev pub SurveyLeaves : {A : Type 0} → ShelfState → ShelfState → Result A SurveyFault → Type 0
-SurveyLeaves old new (Ok answer) = ReadsOnly old new
-SurveyLeaves old new (Err (Read file fault)) = FaultsIn old new file fault
+-- an answer only reads, a read fault is one of the file that it names, and any other fault comes
+-- before all reads and marks
+abbrev pub SurveyLeaves : {A : Type 0} → SurveyPoint → SurveyPoint → Result A SurveyFault → Type 0
+SurveyLeaves old new (Ok answer) = ReadsOnly old.shelf new.shelf
+SurveyLeaves old new (Err (Read file fault)) = FaultsIn old.shelf new.shelf file fault
 SurveyLeaves old new (Err Memory) = new ≡ old
+SurveyLeaves old new (Err TooManyTails) = new ≡ old
+
+-- there are too many tails exactly where the fault says so
+abbrev pub SurveyTellsTails : {A : Type 0} → Sought → Result A SurveyFault → Type 0
+SurveyTellsTails sought (Ok answer) = HasFewTails sought
+SurveyTellsTails sought (Err (Read file fault)) = HasFewTails sought
+SurveyTellsTails sought (Err Memory) = HasFewTails sought
+SurveyTellsTails sought (Err TooManyTails) = ¬ HasFewTails sought

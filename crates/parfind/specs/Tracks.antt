@@ -1,15 +1,12 @@
 -- A window that goes along a file, and the bytes that were read ahead of it.
-use Rattle.std.specs.Prelude.{◌≡◌, ℕ, ◌+◌, ◌<◌, ◌≤◌, ◌^◌, Bool, List, length, take, slice_index, Option, None, Some, IfSome, IsTrue}
-use Rattle.parfield.specs.Md5.{md5}
+use Rattle.std.specs.Prelude.{◌≡◌, ℕ, ◌+◌, ◌<◌, ◌≤◌, ◌^◌, Bool, List, length, take, slice_index, IsTrue}
 use Rattle.parshelf.specs.Shelf.{ShelfState, file_of}
 use Rattle.parset.specs.Limits.{slice_size_limit}
-use Rattle.parwindow.specs.Crc32.{crc_of}
-use Rattle.parwindow.specs.Index.{SliceSet, set_has_crc}
 use Rattle.parwindow.specs.Window.{WindowState, window_at}
-use Rattle.parfield.specs.declared.hash16.Hash16.{Hash16}
 use Rattle.parfind.specs.declared.cursors.cursor.Cursor.{Cursor}
 use Rattle.parfind.specs.declared.tracks.track.Track.{Track}
 use Rattle.parfind.specs.Fetched.{Place, ahead_limit}
+use Rattle.parfind.specs.Sought.{Sought, HasNoLookedCrc}
 
 -- these are the bytes of a file from an offset on, with zeros past its end
 pub record HasBytes (file : List ℕ) (offset : ℕ) (bytes : List ℕ) : Type 0 where
@@ -27,10 +24,6 @@ fetched_of t = record { file = t.file; offset = t.buffer_offset + t.buffer_len }
 abbrev pub cursor_of_track : Track → Cursor
 cursor_of_track t = record { file = t.file; offset = t.window_offset; slice = 0 }
 
--- a digest that is remembered is that of the full window
-abbrev pub Remembers : WindowState → Track → Type 0
-Remembers w t = IfSome t.digest (λ d. (length w.content ≡ w.capacity) × (d.0 ≡ md5 w.content))
-
 -- the window goes along a file of this length, and its next byte was read, or is the next to be
 -- read; on a steady shelf the bytes are the file's
 pub record Follows
@@ -43,7 +36,6 @@ pub record Follows
   pub reached :
       t.window_offset + length w.content < size
       → t.window_offset + length w.content ≤ t.buffer_offset + t.buffer_len
-  pub remembers : Remembers w t
   pub content : IsTrue steady → HasBytes file t.window_offset w.content
   pub ahead : IsTrue steady → HasBytes file t.buffer_offset (take t.buffer_len t.bytes)
 
@@ -51,16 +43,10 @@ pub record Follows
 abbrev pub IsTied : ShelfState → WindowState → Track → Type 0
 IsTied s w t = Follows (slice_index s.lengths t.file) s.is_steady (file_of s t.file) w t
 
--- 1 where a digest is remembered
-abbrev pub remembered : Option Hash16 → ℕ
-remembered None = 0
-remembered (Some digest) = 1
-
 -- nothing is read yet of the window of an offset
 pub record IsUnread (file offset : ℕ) (t : Track) : Type 0 where
   pub file_is : t.file ≡ file
   pub offset_is : t.window_offset ≡ offset
-  pub digest_is : t.digest ≡ None
   pub buffer_offset_is : t.buffer_offset ≡ offset
   pub buffer_len_is : t.buffer_len ≡ 0
 
@@ -68,7 +54,6 @@ pub record IsUnread (file offset : ℕ) (t : Track) : Type 0 where
 pub record SameTrack (a b : Track) : Type 0 where
   pub file_is : b.file ≡ a.file
   pub offset_is : b.window_offset ≡ a.window_offset
-  pub digest_is : b.digest ≡ a.digest
 
 -- what was read last now begins where it ended before
 pub record IsReadOn (a b : Track) : Type 0 where
@@ -84,18 +69,11 @@ IsPieceOf w t size piece =
     (file : List ℕ) → length file ≡ size → HasBytes file t.buffer_offset (take t.buffer_len t.bytes)
     → HasBytes file (t.window_offset + length w.content) piece
 
--- the window and what was read stay, but that a digest may be taken
-pub record Looks (v : WindowState) (a : Track) (w : WindowState) (b : Track) : Type 0 where
-  pub window_is : w ≡ record v { digests = w.digests }
-  pub track_is : b ≡ record a { digest = b.digest }
-  pub counted : w.digests + remembered a.digest ≡ v.digests + remembered b.digest
-  pub kept : remembered a.digest ≤ remembered b.digest
-
--- so many bytes on, before that, no window has the CRC-32 of a slice
-abbrev pub HasNoCrc : SliceSet → List ℕ → ℕ → ℕ → Type 0
-HasNoCrc set file offset n =
+-- so many bytes on, before that, no window has the CRC-32 of a slice in what is looked at for it
+abbrev pub HaveNoLookedCrc : Sought → List ℕ → ℕ → ℕ → Type 0
+HaveNoLookedCrc sought file offset n =
     (k : ℕ) → 0 < k → k < n
-    → ¬ IsTrue (set_has_crc set (crc_of (window_at set.slice_size file (offset + k))))
+    → HasNoLookedCrc sought (window_at sought.set.slice_size file (offset + k))
 
 -- what a call that passes n places does: the window stands so many bytes on
 pub record Passes (size : ℕ) (a b : Track) (most n : ℕ) : Type 0 where

@@ -9,17 +9,17 @@ use Rattle.parplan.specs.declared.command.Scanned.{Scanned}
 abbrev pub reads_scanned : Command → Bool
 reads_scanned command.Packets = false
 reads_scanned command.Set = false
-reads_scanned (command.Find limit cursor) = true
-reads_scanned (command.Verify quiet) = true
+reads_scanned (command.Find limit cursor tails) = true
+reads_scanned (command.Verify quiet tails) = true
 
 -- a limit is not 0
 abbrev pub LimitIsNotZero : Command → Type 0
-LimitIsNotZero (command.Find limit cursor) = limit ≢ Some 0
+LimitIsNotZero (command.Find limit cursor tails) = limit ≢ Some 0
 LimitIsNotZero _ = ⊤
 
 -- the command is `find`, which writes while it searches
 abbrev pub is_find : Command → Bool
-is_find (command.Find limit cursor) = true
+is_find (command.Find limit cursor tails) = true
 is_find _ = false
 
 -- the files that are scanned

@@ -2,7 +2,7 @@
 use Rattle.std.specs.Prelude.{codes, Some, true}
 use Rattle.clap.specs.Simple.{App, new_app, new_rule, on_top, with_rule}
 use Rattle.clap.specs.Walk.{Rule, Text}
-use Rattle.clap.specs.declared.builder.action.ArgAction.TheVariants.{Set, Append, Count}
+use Rattle.clap.specs.declared.builder.action.ArgAction.TheVariants.{Set, SetTrue, Append, Count}
 use Rattle.parplan.specs.declared.words.grammar.Verb.{Verb}
 use Rattle.parplan.specs.declared.words.grammar.Verb.TheVariants as verb
 
@@ -22,6 +22,11 @@ files_rule = record (new_rule (codes "files")) { required = true; action = Some 
 abbrev pub quiet_rule : Rule
 quiet_rule = record (new_rule (codes "quiet")) { short = Some 113; action = Some Count }
 
+-- `--tails`, which stands once at most
+abbrev pub tails_rule : Rule
+tails_rule =
+    record (new_rule (codes "tails")) { long = Some (codes "tails"); action = Some SetTrue }
+
 -- a command line without arguments, which knows no `--help`
 abbrev pub empty_grammar : App
 empty_grammar = on_top (λ s. record s { disable_help_flag = true }) (new_app (codes "parv"))
@@ -36,6 +41,6 @@ abbrev pub grammar_of : Verb → App
 grammar_of verb.Packets = shared_grammar
 grammar_of verb.Set = shared_grammar
 grammar_of verb.Find =
-    with_rule (with_rule shared_grammar (option_rule (codes "limit")))
-    (option_rule (codes "cursor"))
-grammar_of verb.Verify = with_rule shared_grammar quiet_rule
+    with_rule (with_rule (with_rule shared_grammar (option_rule (codes "limit")))
+    (option_rule (codes "cursor"))) tails_rule
+grammar_of verb.Verify = with_rule (with_rule shared_grammar quiet_rule) tails_rule

@@ -1,5 +1,7 @@
 -- What clap's matches say of a command and of its options.
-use Rattle.std.specs.Prelude.{ℕ, ◌==◌, min, List, length, Option, Some, None, Result, Ok, Err, if◌then◌else◌, codes}
+use Rattle.std.specs.Prelude.{ℕ, ◌==◌, Bool, false, min, List, length, Option, Some, None, Result, Ok, Err, if◌then◌else◌, codes}
+use Rattle.std.specs.Option.{option_map_or}
+use Rattle.std.specs.Str.{bytes_eq}
 use Rattle.clap.specs.Walk.{Row, first_of, count_of}
 use Rattle.parfield.specs.Chain.{◌>>=◌}
 use Rattle.parfield.specs.Hash16.{hex_hash_of}
@@ -49,6 +51,11 @@ cursor_option_of rows = option_value_of cursor_pair_of (first_of (codes "cursor"
 abbrev pub quiet_of : List Row → ℕ
 quiet_of rows = min (count_of (codes "quiet") rows) 2
 
+-- whether `--tails` stands: clap gives a flag that stands the value `true`, and else `false`
+abbrev pub has_tails : List Row → Bool
+has_tails rows =
+    option_map_or (λ text. bytes_eq text (codes "true")) (first_of (codes "tails") rows) false
+
 -- the command of a verb, with the options that it alone has
 abbrev pub command_of : Verb → List Row → Result Command PlanFault
 command_of verb.Packets rows = Ok command.Packets
@@ -56,5 +63,5 @@ command_of verb.Set rows = Ok command.Set
 command_of verb.Find rows = do
   limit ← limit_option_of rows
   cursor ← cursor_option_of rows
-  Ok (command.Find limit cursor)
-command_of verb.Verify rows = Ok (command.Verify (quiet_of rows))
+  Ok (command.Find limit cursor (has_tails rows))
+command_of verb.Verify rows = Ok (command.Verify (quiet_of rows) (has_tails rows))

@@ -16,14 +16,18 @@ pub enum Command {
     /// Shows the recovery set that the packets describe.
     Set,
     /// Lists where slices of the set are seen in the scanned files: from a cursor on, which has the
-    /// set's ID beside it, and as many as the limit allows, which is not 0.
+    /// set's ID beside it, and as many as the limit allows, which is not 0. With `tails` a slice
+    /// shorter than the others is seen whatever bytes come behind it.
     Find {
         limit: Option<u64>,
         cursor: Option<(Hash16, Cursor)>,
+        tails: bool,
     },
     /// Tells what of the set is there; with `quiet` 1 only its last two lines, with more nothing.
+    /// `tails` is as in `Find`.
     Verify {
         quiet: u8,
+        tails: bool,
     },
 }
 

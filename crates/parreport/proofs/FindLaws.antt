@@ -12,6 +12,9 @@ use Rattle.parshelf.specs.declared.shelves.reading.ReadFault.TheVariants.{Failed
 use Rattle.parwindow.specs.Index.{SliceSet, slice_set_of}
 use Rattle.parfind.specs.Points.{SearchPoint, search_at}
 use Rattle.parfind.specs.Steps.{StepGives}
+use Rattle.parfind.specs.Sought.{sought_of}
+use Rattle.parfind.specs.declared.tracks.mode.Mode.{Mode}
+use Rattle.parreport.specs.SetSearch.{set_sought_of}
 use Rattle.parfind.specs.declared.searches.finder.Step.{Step}
 use Rattle.parfind.proofs.StepLaws.{gives_before, still_steady}
 use Rattle.parfind.specs.declared.cursors.cursor.Cursor.{Cursor}
@@ -119,10 +122,10 @@ module _ (s : Search) where
           (text_ends ∙ ap (λ (ys : List ℕ). flat_map line h.handed ++ ys) (sym (append-nil end_line))) refuses
 
     -- a search that goes on over no sighting leaves the lines of all that are before
-    pub keeps_lines : left ≢ Some 0 → (d : Cursor) → IsTrue (is_from now d) → sightings_between (set_scan_of s.set s.contents) now d ≡ []
+    pub keeps_lines : left ≢ Some 0 → (d : Cursor) → IsTrue (is_from now d) → sightings_between (set_scan_of s.set s.mode s.contents) now d ≡ []
         → WritesLinesBefore s d.file old mid
     keeps_lines some d onward none =
-        let scan : Scan = set_scan_of s.set s.contents in
+        let scan : Scan = set_scan_of s.set s.mode s.contents in
         let same : from now ≡ from d
         = sym (between_and_from cursor_of now d (From-by_test now d onward) (sightings_of scan) (Rises-sightings_of scan))
         ∙ ap (λ (xs : List Sighting). xs ++ from d) none in
@@ -156,20 +159,21 @@ module _ (s : Search) where
         (text_stops ∙ ap (λ (ys : List ℕ). flat_map line h.handed ++ ys) (sym (append-nil (cursor_line s.set.id now)))) refuses
 
 -- on a steady shelf the answer to a step from where a search stands, as that of the shelf at its beginning
-pub gives_from : (set : SetView) (index : SliceSet) (old mid : ShelfState) (c : Cursor) (new : SearchPoint) (answer : Result Step ReadFault)
-    → index ≡ slice_set_of set.size set.slices → ReadsOnly old mid → IsTrue old.is_steady
-    → (IsTrue mid.is_steady → StepGives index None (search_at mid c) answer new)
-    → StepGives (slice_set_of set.size set.slices) None (search_at old c) answer new
-gives_from set index old mid c new answer is reads steady gives =
-    subst (λ (slices : SliceSet). StepGives slices None (search_at old c) answer new) is
-    (gives_before index None old mid reads c new answer (gives (still_steady index old mid reads steady)))
+pub gives_from : (set : SetView) (mode own : Mode) (index : SliceSet) (old mid : ShelfState) (c : Cursor) (new : SearchPoint) (answer : Result Step ReadFault)
+    → index ≡ slice_set_of set.size set.slices → own ≡ mode → ReadsOnly old mid → IsTrue old.is_steady
+    → (IsTrue mid.is_steady → StepGives (sought_of index own) None (search_at mid c) answer new)
+    → StepGives (set_sought_of set mode) None (search_at old c) answer new
+gives_from set mode own index old mid c new answer is same reads steady gives =
+    subst (λ (slices : SliceSet). StepGives (sought_of slices mode) None (search_at old c) answer new) is
+    (subst (λ (m : Mode). StepGives (sought_of index m) None (search_at old c) answer new) same
+    (gives_before (sought_of index own) None old mid reads c new answer (gives (still_steady (sought_of index own) old mid reads steady))))
 
 -- a failed read leaves the lines of all sightings in files before the one where the search stands then
 pub keeps_after_fault : (s : Search) (shelf after : ShelfState) (left : Option ℕ) (now d : Cursor) (old mid : SinkState) (why : ReadFault)
     → s.contents ≡ shelf.files → HandsOut s left now old mid → left ≢ Some 0
-    → StepGives (slice_set_of s.set.size s.set.slices) None (search_at shelf now) (Err why) (search_at after d)
+    → StepGives (set_sought_of s.set s.mode) None (search_at shelf now) (Err why) (search_at after d)
     → WritesLinesBefore s d.file old mid
 keeps_after_fault s shelf after left now d old mid Failed same h some gives =
     keeps_lines s left now old mid h some d gives.moves.onward
-    (ap (λ (contents : List (List ℕ)). sightings_between (set_scan_of s.set contents) now d) same ∙ gives.sees)
+    (ap (λ (contents : List (List ℕ)). sightings_between (set_scan_of s.set s.mode contents) now d) same ∙ gives.sees)
 keeps_after_fault s shelf after left now d old mid Ended same h some gives = absurd gives.counts

@@ -24,6 +24,7 @@ StopsIn_later fault.Memory a b c text waiting part rest before breaks = record {
 StopsIn_later (fault.Read packet file cause) a b c text waiting part rest before breaks = absurd breaks
 StopsIn_later (fault.Set cause) a b c text waiting part rest before breaks = absurd breaks
 StopsIn_later fault.OtherSet a b c text waiting part rest before breaks = absurd breaks
+StopsIn_later fault.TooManyTails a b c text waiting part rest before breaks = absurd breaks
 
 -- a list that broke is answered so
 pub breaks_answer : (why : RunFault) (a c : SinkState) (text : List ℕ) (answer : Result Status RunFault) → StopsIn why a c text
@@ -33,16 +34,18 @@ breaks_answer fault.Memory a c text answer breaks = WrotePrefix_front a c text b
 breaks_answer (fault.Read packet file cause) a c text answer breaks = absurd breaks
 breaks_answer (fault.Set cause) a c text answer breaks = absurd breaks
 breaks_answer fault.OtherSet a c text answer breaks = absurd breaks
+breaks_answer fault.TooManyTails a c text answer breaks = absurd breaks
 
 -- what a list that broke leaves of a verification: nothing where less than a block was written
-pub breaks_silent : (why : RunFault) (quiet : ℕ) (a c : SinkState) (text : List ℕ) → StopsIn why a c text
-    → may_follow_text (command.Verify quiet) (written a c) why ≡ false → c ≡ a
-breaks_silent fault.Write quiet a c text breaks silent = absurd (cc)
-breaks_silent fault.Memory quiet a c text breaks silent =
+pub breaks_silent : (why : RunFault) (quiet : ℕ) (tails : Bool) (a c : SinkState) (text : List ℕ) → StopsIn why a c text
+    → may_follow_text (command.Verify quiet tails) (written a c) why ≡ false → c ≡ a
+breaks_silent fault.Write quiet tails a c text breaks silent = absurd (cc)
+breaks_silent fault.Memory quiet tails a c text breaks silent =
     WrotePrefix_silent a c text breaks (omega (arith, leb-false block (written a c) silent))
-breaks_silent (fault.Read packet file cause) quiet a c text breaks silent = absurd breaks
-breaks_silent (fault.Set cause) quiet a c text breaks silent = absurd breaks
-breaks_silent fault.OtherSet quiet a c text breaks silent = absurd breaks
+breaks_silent (fault.Read packet file cause) quiet tails a c text breaks silent = absurd breaks
+breaks_silent (fault.Set cause) quiet tails a c text breaks silent = absurd breaks
+breaks_silent fault.OtherSet quiet tails a c text breaks silent = absurd breaks
+breaks_silent fault.TooManyTails quiet tails a c text breaks silent = absurd breaks
 
 -- all that waited was written, or the sink failed in it
 pub listed_ends : (result : Result Status RunFault) (answer : Result Status RunFault) (a b c : SinkState) (text waiting : List ℕ) → IsBuffered a b text waiting

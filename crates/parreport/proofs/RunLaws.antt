@@ -1,8 +1,21 @@
--- What is left of a run's text where scanned files were not all read.
-use Rattle.std.proofs.Common.{ℕ, List, [], Err, ap, refl, sym, append-nil}
-use Rattle.parreport.specs.Outcomes.{Answers}
-use Rattle.parreport.specs.Report.{Report}
-use Rattle.parreport.specs.Faults.{scanned_fault_of}
+-- What is left of a run's text where scanned files were not all read, or not searched at all.
+use Rattle.std.proofs.Common.{◌≡◌, ◌∙◌, ℕ, Bool, List, [], Err, true, false, ap, refl, subst, sym, append-nil, length, inl, inr}
+use Rattle.std.proofs.lemmas.Bool.{cases_lt, lt-ltb, le-ltb, ltb-false}
+use Rattle.parreport.specs.Outcomes.{Answers, LeavesScanned}
+use Rattle.parreport.specs.Report.{Report, report_after}
+use Rattle.parreport.specs.SetSearch.{has_too_many_tails, set_sought_of}
+use Rattle.parset.specs.RecoverySet.{SetView}
+use Rattle.parwindow.specs.Index.{SliceSet, slice_set_of}
+use Rattle.parreport.specs.Faults.{scanned_fault_of, start_fault_of}
+use Rattle.parreport.specs.Files.{FilesLeave}
+use Rattle.parshelf.specs.Shelf.{ShelfState}
+use Rattle.parwindow.specs.Window.{tail_limit}
+use Rattle.parfind.specs.Sought.{Sought, HasFewTails, sought_of, shorter_lengths}
+use Rattle.parfind.specs.declared.tracks.mode.Mode.{Mode}
+use Rattle.parfind.specs.Starts.{TellsTails}
+use Rattle.parfind.specs.declared.searches.start_fault.StartFault.{StartFault}
+use Rattle.parfind.specs.declared.searches.start_fault.StartFault.TheVariants as start_fault
+use Rattle.parreport.specs.declared.text.faults.RunFault.TheVariants as fault
 use Rattle.parshelf.specs.SinkState.{SinkState, WritesPrefix}
 use Rattle.parfind.specs.declared.surveys.surveying.SurveyFault.{SurveyFault}
 use Rattle.parfind.specs.declared.surveys.surveying.SurveyFault.TheVariants as survey_fault
@@ -16,6 +29,57 @@ front_nil text s = record {
 }
 
 -- where they were not all read before the first line, nothing is written
-pub answers_before_text : (report : Report) (why : SurveyFault) (s : SinkState) → Answers report (Err (scanned_fault_of why)) s s
-answers_before_text report (survey_fault.Read file why) s = front_nil report.text s
-answers_before_text report survey_fault.Memory s = front_nil report.text s
+pub answers_before_text : (report : Report) (why : SurveyFault) (old new : ShelfState) (s : SinkState) → FilesLeave old new why
+    → Answers report (Err (scanned_fault_of why)) s s
+answers_before_text report (survey_fault.Read file why) old new s leaves = front_nil report.text s
+answers_before_text report survey_fault.Memory old new s leaves = front_nil report.text s
+answers_before_text report survey_fault.TooManyTails old new s leaves = absurd leaves
+
+-- ---- how many short lengths there are to look for
+pub few_are_few : (sought : Sought) → HasFewTails sought → has_too_many_tails sought ≡ false
+few_are_few sought few = le-ltb tail_limit (length (shorter_lengths sought.mode sought.set)) few
+
+pub many_are_many : (sought : Sought) → ¬ HasFewTails sought → has_too_many_tails sought ≡ true
+many_are_many sought many = elim (cases_lt tail_limit (length (shorter_lengths sought.mode sought.set))) [
+  | inl more ↦ lt-ltb tail_limit (length (shorter_lengths sought.mode sought.set)) more
+  | inr few ↦ absurd (many few)
+]
+
+-- as a test of them tells
+pub few_from_test : (sought : Sought) → has_too_many_tails sought ≡ false → HasFewTails sought
+few_from_test sought is = ltb-false tail_limit (length (shorter_lengths sought.mode sought.set)) is
+
+pub report_of_few : (sought : Sought) (report : Report) → HasFewTails sought → report_after sought report ≡ report
+report_of_few sought report few = rw (few_are_few sought few) refl
+
+-- where there are too many, that is the answer, and nothing is written
+pub too_many_answer : (sought : Sought) (report : Report) (s : SinkState) → has_too_many_tails sought ≡ true
+    → Answers (report_after sought report) (Err fault.TooManyTails) s s
+too_many_answer sought report s many = (rw many refl, refl)
+
+-- the same where a search could not be started
+answers_unstarted : (A : Type 0) (sought : Sought) (report : Report) (why : StartFault) (s : SinkState) → TellsTails {A = A} sought (Err why)
+    → Answers (report_after sought report) (Err (start_fault_of why)) s s
+answers_unstarted A sought report start_fault.TooManyTails s tells = too_many_answer sought report s (many_are_many sought tells)
+answers_unstarted A sought report start_fault.Memory s tells = front_nil (report_after sought report).text s
+
+-- ---- the same of the slices of a set, as an index has them
+module _ (set : SetView) (mode own : Mode) (index : SliceSet) (is : index ≡ slice_set_of set.size set.slices) (same : own ≡ mode) where
+  sought_is : sought_of index own ≡ set_sought_of set mode
+  sought_is = ap (λ (slices : SliceSet). sought_of slices own) is ∙ ap (sought_of (slice_set_of set.size set.slices)) same
+
+  pub few_of_set : HasFewTails (sought_of index own) → HasFewTails (set_sought_of set mode)
+  few_of_set = subst HasFewTails sought_is
+
+  pub test_of_set : (tells : Bool) → has_too_many_tails (sought_of index own) ≡ tells → has_too_many_tails (set_sought_of set mode) ≡ tells
+  test_of_set tells = subst (λ (sought : Sought). has_too_many_tails sought ≡ tells) sought_is
+
+  pub unstarted_text : (A : Type 0) (report : Report) (why : StartFault) (s : SinkState) → TellsTails {A = A} (sought_of index own) (Err why)
+      → Answers (report_after (set_sought_of set mode) report) (Err (start_fault_of why)) s s
+  unstarted_text A report why s tells =
+      answers_unstarted A (set_sought_of set mode) report why s (subst (λ (sought : Sought). TellsTails {A = A} sought (Err why)) sought_is tells)
+
+-- where a search could not be started, nothing is read either
+pub unstarted_scanned : (why : StartFault) (s : ShelfState) → LeavesScanned (Err (start_fault_of why)) s s
+unstarted_scanned start_fault.TooManyTails s = refl
+unstarted_scanned start_fault.Memory s = refl

@@ -14,10 +14,11 @@ use Rattle.parshelf.specs.Reads.{ReadsOnly}
 use Rattle.parset.specs.RecoverySet.{SetView}
 use Rattle.parset.specs.declared.recovery_set.SetFile.{SetFile}
 use Rattle.parset.specs.declared.recovery_set.SetSlice.{SetSlice}
-use Rattle.parwindow.specs.Index.{slice_set_of}
 use Rattle.parfind.specs.Sightings.{Scan}
 use Rattle.parfind.specs.Steps.{scan_of}
 use Rattle.parfind.specs.Surveys.{is_sighted}
+use Rattle.parfind.specs.declared.tracks.mode.Mode.{Mode}
+use Rattle.parreport.specs.SetSearch.{set_sought_of}
 use Rattle.parreport.specs.Names.{names_of}
 use Rattle.parreport.specs.States.{named_files, length_and_md5, checked_of, has_content_of, shows_content_of, shows_both, is_content_of, is_name_of, checked_state_of, state_of}
 use Rattle.parreport.specs.Findings.{is_in_intact_file, findings_of}
@@ -164,24 +165,24 @@ take-all_back n now was same all =
     ap (λ rest. take n (now ++ rest)) none ∙ (ap (take n) (append-nil now) ∙ take_all n now (omega arith))
 
 -- reads change no mark
-pub found_read : (set : SetView) (old now : ShelfState) (whole : SetSlice → Bool) (found : List Bool) → ReadsOnly old now
-    → found ≡ map (λ slice. whole slice.1 || is_sighted (scan_of (slice_set_of set.size set.slices) now) slice.0) (enumerate_from 0 set.slices)
-    → found ≡ map (λ slice. whole slice.1 || is_sighted (scan_of (slice_set_of set.size set.slices) old) slice.0) (enumerate_from 0 set.slices)
-found_read set old now whole found reads e =
-    e ∙ ap (λ (s : ShelfState). map (λ (slice : ℕ × SetSlice). whole slice.1 || is_sighted (scan_of (slice_set_of set.size set.slices) s) slice.0)
+pub found_read : (set : SetView) (mode : Mode) (old now : ShelfState) (whole : SetSlice → Bool) (found : List Bool) → ReadsOnly old now
+    → found ≡ map (λ slice. whole slice.1 || is_sighted (scan_of (set_sought_of set mode) now) slice.0) (enumerate_from 0 set.slices)
+    → found ≡ map (λ slice. whole slice.1 || is_sighted (scan_of (set_sought_of set mode) old) slice.0) (enumerate_from 0 set.slices)
+found_read set mode old now whole found reads e =
+    e ∙ ap (λ (s : ShelfState). map (λ (slice : ℕ × SetSlice). whole slice.1 || is_sighted (scan_of (set_sought_of set mode) s) slice.0)
     (enumerate_from 0 set.slices)) reads
 
 -- ---- all findings
-pub findings_made : (set : SetView) (files : List Scanned) (s : ShelfState) (states : List State) (found : List Bool) (whole : BTreeSet Hash16)
+pub findings_made : (set : SetView) (mode : Mode) (files : List Scanned) (s : ShelfState) (states : List State) (found : List Bool) (whole : BTreeSet Hash16)
     → length s.files ≡ length files
     → states ≡ map (state_of (named_files files s.files)) set.files
     → ((id : Hash16) → contains id_cmp whole id ≡ is_in_intact_file set (named_files files s.files) id)
-    → found ≡ map (λ slice. contains id_cmp whole slice.1.id || is_sighted (scan_of (slice_set_of set.size set.slices) s) slice.0) (enumerate_from 0 set.slices)
-    → record { states = states; found = found } ≡ findings_of set (named_files files s.files)
-findings_made set files s states found whole sized by_state by_id by_mark =
+    → found ≡ map (λ slice. contains id_cmp whole slice.1.id || is_sighted (scan_of (set_sought_of set mode) s) slice.0) (enumerate_from 0 set.slices)
+    → record { states = states; found = found } ≡ findings_of set mode (named_files files s.files)
+findings_made set mode files s states found whole sized by_state by_id by_mark =
     let scanned = named_files files s.files in
-    let scan = λ (contents : List (List ℕ)). let one : Scan = record { set = slice_set_of set.size set.slices; contents = contents } in one in
-    let found_are : found ≡ (findings_of set scanned).found
+    let scan = λ (contents : List (List ℕ)). let one : Scan = record { sought = set_sought_of set mode; contents = contents } in one in
+    let found_are : found ≡ (findings_of set mode scanned).found
     = by_mark ∙ map-same _ _ (λ (slice : ℕ × SetSlice). ap (λ b. b || is_sighted (scan s.files) slice.0) (by_id slice.1.id)
     ∙ ap (λ cs. is_in_intact_file set scanned slice.1.id || is_sighted (scan cs) slice.0) (sym (map-content files s.files sized))) (enumerate_from 0 set.slices) in
     ap (λ (xs : List State). let r : Findings = record { states = xs; found = found } in r) by_state

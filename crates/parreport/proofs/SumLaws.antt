@@ -15,6 +15,8 @@ use Rattle.parset.specs.declared.recovery_set.SetFile.{SetFile}
 use Rattle.parshelf.specs.Shelf.{ShelfState}
 use Rattle.parwindow.specs.Index.{slice_passes, sums_of}
 use Rattle.parwindow.specs.Window.{window_at}
+use Rattle.parfind.specs.Sought.{looked_window}
+use Rattle.parfind.specs.declared.tracks.mode.Mode.{Mode}
 use Rattle.parfind.specs.Sightings.{Scan, content_of, is_seen, is_sighting, sightings_of, triples_of}
 use Rattle.parfind.specs.Surveys.{is_sighted, MarksSighted, IsAllMarked}
 use Rattle.parwindow.specs.Missing.{mark_of}
@@ -42,22 +44,22 @@ never_all false b c e = refl
 never_all true false c e = refl
 never_all true true c e = e
 
-no_seen : (size : ℕ) (file : List ℕ) (offset : ℕ) (slice : Option SetSlice) → option_map_or (λ slice. is_some slice.sums) slice false ≡ false
-    → option_map_or (is_seen size file offset) slice false ≡ false
-no_seen size file offset None e = refl
-no_seen size file offset (Some slice) e =
-    let sums = sums_of (window_at size file offset) in
+no_seen : (mode : Mode) (size : ℕ) (file : List ℕ) (offset : ℕ) (slice : Option SetSlice) → option_map_or (λ slice. is_some slice.sums) slice false ≡ false
+    → option_map_or (is_seen mode size file offset) slice false ≡ false
+no_seen mode size file offset None e = refl
+no_seen mode size file offset (Some slice) e =
+    let sums = sums_of (looked_window mode (window_at size file offset) slice) in
     never_all _ _ _ (no_sums (λ known. known.1 == sums.1 && bytes_eq known.0.0 sums.0.0) slice.sums e)
 
 -- a slice whose sums aren't known has no sighting
-pub unknown_unseen : (scan : Scan) (n : ℕ) → option_map_or (λ slice. is_some slice.sums) (slice_get scan.set.slices n) false ≡ false
+pub unknown_unseen : (scan : Scan) (n : ℕ) → option_map_or (λ slice. is_some slice.sums) (slice_get scan.sought.set.slices n) false ≡ false
     → is_sighted scan n ≡ false
 unfolding sightings_of
 unknown_unseen scan n e =
     none_of (is_sighting scan) (λ x. x.slice == n) (λ x same.
-    ap (slice_passes scan.set.slices (is_seen scan.set.slice_size (content_of scan x.file) x.offset)) (eqb-true x.slice n same)
-    ∙ no_seen scan.set.slice_size (content_of scan x.file) x.offset (slice_get scan.set.slices n) e)
-    (triples_of scan.set (map length scan.contents))
+    ap (slice_passes scan.sought.set.slices (is_seen scan.sought.mode scan.sought.set.slice_size (content_of scan x.file) x.offset)) (eqb-true x.slice n same)
+    ∙ no_seen scan.sought.mode scan.sought.set.slice_size (content_of scan x.file) x.offset (slice_get scan.sought.set.slices n) e)
+    (triples_of scan.sought.set (map length scan.contents))
 
 -- ---- marks that are set before the search and taken back after it
 stays : (whole seen : Bool) (sums : Option (Hash16 × ℕ)) → (is_some sums ≡ false → seen ≡ false)
@@ -78,13 +80,13 @@ pub record TakenBack (slices : List SetSlice) (whole : BTreeSet Hash16) (was now
   pub left : (n : ℕ) → i ≤ n → mark_of now n ≡ mark_of was n
 
 -- the mark of a slice once those of slices that none can find are taken back
-mark_taken_back : (whole : BTreeSet Hash16) (scan : Scan) (was now last : List Bool) (k : ℕ) → k < length scan.set.slices
-    → was ≡ map (is_settled whole) scan.set.slices
+mark_taken_back : (whole : BTreeSet Hash16) (scan : Scan) (was now last : List Bool) (k : ℕ) → k < length scan.sought.set.slices
+    → was ≡ map (is_settled whole) scan.sought.set.slices
     → mark_of now k ≡ (mark_of was k || is_sighted scan k)
-    → mark_of last k ≡ (mark_of now k && can_be_found whole scan.set.slices k)
-    → mark_of last k ≡ (contains id_cmp whole (get_or scan.set.slices k no_slice).id || is_sighted scan k)
+    → mark_of last k ≡ (mark_of now k && can_be_found whole scan.sought.set.slices k)
+    → mark_of last k ≡ (contains id_cmp whole (get_or scan.sought.set.slices k no_slice).id || is_sighted scan k)
 mark_taken_back whole scan was now last k here before marked back =
-    let slices = scan.set.slices in
+    let slices = scan.sought.set.slices in
     let slice = get_or slices k no_slice in
     let there : slice_get slices k ≡ Some slice = slice_get-get_or slices k no_slice here in
     let whole_is = contains id_cmp whole slice.id in
@@ -97,12 +99,12 @@ mark_taken_back whole scan was now last k here before marked back =
     ∙ (ap (λ b. b && can_be_found whole slices k) (marked ∙ ap (λ b. b || is_sighted scan k) needs_no_search)
     ∙ (ap (λ b. ((whole_is || is_none slice.sums) || is_sighted scan k) && b) known ∙ stays whole_is (is_sighted scan k) slice.sums unseen))
 
-pub marks_found : (whole : BTreeSet Hash16) (scan : Scan) (was now last : List Bool) → was ≡ map (is_settled whole) scan.set.slices
-    → length now ≡ length scan.set.slices → length last ≡ length scan.set.slices → MarksSighted scan was now
-    → EachIndex last (λ n. mark_of last n ≡ (mark_of now n && can_be_found whole scan.set.slices n))
-    → last ≡ map (λ slice. contains id_cmp whole slice.1.id || is_sighted scan slice.0) (enumerate_from 0 scan.set.slices)
+pub marks_found : (whole : BTreeSet Hash16) (scan : Scan) (was now last : List Bool) → was ≡ map (is_settled whole) scan.sought.set.slices
+    → length now ≡ length scan.sought.set.slices → length last ≡ length scan.sought.set.slices → MarksSighted scan was now
+    → EachIndex last (λ n. mark_of last n ≡ (mark_of now n && can_be_found whole scan.sought.set.slices n))
+    → last ≡ map (λ slice. contains id_cmp whole slice.1.id || is_sighted scan slice.0) (enumerate_from 0 scan.sought.set.slices)
 marks_found whole scan was now last before sized same marked back =
-    let slices = scan.set.slices in
+    let slices = scan.sought.set.slices in
     let f = λ (slice : ℕ × SetSlice). contains id_cmp whole slice.1.id || is_sighted scan slice.0 in
     let numbered = length-enumerate_from 0 slices in
     let counted = length-map (enumerate_from 0 slices) f in

@@ -2,6 +2,8 @@
 use Rattle.std.specs.Prelude.{◌≡◌, ℕ, Result, Ok, Err, ⊤, true, false}
 use Rattle.parfind.specs.declared.surveys.surveying.SurveyFault.{SurveyFault}
 use Rattle.parfind.specs.declared.surveys.surveying.SurveyFault.TheVariants as survey_fault
+use Rattle.parfind.specs.declared.searches.start_fault.StartFault.{StartFault}
+use Rattle.parfind.specs.declared.searches.start_fault.StartFault.TheVariants as start_fault
 use Rattle.parset.specs.declared.recovery_set.SetFault.{SetFault}
 use Rattle.parset.specs.declared.recovery_set.SetFault.TheVariants as set_fault
 use Rattle.parreport.specs.declared.text.faults.Cause.TheVariants as cause
@@ -22,6 +24,12 @@ set_fault_of set_fault.Memory = fault.Memory
 abbrev pub scanned_fault_of : SurveyFault → RunFault
 scanned_fault_of (survey_fault.Read file why) = fault.Read false file why
 scanned_fault_of survey_fault.Memory = fault.Memory
+scanned_fault_of survey_fault.TooManyTails = fault.TooManyTails
+
+-- the fault that it is for a run that a search can't be started
+abbrev pub start_fault_of : StartFault → RunFault
+start_fault_of start_fault.TooManyTails = fault.TooManyTails
+start_fault_of start_fault.Memory = fault.Memory
 
 -- it is one of reading packet files
 abbrev pub IsPacketFault : RunFault → Type 0
@@ -35,6 +43,11 @@ IsSearchFault (fault.Read packet file why) = packet ≡ false
 IsSearchFault fault.Write = ⊤
 IsSearchFault fault.Memory = ⊤
 IsSearchFault _ = ⊥
+
+-- it is one of a search, or too many short lengths were to be looked for
+abbrev pub IsFindFault : RunFault → Type 0
+IsFindFault fault.TooManyTails = ⊤
+IsFindFault other = IsSearchFault other
 
 -- where a scanned file could not be read, this holds of its number
 abbrev pub OnScannedFault : (ℕ → Type 0) → RunFault → Type 0

@@ -9,36 +9,42 @@ use Rattle.parfind.specs.Sightings.{sightings_from}
 use Rattle.parfind.specs.Moves.{IsBelow}
 use Rattle.parfind.specs.declared.cursors.cursor.Cursor.{Cursor}
 use Rattle.parfind.specs.declared.cursors.sighting.Sighting.{Sighting}
+use Rattle.parfind.specs.declared.tracks.mode.Mode.{Mode}
 use Rattle.parreport.specs.Findings.{set_scan_of}
+use Rattle.parreport.specs.SetSearch.{mode_of}
 use Rattle.parreport.specs.Names.{names_of}
 use Rattle.parreport.specs.Lines.{sighting_line, end_line, cursor_line}
 use Rattle.parshelf.specs.SinkState.{SinkState, appended, FailsAfterPrefix}
 use Rattle.parplan.specs.declared.command.Scanned.{Scanned}
+use Rattle.parreport.specs.declared.text.find.Query.{Query}
 use Rattle.parreport.specs.declared.text.faults.RunFault.{RunFault}
 use Rattle.parreport.specs.declared.text.faults.RunFault.TheVariants as fault
 
--- a search for the slices of a set, from a cursor on, in scanned files of these names and contents
+-- a search for the slices of a set in this mode, from a cursor on, in scanned files of these names
+-- and contents
 pub record Search : Type 0 where
   pub names : List (List ℕ)
   pub contents : List (List ℕ)
   pub set : SetView
+  pub mode : Mode
   pub at : Cursor
   -- how many lines are asked for, where that is limited
   pub limit : Option ℕ
 
--- the search in files that are scanned
-abbrev pub find_search_of : List Scanned → List (List ℕ) → SetView → Cursor → Option ℕ → Search
-find_search_of files contents set at limit = record {
+-- the search in files that are scanned, from a cursor of the set on
+abbrev pub find_search_of : List Scanned → List (List ℕ) → SetView → Cursor → Query → Search
+find_search_of files contents set at query = record {
   names = names_of files;
   contents = contents;
   set = set;
+  mode = mode_of query.tails;
   at = at;
-  limit = limit;
+  limit = query.limit;
 }
 
 -- the sightings from a cursor on
 abbrev pub seen_from : Search → Cursor → List Sighting
-seen_from s at = sightings_from (set_scan_of s.set s.contents) at
+seen_from s at = sightings_from (set_scan_of s.set s.mode s.contents) at
 
 -- the line of a slice of the set, seen in a file of this name
 abbrev pub line_of_slice : List ℕ → ℕ → Option SetSlice → List ℕ

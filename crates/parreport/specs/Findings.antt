@@ -8,9 +8,10 @@ use Rattle.parfield.specs.HashOrder.{id_cmp}
 use Rattle.parfield.specs.declared.hash16.Hash16.{Hash16}
 use Rattle.parset.specs.RecoverySet.{SetView}
 use Rattle.parset.specs.declared.recovery_set.SetSlice.{SetSlice}
-use Rattle.parwindow.specs.Index.{slice_set_of}
 use Rattle.parfind.specs.Sightings.{Scan}
 use Rattle.parfind.specs.Surveys.{is_sighted}
+use Rattle.parfind.specs.declared.tracks.mode.Mode.{Mode}
+use Rattle.parreport.specs.SetSearch.{set_sought_of}
 use Rattle.parreport.specs.States.{NamedFile, is_intact, state_of}
 use Rattle.parreport.specs.declared.states.findings.Findings.{Findings}
 
@@ -20,17 +21,17 @@ is_in_intact_file set scanned id =
     list_any (λ file. bytes_eq file.id.0 id.0 && is_intact (state_of scanned file)) set.files
 
 -- the slices of a set, looked for in these contents
-abbrev pub set_scan_of : SetView → List (List ℕ) → Scan
-set_scan_of set contents = record { set = slice_set_of set.size set.slices; contents = contents }
+abbrev pub set_scan_of : SetView → Mode → List (List ℕ) → Scan
+set_scan_of set mode contents = record { sought = set_sought_of set mode; contents = contents }
 
 -- the search for the slices of the set
-abbrev pub named_scan_of : SetView → List NamedFile → Scan
-named_scan_of set scanned = set_scan_of set (map (λ one. one.content) scanned)
+abbrev pub named_scan_of : SetView → Mode → List NamedFile → Scan
+named_scan_of set mode scanned = set_scan_of set mode (map (λ one. one.content) scanned)
 
 -- a slice, by its number, is found: its file is complete or renamed, or it has a sighting
-abbrev pub is_found : SetView → List NamedFile → ℕ × SetSlice → Bool
-is_found set scanned (n, slice) =
-    is_in_intact_file set scanned slice.id || is_sighted (named_scan_of set scanned) n
+abbrev pub is_found : SetView → Mode → List NamedFile → ℕ × SetSlice → Bool
+is_found set mode scanned (n, slice) =
+    is_in_intact_file set scanned slice.id || is_sighted (named_scan_of set mode scanned) n
 
 -- no search is needed for a slice: its file is one of these, or it has no sums to be found by
 abbrev pub is_settled : BTreeSet Hash16 → SetSlice → Bool
@@ -43,10 +44,10 @@ can_be_found whole slices n =
     (slice_get slices n) false
 
 -- what the scanned files show of the set
-abbrev pub findings_of : SetView → List NamedFile → Findings
-findings_of set scanned = record {
+abbrev pub findings_of : SetView → Mode → List NamedFile → Findings
+findings_of set mode scanned = record {
   states = map (state_of scanned) set.files;
-  found = map (is_found set scanned) (enumerate_from 0 set.slices);
+  found = map (is_found set mode scanned) (enumerate_from 0 set.slices);
 }
 
 -- how many slices are not found

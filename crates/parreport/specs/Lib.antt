@@ -13,6 +13,7 @@ pub mod Files
 pub mod Findings
 pub mod States
 pub mod Ends
+pub mod SetSearch
 pub mod Names
 pub mod OpenedFiles
 pub mod Unchanged

@@ -24,6 +24,8 @@ abbrev pub Answers : Report → Result Status RunFault → SinkState → SinkSta
 Answers report (Ok status) old new = (report.answer ≡ Ok status) × (new ≡ appended old report.text)
 Answers report (Err (fault.Set why)) old new = (report.answer ≡ Err (fault.Set why)) × (new ≡ old)
 Answers report (Err fault.OtherSet) old new = (report.answer ≡ Err fault.OtherSet) × (new ≡ old)
+Answers report (Err fault.TooManyTails) old new =
+    (report.answer ≡ Err fault.TooManyTails) × (new ≡ old)
 Answers report (Err fault.Write) old new = FailsAfterPrefix old new report.text
 Answers report (Err _) old new = WritesPrefix old new report.text
 
@@ -34,7 +36,8 @@ pub record Input : Type 0 where
 
 -- where the command is `find`, this holds of what is asked
 abbrev pub OnFind : Command → (Query → Type 0) → Type 0
-OnFind (command.Find limit cursor) Holds = Holds (record { limit = limit; cursor = cursor })
+OnFind (command.Find limit cursor tails) Holds =
+    Holds (record { limit = limit; cursor = cursor; tails = tails })
 OnFind _ Holds = ⊤
 
 -- after a failed read of this scanned file: the command reads it, there was a set, and of `find`
@@ -45,7 +48,7 @@ pub record ReadFaultLeaves (plan : Plan) (input : Input) (file : ℕ) (old new :
   pub reads : IsTrue (reads_scanned plan.command)
   pub made : set_of input.packets plan.set ≡ Ok set
   pub lines : OnFind plan.command (λ query. IsSomeAnd (start_cursor_of set query.cursor) (λ at.
-      WritesLinesBefore (find_search_of plan.scanned input.contents set at query.limit) file old new))
+      WritesLinesBefore (find_search_of plan.scanned input.contents set at query) file old new))
 
 -- so many bytes were written
 abbrev pub written : SinkState → SinkState → ℕ
@@ -73,9 +76,12 @@ abbrev pub LeavesPackets : {A : Type 0} → Result A RunFault → ShelfState →
 LeavesPackets (Err (fault.Read true file why)) old new = FaultsIn old new file why
 LeavesPackets _ old new = ReadsOnly old new
 
--- what it says of the shelf of scanned files
+-- what it says of the shelf of scanned files: where no search begins, none of them is read
 abbrev pub LeavesScanned : Result Status RunFault → ShelfState → ShelfState → Type 0
 LeavesScanned (Err (fault.Read false file why)) old new = FaultsIn old new file why
+LeavesScanned (Err (fault.Set why)) old new = new ≡ old
+LeavesScanned (Err fault.OtherSet) old new = new ≡ old
+LeavesScanned (Err fault.TooManyTails) old new = new ≡ old
 LeavesScanned _ old new = ReadsOnly old new
 
 -- what it says of the sink's failures: a write fault is the one

@@ -5,7 +5,10 @@ use Rattle.parfield.specs.declared.hash16.Hash16.{Hash16}
 use Rattle.parfind.specs.Order.{origin}
 use Rattle.parfind.specs.declared.cursors.cursor.Cursor.{Cursor}
 use Rattle.parreport.specs.Faults.{set_fault_of}
-use Rattle.parreport.specs.FindText.{find_text, find_search_of}
+use Rattle.parreport.specs.FindText.{Search, find_text, find_search_of}
+use Rattle.parreport.specs.SetSearch.{has_too_many_tails, mode_of, set_sought_of}
+use Rattle.parfind.specs.Sought.{Sought}
+use Rattle.parfind.specs.declared.tracks.mode.Mode.{Mode}
 use Rattle.parsalvage.specs.Kept.{kept_of_files}
 use Rattle.parsalvage.specs.declared.kept.Kept.{Kept}
 use Rattle.parset.specs.RecoverySet.{SetView, set_of}
@@ -50,29 +53,41 @@ abbrev pub start_cursor_of : SetView → Option (Hash16 × Cursor) → Option Cu
 start_cursor_of set None = Some origin
 start_cursor_of set (Some (id, at)) = if bytes_eq id.0 set.id.0 then Some at else None
 
+-- the report after a search, unless it would have to look for too many short lengths
+abbrev pub report_after : Sought → Report → Report
+report_after sought report =
+    if has_too_many_tails sought then record { text = []; answer = Err fault.TooManyTails }
+    else report
+
+-- the report of a search
+abbrev pub search_report : Search → Report
+search_report s = report_after (set_sought_of s.set s.mode) (listed (find_text s))
+
 -- the report of `find` from a cursor on, if it is of the set
-abbrev pub report_from : Option Cursor → (Cursor → List ℕ) → Report
-report_from None text = record { text = []; answer = Err fault.OtherSet }
-report_from (Some at) text = listed (text at)
+abbrev pub report_from : Option Cursor → (Cursor → Report) → Report
+report_from None report = record { text = []; answer = Err fault.OtherSet }
+report_from (Some at) report = report at
 
 -- the report of `find`
 abbrev pub find_report : Plan → Query → List (List ℕ) → SetView → Report
 find_report plan query scanned set =
     report_from (start_cursor_of set query.cursor)
-    (λ at. find_text (find_search_of plan.scanned scanned set at query.limit))
+    (λ at. search_report (find_search_of plan.scanned scanned set at query))
 
 -- the report of `verify`
-abbrev pub verify_report : Plan → ℕ → List (List ℕ) → SetView → Report
-verify_report plan quiet scanned set = record {
-  text = verify_text quiet set (named_files plan.scanned scanned);
-  answer = Ok (verify_status_of set (named_files plan.scanned scanned));
-}
+abbrev pub verify_report : Plan → ℕ → Mode → List (List ℕ) → SetView → Report
+verify_report plan quiet mode scanned set =
+    report_after (set_sought_of set mode) (record {
+      text = verify_text quiet set mode (named_files plan.scanned scanned);
+      answer = Ok (verify_status_of set mode (named_files plan.scanned scanned));
+    })
 
 -- the report of a command over a set
 abbrev pub command_report : Command → Plan → List (List ℕ) → SetView → Report
-command_report (command.Find limit cursor) plan scanned set =
-    find_report plan (record { limit = limit; cursor = cursor }) scanned set
-command_report (command.Verify quiet) plan scanned set = verify_report plan quiet scanned set
+command_report (command.Find limit cursor tails) plan scanned set =
+    find_report plan (record { limit = limit; cursor = cursor; tails = tails }) scanned set
+command_report (command.Verify quiet tails) plan scanned set =
+    verify_report plan quiet (mode_of tails) scanned set
 command_report _ plan scanned set = set_report plan set
 
 -- the report of a command over the packets and the scanned files; `packets` needs no set

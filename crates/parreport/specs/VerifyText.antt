@@ -5,6 +5,7 @@ use Rattle.std.specs.List.{flat_map, list_all, zip}
 use Rattle.parfield.specs.Shown.{shown}
 use Rattle.parfield.specs.declared.hash16.Hash16.{Hash16}
 use Rattle.parset.specs.RecoverySet.{SetView}
+use Rattle.parfind.specs.declared.tracks.mode.Mode.{Mode}
 use Rattle.parset.specs.Slices.{slice_count}
 use Rattle.parset.specs.declared.recovery_set.SetFile.{SetFile}
 use Rattle.parreport.specs.Lines.{set_line}
@@ -96,10 +97,10 @@ findings_text quiet set names findings =
     ++ (if nat_lt quiet 2 then result_text set findings else [])
 
 -- the text over scanned files
-abbrev pub verify_text : ℕ → SetView → List NamedFile → List ℕ
-verify_text quiet set scanned =
-    findings_text quiet set (map (λ file. file.name) scanned) (findings_of set scanned)
+abbrev pub verify_text : ℕ → SetView → Mode → List NamedFile → List ℕ
+verify_text quiet set mode scanned =
+    findings_text quiet set (map (λ file. file.name) scanned) (findings_of set mode scanned)
 
 -- the status over scanned files
-abbrev pub verify_status_of : SetView → List NamedFile → Status
-verify_status_of set scanned = status_of set (findings_of set scanned)
+abbrev pub verify_status_of : SetView → Mode → List NamedFile → Status
+verify_status_of set mode scanned = status_of set (findings_of set mode scanned)

@@ -1,14 +1,16 @@
 //! The report that a plan asks for, and how a run ends. Plans, sinks and their failures are passed
 //! on, so that one `use` reaches a whole run but for its shelves.
 //!
-//! From below: `states` says what the scanned files show of a set, `text` writes what each command
-//! tells, `salvage` collects the packets of all packet files, and `report` is the run of a plan
-//! over its files. `ends` has how a run ends, `messages` the exit status and the line of each end, and
-//! `opened_files` what the program does once it tried to open the files.
+//! From below: `modes` says how short slices are looked for, `states` what the scanned files show of
+//! a set, `text` writes what each command tells, `salvage` collects the packets of all packet files,
+//! and `report` is the run of a plan over its files. `ends` has how a run ends, `messages` the exit
+//! status and the line of each end, and `opened_files` what the program does once it tried to open
+//! the files.
 #![tactic(auto)]
 
 mod ends;
 mod messages;
+mod modes;
 mod opened_files;
 mod report;
 mod salvage;

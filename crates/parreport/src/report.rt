@@ -95,11 +95,21 @@ fn run_over_set<Q: Shelf, W: Sink>(
         → Q.state scanned.new ≡ Q.state scanned.old }
 {
     match plan.command {
-        Command::Find { limit, cursor } => {
-            let query = Query { limit, cursor };
+        Command::Find {
+            limit,
+            cursor,
+            tails,
+        } => {
+            let query = Query {
+                limit,
+                cursor,
+                tails,
+            };
             write_find(alloc, plan, query, set, scanned, out)
         }
-        Command::Verify { quiet } => write_verify(alloc, plan, quiet, set, scanned, out),
+        Command::Verify { quiet, tails } => {
+            write_verify(alloc, plan, quiet, tails, set, scanned, out)
+        }
         // `packets` needs no set, and never comes here.
         Command::Packets | Command::Set => write_set(alloc, plan, set, out),
     }

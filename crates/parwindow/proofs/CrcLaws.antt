@@ -7,14 +7,14 @@ use Rattle.std.proofs.Math.Nat.{zero-add, suc-add}
 use Rattle.parwindow.specs.Crc32.{crc_step, crc_steps, register_after, register_of, crc_of, removal_of, slid_crc_of, CrcSlides}
 use Rattle.parwindow.proofs.XorLaws.{xor_laws, xor_half, xor_odd}
 
-even_or_odd : (n : ℕ) → (n % 2 ≡ 0) ⊎ (n % 2 ≡ 1)
+pub even_or_odd : (n : ℕ) → (n % 2 ≡ 0) ⊎ (n % 2 ≡ 1)
 even_or_odd n = grind arith
 
 pub crc_step-even : (r : ℕ) → r % 2 ≡ 0 → crc_step r ≡ r / 2
 unfolding crc_step
 crc_step-even r even = rw even
 
-crc_step-odd : (r : ℕ) → r % 2 ≡ 1 → crc_step r ≡ bit_xor (r / 2) 0xEDB88320
+pub crc_step-odd : (r : ℕ) → r % 2 ≡ 1 → crc_step r ≡ bit_xor (r / 2) 0xEDB88320
 unfolding crc_step
 crc_step-odd r odd = rw odd
 

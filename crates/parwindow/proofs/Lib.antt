@@ -20,3 +20,7 @@ pub mod LengthLaws
 pub mod TailLaws
 pub mod TailMoveLaws
 pub mod ShortLaws
+pub mod TurnLaws
+pub mod PowerLaws
+pub mod BackLaws
+pub mod TailSlideLaws

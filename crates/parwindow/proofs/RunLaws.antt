@@ -16,13 +16,13 @@ pub crc_steps_none : (r : ℕ) → crc_steps 0 r ≡ r
 unfolding crc_steps
 crc_steps_none r = refl
 
-crc_steps-nothing : (n : ℕ) → crc_steps n 0 ≡ 0
+pub crc_steps-nothing : (n : ℕ) → crc_steps n 0 ≡ 0
 unfolding crc_steps crc_step
 crc_steps-nothing zero = refl
 crc_steps-nothing (suc n) = crc_steps-nothing n
 
 -- one bit more of a number
-mod_more : (n i : ℕ) → n % 2 ^ (i + 1) ≡ bit_at n i * 2 ^ i + n % 2 ^ i
+pub mod_more : (n i : ℕ) → n % 2 ^ (i + 1) ≡ bit_at n i * 2 ^ i + n % 2 ^ i
 mod_more n i = let e : i + 1 ≡ 1 + i = omega arith in rw e (mod-pow-add n 1 i)
 
 apply_more_one : (len r i c out : ℕ) → out ≡ crc_steps (8 * len) (r % 2 ^ i)
@@ -102,3 +102,26 @@ pub fills_more : (f : ℕ → ℕ) (size : ℕ) (xs : List ℕ) (i v : ℕ) → 
     → (length (set xs i v) ≡ size) × ((k : ℕ) → k < i + 1 → get_or (set xs i v) k 0 ≡ f k)
 fills_more f size xs i v len within is below =
     (simp length-set len, fill_more f xs i v (omega arith) is below)
+
+-- a run for each bit that is set in how many zeros there are
+module _ (count r i out : ℕ) (so_far : out ≡ crc_steps (8 * (count % 2 ^ i)) r) where
+  pub run_more_set : (len next : ℕ) → len ≡ 2 ^ i → next ≡ crc_steps (8 * len) out
+      → bit_and (count / 2 ^ i) 1 ≡ 1 → next ≡ crc_steps (8 * (count % 2 ^ (i + 1))) r
+  run_more_set len next long is set =
+      let bit : bit_at count i ≡ 1 = sym (shr_and_one count i) ∙ set in
+      let more = rw (bit, one-mul) at (mod_more count i) in
+      let e : 8 * (count % 2 ^ i) + 8 * len ≡ 8 * (count % 2 ^ (i + 1)) =
+      omega (arith, more, long) in
+      is ∙ ap (crc_steps (8 * len)) so_far
+      ∙ sym (crc_steps-add (8 * (count % 2 ^ i)) (8 * len) r) ∙ ap (λ n. crc_steps n r) e
+
+  pub run_more_clear : (bit_and (count / 2 ^ i) 1 ≡ 1 → ⊥)
+      → out ≡ crc_steps (8 * (count % 2 ^ (i + 1))) r
+  run_more_clear clear =
+      let bit : bit_at count i ≡ 0 = omega (arith, shr_and_one count i, bit_at-lt count i) in
+      rw (mod_more count i, bit, zero-mul, zero-add) so_far
+
+pub run_none : (count r : ℕ) → r ≡ crc_steps (8 * (count % 1)) r
+run_none count r =
+    let none : 8 * (count % 1) ≡ 0 = omega (arith, mod-one count) in
+    rw none (sym (crc_steps_none r))

@@ -37,7 +37,7 @@ unfolding crc_step crc_steps
 twice_agrees = refl
 
 -- steps of a number whose low bits are zeros only move it down
-crc_steps-high : (n high : ℕ) → crc_steps n (high * 2 ^ n) ≡ high
+pub crc_steps-high : (n high : ℕ) → crc_steps n (high * 2 ^ n) ≡ high
 unfolding crc_steps
 crc_steps-high zero high = omega arith
 crc_steps-high (suc n) high =

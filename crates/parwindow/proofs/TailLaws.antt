@@ -6,7 +6,9 @@ use Rattle.std.specs.Int.Bits.{bit_xor, xor_zero_r}
 use Rattle.std.proofs.lemmas.List.{get_or-map, length-map, replicate-append-replicate, take_all, append-nil, take-append-drop}
 use Rattle.std.proofs.lemmas.List.Sums.{fold-append}
 use Rattle.parwindow.specs.Crc32.{crc_steps, register_after, register_of, crc_of}
-use Rattle.parwindow.specs.Tails.{lengths_of, IsTail}
+use Rattle.parwindow.specs.FilterBits.{zeros_crc}
+use Rattle.parwindow.specs.Index.{SliceSet, set_has_own_crc}
+use Rattle.parwindow.specs.Tails.{is_tail_slice, lengths_of, IsTail}
 use Rattle.parwindow.specs.Window.{ZerosFill, zero_filled}
 use Rattle.parwindow.specs.declared.tail.Tail.{Tail}
 use Rattle.parwindow.proofs.CrcLaws.{crc_steps-add}
@@ -71,6 +73,15 @@ module _ (tails : List Tail) (k size : ℕ) (content : List ℕ) (tail : Tail)
 
   pub tail_is : All (IsTail size content) tails → IsTail size content tail
   tail_is each = rw (← is) at (each k tail there)
+
+-- whether a slice has its CRC-32, by its register
+pub tail_slice : (set : SliceSet) (size : ℕ) (content : List ℕ) (tail : Tail)
+    → IsTail size content tail
+    → set_has_own_crc set (zeros_crc tail.zeros.len tail.register) tail.length
+    ≡ is_tail_slice set size content tail.length
+tail_slice set size content tail is =
+    ap (λ crc. set_has_own_crc set crc tail.length)
+    (tail_crc_is content size tail.length tail.zeros.len tail.register is.rolled is.filled)
 
 -- a tail is shorter than the window
 pub tail_fits : (tails : List Tail) (k size : ℕ) (content : List ℕ)

@@ -99,6 +99,20 @@ module _ (tails : List Tail) (k : ℕ) (t e : Tail) (below : k < length tails)
   pub lengths_more : lengths_of (set tails k t) ≡ lengths_of tails
   lengths_more = map-set_same (λ (tail : Tail). tail.length) tails k t e length_is
 
+  pub moved_to : (cap : ℕ) (before after : List ℕ) → IsTail cap after t
+      → MovedSoFar cap before after tails k → MovedSoFar cap before after (set tails k t) (k + 1)
+  moved_to cap before after now so_far = record {
+    moved = λ j d less. elim (cases_lt j k) [
+      | inl early ↦ let ne : j ≢ k = omega arith in
+          rw get_or-set_other (so_far.moved j d early)
+      | inr up ↦ let last : j ≡ k = omega arith in rw (last, get_or-set_same) now
+    ];
+    others = λ j d more inside.
+        let ne : j ≢ k = omega arith in
+        rw get_or-set_other (so_far.others j d (omega arith)
+        (omega (arith, inside, length-set tails k t)));
+  }
+
   pub moved_more : (cap : ℕ) (before after : List ℕ) → t.zeros.len ≡ (get_or tails k e).zeros.len
       → t.register ≡ register_of (take (get_or tails k e).length after)
       → MovedSoFar cap before after tails k → MovedSoFar cap before after (set tails k t) (k + 1)
@@ -110,17 +124,7 @@ module _ (tails : List Tail) (k : ℕ) (t e : Tail) (below : k < length tails)
         filled = rw (length_is, zeros_is) was.filled;
         rolled = rw length_is moves;
       } in
-      record {
-        moved = λ j d less. elim (cases_lt j k) [
-          | inl early ↦ let ne : j ≢ k = omega arith in
-              rw get_or-set_other (so_far.moved j d early)
-          | inr up ↦ let last : j ≡ k = omega arith in rw (last, get_or-set_same) now
-        ];
-        others = λ j d more inside.
-            let ne : j ≢ k = omega arith in
-            rw get_or-set_other (so_far.others j d (omega arith)
-            (omega (arith, inside, length-set tails k t)));
-      }
+      moved_to cap before after now so_far
 
 -- one tail more of a window without bytes
 pub tail_pushed : (size : ℕ) (lengths : List ℕ) (tails : List Tail) (i : ℕ) (t : Tail)

@@ -1,8 +1,9 @@
 -- The bits that say of nearly all registers at once that they are no slice's.
-use Rattle.std.specs.Prelude.{ℕ, ◌*◌, ◌%◌, ◌^◌, List, bit_xor, IsTrue}
+use Rattle.std.specs.Prelude.{ℕ, ◌-◌, ◌*◌, ◌%◌, ◌^◌, ◌<◌, List, bit_xor, IsTrue}
 use Rattle.std.specs.List.{list_any}
 use Rattle.parset.specs.declared.recovery_set.SetSlice.{SetSlice}
-use Rattle.parwindow.specs.Index.{has_known_crc}
+use Rattle.parwindow.specs.Crc32.{crc_steps}
+use Rattle.parwindow.specs.Index.{has_known_crc, has_own}
 use Rattle.parwindow.specs.KeyBits.{HasBit}
 use Rattle.parwindow.specs.declared.bloom_filter.BloomFilter.{BloomFilter}
 
@@ -21,3 +22,15 @@ abbrev pub HasSlices : List SetSlice → BloomFilter → Type 0
 HasSlices slices filter =
     (crc : ℕ) → IsTrue (list_any (has_known_crc crc) slices)
     → MayHave filter (bit_xor crc 0xFFFFFFFF)
+
+-- the CRC-32 that so many zeros make of a register
+abbrev pub zeros_crc : ℕ → ℕ → ℕ
+zeros_crc zeros register = bit_xor (crc_steps (8 * zeros) register) 0xFFFFFFFF
+
+-- both bits of each register are set of which the zeros up to the slice size make the CRC-32 of a
+-- shorter slice
+abbrev pub HasTails : ℕ → List SetSlice → BloomFilter → Type 0
+HasTails size slices filter =
+    (own register : ℕ) → own < size → register < 2 ^ 32
+    → IsTrue (list_any (has_own own (has_known_crc (zeros_crc (size - own) register))) slices)
+    → MayHave filter register

@@ -7,6 +7,7 @@ pub mod Index
 pub mod KeyBits
 pub mod Least
 pub mod Missing
+pub mod Powers
 pub mod Rolled
 pub mod Slide
 pub mod Tables

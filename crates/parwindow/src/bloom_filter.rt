@@ -1,7 +1,9 @@
-ghost use Rattle.std.specs.Prelude.{◌≡◌, ◌↔◌, ℕ, IsTrue, IfOk};
+ghost use Rattle.std.specs.Prelude.{◌≡◌, ◌↔◌, ◌≤◌, ℕ, IsTrue, IfOk};
+ghost use Rattle.parset.specs.Limits.{slice_size_limit};
 ghost use Rattle.parwindow.specs.FilterBits.{scattered_key};
 
 use crate::bit_set::BitSet;
+use crate::zero_runs::ZeroRuns;
 use parset::SetSlice;
 use std::alloc::{AllocError, Global};
 
@@ -15,7 +17,7 @@ pub struct BloomFilter {
 }
 
 impl BloomFilter {
-    ghost use Rattle.parwindow.specs.FilterBits.{MayHave, HasSlices};
+    ghost use Rattle.parwindow.specs.FilterBits.{MayHave, HasSlices, HasTails};
 
     /// A filter that has the register of each slice.
     pub fn of(alloc: Global, slices: &[SetSlice]) -> Result<BloomFilter, AllocError>
@@ -28,6 +30,32 @@ impl BloomFilter {
         for slice in slices {
             if let Some((_, crc)) = slice.sums {
                 filter.insert(crc ^ 0xFFFF_FFFF);
+            }
+        }
+        Ok(filter)
+    }
+
+    /// A filter that has the register of the own bytes of each slice that is shorter than this
+    /// size, before the zeros that fill it.
+    pub fn of_tails(
+        alloc: Global,
+        size: u64,
+        slices: &[SetSlice],
+    ) -> Result<BloomFilter, AllocError>
+        requires { size ≤ slice_size_limit }
+        ensures { IfOk result (HasTails size slices.now) }
+    {
+        let runs = ZeroRuns::new(alloc)?;
+        let mut filter = BloomFilter {
+            plain: BitSet::new(alloc)?,
+            scattered: BitSet::new(alloc)?,
+        };
+        for slice in slices {
+            if let Some((_, crc)) = slice.sums {
+                if slice.length < size {
+                    let zeros = (size - slice.length) as u32;
+                    filter.insert(runs.before(zeros, crc ^ 0xFFFF_FFFF));
+                }
             }
         }
         Ok(filter)

@@ -1,6 +1,7 @@
-ghost use Rattle.std.specs.Prelude.{◌≡◌, ◌<◌, ◌≤◌, ◌%◌, ◌↔◌, length, slice_get, slice_index, IfOk, IfSome, IsTrue};
+ghost use Rattle.std.specs.Prelude.{◌≡◌, ℕ, ◌-◌, ◌<◌, ◌≤◌, ◌%◌, ◌↔◌, length, slice_get, slice_index, IfOk, IfSome, IsTrue};
 ghost use Rattle.std.specs.Option.{IsSomeAnd};
-ghost use Rattle.parwindow.specs.Index.{slice_set_of, slice_passes, has_own, has_sums, has_known_crc, set_has_crc, set_has_fit, set_has_own_crc, tails_of};
+ghost use Rattle.parwindow.specs.Index.{IsSliceSet, slice_set_of, slice_passes, has_own, has_sums, has_known_crc, set_has_crc, set_has_fit, set_has_own_crc, tails_of};
+ghost use Rattle.parwindow.specs.FilterBits.{zeros_crc};
 ghost use Rattle.parwindow.specs.Indexed.{IsShortest};
 ghost use Rattle.parwindow.specs.Least.{IsLeastFrom};
 ghost use Rattle.parset.specs.Limits.{slice_size_limit, slice_limit};
@@ -23,6 +24,7 @@ pub struct Index {
     size: u64,
     slices: Sequence<SetSlice>,
     filter: BloomFilter,
+    tail_filter: BloomFilter,
     entries: Entries,
     lengths: OwnLengths,
     shortest: Option<u64>,
@@ -52,6 +54,7 @@ impl Index {
             size: set.size(),
             slices: Sequence::from_vec(slices),
             filter: BloomFilter::of(alloc, set.slices())?,
+            tail_filter: BloomFilter::of_tails(alloc, set.size(), set.slices())?,
             entries: Entries::of(alloc, set.slices())?,
             lengths: OwnLengths::of(alloc, set.slices())?,
             shortest: shortest_of(set.slices()),
@@ -65,6 +68,7 @@ impl Index {
         ensures least { 4 ≤ result }
         ensures greatest { result ≤ slice_size_limit }
         ensures multiple { result % 4 ≡ 0 }
+        ensures set { IsSliceSet self.now }
     {
         self.size
     }
@@ -170,6 +174,16 @@ impl Index {
         ensures { IsTrue result ↔ HasRegister self.now register }
     {
         self.has_crc(register ^ 0xFFFF_FFFF)
+    }
+
+    /// Whether zeros up to the slice size may make of this register the CRC-32 of a slice that is
+    /// shorter.
+    pub(crate) fn may_have_tail(&self, register: u32) -> bool
+        ensures { (own : ℕ) → own < self.now.slice_size
+            → IsTrue (set_has_own_crc self.now
+            (zeros_crc (self.now.slice_size - own) register) own) → IsTrue result }
+    {
+        self.tail_filter.may_have(register)
     }
 
     /// The first slice from a number on that has both sums.

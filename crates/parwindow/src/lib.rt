@@ -4,7 +4,8 @@
 //! From below: `table` and `checksum` take eight steps of a CRC-32 by one look-up. `entry` is a
 //! slice with checksums, `entries` are all of them, sorted, and `own_lengths` their CRC-32s, each
 //! with how many bytes are its file's. `bit_set` and `bloom_filter` say of nearly every register
-//! that it is no slice's; `index` asks that filter first whether some slice has a CRC-32.
+//! that it is no slice's; `index` asks that filter first whether some slice has a CRC-32, and another
+//! one, of registers that `zero_runs` takes back before the zeros, of shorter slices.
 //! `zero_run` makes, by squaring, the table of what a byte has left in a register once a window has
 //! followed it, and `tables` holds that. `slid` is how far a window slid, and `sliding` takes out
 //! of the register what goes as bytes come, so that it rolls. `tail_lengths` collects the lengths
@@ -30,6 +31,7 @@ mod tail_lengths;
 mod tails;
 mod window;
 mod zero_run;
+mod zero_runs;
 mod zeros;
 
 pub use crate::checksum::crc32;

@@ -1,12 +1,15 @@
-ghost use Rattle.std.specs.Prelude.{◌≡◌, ℕ, ◌-◌, ◌<◌, ◌≤◌, ◌++◌, List, [], ◌∷◌, All, IfOk, length, take};
+ghost use Rattle.std.specs.Prelude.{◌≡◌, ℕ, ◌+◌, ◌-◌, ◌<◌, ◌≤◌, ◌++◌, List, [], ◌∷◌, All, IfOk, IsTrue, length, slice_index, take};
 ghost use Rattle.circular_buffer.specs.Buffer.{keep_last};
 ghost use Rattle.parset.specs.Limits.{slice_size_limit};
 ghost use Rattle.parwindow.specs.Crc32.{register_of};
+ghost use Rattle.parwindow.specs.FilterBits.{zeros_crc};
+ghost use Rattle.parwindow.specs.Index.{set_has_own_crc};
 ghost use Rattle.parwindow.specs.Slide.{slid_register};
-ghost use Rattle.parwindow.specs.Tails.{lengths_of, IsTail};
+ghost use Rattle.parwindow.specs.Tails.{is_tail_slice, lengths_of, some_tail_slice, IsTail};
 ghost use Rattle.parwindow.specs.Window.{AreTails};
 
 use crate::checksum::after_byte;
+use crate::index::Index;
 use crate::tail::Tail;
 use crate::zero_run::{ZeroRun, removal_table};
 use circular_buffer::HeapCircularBuffer;
@@ -27,9 +30,52 @@ impl Tail {
         if !ring.is_full() {
             return self.register;
         }
-        let gone = ring.get(0).copied().unwrap_or(0);
+        self.slid_on(ring, first_of(ring))
+    }
+
+    // The register once any byte comes behind a full ring, and this first one goes.
+    fn slid_on(&self, ring: &HeapCircularBuffer<u8>, gone: u8) -> u32
+        requires tail { IsTail ring.now.capacity ring.now.items self.now }
+        requires full { length ring.now.items ≡ ring.now.capacity }
+        requires gone { gone ≡ slice_index ring.now.items 0 }
+        ensures { (byte : ℕ) → result ≡ register_of
+            (take self.now.length (keep_last ring.now.capacity (ring.now.items ++ byte ∷ []))) }
+    {
         let come = ring.get(self.length).copied().unwrap_or(0);
         self.slid(gone, come)
+    }
+
+    /// Whether its bytes and zeros have the CRC-32 of a slice of this own length; `sized` says that
+    /// they are as many as a slice of the index has.
+    pub fn is_slice(&self, index: &Index, sized: bool) -> bool
+        requires shorter { 0 < self.now.zeros.len }
+        requires sized { IsTrue sized
+            → self.now.length + self.now.zeros.len ≡ index.now.slice_size }
+        ensures { result ≡ set_has_own_crc index.now
+            (zeros_crc self.now.zeros.len self.now.register) self.now.length }
+    {
+        if sized && !index.may_have_tail(self.register) {
+            return false;
+        }
+        let crc = self.zeros.apply(self.register) ^ 0xFFFF_FFFF;
+        index.has_crc_of(crc, self.length as u64)
+    }
+
+    // Any byte comes behind a full ring, and this first one goes; whether its bytes and zeros then
+    // have the CRC-32 of a slice of this own length.
+    fn slide(&mut self, ring: &HeapCircularBuffer<u8>, index: &Index, gone: u8, sized: bool) -> bool
+        requires tail { IsTail ring.now.capacity ring.now.items self.old }
+        requires full { length ring.now.items ≡ ring.now.capacity }
+        requires gone { gone ≡ slice_index ring.now.items 0 }
+        requires sized { IsTrue sized → index.now.slice_size ≡ ring.now.capacity }
+        ensures length { self.new.length ≡ self.old.length }
+        ensures tail { (byte : ℕ) → IsTail ring.now.capacity
+            (keep_last ring.now.capacity (ring.now.items ++ byte ∷ [])) self.new }
+        ensures slice { (byte : ℕ) → result ≡ is_tail_slice index.now ring.now.capacity
+            (keep_last ring.now.capacity (ring.now.items ++ byte ∷ [])) self.old.length }
+    {
+        self.register = self.slid_on(ring, gone);
+        self.is_slice(index, sized)
     }
 
     // The register once one byte goes and one comes.
@@ -72,6 +118,35 @@ pub fn move_tails(tails: &mut [Tail], ring: &HeapCircularBuffer<u8>, byte: u8)
         let register = tails[k].moved(ring, byte);
         tails[k].register = register;
     }
+}
+
+/// Any byte comes behind a full ring, and the first one goes; whether some tail then has the CRC-32
+/// of a slice of its length.
+pub fn slide_tails(tails: &mut [Tail], ring: &HeapCircularBuffer<u8>, index: &Index) -> bool
+    requires tails { All (IsTail ring.now.capacity ring.now.items) tails.old }
+    requires full { length ring.now.items ≡ ring.now.capacity }
+    requires some { 0 < ring.now.capacity }
+    ensures lengths { lengths_of tails.new ≡ lengths_of tails.old }
+    ensures each { (byte : ℕ) → All (IsTail ring.now.capacity
+        (keep_last ring.now.capacity (ring.now.items ++ byte ∷ []))) tails.new }
+    ensures slice { (byte : ℕ) → result ≡ some_tail_slice index.now ring.now.capacity
+        (keep_last ring.now.capacity (ring.now.items ++ byte ∷ [])) (lengths_of tails.new) }
+{
+    let sized = index.size() == ring.capacity() as u64;
+    let gone = first_of(ring);
+    let mut hit = false;
+    for k in 0..tails.len() {
+        hit = tails[k].slide(ring, index, gone, sized) || hit;
+    }
+    hit
+}
+
+// The first byte of a ring that has one.
+fn first_of(ring: &HeapCircularBuffer<u8>) -> u8
+    requires { 0 < length ring.now.items }
+    ensures { result ≡ slice_index ring.now.items 0 }
+{
+    ring.get(0).copied().unwrap_or(0)
 }
 
 /// No byte is left.

@@ -8,7 +8,7 @@ ghost use Rattle.parwindow.specs.Window.{content_after, empty_window, fallen_byt
 use crate::index::Index;
 use crate::tables::SlideTables;
 use crate::tail::Tail;
-use crate::tails::{clear_tails, move_tails, tails_for};
+use crate::tails::{clear_tails, move_tails, slide_tails, tails_for};
 use crate::zeros::hash_zeros;
 use circular_buffer::HeapCircularBuffer;
 use md5::{Digest, Md5};
@@ -121,35 +121,32 @@ impl Window {
         ensures until { PushesUntil index.now self.old bytes.now result }
     {
         for (i, &byte) in bytes.iter().enumerate() {
-            self.push(byte);
-            if self.is_at_slice(index) {
+            if self.push_on(index, byte) {
                 return i + 1;
             }
         }
         bytes.len()
     }
 
-    // Whether the content has the CRC-32 of a slice, or a tail that of one of its length.
-    fn is_at_slice(&self, index: &Index) -> bool
-        requires full { length self.now.content ≡ self.now.capacity }
-        ensures { result ≡ is_at_slice index.now self.now }
+    // Pushes a byte into a full window; whether it is at a slice then.
+    fn push_on(&mut self, index: &Index, byte: u8) -> bool
+        requires full { length self.old.content ≡ self.old.capacity }
+        ensures content { self.new ≡ record self.old { content = content_after self.old byte } }
+        ensures slice { result ≡ is_at_slice index.now self.new }
     {
-        self.has_tail_slice(index) || index.has_crc(self.crc())
+        self.slide_on(index, byte) || index.has_crc(self.crc())
     }
 
-    // Whether a tail has the CRC-32 of a slice of its length.
-    fn has_tail_slice(&self, index: &Index) -> bool
-        requires full { length self.now.content ≡ self.now.capacity }
-        ensures { result ≡ has_tail_slice index.now self.now }
+    // The same; whether a tail has the CRC-32 of a slice of its length then.
+    fn slide_on(&mut self, index: &Index, byte: u8) -> bool
+        requires full { length self.old.content ≡ self.old.capacity }
+        ensures content { self.new ≡ record self.old { content = content_after self.old byte } }
+        ensures slice { result ≡ has_tail_slice index.now self.new }
     {
-        for k in 0..self.tails.len() {
-            let crc = self.tail_crc(k);
-            let own = self.tails[k].length as u64;
-            if index.has_crc_of(crc, own) {
-                return true;
-            }
-        }
-        false
+        let has_tail = slide_tails(&mut self.tails, &self.ring, index);
+        let fallen = self.ring.push_back(byte);
+        self.register = self.tables.moved(self.register, fallen, byte);
+        has_tail
     }
 
     /// The CRC-32 of the content, full or not.

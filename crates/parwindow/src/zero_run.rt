@@ -41,8 +41,8 @@ impl ZeroRun {
         ZeroRun { len: 0, columns }
     }
 
-    // The run and then itself again.
-    fn twice(&self) -> Self
+    /// The run and then itself again.
+    pub fn twice(&self) -> Self
         requires { 2 * self.now.len < 2 ^ 64 }
         ensures { result.len ≡ 2 * self.now.len }
     {

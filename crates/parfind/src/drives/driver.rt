@@ -2,16 +2,18 @@ ghost use Rattle.std.specs.Prelude.{◌≡◌, ◌+◌, ◌<◌, ◌≤◌, ◌+
 ghost use Rattle.parfind.specs.Order.{is_from};
 ghost use Rattle.parfind.specs.OnePass.{HandsWithin};
 ghost use Rattle.parfind.specs.Points.{search_at};
+ghost use Rattle.parfind.specs.Sought.{sought_of};
+ghost use Rattle.parfind.specs.Starts.{TellsTails};
 ghost use Rattle.parfind.specs.Runs.{HasBudget, CallsGive, AnswersEach};
 ghost use Rattle.parfind.specs.AnswersToldOf.{TellsOf};
 ghost use Rattle.parfind.specs.declared.drives.calls.Call.TheVariants.{Reopen};
 
 use crate::drives::calls::{Answer, Call, Drive};
-use crate::{Cursor, Finder};
+use crate::{Cursor, Finder, Mode, StartFault};
 use parfield::Sequence;
 use parshelf::Shelf;
 use parwindow::Index;
-use std::alloc::{AllocError, Global};
+use std::alloc::Global;
 
 /// Makes the calls in order, from a cursor on. Memory for all answers and for the first finder is
 /// taken before any read; where another finder is refused, no further call is made.
@@ -21,12 +23,14 @@ pub fn drive<H: Shelf>(
     index: &Index,
     shelf: &mut H,
     start: Cursor,
-) -> Result<Drive, AllocError>
+    mode: Mode,
+) -> Result<Drive, StartFault>
     requires { All HasBudget calls.now }
 
     // The answers, the cursor and the shelf, where it is steady.
     ensures answer { IsTrue (H.state shelf.old).is_steady → IfOk result (λ drive.
-        CallsGive index.now (search_at (H.state shelf.old) start) calls.now drive.answers
+        CallsGive (sought_of index.now mode)
+        (search_at (H.state shelf.old) start) calls.now drive.answers
         (search_at (H.state shelf.new) drive.cursor)) }
 
     // On any shelf.
@@ -35,21 +39,22 @@ pub fn drive<H: Shelf>(
     ensures told { IfOk result (λ drive.
         TellsOf (H.state shelf.old) (H.state shelf.new) drive.answers) }
     ensures untouched { IfErr result (λ _. H.state shelf.new ≡ H.state shelf.old) }
+    ensures tails { TellsTails (sought_of index.now mode) result }
 
     // How much is read where no call reopens, on any shelf.
     ensures reads { ¬ Contains calls.now Reopen → IfOk result (λ drive.
         HandsWithin index.now.slice_size
         (search_at (H.state shelf.old) start) (search_at (H.state shelf.new) drive.cursor)) }
 {
+    let mut finder = Finder::open(alloc, index, shelf, start, mode)?;
     let mut answers = Vec::with_capacity(alloc, calls.len())?;
-    let mut finder = Finder::open(alloc, index, shelf, start)?;
     for call in calls {
         let answer = match *call {
             Call::Step(budget) => Answer::Step(finder.step(index, shelf, budget)),
             Call::Next => Answer::Step(finder.next(index, shelf)),
             Call::Reopen => {
                 let at = finder.cursor();
-                match Finder::open(alloc, index, shelf, at) {
+                match Finder::open(alloc, index, shelf, at, mode) {
                     Ok(next) => {
                         finder = next;
                         Answer::Reopened

@@ -1,5 +1,5 @@
 ghost use Rattle.std.specs.Prelude.{◌≡◌, ◌≢◌, ◌-◌, ◌<◌, ◌≤◌, None, Some, Ok, length, option_map, IsTrue, OnOk, IfOk, IfSome, IfNone};
-ghost use Rattle.parfind.specs.Finders.{BelongsTo, GoesAlong, search_of, StandsAt};
+ghost use Rattle.parfind.specs.Finders.{BelongsTo, GoesAlong, search_of, sought_for, StandsAt};
 ghost use Rattle.parfind.specs.declared.searches.finder.Step.TheVariants.{Spent};
 ghost use Rattle.parfind.specs.NextPlace.{HasFit, IsAtPlace, IsNextPlace};
 ghost use Rattle.parfind.specs.Marks.{marks};
@@ -8,14 +8,17 @@ ghost use Rattle.parfind.specs.OnePass.{CallReads};
 ghost use Rattle.parfind.specs.Places.{place_at};
 ghost use Rattle.parfind.specs.PlaceVisit.{answer_of, count_of, step_of};
 ghost use Rattle.parfind.specs.Points.{search_at};
+ghost use Rattle.parfind.specs.Sought.{sought_of};
+ghost use Rattle.parfind.specs.Starts.{TellsTails};
 ghost use Rattle.parfind.specs.Steps.{StepGives, StepSees, scan_of};
 
 use crate::cursors::{Cursor, Sighting};
 use crate::searches::places::{next_place, rest_of};
-use crate::tracks::Track;
+use crate::searches::start_fault::StartFault;
+use crate::tracks::{Look, MOST_TAILS, Mode, Track, shorter_lengths};
 use parshelf::{ReadFault, Shelf};
 use parwindow::{Index, Window};
-use std::alloc::{AllocError, Global};
+use std::alloc::Global;
 use std::marker::Model;
 
 /// What a step of a search gives.
@@ -48,6 +51,7 @@ pub struct Finder {
     cursor: Cursor,
     window: Window,
     track: Track,
+    look: Look,
 }
 
 impl Model for Finder {
@@ -61,8 +65,10 @@ impl Model for Finder {
       opening = f.opening;
       fetched = fetched_of f.track;
       digests = f.window.digests;
+      mode = f.look.mode;
       window = f.window;
       track = f.track;
+      kept = f.look.kept.items;
     } };
 }
 
@@ -73,21 +79,29 @@ impl Finder {
         index: &Index,
         shelf: &H,
         at: Cursor,
-    ) -> Result<Finder, AllocError>
+        mode: Mode,
+    ) -> Result<Finder, StartFault>
         ensures cursor { IfOk result (λ finder. finder.cursor ≡ at) }
         ensures opening { IfOk result (λ finder. finder.opening ≡ at) }
+        ensures mode { IfOk result (λ finder. finder.mode ≡ mode) }
         ensures fetched { IfOk result (λ finder. finder.fetched ≡ place_at at) }
         ensures digests { IfOk result (λ finder. finder.digests ≡ 0) }
         ensures belongs { IfOk result (λ finder. BelongsTo finder index.now (H.state shelf.now)) }
+        ensures tails { TellsTails (sought_of index.now mode) result }
     {
         // Only the contract speaks of it.
         let _ = shelf;
-        let window = Window::new(alloc, index.size() as usize)?;
+        let tails = shorter_lengths(index, mode);
+        if tails.len() > MOST_TAILS {
+            return Err(StartFault::TooManyTails);
+        }
+        let window = Window::with_tails(alloc, index.size() as usize, tails)?;
         Ok(Finder {
             opening: at,
             cursor: at,
             window,
             track: Track::new(at.file, at.offset),
+            look: Look::new(alloc, index, mode)?,
         })
     }
 
@@ -105,7 +119,8 @@ impl Finder {
         ensures belongs { BelongsTo self.new index.now (H.state shelf.new) }
 
         // The answer, the cursor and the shelf, where it is steady.
-        ensures answer { IsTrue (H.state shelf.old).is_steady → StepGives index.now None
+        ensures answer { IsTrue (H.state shelf.old).is_steady → StepGives
+            (sought_for index.now self.old) None
             (search_at (H.state shelf.old) self.old.cursor) result
             (search_at (H.state shelf.new) self.new.cursor) }
 
@@ -121,7 +136,8 @@ impl Finder {
         ensures reads { CallReads index.now.slice_size
             (search_of (H.state shelf.old) self.old) (search_of (H.state shelf.new) self.new) }
         ensures digests { IsTrue (H.state shelf.new).is_steady → self.new.digests
-            ≤ marks (scan_of index.now (H.state shelf.new)) self.new.opening self.new.cursor }
+            ≤ marks (scan_of (sought_for index.now self.new) (H.state shelf.new))
+            self.new.opening self.new.cursor }
     {
         self.advance(index, shelf, None)
     }
@@ -140,7 +156,8 @@ impl Finder {
         ensures belongs { BelongsTo self.new index.now (H.state shelf.new) }
 
         // The answer, the cursor and the shelf, where it is steady.
-        ensures answer { IsTrue (H.state shelf.old).is_steady → StepGives index.now (Some budget)
+        ensures answer { IsTrue (H.state shelf.old).is_steady → StepGives
+            (sought_for index.now self.old) (Some budget)
             (search_at (H.state shelf.old) self.old.cursor) result
             (search_at (H.state shelf.new) self.new.cursor) }
 
@@ -156,7 +173,8 @@ impl Finder {
         ensures reads { CallReads index.now.slice_size
             (search_of (H.state shelf.old) self.old) (search_of (H.state shelf.new) self.new) }
         ensures digests { IsTrue (H.state shelf.new).is_steady → self.new.digests
-            ≤ marks (scan_of index.now (H.state shelf.new)) self.new.opening self.new.cursor }
+            ≤ marks (scan_of (sought_for index.now self.new) (H.state shelf.new))
+            self.new.opening self.new.cursor }
     {
         self.advance(index, shelf, Some(budget))
     }
@@ -172,7 +190,8 @@ impl Finder {
         requires belongs { BelongsTo self.old index.now (H.state shelf.old) }
         ensures belongs { BelongsTo self.new index.now (H.state shelf.new) }
 
-        ensures answer { IsTrue (H.state shelf.old).is_steady → StepGives index.now budget
+        ensures answer { IsTrue (H.state shelf.old).is_steady → StepGives
+            (sought_for index.now self.old) budget
             (search_at (H.state shelf.old) self.old.cursor) result
             (search_at (H.state shelf.new) self.new.cursor) }
 
@@ -212,7 +231,7 @@ impl Finder {
         ensures belongs { BelongsTo self.new index.now (H.state shelf.new) }
 
         ensures sees { IsTrue (H.state shelf.old).is_steady →
-            StepSees (scan_of index.now (H.state shelf.old))
+            StepSees (scan_of (sought_for index.now self.old) (H.state shelf.old))
             self.old.cursor (answer_of result) self.new.cursor }
         ensures moves { StepMoves (H.state shelf.old).lengths (Some (count_of result))
             self.old.cursor (answer_of result) self.new.cursor }
@@ -256,7 +275,7 @@ impl Finder {
         ensures fits { IfNone result (HasFit index.now (H.state shelf.now).lengths at
             × (self.new ≡ self.old)) }
         ensures sees { IsTrue (H.state shelf.now).is_steady → IfSome result (λ _.
-            StepSees (scan_of index.now (H.state shelf.now))
+            StepSees (scan_of (sought_for index.now self.old) (H.state shelf.now))
             self.old.cursor (Ok Spent) self.new.cursor) }
         ensures passes { IfSome result (λ count. PassesAll (H.state shelf.now).lengths count
             self.old.cursor self.new.cursor) }
@@ -279,7 +298,7 @@ impl Finder {
         Some(count)
     }
 
-    // Goes to the next place, and brings the window there.
+    // Goes to the next place, and brings the window there; where it is there, digests stay.
     fn move_window<H: Shelf>(
         &mut self,
         index: &Index,
@@ -299,6 +318,10 @@ impl Finder {
         // Only the contract speaks of it.
         let _ = index;
         self.cursor = at;
+        if at.file == self.track.file() && self.window.is_full() {
+            return Ok(());
+        }
+        self.look.forget();
         self.track.enter_file(&mut self.window, at.file, at.offset);
         self.track.fill(&mut self.window, shelf)
     }
@@ -319,7 +342,7 @@ impl Finder {
         ensures belongs { BelongsTo self.new index.now (H.state shelf.new) }
 
         ensures sees { IsTrue (H.state shelf.old).is_steady →
-            StepSees (scan_of index.now (H.state shelf.old))
+            StepSees (scan_of (sought_for index.now self.old) (H.state shelf.old))
             self.old.cursor (answer_of result) self.new.cursor }
         ensures moves { StepMoves (H.state shelf.old).lengths (Some (count_of result))
             self.old.cursor (answer_of result) self.new.cursor }
@@ -332,7 +355,7 @@ impl Finder {
         let at = self.cursor;
         let rest = rest_of(shelf, at);
         if let Some(slice) = self
-            .track
+            .look
             .first_seen(&mut self.window, index, rest, at.slice)
         {
             self.cursor.slice = slice + 1;
@@ -347,6 +370,7 @@ impl Finder {
         let count = self
             .track
             .slide_until_crc(&mut self.window, index, shelf, most)?;
+        self.look.forget();
         self.cursor = Cursor {
             file: at.file,
             offset: at.offset + count,

@@ -1,3 +1,4 @@
+ghost use Rattle.parfind.specs.PlainMode.{PlainSees, PlainMarks, PlainMisses, ModesAgree};
 ghost use Rattle.parfind.specs.OnePass.{ReachAddsUp};
 ghost use Rattle.parfind.specs.Steps.{StepHandsOut, SpentSeesNone};
 
@@ -12,4 +13,13 @@ pub fn step_law()
 /// Does nothing.
 pub fn reach_law()
     ensures { ReachAddsUp }
+{}
+
+/// The laws of modes: in the plain one a slice is seen by the whole window, and marks are places;
+/// where zeros follow a slice's own bytes in a window, both modes see it. Does nothing.
+pub fn mode_law()
+    ensures sees { PlainSees }
+    ensures marks { PlainMarks }
+    ensures misses { PlainMisses }
+    ensures agree { ModesAgree }
 {}

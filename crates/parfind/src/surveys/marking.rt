@@ -1,53 +1,123 @@
-ghost use Rattle.std.specs.Prelude.{◌≡◌, length, IfSome};
+ghost use Rattle.std.specs.Prelude.{◌≡◌, ◌<◌, ◌≤◌, ◌+◌, length, replicate, if◌then◌else◌, None};
 ghost use Rattle.parwindow.specs.Index.{slice_passes, sums_of};
-ghost use Rattle.parwindow.specs.Crc32.{crc_of};
-ghost use Rattle.parwindow.specs.Missing.{set_has_missing};
-ghost use Rattle.parfind.specs.Fitting.{is_fitting_match};
-ghost use Rattle.parfind.specs.Marking.{MarksMore, TakesDigest, IsExhausted};
+ghost use Rattle.parfind.specs.Fitting.{is_fitting_look, is_fitting_match, is_fitting_of};
+ghost use Rattle.parfind.specs.Looks.{IsFullFor};
+ghost use Rattle.parfind.specs.Marking.{MarksMore, TakesDigests, AreExhausted};
+ghost use Rattle.parfind.specs.Marks.{count_missing, has_looked_missing};
+ghost use Rattle.parfind.specs.Sought.{is_looked, looked_lengths, nth_looked, sought_of};
 
-use crate::tracks::first_fitting_match;
+use crate::tracks::{
+    MOST_TAILS, Mode, count_lengths, crc_at, digest_at, first_match_at, is_missing_at,
+};
 use parfield::Hash16;
 use parwindow::{Index, Window};
 
-/// Marks each slice that has both sums of a full window and fits into what is left of the file. The
-/// MD5 is taken only where some slice with the CRC-32 fits and has no mark. `exhausted_crc` keeps a
-/// CRC-32 of which each slice that fits has its mark, so that in a run of equal windows, as of
-/// zeros, that is asked once.
-pub fn mark_seen(
-    window: &mut Window,
-    index: &Index,
-    left: u64,
-    found: &mut [bool],
-    exhausted_crc: &mut Option<u32>,
-)
-    requires each { length found.old ≡ length index.now.slices }
-    requires exhausted_crc { IfSome exhausted_crc.old (IsExhausted index.now found.old left) }
-    ensures exhausted_crc { IfSome exhausted_crc.new (IsExhausted index.now found.new left) }
-    ensures marks { MarksMore
-        (slice_passes index.now.slices (is_fitting_match (sums_of window.old.content) left)) found.old found.new }
-    ensures digest { TakesDigest
-        (set_has_missing index.now found.old (crc_of window.old.content) left) window.old window.new }
-{
-    let crc = window.crc();
-    if *exhausted_crc == Some(crc) {
-        return;
+// How many lengths of a window may be looked at.
+const MOST_LENGTHS: usize = MOST_TAILS + 1;
+
+/// For each looked length a CRC-32 of which each slice that fits has its mark, so that in a run of
+/// equal windows, as of zeros, that is asked once.
+#[derive(Drop)]
+pub struct Exhausted {
+    pub crcs: [Option<u32>; MOST_LENGTHS],
+}
+
+impl Exhausted {
+    /// None is known.
+    pub fn none() -> Exhausted
+        ensures { result.crcs ≡ replicate 257 None }
+    {
+        Exhausted {
+            crcs: [None; MOST_LENGTHS],
+        }
     }
-    if index.is_missing(crc, left, found) {
-        let digest = window.digest();
-        mark_matches(index, crc, digest, left, found);
-    } else {
-        *exhausted_crc = Some(crc);
+
+    /// None is known any more.
+    pub fn forget(&mut self)
+        ensures { self.new.crcs ≡ replicate 257 None }
+    {
+        *self = Exhausted::none();
+    }
+
+    /// Marks each slice that has both sums of what is looked at of a full window for it, and fits
+    /// into what is left of the file. An MD5 is taken only where some slice of its looked length
+    /// with the CRC-32 fits and has no mark.
+    pub fn mark_seen(
+        &mut self,
+        window: &mut Window,
+        index: &Index,
+        mode: Mode,
+        left: u64,
+        found: &mut [bool],
+    )
+        requires full { IsFullFor (sought_of index.now mode) window.old }
+        requires each { length found.old ≡ length index.now.slices }
+        requires exhausted { AreExhausted (sought_of index.now mode) found.old left self.old.crcs }
+        ensures exhausted { AreExhausted (sought_of index.now mode) found.new left self.new.crcs }
+        ensures marks { MarksMore (slice_passes index.now.slices
+            (is_fitting_look mode window.old.content left)) found.old found.new }
+        ensures digests { TakesDigests (count_missing (sought_of index.now mode) found.old
+            window.old.content left) window.old window.new }
+    {
+        let size = index.size();
+        prove!(window.size() as u64 == size);
+        for k in 0..count_lengths(index, mode) {
+            self.mark_seen_at(window, index, mode, k, left, found);
+        }
+    }
+
+    // Marks those of them for which looked length `k` is looked at.
+    fn mark_seen_at(
+        &mut self,
+        window: &mut Window,
+        index: &Index,
+        mode: Mode,
+        k: usize,
+        left: u64,
+        found: &mut [bool],
+    )
+        requires there { k < length (looked_lengths (sought_of index.now mode)) }
+        requires full { IsFullFor (sought_of index.now mode) window.old }
+        requires each { length found.old ≡ length index.now.slices }
+        requires exhausted { AreExhausted (sought_of index.now mode) found.old left self.old.crcs }
+        ensures exhausted { AreExhausted (sought_of index.now mode) found.new left self.new.crcs }
+        ensures marks { MarksMore (slice_passes index.now.slices
+            (is_fitting_of (sought_of index.now mode) window.old.content left
+            (nth_looked (sought_of index.now mode) k))) found.old found.new }
+        ensures digests { TakesDigests (if has_looked_missing (sought_of index.now mode) found.old
+            window.old.content left (nth_looked (sought_of index.now mode) k)
+            then 1 else 0) window.old window.new }
+    {
+        let crc = crc_at(window, index, mode, k);
+        if self.crcs[k] == Some(crc) {
+            return;
+        }
+        if is_missing_at(index, mode, k, crc, left, found) {
+            let digest = digest_at(window, index, mode, k);
+            mark_matches(index, mode, k, (digest, crc), left, found);
+        } else {
+            self.crcs[k] = Some(crc);
+        }
     }
 }
 
-// Marks each slice that has both sums and fits into what is left of the file.
-fn mark_matches(index: &Index, crc: u32, digest: Hash16, left: u64, found: &mut [bool])
+// Marks each slice of looked length `k` that has both sums and fits into what is left of the file.
+fn mark_matches(
+    index: &Index,
+    mode: Mode,
+    k: usize,
+    sums: (Hash16, u32),
+    left: u64,
+    found: &mut [bool],
+)
+    requires there { k < length (looked_lengths (sought_of index.now mode)) }
     requires each { length found.old ≡ length index.now.slices }
-    ensures marks { MarksMore
-        (slice_passes index.now.slices (is_fitting_match (digest, crc) left)) found.old found.new }
+    ensures marks { MarksMore (slice_passes index.now.slices (is_looked (sought_of index.now mode)
+        (nth_looked (sought_of index.now mode) k) (is_fitting_match sums left)))
+        found.old found.new }
 {
     let mut from = 0;
-    while let Some(slice) = first_fitting_match(index, crc, digest, left, from) {
+    while let Some(slice) = first_match_at(index, mode, k, sums, left, from) {
         found[slice as usize] = true;
         from = slice + 1;
     }

@@ -3,26 +3,30 @@ ghost use Rattle.parfind.specs.Tracks.{IsUnread};
 ghost use Rattle.parset.specs.Limits.{slice_size_limit};
 ghost use Rattle.parshelf.specs.Reads.{ReadsFile};
 ghost use Rattle.parfind.specs.Handover.{HandsEachOnce, SkipsUnfit};
-ghost use Rattle.parfind.specs.Marks.{missing_places};
+ghost use Rattle.parfind.specs.Marks.{missing_count};
 ghost use Rattle.parfind.specs.Steps.{scan_of};
-ghost use Rattle.parfind.specs.Surveys.{SurveyMarks, MarksUpToFault, KeepsMarks, IsAllMarked, StopsOnceFound, ReadsNamed, SurveyLeaves, marked_at};
+ghost use Rattle.parfind.specs.Surveys.{SurveyMarks, MarksUpToFault, KeepsMarks, IsAllMarked, StopsOnceFound, ReadsNamed, SurveyLeaves, SurveyTellsTails, marked_at};
 ghost use Rattle.parwindow.specs.Missing.{mark_of};
 ghost use Rattle.parfind.specs.Surveying.{SurveyEnds, survey_at};
+ghost use Rattle.parfind.specs.Sought.{IsWindowFor, sought_of};
 ghost use Rattle.parfind.specs.declared.surveys.surveying.SurveyFault.TheVariants.{Memory};
 
-use crate::surveys::marking::mark_seen;
-use crate::tracks::Track;
+use crate::surveys::marking::Exhausted;
+use crate::tracks::{MOST_TAILS, Mode, Track, shorter_lengths};
 use parshelf::{ReadFault, Shelf};
 use parwindow::{Index, Window};
 use std::alloc::{AllocError, Global};
 
-/// Why the sightings were not all found.
+/// Why the sightings were not all found. Too many tails are told before any memory is taken, and
+/// want of memory before any read.
 #[derive(Clone, Copy, Debug, PartialEq, Eq)]
 pub enum SurveyFault {
     /// The file of this number could not be read.
     Read(u32, ReadFault),
     /// Memory was refused.
     Memory,
+    /// There are more lengths of short slices than 256.
+    TooManyTails,
 }
 
 impl From<AllocError> for SurveyFault {
@@ -39,55 +43,67 @@ pub fn survey<H: Shelf>(
     index: &Index,
     shelf: &mut H,
     found: &mut [bool],
+    mode: Mode,
 ) -> Result<(), SurveyFault>
     requires { length found.old ≡ length index.now.slices }
 
     // The marks on a steady shelf.
     ensures found { IsTrue (H.state shelf.old).is_steady →
-        SurveyMarks (scan_of index.now (H.state shelf.old)) found.old found.new result }
+        SurveyMarks (scan_of (sought_of index.now mode) (H.state shelf.old))
+        found.old found.new result }
     ensures stops { IsTrue (H.state shelf.old).is_steady →
-        StopsOnceFound index.now (H.state shelf.old) (H.state shelf.new) found.old }
+        StopsOnceFound (sought_of index.now mode)
+        (H.state shelf.old) (H.state shelf.new) found.old }
 
     // On any shelf.
     ensures kept { KeepsMarks found.old found.new }
-    ensures shelf { SurveyLeaves (H.state shelf.old) (H.state shelf.new) result }
-    ensures untouched { IfErr result (λ fault. fault ≡ Memory → found.new ≡ found.old) }
+    ensures leaves { SurveyLeaves (marked_at (H.state shelf.old) found.old)
+        (marked_at (H.state shelf.new) found.new) result }
+    ensures tails { SurveyTellsTails (sought_of index.now mode) result }
     ensures handed { HandsEachOnce (H.state shelf.old) (H.state shelf.new) }
     ensures unfit { SkipsUnfit index.now (H.state shelf.old) (H.state shelf.new) }
     ensures none { IsAllMarked found.old → H.state shelf.new ≡ H.state shelf.old }
 {
-    let mut window = Window::new(alloc, index.size() as usize)?;
-    match survey_in(index, shelf, &mut window, found) {
+    let tails = shorter_lengths(index, mode);
+    if tails.len() > MOST_TAILS {
+        return Err(SurveyFault::TooManyTails);
+    }
+    let mut window = Window::with_tails(alloc, index.size() as usize, tails)?;
+    match survey_in(index, shelf, &mut window, found, mode) {
         Ok(()) => Ok(()),
         Err((file, fault)) => Err(SurveyFault::Read(file, fault)),
     }
 }
 
 /// Marks each slice of the set that has a sighting, by a window that is handed in and without
-/// memory; a fault comes with its file's number. MD5s are taken no more often than there are places
-/// where a slice that fits and has no mark at the call has the CRC-32, and no more is read than
-/// around the place by which each slice has its mark.
+/// memory; a fault comes with its file's number. MD5s are taken no more often than there are pairs
+/// of a place and a looked length by which a slice that fits and has no mark at the call has the
+/// CRC-32, and no more is read than around the place by which each slice has its mark.
 pub fn survey_in<H: Shelf>(
     index: &Index,
     shelf: &mut H,
     window: &mut Window,
     found: &mut [bool],
+    mode: Mode,
 ) -> Result<(), (u32, ReadFault)>
-    requires sized { window.old.capacity ≡ index.now.slice_size }
+    requires made { IsWindowFor (sought_of index.now mode) window.old }
     requires each { length found.old ≡ length index.now.slices }
 
     // The marks on a steady shelf.
     ensures found { IsTrue (H.state shelf.old).is_steady →
-        SurveyMarks (scan_of index.now (H.state shelf.old)) found.old found.new result }
+        SurveyMarks (scan_of (sought_of index.now mode) (H.state shelf.old))
+        found.old found.new result }
     ensures so_far { IsTrue (H.state shelf.old).is_steady → IfErr result (λ fault.
-        MarksUpToFault index.now (marked_at (H.state shelf.old) found.old)
+        MarksUpToFault (sought_of index.now mode) (marked_at (H.state shelf.old) found.old)
         (marked_at (H.state shelf.new) found.new) fault.0) }
 
     // How much is read and hashed on a steady shelf.
     ensures stops { IsTrue (H.state shelf.old).is_steady →
-        StopsOnceFound index.now (H.state shelf.old) (H.state shelf.new) found.old }
+        StopsOnceFound (sought_of index.now mode)
+        (H.state shelf.old) (H.state shelf.new) found.old }
     ensures digests { IsTrue (H.state shelf.old).is_steady → window.new.digests
-        ≤ window.old.digests + missing_places (scan_of index.now (H.state shelf.old)) found.old }
+        ≤ window.old.digests
+        + missing_count (scan_of (sought_of index.now mode) (H.state shelf.old)) found.old }
 
     // On any shelf.
     ensures kept { KeepsMarks found.old found.new }
@@ -104,7 +120,7 @@ pub fn survey_in<H: Shelf>(
     prove!(window.size() as u64 == size);
     window.clear();
     let mut track = Track::new(0, 0);
-    match survey_files(index, shelf, window, &mut track, found) {
+    match survey_files(index, shelf, window, &mut track, found, mode) {
         Ok(()) => Ok(()),
         Err(fault) => Err((track.file(), fault)),
     }
@@ -117,13 +133,14 @@ fn survey_files<H: Shelf>(
     window: &mut Window,
     track: &mut Track,
     found: &mut [bool],
+    mode: Mode,
 ) -> Result<(), ReadFault>
-    requires sized { window.old.capacity ≡ index.now.slice_size }
+    requires made { IsWindowFor (sought_of index.now mode) window.old }
     requires each { length found.old ≡ length index.now.slices }
-    requires few { window.old.capacity ≤ slice_size_limit }
+    requires small { window.old.capacity ≤ slice_size_limit }
     requires empty { window.old.content ≡ [] }
     requires unread { IsUnread 0 0 track.old }
-    ensures ends { SurveyEnds index.now
+    ensures ends { SurveyEnds (sought_of index.now mode)
         (survey_at (H.state shelf.old) window.old found.old track.old)
         (survey_at (H.state shelf.new) window.new found.new track.new) result }
     ensures shelf { ReadsFile track.new.file (H.state shelf.old) (H.state shelf.new) result }
@@ -133,18 +150,18 @@ fn survey_files<H: Shelf>(
       digests = window.new.digests;
     } }
 {
-    let mut exhausted_crc = None;
+    let mut exhausted = Exhausted::none();
     let mut missing = next_missing(found, 0);
     while missing < found.len() && track.file() < shelf.count() {
         let left = track.rest(shelf);
         if left == 0 || !index.fits(left) {
             let next = track.file() + 1;
             track.enter_file(window, next, 0);
-            exhausted_crc = None;
+            exhausted.forget();
             continue;
         }
         track.fill(window, shelf)?;
-        mark_seen(window, index, left, found, &mut exhausted_crc);
+        exhausted.mark_seen(window, index, mode, left, found);
         missing = next_missing(found, missing);
         if missing == found.len() {
             break;

@@ -20,7 +20,6 @@ impl Track {
         Track {
             file,
             window_offset: offset,
-            digest: None,
             buffer_offset: offset,
             bytes: [0; AHEAD],
             buffer_len: 0,

@@ -1,20 +1,50 @@
-ghost use Rattle.std.specs.Prelude.{◌≡◌, ◌<◌, ◌≤◌, ◌+◌, length, IfSome, IsTrue};
+ghost use Rattle.std.specs.Prelude.{◌≡◌, ◌<◌, ◌≤◌, ◌+◌, length, replicate, IfOk, IfSome, IsTrue, None};
 ghost use Rattle.parfield.specs.Md5.{md5};
 ghost use Rattle.parset.specs.Limits.{slice_limit};
-ghost use Rattle.parwindow.specs.Crc32.{crc_of};
-ghost use Rattle.parwindow.specs.Index.{slice_passes, sums_of};
+ghost use Rattle.parwindow.specs.Index.{slice_passes};
 ghost use Rattle.parwindow.specs.Least.{IsLeastFrom};
-ghost use Rattle.parwindow.specs.Missing.{set_has_fit_crc};
-ghost use Rattle.parfind.specs.Fitting.{is_fitting_match};
-ghost use Rattle.parfind.specs.Tracks.{Looks, Remembers, remembered};
+ghost use Rattle.parfind.specs.Fitting.{is_fitting_look, is_fitting_of};
+ghost use Rattle.parfind.specs.Looks.{Keeps, Looks, IsFullFor, lesser_of};
+ghost use Rattle.parfind.specs.Sought.{has_looked_crc, looked_bytes, looked_lengths, nth_looked, sought_of};
 
-use crate::tracks::track::Track;
+use crate::tracks::lengths::{count_lengths, crc_at, digest_at, first_match_at, has_fit_at};
+use crate::tracks::mode::Mode;
 use parfield::Hash16;
 use parwindow::{Index, Window};
+use std::alloc::{AllocError, Global};
 
-impl Track {
-    /// The first slice from a number on that has both sums of a full window and fits into what is
-    /// left of the file. The MD5 is taken only where some slice with the CRC-32 fits, and once.
+/// How a window is looked at, and the digests that were taken of it: one for each looked length,
+/// which is kept until the window moves.
+#[derive(Drop)]
+pub(crate) struct Look {
+    pub mode: Mode,
+    pub kept: Vec<Option<Hash16>>,
+}
+
+impl Look {
+    /// A look in a mode, for which no digest is kept yet.
+    pub fn new(alloc: Global, index: &Index, mode: Mode) -> Result<Look, AllocError>
+        ensures mode { IfOk result (λ look. look.mode ≡ mode) }
+        ensures none { IfOk result (λ look. look.kept.items
+            ≡ replicate (length (looked_lengths (sought_of index.now mode))) None) }
+    {
+        let kept = vec![in alloc; None; count_lengths(index, mode)]?;
+        Ok(Look { mode, kept })
+    }
+
+    /// No digest is kept any more.
+    pub fn forget(&mut self)
+        ensures mode { self.new.mode ≡ self.old.mode }
+        ensures none { self.new.kept.items ≡ replicate (length self.old.kept.items) None }
+    {
+        for k in 0..self.kept.len() {
+            self.kept[k] = None;
+        }
+    }
+
+    /// The first slice from a number on that has both sums of what is looked at of a full window
+    /// for it, and fits into what is left of the file. An MD5 is taken only where some slice of its
+    /// looked length has the CRC-32 and fits, and once.
     pub fn first_seen(
         &mut self,
         window: &mut Window,
@@ -22,64 +52,83 @@ impl Track {
         left: u64,
         first: u32,
     ) -> Option<u32>
-        requires remembers { Remembers window.old self.old }
-        requires full { length window.old.content ≡ window.old.capacity }
+        requires full { IsFullFor (sought_of index.now self.old.mode) window.old }
+        requires keeps { Keeps (sought_of index.now self.old.mode) window.old self.old.kept.items }
         ensures first { IsLeastFrom (slice_passes index.now.slices
-            (is_fitting_match (sums_of window.old.content) left)) first result }
-        ensures there { IfSome result (λ n. (n < length index.now.slices)
-            × (length index.now.slices ≤ slice_limit)) }
-        ensures looks { Looks window.old self.old window.new self.new }
-        ensures marked { remembered self.old.digest < remembered self.new.digest
-            → IsTrue (set_has_fit_crc index.now (crc_of window.old.content) left) }
-        ensures remembers { Remembers window.new self.new }
+            (is_fitting_look self.old.mode window.old.content left)) first result }
+        ensures there { IfSome result (λ n. n < length index.now.slices) }
+        ensures few { length index.now.slices ≤ slice_limit }
+        ensures looks { Looks window.old self.old.kept.items window.new self.new.kept.items }
+        ensures keeps { Keeps (sought_of index.now self.new.mode) window.new self.new.kept.items }
+        ensures mode { self.new.mode ≡ self.old.mode }
     {
-        let crc = window.crc();
-        if !index.has_fit_crc(crc, left) {
-            return None;
+        let size = index.size();
+        prove!(window.size() as u64 == size);
+        let mut least = None;
+        for k in 0..count_lengths(index, self.mode) {
+            let found = self.first_seen_at(window, index, k, left, first);
+            least = lesser(least, found);
         }
-        let digest = self.digest_of(window);
-        first_fitting_match(index, crc, digest, left, first)
+        least
     }
 
-    // The MD5 of a full window, which is taken once.
-    fn digest_of(&mut self, window: &mut Window) -> Hash16
-        requires remembers { Remembers window.old self.old }
-        requires full { length window.old.content ≡ window.old.capacity }
-        ensures digest { result.0 ≡ md5 window.old.content }
-        ensures looks { Looks window.old self.old window.new self.new }
-        ensures remembers { Remembers window.new self.new }
+    // The first of them for which looked length `k` is looked at.
+    fn first_seen_at(
+        &mut self,
+        window: &mut Window,
+        index: &Index,
+        k: usize,
+        left: u64,
+        first: u32,
+    ) -> Option<u32>
+        requires there { k < length (looked_lengths (sought_of index.now self.old.mode)) }
+        requires full { IsFullFor (sought_of index.now self.old.mode) window.old }
+        requires keeps { Keeps (sought_of index.now self.old.mode) window.old self.old.kept.items }
+        ensures first { IsLeastFrom (slice_passes index.now.slices
+            (is_fitting_of (sought_of index.now self.old.mode) window.old.content left
+            (nth_looked (sought_of index.now self.old.mode) k))) first result }
+        ensures there { IfSome result (λ n. n < length index.now.slices) }
+        ensures looks { Looks window.old self.old.kept.items window.new self.new.kept.items }
+        ensures keeps { Keeps (sought_of index.now self.new.mode) window.new self.new.kept.items }
+        ensures mode { self.new.mode ≡ self.old.mode }
     {
-        if let Some(digest) = self.digest {
+        let crc = crc_at(window, index, self.mode, k);
+        if !has_fit_at(index, self.mode, k, crc, left) {
+            return None;
+        }
+        let digest = self.digest_of(window, index, k);
+        first_match_at(index, self.mode, k, (digest, crc), left, first)
+    }
+
+    // The MD5 of a full window by looked length `k`, which is taken once.
+    fn digest_of(&mut self, window: &mut Window, index: &Index, k: usize) -> Hash16
+        requires there { k < length (looked_lengths (sought_of index.now self.old.mode)) }
+        requires full { IsFullFor (sought_of index.now self.old.mode) window.old }
+        requires keeps { Keeps (sought_of index.now self.old.mode) window.old self.old.kept.items }
+        requires marked { IsTrue (has_looked_crc (sought_of index.now self.old.mode)
+            window.old.content (nth_looked (sought_of index.now self.old.mode) k)) }
+        ensures digest { result.0 ≡ md5 (looked_bytes window.old.content
+            (nth_looked (sought_of index.now self.old.mode) k)) }
+        ensures looks { Looks window.old self.old.kept.items window.new self.new.kept.items }
+        ensures keeps { Keeps (sought_of index.now self.new.mode) window.new self.new.kept.items }
+        ensures mode { self.new.mode ≡ self.old.mode }
+    {
+        if let Some(digest) = self.kept[k] {
             return digest;
         }
-        let digest = window.digest();
-        self.digest = Some(digest);
+        let digest = digest_at(window, index, self.mode, k);
+        self.kept[k] = Some(digest);
         digest
     }
 }
 
-/// The first slice from a number on that has both sums and fits into what is left of the file.
-pub(crate) fn first_fitting_match(
-    index: &Index,
-    crc: u32,
-    digest: Hash16,
-    left: u64,
-    first: u32,
-) -> Option<u32>
-    ensures first { IsLeastFrom (slice_passes index.now.slices (is_fitting_match (digest, crc) left)) first result }
-    ensures there { IfSome result (λ n. n < length index.now.slices) }
-    ensures few { length index.now.slices ≤ slice_limit }
+// The lesser of two numbers that may be there.
+fn lesser(a: Option<u32>, b: Option<u32>) -> Option<u32>
+    ensures { result ≡ lesser_of a b }
 {
-    let mut from = first;
-    loop {
-        match index.next_match(crc, digest, from) {
-            None => return None,
-            Some(slice) => {
-                if index.own_length(slice) <= left {
-                    return Some(slice);
-                }
-                from = slice + 1;
-            }
-        }
+    match (a, b) {
+        (Some(a), Some(b)) => Some(a.min(b)),
+        (Some(a), None) => Some(a),
+        (None, found) => found,
     }
 }

@@ -1,7 +1,9 @@
 ghost use Rattle.std.specs.Prelude.{◌≡◌, ◌≢◌, ◌+◌, ◌<◌, ◌≤◌, ◌++◌, [], length, slice_index, IsTrue, OnOk, IfOk, IfErr};
 ghost use Rattle.parshelf.specs.Shelf.{file_of};
-ghost use Rattle.parfind.specs.Tracks.{IsTied, IsUnread, SameTrack, HasNoCrc, Passes, fetched_of};
+ghost use Rattle.parfind.specs.Tracks.{IsTied, IsUnread, SameTrack, HaveNoLookedCrc, Passes, fetched_of};
 ghost use Rattle.parfind.specs.Fetched.{ReadsUpTo};
+ghost use Rattle.parfind.specs.Sought.{IsWindowFor, sought_of};
+ghost use Rattle.parfind.specs.declared.tracks.mode.Mode.{Mode};
 ghost use Rattle.parshelf.specs.Reads.{ReadsFile};
 
 use crate::tracks::track::Track;
@@ -48,9 +50,9 @@ impl Track {
         Ok(())
     }
 
-    /// Passes the place of a full window, and those after it up to the first whose CRC-32 is that
-    /// of a slice or whose window wants bytes that are not at hand; at most so many, and only of
-    /// this file. The answer is how many.
+    /// Passes the place of a full window, and those after it up to the first whose CRC-32, by some
+    /// length that is looked at, is that of a slice, or whose window wants bytes that are not at
+    /// hand; at most so many, and only of this file. The answer is how many.
     pub fn slide_until_crc<H: Shelf>(
         &mut self,
         window: &mut Window,
@@ -70,8 +72,10 @@ impl Track {
 
         ensures passes { IfOk result (Passes
             (slice_index (H.state shelf.old).lengths self.old.file) self.old self.new most) }
-        ensures none { IsTrue (H.state shelf.old).is_steady → IfOk result (HasNoCrc
-            index.now (file_of (H.state shelf.old) self.old.file) self.old.window_offset) }
+        ensures none { (mode : Mode) → IsWindowFor (sought_of index.now mode) window.old
+            → IsTrue (H.state shelf.old).is_steady → IfOk result (HaveNoLookedCrc
+            (sought_of index.now mode) (file_of (H.state shelf.old) self.old.file)
+            self.old.window_offset) }
         ensures stays { IfErr result (λ _.
             SameTrack self.old self.new × (window.new ≡ window.old)) }
         ensures same { self.new.file ≡ self.old.file }
@@ -81,12 +85,13 @@ impl Track {
         ensures shelf { ReadsFile self.old.file
             (H.state shelf.old) (H.state shelf.new) result }
     {
+        let size = index.size();
+        prove!(window.size() as u64 == size);
         self.ensure_next_byte(window, shelf)?;
         let file_end = shelf.length(self.file);
         let bytes = self.next_bytes(window, file_end, most.min(file_end - self.window_offset));
         let count = window.push_until(index, bytes) as u64;
         self.window_offset += count;
-        self.digest = None;
         Ok(count)
     }
 }

@@ -1,5 +1,3 @@
-use parfield::Hash16;
-
 /// How many bytes are read ahead at most.
 pub(crate) const AHEAD: usize = 4096;
 
@@ -11,8 +9,6 @@ pub(crate) struct Track {
     pub file: u32,
     /// The offset whose window is held, or is being filled.
     pub window_offset: u64,
-    /// The MD5 of the window's content, once it was taken.
-    pub digest: Option<Hash16>,
     /// The offset of what was read last.
     pub buffer_offset: u64,
     /// What was read last, in the first `buffer_len` bytes.

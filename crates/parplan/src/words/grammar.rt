@@ -1,6 +1,6 @@
 ghost use Rattle.std.specs.Prelude.{◌≡◌, IfOk, false};
 ghost use Rattle.clap.specs.Words.{app_of, rule_of, with_rule};
-ghost use Rattle.parplan.specs.Grammar.{empty_grammar, shared_grammar, grammar_of, option_rule, base_rule, files_rule, quiet_rule};
+ghost use Rattle.parplan.specs.Grammar.{empty_grammar, shared_grammar, grammar_of, option_rule, base_rule, files_rule, quiet_rule, tails_rule};
 
 use clap::{Arg, ArgAction, Command};
 use std::alloc::{AllocError, Global};
@@ -27,9 +27,13 @@ pub fn command_line<'a>(alloc: Global, verb: Verb) -> Result<Command<'a>, AllocE
         Verb::Packets | Verb::Set => Ok(shared),
         Verb::Find => {
             let limited = with(shared, option(alloc, "limit"))?;
-            with(limited, option(alloc, "cursor"))
+            let begun = with(limited, option(alloc, "cursor"))?;
+            with(begun, tails(alloc))
         }
-        Verb::Verify => with(shared, quiet(alloc)),
+        Verb::Verify => {
+            let quieted = with(shared, quiet(alloc))?;
+            with(quieted, tails(alloc))
+        }
     }
 }
 
@@ -90,4 +94,14 @@ fn quiet<'a>(alloc: Global) -> Arg<'a>
     ensures own { result.global ≡ false }
 {
     Arg::new(alloc, "quiet").short('q').action(ArgAction::Count)
+}
+
+// `--tails`, which stands once at most.
+fn tails<'a>(alloc: Global) -> Arg<'a>
+    ensures rule { rule_of result ≡ tails_rule }
+    ensures own { result.global ≡ false }
+{
+    Arg::new(alloc, "tails")
+        .long("tails")
+        .action(ArgAction::SetTrue)
 }

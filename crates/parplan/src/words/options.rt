@@ -1,6 +1,6 @@
 ghost use Rattle.std.specs.Prelude.{◌≡◌, ◌≢◌, ◌<◌, ◌≤◌, Some, IfOk, IfErr, IfSome, Ok, Err, option_map};
 ghost use Rattle.clap.specs.Words.{found_of, rows_of};
-ghost use Rattle.parplan.specs.Options.{set_option_of, base_option_of, limit_option_of, cursor_option_of, quiet_of, command_of};
+ghost use Rattle.parplan.specs.Options.{set_option_of, base_option_of, limit_option_of, cursor_option_of, quiet_of, has_tails, command_of};
 ghost use Rattle.parplan.specs.Commands.{LimitIsNotZero};
 
 use crate::words::grammar::Verb;
@@ -22,10 +22,16 @@ pub fn command_given(verb: Verb, matches: &ArgMatches<'_>) -> Result<Command, Pl
         Verb::Find => {
             let limit = limit_given(matches)?;
             let cursor = cursor_given(matches)?;
-            Ok(Command::Find { limit, cursor })
+            let tails = tails_given(matches);
+            Ok(Command::Find {
+                limit,
+                cursor,
+                tails,
+            })
         }
         Verb::Verify => Ok(Command::Verify {
             quiet: quiet_given(matches),
+            tails: tails_given(matches),
         }),
     }
 }
@@ -81,4 +87,11 @@ fn quiet_given(matches: &ArgMatches<'_>) -> u8
     ensures few { result ≤ 2 }
 {
     uses_of(matches, "quiet").min(2)
+}
+
+// Whether `--tails` stands: `clap` gives a flag that stands the value `true`, and else `false`.
+fn tails_given(matches: &ArgMatches<'_>) -> bool
+    ensures { result ≡ has_tails (rows_of (found_of matches.now)) }
+{
+    value_of(matches, "tails") == Some("true")
 }

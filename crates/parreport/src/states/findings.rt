@@ -4,15 +4,19 @@ ghost use Rattle.parreport.specs.Contents.{ReadsCandidates, ReadsCandidatesThenS
 ghost use Rattle.parreport.specs.Files.{FilesLeave};
 ghost use Rattle.parreport.specs.States.{named_files};
 ghost use Rattle.parreport.specs.Findings.{findings_of};
+ghost use Rattle.parreport.specs.SetSearch.{set_sought_of};
+ghost use Rattle.parfind.specs.Sought.{HasFewTails};
+ghost use Rattle.parwindow.specs.Index.{slice_set_of};
 
 use crate::states::contents::contents;
 use crate::states::found::{found_slices, intact_ids, need_of};
 use crate::states::state::{State, states};
 use parfield::Sequence;
-use parfind::SurveyFault;
+use parfind::{Mode, SurveyFault};
 use parplan::Scanned;
 use parset::RecoverySet;
 use parshelf::Shelf;
+use parwindow::Index;
 use std::alloc::Global;
 
 /// What the scanned files show of a recovery set.
@@ -42,13 +46,17 @@ pub(crate) fn findings_on<Q: Shelf>(
     alloc: Global,
     files: &[Scanned],
     set: &RecoverySet,
+    index: &Index,
+    mode: Mode,
     shelf: &mut Q,
 ) -> Result<Findings, SurveyFault>
-    requires { length (Q.state shelf.old).lengths ≡ length files.now }
+    requires named { length (Q.state shelf.old).lengths ≡ length files.now }
+    requires index { index.now ≡ slice_set_of set.now.size set.now.slices }
+    requires few { HasFewTails (set_sought_of set.now mode) }
 
     // On a steady shelf.
     ensures findings { IsTrue (Q.state shelf.old).is_steady → IfOk result (λ findings.
-        findings ≡ findings_of set.now (named_files files.now (Q.state shelf.old).files)) }
+        findings ≡ findings_of set.now mode (named_files files.now (Q.state shelf.old).files)) }
 
     // On any shelf.
     ensures states { IfOk result (λ findings. length findings.states ≡ length set.now.files) }
@@ -64,7 +72,7 @@ pub(crate) fn findings_on<Q: Shelf>(
     let contents = contents(alloc, set_files, shelf)?;
     let states = states(alloc, files, &contents, set_files)?;
     let whole = intact_ids(alloc, set_files, states.as_slice())?;
-    let found = found_slices(alloc, set, &whole, shelf)?;
+    let found = found_slices(alloc, set, index, mode, &whole, shelf)?;
     Ok(Findings {
         states: Sequence::from_vec(states),
         found: Sequence::from_vec(found),

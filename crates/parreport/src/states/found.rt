@@ -5,6 +5,7 @@ ghost use Rattle.std.specs.Str.{bytes_eq};
 ghost use Rattle.parfield.specs.HashOrder.{id_cmp};
 ghost use Rattle.parshelf.specs.Reads.{ReadsOnly};
 ghost use Rattle.parwindow.specs.Index.{slice_set_of};
+ghost use Rattle.parfind.specs.Sought.{HasFewTails};
 ghost use Rattle.parfind.specs.Steps.{scan_of};
 ghost use Rattle.parfind.specs.Handover.{HandsEachOnce};
 ghost use Rattle.parfind.specs.Surveys.{is_sighted, StopsOnceFound};
@@ -12,10 +13,11 @@ ghost use Rattle.parwindow.specs.Missing.{mark_of};
 ghost use Rattle.parreport.specs.Files.{FilesLeave};
 ghost use Rattle.parreport.specs.States.{is_intact};
 ghost use Rattle.parreport.specs.Findings.{need_of, is_settled, can_be_found};
+ghost use Rattle.parreport.specs.SetSearch.{set_sought_of};
 
 use crate::states::state::State;
 use parfield::Hash16;
-use parfind::{SurveyFault, survey};
+use parfind::{Mode, SurveyFault, survey};
 use parset::{RecoverySet, SetFile, SetSlice};
 use parshelf::Shelf;
 use parwindow::Index;
@@ -58,17 +60,21 @@ fn add_if_intact(whole: &mut BTreeSet<Hash16>, id: Hash16, state: State) -> Resu
 pub fn found_slices<Q: Shelf>(
     alloc: Global,
     set: &RecoverySet,
+    index: &Index,
+    mode: Mode,
     whole: &BTreeSet<Hash16>,
     shelf: &mut Q,
 ) -> Result<Vec<bool>, SurveyFault>
+    requires index { index.now ≡ slice_set_of set.now.size set.now.slices }
+    requires few { HasFewTails (set_sought_of set.now mode) }
 
     // On a steady shelf.
     ensures found { IsTrue (Q.state shelf.old).is_steady → IfOk result (λ found. found.items
         ≡ map (λ slice. contains id_cmp whole.now slice.1.id || is_sighted
-        (scan_of (slice_set_of set.now.size set.now.slices) (Q.state shelf.old)) slice.0)
+        (scan_of (set_sought_of set.now mode) (Q.state shelf.old)) slice.0)
         (enumerate_from 0 set.now.slices)) }
     ensures stops { IsTrue (Q.state shelf.old).is_steady → StopsOnceFound
-        (slice_set_of set.now.size set.now.slices) (Q.state shelf.old) (Q.state shelf.new)
+        (set_sought_of set.now mode) (Q.state shelf.old) (Q.state shelf.new)
         (map (is_settled whole.now) set.now.slices) }
 
     // On any shelf.
@@ -79,9 +85,8 @@ pub fn found_slices<Q: Shelf>(
     ensures ok { OnOk result (ReadsOnly (Q.state shelf.old) (Q.state shelf.new)) }
     ensures fault { IfErr result (FilesLeave (Q.state shelf.old) (Q.state shelf.new)) }
 {
-    let index = Index::new(alloc, set)?;
     let mut found = needs_no_search(alloc, set.slices(), whole)?;
-    survey(alloc, &index, shelf, &mut found)?;
+    survey(alloc, index, shelf, &mut found, mode)?;
     unmark_unsearchable(set.slices(), whole, &mut found);
     Ok(found)
 }

@@ -1,9 +1,9 @@
 ghost use Rattle.std.specs.Prelude.{◌≡◌};
-ghost use Rattle.parreport.specs.Faults.{set_fault_of, scanned_fault_of};
+ghost use Rattle.parreport.specs.Faults.{set_fault_of, scanned_fault_of, start_fault_of};
 ghost use Rattle.parreport.specs.declared.text.faults.RunFault.TheVariants as run_fault;
 
 use parfield::Hash16;
-use parfind::SurveyFault;
+use parfind::{StartFault, SurveyFault};
 use parset::SetFault;
 use parshelf::{Failed, ReadFault};
 use std::alloc::AllocError;
@@ -44,6 +44,10 @@ pub enum RunFault {
     /// The cursor is one in a search for the slices of another set; nothing was written.
     #[error("cursor of another set")]
     OtherSet,
+    /// More than 256 short lengths of slices would have to be looked for; no scanned file was read,
+    /// and nothing was written.
+    #[error("no usable set: too many tails")]
+    TooManyTails,
 }
 
 impl From<AllocError> for RunFault {
@@ -89,6 +93,19 @@ impl From<SurveyFault> for RunFault {
                 fault,
             },
             SurveyFault::Memory => RunFault::Memory,
+            SurveyFault::TooManyTails => RunFault::TooManyTails,
+        }
+    }
+}
+
+// The search in the scanned files was not started.
+impl From<StartFault> for RunFault {
+    ghost from_gives = { λ why e. e ≡ start_fault_of why };
+
+    fn from(why: StartFault) -> RunFault {
+        match why {
+            StartFault::TooManyTails => RunFault::TooManyTails,
+            StartFault::Memory => RunFault::Memory,
         }
     }
 }

@@ -25,6 +25,8 @@ pub(crate) struct Query {
     pub limit: Option<u64>,
     /// Where to begin, and the set in which a search stood there.
     pub cursor: Option<(Hash16, Cursor)>,
+    /// Whether short slices are seen whatever bytes come behind them.
+    pub tails: bool,
 }
 
 /// Writes where slices of the set are seen, from the cursor on.
@@ -43,11 +45,11 @@ pub(crate) fn write_find<Q: Shelf, W: Sink>(
         (W.state out.old) (W.state out.new) }
     ensures lines { IsTrue (Q.state scanned.old).is_steady → IfErr result (OnScannedFault (λ file.
         IsSomeAnd (start_cursor_of set.now query.cursor) (λ at. WritesLinesBefore
-        (find_search_of plan.now.scanned (Q.state scanned.old).files set.now at query.limit)
+        (find_search_of plan.now.scanned (Q.state scanned.old).files set.now at query)
         file (W.state out.old) (W.state out.new)))) }
     ensures no_packet { IfErr result (λ fault. is_packet_file_fault fault ≡ false) }
     ensures nothing_written { IfErr result (λ fault.
-        may_follow_text (command.Find query.limit query.cursor)
+        may_follow_text (command.Find query.limit query.cursor query.tails)
         (written (W.state out.old) (W.state out.new)) fault ≡ false
         → W.state out.new ≡ W.state out.old) }
     ensures scanned { LeavesScanned result (Q.state scanned.old) (Q.state scanned.new) }
@@ -57,7 +59,7 @@ pub(crate) fn write_find<Q: Shelf, W: Sink>(
         return Err(RunFault::OtherSet);
     };
     let files = plan.scanned.as_slice();
-    write_sightings(alloc, files, set, at, query.limit, scanned, out)?;
+    write_sightings(alloc, files, set, at, query, scanned, out)?;
     Ok(Status::Listed)
 }
 

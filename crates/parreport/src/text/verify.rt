@@ -1,10 +1,12 @@
-ghost use Rattle.std.specs.Prelude.{◌≡◌, length, IsTrue, false, Ok, IfErr};
+ghost use Rattle.std.specs.Prelude.{◌≡◌, length, Bool, IsTrue, false, Ok, IfErr};
+ghost use Rattle.parreport.specs.SetSearch.{mode_of};
 ghost use Rattle.parreport.specs.Names.{names_of};
 ghost use Rattle.parreport.specs.Outcomes.{is_packet_file_fault, is_read_fault, written, may_follow_text, Answers, LeavesScanned, LeavesSink};
 ghost use Rattle.parreport.specs.Report.{verify_report};
 ghost use Rattle.parreport.specs.VerifyText.{status_of, findings_text};
 ghost use Rattle.parplan.specs.declared.command.Command.TheVariants as command;
 
+use crate::modes::{has_too_many_tails, mode_of};
 use crate::states::{Findings, findings_on};
 use crate::text::block_writer::BlockWriter;
 use crate::text::faults::RunFault;
@@ -15,6 +17,7 @@ use crate::text::verify::status::status_of;
 use parplan::{Plan, Scanned};
 use parset::RecoverySet;
 use parshelf::{Shelf, Sink};
+use parwindow::Index;
 use std::alloc::Global;
 
 mod counts;
@@ -26,23 +29,30 @@ pub(crate) fn write_verify<Q: Shelf, W: Sink>(
     alloc: Global,
     plan: &Plan,
     quiet: u8,
+    tails: bool,
     set: &RecoverySet,
     scanned: &mut Q,
     out: &mut W,
 ) -> Result<Status, RunFault>
     requires { length (Q.state scanned.old).lengths ≡ length plan.now.scanned }
     ensures text { IsTrue (Q.state scanned.old).is_steady
-        → Answers (verify_report plan.now quiet (Q.state scanned.old).files set.now) result
+        → Answers
+        (verify_report plan.now quiet (mode_of tails) (Q.state scanned.old).files set.now) result
         (W.state out.old) (W.state out.new) }
     ensures no_packet { IfErr result (λ fault. is_packet_file_fault fault ≡ false) }
-    ensures nothing_written { IfErr result (λ fault. may_follow_text (command.Verify quiet)
+    ensures nothing_written { IfErr result (λ fault. may_follow_text (command.Verify quiet tails)
         (written (W.state out.old) (W.state out.new)) fault ≡ false
         → W.state out.new ≡ W.state out.old) }
     ensures scanned { LeavesScanned result (Q.state scanned.old) (Q.state scanned.new) }
     ensures sink { LeavesSink result (W.state out.old) (W.state out.new) }
 {
+    let index = Index::new(alloc, set)?;
+    let mode = mode_of(tails);
+    if has_too_many_tails(&index, mode) {
+        return Err(RunFault::TooManyTails);
+    }
     let files = plan.scanned.as_slice();
-    let findings = findings_on(alloc, files, set, scanned)?;
+    let findings = findings_on(alloc, files, set, &index, mode, scanned)?;
     write_findings(alloc, quiet, files, set, &findings, out)
 }
 
@@ -63,7 +73,8 @@ fn write_findings<W: Sink>(
     }) result
         (W.state out.old) (W.state out.new) }
     ensures no_read { IfErr result (λ fault. is_read_fault fault ≡ false) }
-    ensures nothing_written { IfErr result (λ fault. may_follow_text (command.Verify quiet)
+    ensures nothing_written { IfErr result (λ fault. (tails : Bool)
+        → may_follow_text (command.Verify quiet tails)
         (written (W.state out.old) (W.state out.new)) fault ≡ false
         → W.state out.new ≡ W.state out.old) }
     ensures sink { LeavesSink result (W.state out.old) (W.state out.new) }

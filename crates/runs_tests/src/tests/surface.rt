@@ -244,7 +244,8 @@ const FIRST: parfind::Sighting = parfind::Sighting {
 fn of_parfind_searches(rt: HostRuntime) {
     let index = index(&rt);
     let mut shelf = must(&rt, shelf_of(rt.alloc(), &[b"XXabcdefgh"], 64, &[]));
-    let mut finder = parfind::Finder::open(rt.alloc(), &index, &shelf, START).expect(&rt, "error");
+    let opened = parfind::Finder::open(rt.alloc(), &index, &shelf, START, parfind::Mode::Plain);
+    let mut finder = opened.expect(&rt, "error");
     is(
         &rt,
         finder.step(&index, &mut shelf, 2),
@@ -283,7 +284,14 @@ fn of_parfind_drives(rt: HostRuntime) {
     ];
     let drive = must(
         &rt,
-        parfind::drive(rt.alloc(), &calls, &index, &mut shelf, START),
+        parfind::drive(
+            rt.alloc(),
+            &calls,
+            &index,
+            &mut shelf,
+            START,
+            parfind::Mode::Tails,
+        ),
     );
     let parfind::Drive {
         answers,
@@ -306,15 +314,16 @@ fn of_parfind_surveys(rt: HostRuntime) {
     assert!(rt; index.slices() == 2);
     let mut shelf = must(&rt, shelf_of(rt.alloc(), &[b"Xefgh"], 64, &[1]));
     let mut found = [false; 2];
+    let mode = parfind::Mode::Tails;
     let fault = parfind::SurveyFault::Read(0, parshelf::ReadFault::Failed);
     is(
         &rt,
-        parfind::survey(rt.alloc(), &index, &mut shelf, &mut found),
+        parfind::survey(rt.alloc(), &index, &mut shelf, &mut found, mode),
         Err(fault),
     );
     is(
         &rt,
-        parfind::survey(rt.alloc(), &index, &mut shelf, &mut found),
+        parfind::survey(rt.alloc(), &index, &mut shelf, &mut found, mode),
         Ok(()),
     );
     is(&rt, &found, &[false, true]);
@@ -322,7 +331,13 @@ fn of_parfind_surveys(rt: HostRuntime) {
     let mut window = parwindow::Window::new(rt.alloc(), index.size() as usize).expect(&rt, "error");
     is(
         &rt,
-        parfind::survey_in(&index, &mut shelf, &mut window, &mut again),
+        parfind::survey_in(
+            &index,
+            &mut shelf,
+            &mut window,
+            &mut again,
+            parfind::Mode::Plain,
+        ),
         Ok(()),
     );
     is(&rt, again, found);
@@ -351,7 +366,13 @@ fn of_parreport_plans(rt: HostRuntime) {
     is(
         &rt,
         (command, set),
-        (parreport::Command::Verify { quiet: 1 }, None),
+        (
+            parreport::Command::Verify {
+                quiet: 1,
+                tails: false,
+            },
+            None,
+        ),
     );
     is(&rt, packets.len(), 1);
     let parreport::Scanned { path, name } = scanned.as_slice().first().expect(&rt, "a file");

@@ -91,7 +91,27 @@ result impossible
 
 $ verify -q -q v.par2 a.bin | a | abcd
 = 2 | 340 | 6 | 4 4 | 0
+
+$ find --tails v.par2 x.bin | a | Xefabcd
+x.bin 1 01010101010101010101010101010101 1
+x.bin 3 01010101010101010101010101010101 0
+end
+= 0 | 340 | 6 | 7 7 | 43
+
+$ find --tails v.par2 x.bin | ab_abcd_a | abcd
+x.bin 0 01010101010101010101010101010101 0
+x.bin 0 02020202020202020202020202020202 0
+x.bin 0 03030303030303030303030303030303 0
+end
+= 0 | 796 | 13 | 4 4 | 0
+
+$ verify --tails v.par2 x.bin | a | Xefabcd
+set 2b5d19a47ee4561a2c85b51d7f6d65c4 size 4 slices 2
+missing a.bin 2/2
+need 0 have 0
+result possible
+= 1 | 340 | 6 | 7 7 | 0
 ";
 
 /// How many there are.
-pub const OPTIONS_COUNT: usize = 9;
+pub const OPTIONS_COUNT: usize = 12;

@@ -24,6 +24,11 @@ packets -q v.par2 = Usage
 packets --limit 1 v.par2 = Usage
 find -q v.par2 = Usage
 verify --limit 1 v.par2 = Usage
+packets --tails v.par2 = Usage
+set --tails v.par2 = Usage
+find -t v.par2 = Usage
+find --tail v.par2 = Usage
+find --tails=true v.par2 = Usage
 find --limit 0 = Usage
 packets --set Z = Usage
 find --limit -1 v.par2 = Usage
@@ -60,13 +65,15 @@ packets -V v.par2 = Usage
 find --help = Usage
 ";
 
-// An option with a value that stands twice.
+// An option that stands twice, and may stand once.
 const TWICE: &str = "\
 find --set 00000000000000000000000000000000 --set 00000000000000000000000000000000 v.par2 = Usage
 find --set 00000000000000000000000000000000 --set=Z v.par2 = Usage
 find -Bd -Bd v.par2 = Usage
 find --limit=1 --limit=1 v.par2 = Usage
 find --cursor=a --cursor=b v.par2 = Usage
+find --tails --tails v.par2 = Usage
+verify --tails v.par2 --tails = Usage
 ";
 
 // A cursor that can't be read, and a base that is empty.
@@ -86,27 +93,32 @@ packets help v.par2 = Packets
 set v.par2 = Set
 set -- v.par2 = Set
 set v.par2 - = Set
-find v.par2 = Find { limit: None, cursor: None }
-find -- v.par2 = Find { limit: None, cursor: None }
-find v.par2 - = Find { limit: None, cursor: None }
+find v.par2 = Find { limit: None, cursor: None, tails: false }
+find -- v.par2 = Find { limit: None, cursor: None, tails: false }
+find v.par2 - = Find { limit: None, cursor: None, tails: false }
 find --limit 7 --cursor 00000000000000000000000000000000:1:22:3 v.par2 = \
 Find { limit: Some(7), cursor: Some((Hash16([0, 0, 0, 0, 0, 0, 0, 0, 0, 0, 0, 0, 0, 0, 0, 0]), \
-Cursor { file: 1, offset: 22, slice: 3 })) }
-verify v.par2 = Verify { quiet: 0 }
-verify -- v.par2 = Verify { quiet: 0 }
-verify v.par2 - = Verify { quiet: 0 }
-verify -q v.par2 = Verify { quiet: 1 }
-verify -q -q v.par2 = Verify { quiet: 2 }
-verify -qq v.par2 = Verify { quiet: 2 }
-verify -q v.par2 -q = Verify { quiet: 2 }
-verify -qqq v.par2 = Verify { quiet: 2 }
+Cursor { file: 1, offset: 22, slice: 3 })), tails: false }
+verify v.par2 = Verify { quiet: 0, tails: false }
+verify -- v.par2 = Verify { quiet: 0, tails: false }
+verify v.par2 - = Verify { quiet: 0, tails: false }
+verify -q v.par2 = Verify { quiet: 1, tails: false }
+verify -q -q v.par2 = Verify { quiet: 2, tails: false }
+verify -qq v.par2 = Verify { quiet: 2, tails: false }
+verify -q v.par2 -q = Verify { quiet: 2, tails: false }
+verify -qqq v.par2 = Verify { quiet: 2, tails: false }
+find --tails v.par2 = Find { limit: None, cursor: None, tails: true }
+find --limit 7 v.par2 --tails = Find { limit: Some(7), cursor: None, tails: true }
+find v.par2 -- --tails = Find { limit: None, cursor: None, tails: false }
+verify --tails v.par2 = Verify { quiet: 0, tails: true }
+verify -q --tails -q v.par2 = Verify { quiet: 2, tails: true }
 ";
 
 const LIMITS: &str = "\
-find --limit 1 v.par2 = Find { limit: Some(1), cursor: None }
-find --limit 10 v.par2 = Find { limit: Some(10), cursor: None }
+find --limit 1 v.par2 = Find { limit: Some(1), cursor: None, tails: false }
+find --limit 10 v.par2 = Find { limit: Some(10), cursor: None, tails: false }
 find --limit 18446744073709551615 v.par2 = \
-Find { limit: Some(18446744073709551615), cursor: None }
+Find { limit: Some(18446744073709551615), cursor: None, tails: false }
 find --limit 18446744073709551616 v.par2 = Value
 find --limit 99999999999999999999999999 v.par2 = Value
 find --limit 0 v.par2 = Value
@@ -211,15 +223,15 @@ fn are_right(rt: &(impl Abort + AllocGlobal), table: &str, part: Part, count: us
 
 #[test]
 fn words_that_are_no_plan_are_refused(rt: HostRuntime) {
-    are_right(&rt, NO_PLANS, Part::Command, 28);
+    are_right(&rt, NO_PLANS, Part::Command, 33);
     are_right(&rt, NO_HELP, Part::Command, 10);
-    are_right(&rt, TWICE, Part::Command, 5);
+    are_right(&rt, TWICE, Part::Command, 7);
     are_right(&rt, NO_VALUES, Part::Command, 5);
 }
 
 #[test]
 fn each_command_takes_its_options(rt: HostRuntime) {
-    are_right(&rt, COMMANDS, Part::Command, 19);
+    are_right(&rt, COMMANDS, Part::Command, 24);
 }
 
 #[test]

@@ -5,9 +5,10 @@ ghost use Rattle.parfind.specs.Runs.{HasBudget};
 mod disk;
 mod model;
 mod refused;
+mod tails;
 
 use crate::tests::fixtures::{cursor_of, field, is, must, number_of, part, search_of, step_named};
-use parfind::{Answer, Call, Cursor, Drive, drive};
+use parfind::{Answer, Call, Cursor, Drive, Mode, drive};
 use parshelf::{ReadFault, Shelf};
 use parwindow::Index;
 use std::alloc::{AllocError, Global};
@@ -65,16 +66,17 @@ fn behind(rt: &impl Abort, done: &Drive, script: &str) -> Cursor {
     done.cursor
 }
 
-// Makes the calls of a script over files; wants its answers, and gives the cursor behind them.
-fn driven<H: Shelf>(
+/// Makes the calls of a script over files; wants its answers, and gives the cursor behind them.
+pub fn driven<H: Shelf>(
     rt: &(impl Abort + AllocGlobal),
     index: &Index,
     shelf: &mut H,
     start: Cursor,
+    mode: Mode,
     script: &str,
 ) -> Cursor {
     let calls = must(rt, calls_of(rt.alloc(), script));
-    let done = must(rt, drive(rt.alloc(), &calls, index, shelf, start));
+    let done = must(rt, drive(rt.alloc(), &calls, index, shelf, start, mode));
     behind(rt, &done, script)
 }
 
@@ -89,15 +91,27 @@ fn has_handed(rt: &impl Abort, bytes: u64, wanted: &str) {
     }
 }
 
-// Makes the calls of a script over the files of a row, which are read `piece` bytes at a time, some
-// reads failing; wants what the row says.
-fn drives(rt: &(impl Abort + AllocGlobal), row: &str, piece: usize, failing: &[u64], script: &str) {
+// Makes the calls of a script in a mode over the files of a row, which are read `piece` bytes at a
+// time, some reads failing; wants what the row says.
+fn drives_in(
+    rt: &(impl Abort + AllocGlobal),
+    row: &str,
+    piece: usize,
+    failing: &[u64],
+    mode: Mode,
+    script: &str,
+) {
     let mut search = search_of(rt, row, piece, failing);
     let start = cursor_of(field(row, 2));
-    let end = driven(rt, &search.index, &mut search.shelf, start, script);
+    let end = driven(rt, &search.index, &mut search.shelf, start, mode, script);
     is(rt, &end, &cursor_of(field(row, 3)));
     has_handed(rt, search.shelf.handed(), field(row, 4));
     drop(search);
+}
+
+// Makes them in the plain mode.
+fn drives(rt: &(impl Abort + AllocGlobal), row: &str, piece: usize, failing: &[u64], script: &str) {
+    drives_in(rt, row, piece, failing, Mode::Plain, script);
 }
 
 static TWO_FAULTS: &str = "\

@@ -3,6 +3,7 @@
 ghost use Rattle.std.specs.Prelude.{◌≡◌, Ok};
 
 use crate::tests::places::{Spot, cursor, sighting};
+use crate::tests::sets::index_of_files;
 use parfind::{Cursor, Step};
 use parfixtures::{set_of, set_with, shelf_of};
 use parset::{RecoverySet, SetFault};
@@ -100,6 +101,16 @@ fn file_count(files: &str) -> usize {
     files.split(',').count()
 }
 
+// The first four files of such a text, those that it doesn't name empty.
+fn four_files(files: &str) -> [&[u8]; 4] {
+    [
+        file_at(files, 0),
+        file_at(files, 1),
+        file_at(files, 2),
+        file_at(files, 3),
+    ]
+}
+
 /// The files of a text that has commas between, of which the first four count, or `-` for none.
 /// They are read `piece` bytes at a time, and the reads of these numbers fail, which count from 1.
 pub fn files_in(
@@ -108,12 +119,7 @@ pub fn files_in(
     piece: usize,
     failing: &[u64],
 ) -> Result<MemShelf, AllocError> {
-    let all = [
-        file_at(files, 0),
-        file_at(files, 1),
-        file_at(files, 2),
-        file_at(files, 3),
-    ];
+    let all = four_files(files);
     let named = all.get(..file_count(files)).unwrap_or(&all);
     shelf_of(alloc, named, piece, failing)
 }
@@ -140,6 +146,12 @@ pub fn index_of(alloc: Global, content: &[u8]) -> Result<Index, SetFault> {
     Ok(index_in(alloc, set_of(alloc, content)?)?)
 }
 
+/// An index of the slices of the files of such a text, of four bytes each, whose sums are known.
+pub fn index_of_all(alloc: Global, files: &str) -> Result<Index, SetFault> {
+    let all = four_files(files);
+    index_of_files(alloc, 4, all.get(..file_count(files)).unwrap_or(&all))
+}
+
 /// The slices that are looked for, and the files that are searched. Who holds one, or an index, ends
 /// it by `drop`: where a scope ends it, each of its parts is proved there once more.
 #[derive(Drop)]
@@ -148,7 +160,7 @@ pub struct Search {
     pub shelf: MemShelf,
 }
 
-/// The search of a row: for the slices of the bytes that stand first, in the files behind them,
+/// The search of a row: for the slices of the files that stand first, in the files behind them,
 /// which are read `piece` bytes at a time, the reads of these numbers failing.
 pub fn search_of(
     rt: &(impl Abort + AllocGlobal),
@@ -157,7 +169,7 @@ pub fn search_of(
     failing: &[u64],
 ) -> Search {
     Search {
-        index: must(rt, index_of(rt.alloc(), field(row, 0).as_bytes())),
+        index: must(rt, index_of_all(rt.alloc(), field(row, 0))),
         shelf: must(rt, files_in(rt.alloc(), field(row, 1), piece, failing)),
     }
 }

@@ -1,12 +1,16 @@
 ghost use Rattle.std.specs.Prelude.{◌≡◌, ◌≢◌, IsTrue, IfErr, Some};
 ghost use Rattle.parfind.specs.Finders.{BelongsTo};
 ghost use Rattle.parwindow.specs.Index.{slice_set_of};
-ghost use Rattle.parreport.specs.Faults.{listing_of, IsSearchFault, OnScannedFault};
+ghost use Rattle.parreport.specs.Faults.{listing_of, IsFindFault, IsSearchFault, OnScannedFault};
+ghost use Rattle.parreport.specs.SetSearch.{mode_of};
+ghost use Rattle.parreport.specs.declared.text.faults.RunFault.TheVariants as run_fault;
 ghost use Rattle.parreport.specs.FindText.{find_text, limit_left, find_search_of, WritesLinesBefore};
 ghost use Rattle.parreport.specs.Outcomes.{Answers, LeavesScanned, LeavesSink};
-ghost use Rattle.parreport.specs.Report.{listed};
+ghost use Rattle.parreport.specs.Report.{listed, search_report};
 
+use crate::modes::mode_of;
 use crate::text::faults::RunFault;
+use crate::text::find::Query;
 use crate::text::find::lines::{write_cursor, write_end, write_sighting};
 use parfind::{Cursor, Finder, Step};
 use parplan::Scanned;
@@ -22,29 +26,31 @@ pub fn write_sightings<Q: Shelf, W: Sink>(
     files: &[Scanned],
     set: &RecoverySet,
     at: Cursor,
-    limit: Option<u64>,
+    query: Query,
     shelf: &mut Q,
     out: &mut W,
 ) -> Result<(), RunFault>
-    requires { limit ≢ Some 0 }
+    requires { query.limit ≢ Some 0 }
 
     // The text on a steady shelf.
     ensures text { IsTrue (Q.state shelf.old).is_steady
-        → Answers (listed (find_text
-        (find_search_of files.now (Q.state shelf.old).files set.now at limit)))
+        → Answers (search_report
+        (find_search_of files.now (Q.state shelf.old).files set.now at query))
         (listing_of result) (W.state out.old) (W.state out.new) }
     ensures lines { IsTrue (Q.state shelf.old).is_steady → IfErr result (OnScannedFault (λ file.
-        WritesLinesBefore (find_search_of files.now (Q.state shelf.old).files set.now at limit)
+        WritesLinesBefore (find_search_of files.now (Q.state shelf.old).files set.now at query)
         file (W.state out.old) (W.state out.new))) }
 
     // On any shelf: the answer tells what failed.
-    ensures fault { IfErr result IsSearchFault }
+    ensures fault { IfErr result IsFindFault }
+    ensures unopened { IfErr result (λ fault. fault ≡ run_fault.TooManyTails
+        → W.state out.new ≡ W.state out.old) }
     ensures reads { LeavesScanned (listing_of result) (Q.state shelf.old) (Q.state shelf.new) }
     ensures sink { LeavesSink (listing_of result) (W.state out.old) (W.state out.new) }
 {
     let index = Index::new(alloc, set)?;
-    let mut finder = Finder::open(alloc, &index, shelf, at)?;
-    write_from(alloc, files, set, &index, &mut finder, limit, shelf, out)
+    let mut finder = Finder::open(alloc, &index, shelf, at, mode_of(query.tails))?;
+    write_from(alloc, files, set, &index, &mut finder, query, shelf, out)
 }
 
 // Writes these lines from where a finder stands.
@@ -54,27 +60,28 @@ fn write_from<Q: Shelf, W: Sink>(
     set: &RecoverySet,
     index: &Index,
     finder: &mut Finder,
-    limit: Option<u64>,
+    query: Query,
     shelf: &mut Q,
     out: &mut W,
 ) -> Result<(), RunFault>
-    requires limit { limit ≢ Some 0 }
+    requires limit { query.limit ≢ Some 0 }
     requires index { index.now ≡ slice_set_of set.now.size set.now.slices }
     requires belongs { BelongsTo finder.old index.now (Q.state shelf.old) }
+    requires mode { finder.old.mode ≡ mode_of query.tails }
 
     ensures text { IsTrue (Q.state shelf.old).is_steady
         → Answers (listed (find_text
-        (find_search_of files.now (Q.state shelf.old).files set.now finder.old.cursor limit)))
+        (find_search_of files.now (Q.state shelf.old).files set.now finder.old.cursor query)))
         (listing_of result) (W.state out.old) (W.state out.new) }
     ensures lines { IsTrue (Q.state shelf.old).is_steady → IfErr result (OnScannedFault (λ file.
         WritesLinesBefore
-        (find_search_of files.now (Q.state shelf.old).files set.now finder.old.cursor limit)
+        (find_search_of files.now (Q.state shelf.old).files set.now finder.old.cursor query)
         file (W.state out.old) (W.state out.new))) }
     ensures fault { IfErr result IsSearchFault }
     ensures reads { LeavesScanned (listing_of result) (Q.state shelf.old) (Q.state shelf.new) }
     ensures sink { LeavesSink (listing_of result) (W.state out.old) (W.state out.new) }
 {
-    let mut left = limit;
+    let mut left = query.limit;
     while left != Some(0) {
         match finder.next(index, shelf) {
             Ok(Step::Hit(sighting)) => {

@@ -2,6 +2,7 @@
 use crate::tests::drives::driven;
 use crate::tests::fixtures::{index_of, is, must};
 use crate::tests::places::{START, cursor};
+use parfind::Mode;
 use parshelf::DiskShelf;
 use parwindow::Index;
 use std::fs::{File, Files};
@@ -30,10 +31,10 @@ fn resumes(
     shelf: &mut DiskShelf,
 ) {
     let ended = "next ended\nreopen reopened\nnext ended\n";
-    let at = driven(rt, index, shelf, cursor(START), ended);
+    let at = driven(rt, index, shelf, cursor(START), Mode::Plain, ended);
     lengthened(rt, path);
     let found = "next 0:2:0\nreopen reopened\nnext 0:6:1\n";
-    let end = driven(rt, index, shelf, at, found);
+    let end = driven(rt, index, shelf, at, Mode::Plain, found);
     is(rt, &end, &cursor((0, 6, 2)));
 }
 

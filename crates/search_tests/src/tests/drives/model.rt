@@ -2,167 +2,20 @@
 ghost use Rattle.std.specs.Prelude.{All, IfOk};
 ghost use Rattle.parfind.specs.Runs.{HasBudget};
 
+mod comparing;
+
 use crate::tests::drives::FAILED;
-use crate::tests::fixtures::{holds, index_of, is, must};
-use crate::tests::places::{cursor, sighting};
-use parfind::{Answer, Call, Cursor, Drive, Step, drive};
+use crate::tests::drives::model::comparing::{Case, is_right};
+use crate::tests::fixtures::{holds, is, must};
+use crate::tests::places::cursor;
+use crate::tests::sets::index_of_files;
+use parfind::{Answer, Call, Cursor, Drive, Mode, drive};
 use parfixtures::shelf_of;
 use parshelf::MemShelf;
 use std::alloc::{AllocError, Global};
 use std::process::Abort;
 
-// What is searched: the bytes of the file whose slices are looked for, the files, and from where on.
-#[derive(Clone, Copy)]
-struct Case {
-    content: &'static [u8],
-    files: [&'static [u8]; 2],
-    start: Cursor,
-}
-
-// The byte at a place, or zero behind the last one.
-fn byte_at(bytes: &[u8], place: usize) -> u8 {
-    match bytes.get(place) {
-        Some(found) => *found,
-        None => 0,
-    }
-}
-
-// Four bytes, the first of these with zeros behind them.
-fn padded(bytes: &[u8]) -> [u8; 4] {
-    let (first, second) = (byte_at(bytes, 0), byte_at(bytes, 1));
-    [first, second, byte_at(bytes, 2), byte_at(bytes, 3)]
-}
-
-// Whether a slice of these bytes stands there: they lie in the file, and with zeros behind both,
-// four bytes are the same.
-fn stands(file: &[u8], offset: usize, own: &[u8]) -> bool {
-    match file.get(offset..) {
-        Some(rest) => own.len() <= rest.len() && padded(rest) == padded(own),
-        None => false,
-    }
-}
-
-// The first slice from a number on that stands there.
-fn slice_at(content: &[u8], file: &[u8], offset: usize, least: u32) -> Option<u32> {
-    let mut number: u32 = 0;
-    for own in content.chunks(4) {
-        if number >= least && stands(file, offset, own) {
-            return Some(number);
-        }
-        number = number.saturating_add(1);
-    }
-    None
-}
-
-// A step without faults, by comparing each slice at each offset, and the cursor behind it.
-fn step_from(case: &Case, at: Cursor, budget: u64) -> (Step, Cursor) {
-    let mut passed: u64 = 0;
-    let mut file: u32 = 0;
-    for bytes in case.files.iter() {
-        for place in 0..bytes.len() {
-            let offset = place as u64;
-            let here = cursor((file, offset, 0));
-            if here >= cursor((at.file, at.offset, 0)) {
-                let least = if here < at { at.slice } else { 0 };
-                if let Some(slice) = slice_at(case.content, bytes, place, least) {
-                    let behind = cursor((file, offset, slice.saturating_add(1)));
-                    return (Step::Hit(sighting((file, offset, slice))), behind);
-                }
-                passed = passed.saturating_add(1);
-                if passed == budget {
-                    return (Step::Spent, cursor((file, offset.saturating_add(1), 0)));
-                }
-            }
-        }
-        file = file.saturating_add(1);
-    }
-    let end = cursor((file, 0, 0));
-    (Step::Done, if at < end { end } else { at })
-}
-
-// How many places there are before a cursor's.
-fn places_before(case: &Case, at: Cursor) -> u64 {
-    let [first, second] = case.files;
-    let (first, second) = (first.len() as u64, second.len() as u64);
-    match at.file {
-        0 => at.offset.min(first),
-        1 => first.saturating_add(at.offset.min(second)),
-        _ => first.saturating_add(second),
-    }
-}
-
-// Whether a fault may leave a step there: it passes no sighting, and no more places than it may.
-fn may_stop(case: &Case, at: Cursor, budget: u64, to: Cursor) -> bool {
-    let none = match step_from(case, at, u64::MAX).0 {
-        Step::Hit(x) => cursor((x.file, x.offset, x.slice)) >= to,
-        _ => true,
-    };
-    let passed = places_before(case, to).saturating_sub(places_before(case, at));
-    none && to >= at && passed <= budget
-}
-
-// The budget of a call, if it is a step.
-fn budget_of(call: Call) -> Option<u64> {
-    match call {
-        Call::Step(budget) => Some(budget),
-        Call::Next => Some(u64::MAX),
-        Call::Reopen => None,
-    }
-}
-
-// Where a call comes to from a cursor, if it gives this answer; a fault leaves the cursor `to`.
-fn after(case: &Case, at: Cursor, call: Call, answer: Answer, to: Cursor) -> Option<Cursor> {
-    let Some(budget) = budget_of(call) else {
-        let reopens = answer == Answer::Reopened || answer == Answer::NoMemory;
-        return if reopens { Some(at) } else { None };
-    };
-    if answer == FAILED {
-        return if may_stop(case, at, budget, to) {
-            Some(to)
-        } else {
-            None
-        };
-    }
-    let (step, behind) = step_from(case, at, budget);
-    if answer == Answer::Step(Ok(step)) {
-        Some(behind)
-    } else {
-        None
-    }
-}
-
-// Where these calls come to, if they give these answers, one fault at most among them, which leaves
-// the cursor `to`.
-fn follows(case: &Case, calls: &[Call], answers: &[Answer], to: Cursor) -> Option<Cursor> {
-    let mut at = case.start;
-    let mut failed = false;
-    for (call, answer) in calls.iter().zip(answers) {
-        let fails = *answer == FAILED;
-        if fails && failed {
-            return None;
-        }
-        failed = failed || fails;
-        at = after(case, at, *call, *answer, to)?;
-    }
-    Some(at)
-}
-
-// Whether calls may give these answers and come to this end, wherever a fault left them.
-fn is_right(case: &Case, calls: &[Call], answers: &[Answer], end: Cursor) -> bool {
-    for file in 0..4 {
-        for offset in 0..10 {
-            for slice in 0..3 {
-                let to = cursor((file, offset, slice));
-                if follows(case, calls, answers, to) == Some(end) {
-                    return true;
-                }
-            }
-        }
-    }
-    false
-}
-
-// Contents of a set of one file.
+// Contents of the first file of a set, and of a second one.
 static CONTENTS: [&[u8]; 5] = [
     b"\0\0\0\0\0\0\0\0",
     b"aaaaa",
@@ -171,9 +24,23 @@ static CONTENTS: [&[u8]; 5] = [
     b"aaaa\0\0\0",
 ];
 
-// One of them.
-fn some_content(number: u64) -> &'static [u8] {
-    CONTENTS[(number % 5) as usize]
+static SHORT: [&[u8]; 4] = [b"", b"ab", b"a\0", b"aaa"];
+
+// One of each.
+fn some_contents(number: u64) -> [&'static [u8]; 2] {
+    [
+        CONTENTS[(number % 5) as usize],
+        SHORT[((number >> 44) % 4) as usize],
+    ]
+}
+
+// One of the modes.
+fn some_mode(number: u64) -> Mode {
+    if number % 2 == 0 {
+        Mode::Plain
+    } else {
+        Mode::Tails
+    }
 }
 
 // Scanned files.
@@ -236,9 +103,10 @@ fn some_cursor(seed: u64) -> Cursor {
 // What is searched by chance.
 fn some_case(seed: u64) -> Case {
     Case {
-        content: some_content(seed >> 3),
+        contents: some_contents(seed >> 3),
         files: [some_file(seed >> 11), some_file(seed >> 19)],
         start: some_cursor(seed),
+        mode: some_mode(seed >> 51),
     }
 }
 
@@ -269,8 +137,11 @@ fn drives_in(
 ) -> bool
     requires { All HasBudget calls.now }
 {
-    let index = must(rt, index_of(rt.alloc(), case.content));
-    let done = must(rt, drive(rt.alloc(), calls, &index, shelf, case.start));
+    let index = must(rt, index_of_files(rt.alloc(), 4, &case.contents));
+    let done = must(
+        rt,
+        drive(rt.alloc(), calls, &index, shelf, case.start, case.mode),
+    );
     drop(index);
     is_told(rt, case, calls, &done)
 }

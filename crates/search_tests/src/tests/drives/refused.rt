@@ -5,7 +5,7 @@ ghost use Rattle.parfind.specs.Runs.{HasBudget};
 use crate::tests::drives::{are_told, behind, call_on, calls_of};
 use crate::tests::fixtures::{Search, cursor_of, index_of, is, must, part};
 use crate::tests::places::{START, Spot, cursor};
-use parfind::{Answer, Call, Cursor, Drive, drive};
+use parfind::{Answer, Call, Cursor, Drive, Mode, drive};
 use parfixtures::file_of;
 use parshelf::MemShelf;
 use parwindow::Index;
@@ -52,7 +52,10 @@ fn stopped_at<'s>(rt: &impl Abort, done: &Drive, script: &'s str) -> &'s str {
 // Wants that another search finds the sighting of the next call from there on.
 fn goes_on(rt: &(impl Abort + AllocGlobal), next: &str, index: &Index, shelf: &mut MemShelf) {
     let at = sighted(next);
-    let done = must(rt, drive(rt.alloc(), &[Call::Next], index, shelf, at));
+    let done = must(
+        rt,
+        drive(rt.alloc(), &[Call::Next], index, shelf, at, Mode::Plain),
+    );
     let _ = behind(rt, &done, next);
 }
 
@@ -92,7 +95,10 @@ fn comes_again(
     requires { All HasBudget calls.now }
 {
     is(rt, &shelf.handed(), &0);
-    let done = must(rt, drive(rt.alloc(), calls, index, shelf, cursor(START)));
+    let done = must(
+        rt,
+        drive(rt.alloc(), calls, index, shelf, cursor(START), Mode::Plain),
+    );
     came_to(rt, &done, index, shelf, script, end)?;
     Err("OutOfMemory before the first call".into())
 }
@@ -108,7 +114,7 @@ fn comes_to(
 ) -> Result<(), Fail>
     requires { All HasBudget calls.now }
 {
-    match drive(rt.alloc(), calls, index, shelf, cursor(START)) {
+    match drive(rt.alloc(), calls, index, shelf, cursor(START), Mode::Plain) {
         Ok(done) => came_to(rt, &done, index, shelf, script, end),
         Err(_) => comes_again(rt, calls, index, shelf, script, end),
     }

@@ -1,7 +1,7 @@
 // Sightings that a search finds.
 use crate::tests::fixtures::must;
 use crate::tests::searches::searching::{walks, walks_each};
-use std::alloc::AllocError;
+use parfind::{Mode, StartFault};
 
 static SEEN: &str = "\
 # Two slices one after the other are both seen.
@@ -27,15 +27,15 @@ abcdefgh|,ab,abcd|0:0:0|next 2:0:0,next done 3:0:0
 
 #[test]
 fn a_search_finds_each_sighting_in_order(rt: HostRuntime) {
-    walks_each(&rt, SEEN, 64, 0);
+    walks_each(&rt, SEEN, 64, 0, Mode::Plain);
 }
 
 static EQUAL: &str = "\0\0\0\0\0\0\0\0|\0\0\0\0\0\0|0:0:0|\
     next 0:0:0,next 0:0:1,next 0:1:0,next 0:1:1,next 0:2:0,next 0:2:1,next done 1:0:0";
 
 #[test]
-fn equal_slices_are_seen_at_every_offset(rt: HostRuntime) -> Result<(), AllocError> {
-    walks(&rt, EQUAL, 64, 0)
+fn equal_slices_are_seen_at_every_offset(rt: HostRuntime) -> Result<(), StartFault> {
+    walks(&rt, EQUAL, 64, 0, Mode::Plain)
 }
 
 // A search for two slices in a file where a read fails before the first is seen: it stands no
@@ -45,5 +45,5 @@ static FAILING: &str =
 
 #[test]
 fn a_search_goes_on_after_a_failed_read(rt: HostRuntime) {
-    must(&rt, walks(&rt, FAILING, 1, 3));
+    must(&rt, walks(&rt, FAILING, 1, 3, Mode::Plain));
 }

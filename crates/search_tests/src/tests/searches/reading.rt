@@ -1,6 +1,7 @@
 // How much of its files a search reads.
 use crate::tests::fixtures::{Search, files_in, index_of, index_with, long_file, must};
 use crate::tests::searches::searching::{walks_each, walks_in};
+use parfind::Mode;
 use parfixtures::file_of;
 use parshelf::MemShelf;
 use std::process::Abort;
@@ -14,9 +15,9 @@ abcdef|e,ef|0:0:0|next 1:0:1,next done 2:0:0|2
 
 #[test]
 fn each_byte_is_read_once(rt: HostRuntime) {
-    walks_each(&rt, ONCE, 1, 0);
-    walks_each(&rt, ONCE, 3, 0);
-    walks_each(&rt, ONCE, 64, 0);
+    walks_each(&rt, ONCE, 1, 0, Mode::Plain);
+    walks_each(&rt, ONCE, 3, 0, Mode::Plain);
+    walks_each(&rt, ONCE, 64, 0, Mode::Plain);
 }
 
 // A file that is read at once.
@@ -29,7 +30,7 @@ fn one_long(rt: &(impl Abort + AllocGlobal)) -> MemShelf {
 fn walks_long(rt: &(impl Abort + AllocGlobal), walk: &str) {
     let index = must(rt, index_of(rt.alloc(), b"abcdefgh"));
     let shelf = one_long(rt);
-    must(rt, walks_in(rt, Search { index, shelf }, walk));
+    must(rt, walks_in(rt, Search { index, shelf }, walk, Mode::Plain));
 }
 
 // A step of one place in it.
@@ -47,14 +48,14 @@ abcdef|XXXXXXXXab|0:9:1|1 spent 0:10:0,1 done 1:0:0|0
 
 #[test]
 fn what_no_slice_fits_into_is_not_read(rt: HostRuntime) {
-    walks_each(&rt, NO_FIT, 64, 1);
+    walks_each(&rt, NO_FIT, 64, 1, Mode::Plain);
 }
 
 // Goes along a walk in two files of which nothing is read, for slices without sums.
 fn reads_nothing(rt: &(impl Abort + AllocGlobal), walk: &str) {
     let index = must(rt, index_with(rt.alloc(), 8, b""));
     let shelf = must(rt, files_in(rt.alloc(), "abcdefgh,abcd", 64, &[1]));
-    must(rt, walks_in(rt, Search { index, shelf }, walk));
+    must(rt, walks_in(rt, Search { index, shelf }, walk, Mode::Plain));
 }
 
 #[test]

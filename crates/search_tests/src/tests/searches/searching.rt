@@ -6,10 +6,10 @@ ghost use Rattle.parfind.specs.Finders.{BelongsTo};
 use crate::tests::fixtures::{
     Search, cursor_of, field, holds, is, is_at_most, is_row, must, part, search_of, step_named,
 };
-use parfind::{Cursor, Finder, Step};
+use parfind::{Cursor, Finder, Mode, StartFault, Step};
 use parshelf::{MemShelf, ReadFault};
 use parwindow::Index;
-use std::alloc::{AllocError, Global};
+use std::alloc::Global;
 use std::process::Abort;
 
 // A walk is a text with bars between: the bytes of the file whose slices are looked for, the files
@@ -17,11 +17,17 @@ use std::process::Abort;
 // are handed over at most, if that is wanted. A step has spaces between: its budget, or `next`, what
 // it gives, and the cursor then, if that is wanted, or the furthest one behind `..=`.
 
-// A search from a cursor on.
-fn opened(alloc: Global, index: &Index, shelf: &MemShelf, at: Cursor) -> Result<Finder, AllocError>
+/// A search from a cursor on.
+pub fn opened(
+    alloc: Global,
+    index: &Index,
+    shelf: &MemShelf,
+    at: Cursor,
+    mode: Mode,
+) -> Result<Finder, StartFault>
     ensures { IfOk result (λ finder. BelongsTo finder index.now (shelf_state_of shelf.now)) }
 {
-    Finder::open(alloc, index, shelf, at)
+    Finder::open(alloc, index, shelf, at, mode)
 }
 
 // What a search gives by a step with the budget that a text names, or by `next`.
@@ -50,8 +56,8 @@ fn stands(rt: &impl Abort, at: Cursor, wanted: &str) {
     }
 }
 
-// Takes the steps of a walk.
-fn steps_give(
+/// Takes the steps of a walk.
+pub fn steps_give(
     rt: &impl Abort,
     finder: &mut Finder,
     index: &Index,
@@ -73,8 +79,10 @@ fn walks_with(
     index: &Index,
     shelf: &mut MemShelf,
     walk: &str,
-) -> Result<(), AllocError> {
-    let mut finder = opened(rt.alloc(), index, &*shelf, cursor_of(field(walk, 2)))?;
+    mode: Mode,
+) -> Result<(), StartFault> {
+    let start = cursor_of(field(walk, 2));
+    let mut finder = opened(rt.alloc(), index, &*shelf, start, mode)?;
     steps_give(rt, &mut finder, index, shelf, field(walk, 3));
     is_at_most(rt, shelf.handed(), field(walk, 4));
     Ok(())
@@ -85,8 +93,9 @@ pub fn walks_in(
     rt: &(impl Abort + AllocGlobal),
     mut search: Search,
     walk: &str,
-) -> Result<(), AllocError> {
-    let walked = walks_with(rt, &search.index, &mut search.shelf, walk);
+    mode: Mode,
+) -> Result<(), StartFault> {
+    let walked = walks_with(rt, &search.index, &mut search.shelf, walk, mode);
     drop(search);
     walked
 }
@@ -98,15 +107,22 @@ pub fn walks(
     walk: &str,
     piece: usize,
     failing: u64,
-) -> Result<(), AllocError> {
-    walks_in(rt, search_of(rt, walk, piece, &[failing]), walk)
+    mode: Mode,
+) -> Result<(), StartFault> {
+    walks_in(rt, search_of(rt, walk, piece, &[failing]), walk, mode)
 }
 
 /// Goes along each walk of a table.
-pub fn walks_each(rt: &(impl Abort + AllocGlobal), table: &str, piece: usize, failing: u64) {
+pub fn walks_each(
+    rt: &(impl Abort + AllocGlobal),
+    table: &str,
+    piece: usize,
+    failing: u64,
+    mode: Mode,
+) {
     for walk in table.lines() {
         if is_row(walk) {
-            must(rt, walks(rt, walk, piece, failing));
+            must(rt, walks(rt, walk, piece, failing, mode));
         }
     }
 }

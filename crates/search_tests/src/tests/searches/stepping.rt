@@ -1,5 +1,6 @@
 // Steps with a budget.
 use crate::tests::searches::searching::walks_each;
+use parfind::Mode;
 
 static STEPS: &str = "\
 # A budget is spent place by place.
@@ -15,5 +16,5 @@ abcdefgh|,ab,abcd|0:0:0|2 spent 1:2:0,1 2:0:0 2:0:1,4 spent 2:4:0,1 done 3:0:0
 
 #[test]
 fn steps_give_their_answers_and_cursors(rt: HostRuntime) {
-    walks_each(&rt, STEPS, 64, 0);
+    walks_each(&rt, STEPS, 64, 0, Mode::Plain);
 }

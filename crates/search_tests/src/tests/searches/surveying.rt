@@ -1,12 +1,12 @@
 // Marks of the slices that a survey finds.
-ghost use Rattle.std.specs.Prelude.{◌≡◌, ◌∷◌, [], length, true, false};
-ghost use Rattle.parfind.specs.Marks.{missing_places};
-ghost use Rattle.search_tests.specs.Worked.{two_slices, equal_slices};
+ghost use Rattle.std.specs.Prelude.{◌≡◌, length};
+
+mod tails;
 
 use crate::tests::fixtures::{
     Search, field, index_of, is, is_at_most, is_row, long_file, must, search_of, small_number_of,
 };
-use parfind::{SurveyFault, survey, survey_in};
+use parfind::{Mode, SurveyFault, survey, survey_in};
 use parfixtures::shelf_of;
 use parshelf::{MemShelf, ReadFault};
 use parwindow::{Index, Window};
@@ -40,18 +40,21 @@ fn marks_of(marks: &str) -> [bool; 4] {
     [first, second, mark_at(marks, 2), mark_at(marks, 3)]
 }
 
-// A survey in a window that was used before.
+// A survey in a window that was used before, and is made for both modes.
 fn surveyed_in(
     rt: &(impl Abort + AllocGlobal),
     index: &Index,
     shelf: &mut MemShelf,
     found: &mut [bool],
+    mode: Mode,
 ) -> Result<(), SurveyFault>
     requires { length found.old ≡ length index.now.slices }
 {
-    let mut window = must(rt, Window::new(rt.alloc(), index.size() as usize));
+    let (size, tails) = (index.size() as usize, index.tail_lengths());
+    assert!(rt; tails.len() <= 256);
+    let mut window = must(rt, Window::with_tails(rt.alloc(), size, tails));
     let _ = window.push(b'a');
-    match survey_in(index, shelf, &mut window, found) {
+    match survey_in(index, shelf, &mut window, found, mode) {
         Ok(()) => Ok(()),
         Err((file, fault)) => Err(SurveyFault::Read(file, fault)),
     }
@@ -71,13 +74,14 @@ fn surveyed(
     shelf: &mut MemShelf,
     marks: &mut [bool; 4],
     way: In,
+    mode: Mode,
 ) -> Result<(), SurveyFault> {
     let count = index.slices() as usize;
     assert!(rt; count <= 4);
     let found = &mut marks[..count];
     match way {
-        In::OwnWindow => survey(rt.alloc(), index, shelf, found),
-        In::UsedWindow => surveyed_in(rt, index, shelf, found),
+        In::OwnWindow => survey(rt.alloc(), index, shelf, found, mode),
+        In::UsedWindow => surveyed_in(rt, index, shelf, found, mode),
     }
 }
 
@@ -88,9 +92,10 @@ fn surveys(
     shelf: &mut MemShelf,
     row: &str,
     way: In,
+    mode: Mode,
 ) -> Result<(), AllocError> {
     let mut marks = marks_of(field(row, 2));
-    let answer = surveyed(rt, index, shelf, &mut marks, way);
+    let answer = surveyed(rt, index, shelf, &mut marks, way, mode);
     if answer == Err(SurveyFault::Memory) {
         return Err(AllocError);
     }
@@ -106,8 +111,9 @@ fn survey_marks(
     mut search: Search,
     row: &str,
     way: In,
+    mode: Mode,
 ) -> Result<(), AllocError> {
-    let surveyed = surveys(rt, &search.index, &mut search.shelf, row, way);
+    let surveyed = surveys(rt, &search.index, &mut search.shelf, row, way, mode);
     drop(search);
     surveyed
 }
@@ -120,16 +126,17 @@ fn marks(
     piece: usize,
     failing: u64,
     way: In,
+    mode: Mode,
 ) -> Result<(), AllocError> {
-    survey_marks(rt, search_of(rt, row, piece, &[failing]), row, way)
+    survey_marks(rt, search_of(rt, row, piece, &[failing]), row, way, mode)
 }
 
 // Surveys by each row of a table, by pieces of one byte and of many.
-fn marks_each(rt: &(impl Abort + AllocGlobal), table: &str) {
+fn marks_each(rt: &(impl Abort + AllocGlobal), table: &str, mode: Mode) {
     for row in table.lines() {
         if is_row(row) {
-            must(rt, marks(rt, row, 1, 0, In::UsedWindow));
-            must(rt, marks(rt, row, 64, 0, In::UsedWindow));
+            must(rt, marks(rt, row, 1, 0, In::UsedWindow, mode));
+            must(rt, marks(rt, row, 64, 0, In::UsedWindow, mode));
         }
     }
 }
@@ -151,7 +158,7 @@ abcdefgh|,a,ab,abc|--|--||0
 
 #[test]
 fn each_slice_that_is_seen_is_marked(rt: HostRuntime) {
-    marks_each(&rt, SEEN);
+    marks_each(&rt, SEEN, Mode::Plain);
 }
 
 static EQUAL: &str = "\
@@ -163,13 +170,13 @@ static EQUAL: &str = "\
 
 #[test]
 fn equal_slices_are_marked_together(rt: HostRuntime) {
-    marks_each(&rt, EQUAL);
+    marks_each(&rt, EQUAL, Mode::Plain);
 }
 
 #[test]
 fn nothing_is_read_where_each_slice_has_its_mark(rt: HostRuntime) {
     let row = "abcdefgh|abcdefgh|++|++||0";
-    must(&rt, marks(&rt, row, 64, 1, In::UsedWindow));
+    must(&rt, marks(&rt, row, 64, 1, In::UsedWindow, Mode::Plain));
 }
 
 // A file with two slices near its beginning, and much behind them; behind it another file has both
@@ -183,9 +190,10 @@ fn long_shelf(rt: &(impl Abort + AllocGlobal), piece: usize) -> MemShelf {
 fn stops(rt: &(impl Abort + AllocGlobal), row: &str, piece: usize) {
     let index = must(rt, index_of(rt.alloc(), b"abcdefgh"));
     let shelf = long_shelf(rt, piece);
+    let search = Search { index, shelf };
     must(
         rt,
-        survey_marks(rt, Search { index, shelf }, row, In::UsedWindow),
+        survey_marks(rt, search, row, In::UsedWindow, Mode::Plain),
     );
 }
 
@@ -212,7 +220,8 @@ static FAILURES: [(usize, u64, u64, &str); 7] = [
 // Surveys by a row, in each run another read failing.
 fn fails_in_turn(rt: &(impl Abort + AllocGlobal), row: &str, piece: usize, first: u64, last: u64) {
     for failing in first..=last {
-        must(rt, marks(rt, row, piece, failing, In::UsedWindow));
+        let marked = marks(rt, row, piece, failing, In::UsedWindow, Mode::Plain);
+        must(rt, marked);
     }
 }
 
@@ -232,20 +241,8 @@ fn a_survey_marks_what_a_search_finds(rt: HostRuntime) -> Result<(), AllocError>
         64,
         1,
         In::OwnWindow,
+        Mode::Plain,
     )?;
-    marks(&rt, "abcdefghijkl|XXabcd|--+|+-+|", 64, 0, In::OwnWindow)
-}
-
-// What the word counts that bounds the digests of a survey. Does nothing.
-fn missing_law()
-    ensures none { missing_places two_slices (false ∷ false ∷ []) ≡ 2 }
-    ensures one { missing_places two_slices (true ∷ false ∷ []) ≡ 1 }
-    ensures all { missing_places two_slices (true ∷ true ∷ []) ≡ 0 }
-    ensures equal { missing_places equal_slices (true ∷ false ∷ []) ≡ 3 }
-    ensures both { missing_places equal_slices (true ∷ true ∷ []) ≡ 0 }
-{}
-
-#[test]
-fn digests_are_counted_where_a_slice_has_no_mark(_rt: HostRuntime) {
-    missing_law();
+    let row = "abcdefghijkl|XXabcd|--+|+-+|";
+    marks(&rt, row, 64, 0, In::OwnWindow, Mode::Plain)
 }

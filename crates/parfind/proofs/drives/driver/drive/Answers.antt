@@ -2,6 +2,7 @@ use Rattle.std.proofs.lemmas.Grind.{common_steps}
 use Rattle.std.proofs.Common.{◌+◌, List, [], ◌∷◌, ◌++◌, drop, ap, ◌∙◌, arith, subst, Some, None}
 use Rattle.std.specs.List.{Contains}
 use Rattle.std.proofs.lemmas.List.Elements.{Contains-get_or}
+use Rattle.parfind.specs.Sought.{Sought, sought_of}
 use Rattle.parshelf.specs.Shelf.{ShelfState}
 use Rattle.parfind.specs.declared.drives.calls.Call.{Call}
 use Rattle.parfind.specs.declared.drives.calls.Call.TheVariants as call
@@ -12,7 +13,7 @@ use Rattle.parfind.proofs.drives.driver.drive.Goals.{in-Step, in-Next, in-Reopen
 
 pub loop-call-preserved : goal.loop-call-preserved
 loop-call-preserved g c =
-    let set = c.args.index.now in
+    let sought : Sought = sought_of c.args.index.now c.args.mode in
     let old : ShelfState = g.H.Shelf.state c.args.shelf.now in
     let s : ShelfState = g.H.Shelf.state c.loop-call.shelf in
     let calls = c.args.calls.now in
@@ -29,10 +30,10 @@ loop-call-preserved g c =
             belongs = r.belongs;
             room = omega (arith, before.room, c.put-in-loop-call.ensures.capacity);
             count = omega (arith, before.count, c.put-in-loop-call.ensures.len);
-            so_far = drive_steps set old s (g.H.Shelf.state w.step.new.shelf) c.args.start c.loop-call.finder w.step.new.self calls later
+            so_far = drive_steps sought old s (g.H.Shelf.state w.step.new.shelf) c.args.start c.loop-call.finder w.step.new.self calls later
                 (call.Step n) (Some n) w.step.result xs c.put-in-loop-call.new.answers.items (asks_step n) (g.met.H.Shelf.well_formed c.loop-call.shelf)
                 (rw (next_call calls i (call.Step n) _ c.loop-call-test.true w.in-Step.is) at before.so_far)
-                (record { answer = r.answer; moves = r.moves; advances = r.advances; along = r.along }) r.reads
+                (record { answer = rw before.so_far.mode_is at r.answer; moves = r.moves; advances = r.advances; along = r.along }) r.reads
                 (added ∙ ap (λ (x : Answer). xs ++ x ∷ []) w.answer-is);
           })
       | in-Next w ↦
@@ -41,10 +42,10 @@ loop-call-preserved g c =
             belongs = r.belongs;
             room = omega (arith, before.room, c.put-in-loop-call.ensures.capacity);
             count = omega (arith, before.count, c.put-in-loop-call.ensures.len);
-            so_far = drive_steps set old s (g.H.Shelf.state w.next.new.shelf) c.args.start c.loop-call.finder w.next.new.self calls later
+            so_far = drive_steps sought old s (g.H.Shelf.state w.next.new.shelf) c.args.start c.loop-call.finder w.next.new.self calls later
                 call.Next None w.next.result xs c.put-in-loop-call.new.answers.items asks_next (g.met.H.Shelf.well_formed c.loop-call.shelf)
                 (rw (next_call calls i call.Next _ c.loop-call-test.true w.in-Next.is) at before.so_far)
-                (record { answer = r.answer; moves = r.moves; advances = r.advances; along = r.along }) r.reads
+                (record { answer = rw before.so_far.mode_is at r.answer; moves = r.moves; advances = r.advances; along = r.along }) r.reads
                 (added ∙ ap (λ (x : Answer). xs ++ x ∷ []) w.answer-is);
           })
       | in-Reopen+in-Ok w ↦
@@ -55,28 +56,28 @@ loop-call-preserved g c =
             belongs = r.belongs;
             room = omega (arith, before.room, c.put-in-loop-call.ensures.capacity);
             count = omega (arith, before.count, c.put-in-loop-call.ensures.len);
-            so_far = drive_reopens set old s c.args.start c.loop-call.finder w.in-Ok.next calls later xs
+            so_far = drive_reopens sought old s c.args.start c.loop-call.finder w.in-Ok.next calls later xs
                 c.put-in-loop-call.new.answers.items there
                 (rw (next_call calls i call.Reopen _ c.loop-call-test.true w.in-Reopen.is) at before.so_far)
-                (r.cursor ∙ w.cursor-at.ensures) (added ∙ ap (λ (x : Answer). xs ++ x ∷ []) w.answer-is);
+                (r.cursor ∙ w.cursor-at.ensures) r.mode (added ∙ ap (λ (x : Answer). xs ++ x ∷ []) w.answer-is);
           })
     ]
 
 pub returns-in-Err : goal.returns-in-Err
 returns-in-Err g c =
-    let set = c.args.index.now in
+    let sought : Sought = sought_of c.args.index.now c.args.mode in
     let old : ShelfState = g.H.Shelf.state c.args.shelf.now in
     let s : ShelfState = g.H.Shelf.state c.loop-call.shelf in
     let calls = c.args.calls.now in
     let i = c.loop-call.call-index in
     let there : Contains calls call.Reopen =
     subst (Contains calls) c.in-Reopen.is (Contains-get_or calls i _ c.loop-call-test.true) in
-    let so_far = drive_stops set old s c.args.start c.loop-call.finder calls (drop (i + 1) calls) c.loop-call.answers.items
+    let so_far = drive_stops sought old s c.args.start c.loop-call.finder calls (drop (i + 1) calls) c.loop-call.answers.items
     c.put.new.answers.items there
     (rw (next_call calls i call.Reopen _ c.loop-call-test.true c.in-Reopen.is) at c.loop-call.invariant.so_far)
     c.put.ensures.items in
     let e = c.drive_of.ensures in
-    let gave = drive_ends set old s c.args.start c.drive_of.result.cursor c.loop-call.finder calls c.put.new.answers.items
+    let gave = drive_ends sought old s c.args.start c.drive_of.result.cursor c.loop-call.finder calls c.put.new.answers.items
     so_far (e.cursor ∙ c.cursor-at.ensures) in
     rw e.answers (record {
       answer = gave.answer;
@@ -84,19 +85,20 @@ returns-in-Err g c =
       onward = gave.onward;
       told = gave.told;
       untouched = tt;
+      tails = c.in_ok-finder.ensures.tails;
       reads = gave.reads;
     })
 
 pub returns : goal.returns
 returns g c =
-    let set = c.args.index.now in
+    let sought : Sought = sought_of c.args.index.now c.args.mode in
     let old : ShelfState = g.H.Shelf.state c.args.shelf.now in
     let s : ShelfState = g.H.Shelf.state c.loop-call.shelf in
     let calls = c.args.calls.now in
     let i = c.loop-call.call-index in
     let so_far = rw (drop_all calls i c.loop-call-test.false) at c.loop-call.invariant.so_far in
     let e = c.drive_of-2.ensures in
-    let gave = drive_ends set old s c.args.start c.drive_of-2.result.cursor c.loop-call.finder calls c.loop-call.answers.items
+    let gave = drive_ends sought old s c.args.start c.drive_of-2.result.cursor c.loop-call.finder calls c.loop-call.answers.items
     so_far (e.cursor ∙ c.cursor.ensures) in
     rw e.answers (record {
       answer = gave.answer;
@@ -104,44 +106,9 @@ returns g c =
       onward = gave.onward;
       told = gave.told;
       untouched = tt;
+      tails = c.in_ok-finder.ensures.tails;
       reads = gave.reads;
     })
-
-pub returns-in_err-answers-clause-answer : goal.returns-in_err-answers-clause-answer
-returns-in_err-answers-clause-answer g c = grind (arith, common_steps) steps 100000
-
-pub returns-in_err-answers-clause-each : goal.returns-in_err-answers-clause-each
-returns-in_err-answers-clause-each g c = grind (arith, common_steps) steps 100000
-
-pub returns-in_err-answers-clause-onward : goal.returns-in_err-answers-clause-onward
-returns-in_err-answers-clause-onward g c = grind (arith, common_steps) steps 100000
-
-pub returns-in_err-answers-clause-told : goal.returns-in_err-answers-clause-told
-returns-in_err-answers-clause-told g c = grind (arith, common_steps) steps 100000
-
-pub returns-in_err-answers-clause-untouched : goal.returns-in_err-answers-clause-untouched
-returns-in_err-answers-clause-untouched g c = grind (arith, common_steps) steps 100000
-
-pub returns-in_err-answers-clause-reads : goal.returns-in_err-answers-clause-reads
-returns-in_err-answers-clause-reads g c = grind (arith, common_steps) steps 100000
-
-pub returns-in_err-finder-clause-answer : goal.returns-in_err-finder-clause-answer
-returns-in_err-finder-clause-answer g c = grind (arith, common_steps) steps 100000
-
-pub returns-in_err-finder-clause-each : goal.returns-in_err-finder-clause-each
-returns-in_err-finder-clause-each g c = grind (arith, common_steps) steps 100000
-
-pub returns-in_err-finder-clause-onward : goal.returns-in_err-finder-clause-onward
-returns-in_err-finder-clause-onward g c = grind (arith, common_steps) steps 100000
-
-pub returns-in_err-finder-clause-told : goal.returns-in_err-finder-clause-told
-returns-in_err-finder-clause-told g c = grind (arith, common_steps) steps 100000
-
-pub returns-in_err-finder-clause-untouched : goal.returns-in_err-finder-clause-untouched
-returns-in_err-finder-clause-untouched g c = grind (arith, common_steps) steps 100000
-
-pub returns-in_err-finder-clause-reads : goal.returns-in_err-finder-clause-reads
-returns-in_err-finder-clause-reads g c = grind (arith, common_steps) steps 100000
 
 pub loop-call-init : goal.loop-call-init
 loop-call-init g c = grind (arith, common_steps) steps 1500000
@@ -153,7 +120,7 @@ pub step-requires-clause-budget : goal.step-requires-clause-budget
 step-requires-clause-budget g c = grind (arith, common_steps) steps 1500000
 
 pub step-requires-clause-belongs : goal.step-requires-clause-belongs
-step-requires-clause-belongs g c = grind (arith, common_steps) steps 100000
+step-requires-clause-belongs g c = c.loop-call.invariant.belongs
 
 pub put-requires : goal.put-requires
 put-requires g c = grind (arith, common_steps) steps 400000

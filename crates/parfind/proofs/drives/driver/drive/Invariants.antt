@@ -1,5 +1,6 @@
 use Rattle.std.proofs.Common.{◌≡◌, ◌≤◌, drop, length, vec_len, vec_capacity}
 use Rattle.parfind.specs.Finders.{BelongsTo}
+use Rattle.parfind.specs.Sought.{sought_of}
 use Rattle.parfind.proofs.DriveLaws.{DriveSoFar}
 use Rattle.parfind.proofs.drives.driver.drive.Given as goal
 
@@ -9,6 +10,6 @@ invariant-loop-call g l = record {
   room : length l.calls ≤ vec_capacity l.answers;
   count : vec_len l.answers ≡ l.call-index;
   so_far :
-      DriveSoFar l.index (g.H.Shelf.state l.fn.shelf) (g.H.Shelf.state l.shelf) l.fn.start l.finder l.calls
+      DriveSoFar (sought_of l.index l.mode) (g.H.Shelf.state l.fn.shelf) (g.H.Shelf.state l.shelf) l.fn.start l.finder l.calls
       (drop l.call-index l.calls) l.answers.items;
 }

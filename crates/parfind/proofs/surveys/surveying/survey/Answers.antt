@@ -1,9 +1,6 @@
 use Rattle.std.proofs.lemmas.Grind.{common_steps}
-use Rattle.std.proofs.Common.{rules, arith}
+use Rattle.std.proofs.Common.{arith}
 use Rattle.parfind.proofs.surveys.surveying.survey.Goals as goal
-
-pub returns-clause-shelf : goal.returns-clause-shelf
-returns-clause-shelf g c = search rules steps 300000
 
 pub returns-in_err-window-clause-found : goal.returns-in_err-window-clause-found
 returns-in_err-window-clause-found g c = grind (arith, common_steps) steps 100000
@@ -13,9 +10,6 @@ returns-in_err-window-clause-stops g c = grind (arith, common_steps) steps 10000
 
 pub returns-in_err-window-clause-kept : goal.returns-in_err-window-clause-kept
 returns-in_err-window-clause-kept g c = grind (arith, common_steps) steps 100000
-
-pub returns-in_err-window-clause-shelf : goal.returns-in_err-window-clause-shelf
-returns-in_err-window-clause-shelf g c = grind (arith, common_steps) steps 100000
 
 pub returns-in_err-window-clause-handed : goal.returns-in_err-window-clause-handed
 returns-in_err-window-clause-handed g c = grind (arith, common_steps) steps 100000
@@ -34,9 +28,6 @@ returns-in-Ok-clause-stops g c = grind (arith, common_steps) steps 100000
 
 pub returns-in-Ok-clause-kept : goal.returns-in-Ok-clause-kept
 returns-in-Ok-clause-kept g c = grind (arith, common_steps) steps 100000
-
-pub returns-in-Ok-clause-shelf : goal.returns-in-Ok-clause-shelf
-returns-in-Ok-clause-shelf g c = grind (arith, common_steps) steps 100000
 
 pub returns-in-Ok-clause-handed : goal.returns-in-Ok-clause-handed
 returns-in-Ok-clause-handed g c = grind (arith, common_steps) steps 100000
@@ -64,15 +55,6 @@ returns-clause-unfit g c = grind (arith, common_steps) steps 100000
 
 pub returns-clause-none : goal.returns-clause-none
 returns-clause-none g c = grind (arith, common_steps) steps 100000
-
-pub new-requires-clause-some : goal.new-requires-clause-some
-new-requires-clause-some g c = grind (arith, common_steps) steps 100000
-
-pub new-requires-clause-within : goal.new-requires-clause-within
-new-requires-clause-within g c = grind (arith, common_steps) steps 100000
-
-pub survey_in-requires-clause-sized : goal.survey_in-requires-clause-sized
-survey_in-requires-clause-sized g c = grind (arith, common_steps) steps 100000
 
 pub survey_in-requires-clause-each : goal.survey_in-requires-clause-each
 survey_in-requires-clause-each g c = grind (arith, common_steps) steps 100000

@@ -2,12 +2,15 @@ use Rattle.std.proofs.Common.{rules, ◌≡◌, ◌<◌, ◌⊎◌, ℕ, true, f
 use Rattle.std.proofs.lemmas.Result.{err_from_is_err_and}
 use Rattle.parshelf.specs.Shelf.{ShelfState}
 use Rattle.parshelf.proofs.ReadLaws.{ReadsOnly_more}
-use Rattle.parwindow.specs.Index.{SliceSet, set_has_fit}
+use Rattle.parwindow.specs.Index.{set_has_fit}
+use Rattle.parfind.specs.Sought.{Sought, sought_of, IsWindowFor}
+use Rattle.parwindow.specs.Window.{WindowState}
 use Rattle.parfind.specs.Surveying.{SurveyState, survey_at}
 use Rattle.parfind.proofs.SoFarLaws.{begins, ends_all, never_all}
 use Rattle.parfind.proofs.SurveyFilesLaws.{ReadOn, LookedAt, SlidOn, missing_left, enters, fill_fails, look_ends, slide_fails, slides}
 use Rattle.parfind.proofs.AlongLaws.{faults_before}
-use Rattle.parfind.proofs.SweepLaws.{entered_nearer, slid_nearer, tied_digest}
+use Rattle.parfind.proofs.SweepLaws.{entered_nearer, made_same, slid_nearer}
+use Rattle.parfind.proofs.KeptLaws.{tied_digest}
 use Rattle.parfind.proofs.surveys.surveying.survey_files.Goals.{then-left-eq0-via-then-left-eq0, then-left-eq0-via-else-left-eq0+then-not-fits}
 use Rattle.parfind.proofs.surveys.surveying.survey_files.Goals as goal
 
@@ -15,50 +18,51 @@ pub loop-missing-init : goal.loop-missing-init
 loop-missing-init g c =
     let old : SurveyState = survey_at (g.H.Shelf.state c.args.shelf.now) c.args.window.now c.args.found.now c.args.track.now in
     let next = c.next_missing-missing.ensures in
-    begins c.args.index.now old c.next_missing-missing.result c.requires.few c.requires.empty c.requires.unread
-    (record { within = next.within; first = next.missing; marked = next.marked })
+    rw c.none-exhausted.ensures (begins (sought_of c.args.index.now c.args.mode) old c.next_missing-missing.result c.requires.small c.requires.empty
+    c.requires.unread (record { within = next.within; first = next.missing; marked = next.marked }))
 
 pub loop-missing-preserved-then-left-eq0 : goal.loop-missing-preserved-then-left-eq0
 loop-missing-preserved-then-left-eq0 g c =
-    let set : SliceSet = c.args.index.now in
+    let sought : Sought = sought_of c.args.index.now c.args.mode in
     let shelf = g.met.H.Shelf.well_formed c.args.shelf.now in
     let old : SurveyState = survey_at (g.H.Shelf.state c.args.shelf.now) c.args.window.now c.args.found.now c.args.track.now in
     let l = c.loop-missing in
     let now : SurveyState = survey_at (g.H.Shelf.state l.shelf) l.window l.found l.track in
     let left : ℕ = c.rest-left.result in
-    let at = missing_left set old now l.missing l.exhausted_crc left l.invariant (omega (arith, c.loop-missing-test.true)) l.auto.found
-    c.requires.sized (omega (arith, c.if-file-count.true, c.count.ensures, c.file.ensures)) c.rest-left.ensures in
+    let at = missing_left sought old now l.missing l.exhausted.crcs left l.invariant (omega (arith, c.loop-missing-test.true)) l.auto.found
+    c.requires.made.sized (omega (arith, c.if-file-count.true, c.count.ensures, c.file.ensures)) c.rest-left.ensures in
     let entered = rw c.file-next.ensures at (c.enter_file.ensures.other (λ e. absurd (omega (arith, c.file-next.ensures)))) in
-    let none : (left ≡ 0) ⊎ (set_has_fit set left ≡ false) = elim c.then-left-eq0.branch [
+    let none : (left ≡ 0) ⊎ (set_has_fit sought.set left ≡ false) = elim c.then-left-eq0.branch [
       | then-left-eq0-via-then-left-eq0 w ↦ inl (omega (arith, w.if-left-eq0))
       | then-left-eq0-via-else-left-eq0+then-not-fits w ↦ inr (search rules steps 600000)
     ] in
-    enters set old now shelf l.missing l.exhausted_crc left at none c.enter_file.new.window c.enter_file.new.self entered.0 entered.1
+    rw c.forget.ensures
+    (enters sought old now shelf l.missing l.exhausted.crcs left at none c.enter_file.new.window c.enter_file.new.self entered.0 entered.1)
 
 pub returns-in_err-fill-clause-ends : goal.returns-in_err-fill-clause-ends
 returns-in_err-fill-clause-ends g c =
-    let set : SliceSet = c.args.index.now in
+    let sought : Sought = sought_of c.args.index.now c.args.mode in
     let shelf = g.met.H.Shelf.well_formed c.args.shelf.now in
     let old : SurveyState = survey_at (g.H.Shelf.state c.args.shelf.now) c.args.window.now c.args.found.now c.args.track.now in
     let l = c.loop-missing in
     let now : SurveyState = survey_at (g.H.Shelf.state l.shelf) l.window l.found l.track in
     let left : ℕ = c.rest-left.result in
-    let at = missing_left set old now l.missing l.exhausted_crc left l.invariant (omega (arith, c.loop-missing-test.true)) l.auto.found
-    c.requires.sized (omega (arith, c.if-file-count.true, c.count.ensures, c.file.ensures)) c.rest-left.ensures in
+    let at = missing_left sought old now l.missing l.exhausted.crcs left l.invariant (omega (arith, c.loop-missing-test.true)) l.auto.found
+    c.requires.made.sized (omega (arith, c.if-file-count.true, c.count.ensures, c.file.ensures)) c.rest-left.ensures in
     let f = c.fill.new in
     let filled : SurveyState = survey_at (g.H.Shelf.state f.shelf) f.window l.found f.self in
     let r = c.fill.ensures in
     let fill : ReadOn now filled =
     record { found_is = refl; tied = r.tied; window_is = r.window; same = r.same; hands = r.reads } in
-    let fits : set_has_fit set left ≡ true = search rules steps 600000 in
+    let fits : set_has_fit sought.set left ≡ true = search rules steps 600000 in
     let failed = err_from_is_err_and c.from_residual.result c.from_residual.ensures.1 in
-    rw (failed.1, failed.2) (fill_fails set old now shelf l.missing l.exhausted_crc left at fits filled fill c.in_err-fill.field-0.0)
+    rw (failed.1, failed.2) (fill_fails sought old now shelf l.missing l.exhausted.crcs left at fits filled fill c.in_err-fill.field-0.0)
 
 pub returns-in_err-fill-clause-none : goal.returns-in_err-fill-clause-none
 returns-in_err-fill-clause-none g c = λ all.
     let l = c.loop-missing in
-    absurd (never_all c.args.index.now (survey_at (g.H.Shelf.state c.args.shelf.now) c.args.window.now c.args.found.now c.args.track.now)
-    (survey_at (g.H.Shelf.state l.shelf) l.window l.found l.track) l.missing l.exhausted_crc l.invariant
+    absurd (never_all (sought_of c.args.index.now c.args.mode) (survey_at (g.H.Shelf.state c.args.shelf.now) c.args.window.now c.args.found.now c.args.track.now)
+    (survey_at (g.H.Shelf.state l.shelf) l.window l.found l.track) l.missing l.exhausted.crcs l.invariant
     (omega (arith, c.loop-missing-test.true)) l.auto.found all)
 
 pub returns-in_err-fill-clause-shelf : goal.returns-in_err-fill-clause-shelf
@@ -68,71 +72,87 @@ returns-in_err-fill-clause-shelf g c =
     (faults_before (g.H.Shelf.state c.args.shelf.now) (g.H.Shelf.state c.loop-missing.shelf) (g.H.Shelf.state c.fill.new.shelf)
     c.loop-missing.track.file c.in_err-fill.field-0.0 c.loop-missing.invariant.reads c.in_err-fill.ensures.shelf)
 
-pub mark_seen-requires-clause-exhausted_crc : goal.mark_seen-requires-clause-exhausted_crc
-mark_seen-requires-clause-exhausted_crc g c = rw c.rest-left.ensures c.loop-missing.invariant.exhausted_is
+pub mark_seen-requires-clause-exhausted : goal.mark_seen-requires-clause-exhausted
+mark_seen-requires-clause-exhausted g c = rw c.rest-left.ensures c.loop-missing.invariant.exhausted_is
+
+pub mark_seen-requires-clause-full : goal.mark_seen-requires-clause-full
+mark_seen-requires-clause-full g c =
+    let r = c.in_ok-fill.ensures in
+    record {
+      made = made_same (sought_of c.args.index.now c.args.mode) c.args.window.now c.fill.new.window
+          (ap (λ (x : WindowState). x.capacity) r.window ∙ ap (λ (x : WindowState). x.capacity) c.loop-missing.invariant.window_is)
+          (ap (λ (x : WindowState). x.tails) r.window ∙ ap (λ (x : WindowState). x.tails) c.loop-missing.invariant.window_is) c.requires.made;
+      full = r.full;
+    }
 
 pub slide_until_crc-requires-clause-tied : goal.slide_until_crc-requires-clause-tied
 slide_until_crc-requires-clause-tied g c =
-    tied_digest (g.H.Shelf.state c.fill.new.shelf) c.fill.new.window c.mark_seen.new.window c.fill.new.self _ c.fill.ensures.tied c.mark_seen.ensures.digest
+    tied_digest (g.H.Shelf.state c.fill.new.shelf) c.fill.new.window c.mark_seen.new.window c.fill.new.self _ c.fill.ensures.tied c.mark_seen.ensures.digests
 
 pub loop-missing-preserved : goal.loop-missing-preserved
 loop-missing-preserved g c =
-    let set : SliceSet = c.args.index.now in
+    let sought : Sought = sought_of c.args.index.now c.args.mode in
     let shelf = g.met.H.Shelf.well_formed c.args.shelf.now in
     let old : SurveyState = survey_at (g.H.Shelf.state c.args.shelf.now) c.args.window.now c.args.found.now c.args.track.now in
     let l = c.loop-missing in
     let now : SurveyState = survey_at (g.H.Shelf.state l.shelf) l.window l.found l.track in
     let left : ℕ = c.rest-left.result in
-    let at = missing_left set old now l.missing l.exhausted_crc left l.invariant (omega (arith, c.loop-missing-test.true)) l.auto.found
-    c.requires.sized (omega (arith, c.if-file-count.true, c.count.ensures, c.file.ensures)) c.rest-left.ensures in
+    let at = missing_left sought old now l.missing l.exhausted.crcs left l.invariant (omega (arith, c.loop-missing-test.true)) l.auto.found
+    c.requires.made.sized (omega (arith, c.if-file-count.true, c.count.ensures, c.file.ensures)) c.rest-left.ensures in
     let f = c.fill.new in
     let filled : SurveyState = survey_at (g.H.Shelf.state f.shelf) f.window l.found f.self in
     let r = c.in_ok-fill.ensures in
     let fill : ReadOn now filled =
     record { found_is = refl; tied = r.tied; window_is = r.window; same = r.same; hands = r.reads } in
-    let fits : set_has_fit set left ≡ true = search rules steps 600000 in
+    let fits : set_has_fit sought.set left ≡ true = search rules steps 600000 in
     let m = c.mark_seen.new in
     let last = c.next_missing-missing-in-loop-missing in
-    let look : LookedAt set filled left m.window m.found l.missing last.result = record {
+    let look : LookedAt sought filled left m.window m.found l.missing last.result = record {
       full = r.full;
       some = omega (arith, c.if-left-eq0.false);
       each = c.mark_seen.auto.found;
       marks = c.mark_seen.ensures.marks;
-      takes = c.mark_seen.ensures.digest;
+      takes = c.mark_seen.ensures.digests;
       next = record { within = last.ensures.within; first = last.ensures.missing; marked = last.ensures.marked };
     } in
     let p = c.in_ok-slide_until_crc.ensures in
     let s = c.slide_until_crc.new in
     let slid : SlidOn filled m.window (g.H.Shelf.state s.shelf) s.window s.self =
     record { tied = p.tied; window_is = p.window; file_is = p.same; hands = p.reads } in
-    slides set old now shelf l.missing l.exhausted_crc left at fits filled fill r.shelf m.window m.found last.result look
+    let made : IsWindowFor sought m.window =
+    made_same sought c.args.window.now m.window
+    (ap (λ (x : WindowState). x.capacity) c.mark_seen.ensures.digests ∙ ap (λ (x : WindowState). x.capacity) r.window
+    ∙ ap (λ (x : WindowState). x.capacity) l.invariant.window_is)
+    (ap (λ (x : WindowState). x.tails) c.mark_seen.ensures.digests ∙ ap (λ (x : WindowState). x.tails) r.window
+    ∙ ap (λ (x : WindowState). x.tails) l.invariant.window_is) c.requires.made in
+    slides sought old now shelf l.missing l.exhausted.crcs left at fits filled fill r.shelf m.window m.found last.result look
     (omega (arith, last.ensures.within, c.if-missing-found.false)) (g.H.Shelf.state s.shelf) s.window s.self slid
-    c.in_ok-slide_until_crc.field-0 _ p.passes p.shelf m.exhausted_crc c.mark_seen.ensures.exhausted_crc p.none
+    c.in_ok-slide_until_crc.field-0 _ p.passes p.shelf m.self.crcs c.mark_seen.ensures.exhausted (p.none c.args.mode made)
 
 pub returns-in_err-slide_until_crc-clause-ends : goal.returns-in_err-slide_until_crc-clause-ends
 returns-in_err-slide_until_crc-clause-ends g c =
-    let set : SliceSet = c.args.index.now in
+    let sought : Sought = sought_of c.args.index.now c.args.mode in
     let shelf = g.met.H.Shelf.well_formed c.args.shelf.now in
     let old : SurveyState = survey_at (g.H.Shelf.state c.args.shelf.now) c.args.window.now c.args.found.now c.args.track.now in
     let l = c.loop-missing in
     let now : SurveyState = survey_at (g.H.Shelf.state l.shelf) l.window l.found l.track in
     let left : ℕ = c.rest-left.result in
-    let at = missing_left set old now l.missing l.exhausted_crc left l.invariant (omega (arith, c.loop-missing-test.true)) l.auto.found
-    c.requires.sized (omega (arith, c.if-file-count.true, c.count.ensures, c.file.ensures)) c.rest-left.ensures in
+    let at = missing_left sought old now l.missing l.exhausted.crcs left l.invariant (omega (arith, c.loop-missing-test.true)) l.auto.found
+    c.requires.made.sized (omega (arith, c.if-file-count.true, c.count.ensures, c.file.ensures)) c.rest-left.ensures in
     let f = c.fill.new in
     let filled : SurveyState = survey_at (g.H.Shelf.state f.shelf) f.window l.found f.self in
     let r = c.in_ok-fill.ensures in
     let fill : ReadOn now filled =
     record { found_is = refl; tied = r.tied; window_is = r.window; same = r.same; hands = r.reads } in
-    let fits : set_has_fit set left ≡ true = search rules steps 600000 in
+    let fits : set_has_fit sought.set left ≡ true = search rules steps 600000 in
     let m = c.mark_seen.new in
     let last = c.next_missing-missing-in-loop-missing in
-    let look : LookedAt set filled left m.window m.found l.missing last.result = record {
+    let look : LookedAt sought filled left m.window m.found l.missing last.result = record {
       full = r.full;
       some = omega (arith, c.if-left-eq0.false);
       each = c.mark_seen.auto.found;
       marks = c.mark_seen.ensures.marks;
-      takes = c.mark_seen.ensures.digest;
+      takes = c.mark_seen.ensures.digests;
       next = record { within = last.ensures.within; first = last.ensures.missing; marked = last.ensures.marked };
     } in
     let p = c.in_err-slide_until_crc.ensures in
@@ -141,15 +161,15 @@ returns-in_err-slide_until_crc-clause-ends g c =
     record { tied = p.tied; window_is = p.window; file_is = p.same; hands = p.reads } in
     let failed = err_from_is_err_and c.from_residual-in_err-slide_until_crc.result c.from_residual-in_err-slide_until_crc.ensures.1 in
     rw (failed.1, failed.2)
-    (slide_fails set old now shelf l.missing l.exhausted_crc left at fits filled fill r.shelf m.window m.found last.result look
+    (slide_fails sought old now shelf l.missing l.exhausted.crcs left at fits filled fill r.shelf m.window m.found last.result look
     (omega (arith, last.ensures.within, c.if-missing-found.false)) (g.H.Shelf.state s.shelf) s.window s.self slid
     c.in_err-slide_until_crc.field-0.0 p.stays.0.offset_is)
 
 pub returns-in_err-slide_until_crc-clause-none : goal.returns-in_err-slide_until_crc-clause-none
 returns-in_err-slide_until_crc-clause-none g c = λ all.
     let l = c.loop-missing in
-    absurd (never_all c.args.index.now (survey_at (g.H.Shelf.state c.args.shelf.now) c.args.window.now c.args.found.now c.args.track.now)
-    (survey_at (g.H.Shelf.state l.shelf) l.window l.found l.track) l.missing l.exhausted_crc l.invariant
+    absurd (never_all (sought_of c.args.index.now c.args.mode) (survey_at (g.H.Shelf.state c.args.shelf.now) c.args.window.now c.args.found.now c.args.track.now)
+    (survey_at (g.H.Shelf.state l.shelf) l.window l.found l.track) l.missing l.exhausted.crcs l.invariant
     (omega (arith, c.loop-missing-test.true)) l.auto.found all)
 
 pub returns-in_err-slide_until_crc-clause-shelf : goal.returns-in_err-slide_until_crc-clause-shelf
@@ -166,43 +186,43 @@ pub returns-after-loop-missing-clause-ends : goal.returns-after-loop-missing-cla
 returns-after-loop-missing-clause-ends g c =
     let old : SurveyState = survey_at (g.H.Shelf.state c.args.shelf.now) c.args.window.now c.args.found.now c.args.track.now in
     let l = c.loop-missing in
-    ends_all c.args.index.now old (survey_at (g.H.Shelf.state l.shelf) l.window l.found l.track) l.missing l.exhausted_crc l.invariant
+    ends_all (sought_of c.args.index.now c.args.mode) old (survey_at (g.H.Shelf.state l.shelf) l.window l.found l.track) l.missing l.exhausted.crcs l.invariant
     (inl (omega (arith, c.loop-missing-test.false)))
 
 pub returns-then-missing-found-clause-ends : goal.returns-then-missing-found-clause-ends
 returns-then-missing-found-clause-ends g c =
-    let set : SliceSet = c.args.index.now in
+    let sought : Sought = sought_of c.args.index.now c.args.mode in
     let shelf = g.met.H.Shelf.well_formed c.args.shelf.now in
     let old : SurveyState = survey_at (g.H.Shelf.state c.args.shelf.now) c.args.window.now c.args.found.now c.args.track.now in
     let l = c.loop-missing in
     let now : SurveyState = survey_at (g.H.Shelf.state l.shelf) l.window l.found l.track in
     let left : ℕ = c.rest-left.result in
-    let at = missing_left set old now l.missing l.exhausted_crc left l.invariant (omega (arith, c.loop-missing-test.true)) l.auto.found
-    c.requires.sized (omega (arith, c.if-file-count.true, c.count.ensures, c.file.ensures)) c.rest-left.ensures in
+    let at = missing_left sought old now l.missing l.exhausted.crcs left l.invariant (omega (arith, c.loop-missing-test.true)) l.auto.found
+    c.requires.made.sized (omega (arith, c.if-file-count.true, c.count.ensures, c.file.ensures)) c.rest-left.ensures in
     let f = c.fill.new in
     let filled : SurveyState = survey_at (g.H.Shelf.state f.shelf) f.window l.found f.self in
     let r = c.in_ok-fill.ensures in
     let fill : ReadOn now filled =
     record { found_is = refl; tied = r.tied; window_is = r.window; same = r.same; hands = r.reads } in
-    let fits : set_has_fit set left ≡ true = search rules steps 600000 in
+    let fits : set_has_fit sought.set left ≡ true = search rules steps 600000 in
     let m = c.mark_seen.new in
     let last = c.next_missing-missing-in-loop-missing in
-    let look : LookedAt set filled left m.window m.found l.missing last.result = record {
+    let look : LookedAt sought filled left m.window m.found l.missing last.result = record {
       full = r.full;
       some = omega (arith, c.if-left-eq0.false);
       each = c.mark_seen.auto.found;
       marks = c.mark_seen.ensures.marks;
-      takes = c.mark_seen.ensures.digest;
+      takes = c.mark_seen.ensures.digests;
       next = record { within = last.ensures.within; first = last.ensures.missing; marked = last.ensures.marked };
     } in
-    look_ends set old now shelf l.missing l.exhausted_crc left at fits filled fill r.shelf m.window m.found last.result look
+    look_ends sought old now shelf l.missing l.exhausted.crcs left at fits filled fill r.shelf m.window m.found last.result look
     (omega (arith, c.if-missing-found.true))
 
 pub returns-then-missing-found-clause-none : goal.returns-then-missing-found-clause-none
 returns-then-missing-found-clause-none g c = λ all.
     let l = c.loop-missing in
-    absurd (never_all c.args.index.now (survey_at (g.H.Shelf.state c.args.shelf.now) c.args.window.now c.args.found.now c.args.track.now)
-    (survey_at (g.H.Shelf.state l.shelf) l.window l.found l.track) l.missing l.exhausted_crc l.invariant
+    absurd (never_all (sought_of c.args.index.now c.args.mode) (survey_at (g.H.Shelf.state c.args.shelf.now) c.args.window.now c.args.found.now c.args.track.now)
+    (survey_at (g.H.Shelf.state l.shelf) l.window l.found l.track) l.missing l.exhausted.crcs l.invariant
     (omega (arith, c.loop-missing-test.true)) l.auto.found all)
 
 pub loop-missing-smaller : goal.loop-missing-smaller

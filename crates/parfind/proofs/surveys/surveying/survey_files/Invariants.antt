@@ -1,12 +1,13 @@
 use Rattle.std.proofs.Common.{◌*◌, ◌-◌, length}
+use Rattle.parfind.specs.Sought.{sought_of}
 use Rattle.parfind.specs.Surveying.{survey_at}
 use Rattle.parfind.proofs.SoFarLaws.{SurveySoFar}
 use Rattle.parfind.proofs.surveys.surveying.survey_files.Given as goal
 
 abbrev pub invariant-loop-missing : goal.invariant-loop-missing
 invariant-loop-missing g l =
-    SurveySoFar l.index (survey_at (g.H.Shelf.state l.fn.shelf) l.fn.window l.fn.found l.fn.track)
-    (survey_at (g.H.Shelf.state l.shelf) l.window l.found l.track) l.missing l.exhausted_crc
+    SurveySoFar (sought_of l.index l.mode) (survey_at (g.H.Shelf.state l.fn.shelf) l.fn.window l.fn.found l.fn.track)
+    (survey_at (g.H.Shelf.state l.shelf) l.window l.found l.track) l.missing l.exhausted.crcs
 
 -- files that are left, and offsets of this one: none is as great as 2 ^ 63
 abbrev pub decreases-loop-missing : goal.decreases-loop-missing

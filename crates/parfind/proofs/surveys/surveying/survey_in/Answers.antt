@@ -1,6 +1,6 @@
 use Rattle.std.proofs.lemmas.Grind.{common_steps}
 use Rattle.std.proofs.Common.{sym, ap, ◌∙◌, arith, inl, inr}
-use Rattle.parwindow.specs.Index.{SliceSet}
+use Rattle.parfind.specs.Sought.{Sought, sought_of}
 use Rattle.parwindow.specs.Window.{WindowState}
 use Rattle.parfind.specs.Surveying.{SurveyState, survey_at}
 use Rattle.parfind.proofs.SurveyLaws.{surveyed_kept, surveyed_no_other, surveyed_full, surveyed_end, surveyed_digests, surveyed_once, surveyed_stops, surveyed_fault}
@@ -8,7 +8,7 @@ use Rattle.parfind.proofs.surveys.surveying.survey_in.Goals as goal
 
 pub returns-in-Ok : goal.returns-in-Ok
 returns-in-Ok g c =
-    let set : SliceSet = c.args.index.now in
+    let sought : Sought = sought_of c.args.index.now c.args.mode in
     let old : SurveyState = survey_at (g.H.Shelf.state c.args.shelf.now) c.clear.new.self c.args.found.now c.new-track.result in
     let s = c.survey_files.new in
     let new : SurveyState = survey_at (g.H.Shelf.state s.shelf) s.window s.found s.track in
@@ -17,23 +17,23 @@ returns-in-Ok g c =
     let counted = ap (λ (w : WindowState). w.digests) c.clear.ensures in
     record {
       found = λ steady. elim (rw c.in-Ok.is at ends.all) [
-        | inl full ↦ surveyed_full set old new ends.cursor ends.surveyed steady full
-        | inr past ↦ surveyed_end set old new ends.cursor ends.surveyed (g.met.H.Shelf.well_formed c.args.shelf.now) steady past
+        | inl full ↦ surveyed_full sought old new ends.cursor ends.surveyed steady full
+        | inr past ↦ surveyed_end sought old new ends.cursor ends.surveyed (g.met.H.Shelf.well_formed c.args.shelf.now) steady past
       ];
       so_far = λ steady. tt;
-      stops = surveyed_stops set old new ends.cursor ends.surveyed;
-      digests = λ steady. omega (arith, counted, surveyed_digests set old new ends.cursor ends.surveyed steady);
-      kept = surveyed_kept set old new ends.cursor ends.surveyed;
+      stops = surveyed_stops sought old new ends.cursor ends.surveyed;
+      digests = λ steady. omega (arith, counted, surveyed_digests sought old new ends.cursor ends.surveyed steady);
+      kept = surveyed_kept sought old new ends.cursor ends.surveyed;
       shelf = rw c.in-Ok.is at f.shelf;
-      handed = surveyed_once set old new ends.cursor ends.surveyed;
+      handed = surveyed_once sought old new ends.cursor ends.surveyed;
       unfit = ends.surveyed.unfit;
       none = f.none;
-      window = grind (arith, common_steps) steps 100000;
+      window = f.window ∙ ap (λ (w : WindowState). record w { content = s.window.content; digests = s.window.digests }) c.clear.ensures;
     }
 
 pub returns-in-Err : goal.returns-in-Err
 returns-in-Err g c =
-    let set : SliceSet = c.args.index.now in
+    let sought : Sought = sought_of c.args.index.now c.args.mode in
     let old : SurveyState = survey_at (g.H.Shelf.state c.args.shelf.now) c.clear.new.self c.args.found.now c.new-track.result in
     let s = c.survey_files.new in
     let new : SurveyState = survey_at (g.H.Shelf.state s.shelf) s.window s.found s.track in
@@ -41,16 +41,16 @@ returns-in-Err g c =
     let ends = f.ends in
     let counted = ap (λ (w : WindowState). w.digests) c.clear.ensures in
     record {
-      found = surveyed_no_other set old new ends.cursor ends.surveyed;
-      so_far = λ steady. surveyed_fault set old new ends.cursor ends.surveyed steady ends.first c.file.result (ends.file_is ∙ sym c.file.ensures);
-      stops = surveyed_stops set old new ends.cursor ends.surveyed;
-      digests = λ steady. omega (arith, counted, surveyed_digests set old new ends.cursor ends.surveyed steady);
-      kept = surveyed_kept set old new ends.cursor ends.surveyed;
+      found = surveyed_no_other sought old new ends.cursor ends.surveyed;
+      so_far = λ steady. surveyed_fault sought old new ends.cursor ends.surveyed steady ends.first c.file.result (ends.file_is ∙ sym c.file.ensures);
+      stops = surveyed_stops sought old new ends.cursor ends.surveyed;
+      digests = λ steady. omega (arith, counted, surveyed_digests sought old new ends.cursor ends.surveyed steady);
+      kept = surveyed_kept sought old new ends.cursor ends.surveyed;
       shelf = rw c.file.ensures (rw c.in-Err.is at f.shelf);
-      handed = surveyed_once set old new ends.cursor ends.surveyed;
+      handed = surveyed_once sought old new ends.cursor ends.surveyed;
       unfit = ends.surveyed.unfit;
       none = f.none;
-      window = grind (arith, common_steps) steps 100000;
+      window = f.window ∙ ap (λ (w : WindowState). record w { content = s.window.content; digests = s.window.digests }) c.clear.ensures;
     }
 
 pub prove-unreachable-requires : goal.prove-unreachable-requires
@@ -59,14 +59,14 @@ prove-unreachable-requires g c = grind (arith, common_steps) steps 100000
 pub unreachable-prove : goal.unreachable-prove
 unreachable-prove g c = grind (arith, common_steps) steps 100000
 
-pub survey_files-requires-clause-sized : goal.survey_files-requires-clause-sized
-survey_files-requires-clause-sized g c = grind (arith, common_steps) steps 100000
+pub survey_files-requires-clause-made : goal.survey_files-requires-clause-made
+survey_files-requires-clause-made g c = grind (arith, common_steps) steps 100000
 
 pub survey_files-requires-clause-each : goal.survey_files-requires-clause-each
 survey_files-requires-clause-each g c = grind (arith, common_steps) steps 100000
 
-pub survey_files-requires-clause-few : goal.survey_files-requires-clause-few
-survey_files-requires-clause-few g c = grind (arith, common_steps) steps 100000
+pub survey_files-requires-clause-small : goal.survey_files-requires-clause-small
+survey_files-requires-clause-small g c = grind (arith, common_steps) steps 100000
 
 pub survey_files-requires-clause-empty : goal.survey_files-requires-clause-empty
 survey_files-requires-clause-empty g c = grind (arith, common_steps) steps 100000

@@ -20,7 +20,7 @@ returns-clause-findings g c = λ steady.
     let now : ShelfState = g.Q.Shelf.state c.contents.new.shelf in
     let state = state_of (named_files files old.files) in
     let reads = c.in_ok-contents.ensures.ok in
-    let sized = contents_sized old files (g.met.Q.Shelf.well_formed c.args.shelf.now) c.requires steady in
+    let sized = contents_sized old files (g.met.Q.Shelf.well_formed c.args.shelf.now) c.requires.named steady in
     let same = c.files-set_files.ensures.field in
     let states = states_read files old.files c.deref.result.now c.files-set_files.result.now set.files c.in_ok-states.states.items sized
     c.in_ok-states.ensures
@@ -28,11 +28,11 @@ returns-clause-findings g c = λ steady.
     let asked : c.as_slice.result.now ≡ map state c.files-set_files.result.now
     = c.as_slice.ensures.value ∙ (states ∙ ap (map state) (sym c.files-set_files.ensures.field)) in
     let still : IsTrue now.is_steady = ap (λ (s : ShelfState). s.is_steady) reads ∙ steady in
-    findings_made set files old c.from_vec.result c.from_vec-2.result c.in_ok-whole.whole sized
+    findings_made set c.args.mode files old c.from_vec.result c.from_vec-2.result c.in_ok-whole.whole sized
     (c.from_vec.ensures ∙ states)
     (λ id. c.in_ok-whole.ensures state asked id
     ∙ ap (list_any (λ (file : SetFile). bytes_eq file.id.0 id.0 && is_intact (state file))) c.files-set_files.ensures.field)
-    (c.from_vec-2.ensures ∙ found_read set old now (λ (slice : SetSlice). contains id_cmp c.in_ok-whole.whole slice.id) c.in_ok-found.found.items reads
+    (c.from_vec-2.ensures ∙ found_read set c.args.mode old now (λ (slice : SetSlice). contains id_cmp c.in_ok-whole.whole slice.id) c.in_ok-found.found.items reads
     (c.in_ok-found.ensures.found still))
 
 pub returns-clause-unsearched : goal.returns-clause-unsearched
@@ -88,7 +88,7 @@ pub returns-in_err-states-clause-unsearched : goal.returns-in_err-states-clause-
 returns-in_err-states-clause-unsearched g c = grind (arith, common_steps) steps 1500000
 
 pub returns-in_err-states-clause-ok : goal.returns-in_err-states-clause-ok
-returns-in_err-states-clause-ok g c = grind (arith, common_steps) steps 100000
+returns-in_err-states-clause-ok g c = grind (arith, common_steps) steps 400000
 
 pub returns-in_err-states-clause-fault : goal.returns-in_err-states-clause-fault
 returns-in_err-states-clause-fault g c = grind (arith, common_steps) steps 100000
@@ -136,7 +136,7 @@ pub returns-clause-states : goal.returns-clause-states
 returns-clause-states g c = grind (arith, common_steps) steps 400000
 
 pub returns-clause-slices : goal.returns-clause-slices
-returns-clause-slices g c = grind (arith, common_steps) steps 100000
+returns-clause-slices g c = grind (arith, common_steps) steps 400000
 
 pub returns-clause-ok : goal.returns-clause-ok
 returns-clause-ok g c = grind (arith, common_steps) steps 400000

@@ -2,7 +2,8 @@ use Rattle.std.proofs.lemmas.Grind.{common_steps}
 use Rattle.std.proofs.Common.{◌≡◌, ◌∙◌, ◌&&◌, ap, arith, length, map, subst}
 use Rattle.std.proofs.lemmas.List.{length-map}
 use Rattle.parshelf.specs.Shelf.{ShelfState}
-use Rattle.parwindow.specs.Index.{slice_set_of}
+use Rattle.parfind.specs.Sought.{sought_of}
+use Rattle.parreport.specs.SetSearch.{set_sought_of}
 use Rattle.parfind.specs.Steps.{scan_of}
 use Rattle.parfind.specs.Surveys.{MarksSighted, StopsOnceFound}
 use Rattle.parwindow.specs.Missing.{mark_of}
@@ -16,7 +17,7 @@ returns-clause-found g c = λ steady.
     let slices = c.args.set.now.slices in
     let whole = c.args.whole.now in
     let shelf : ShelfState = g.Q.Shelf.state c.args.shelf.now in
-    let own = slice_set_of c.args.set.now.size slices in
+    let own = set_sought_of c.args.set.now c.args.mode in
     let was : c.deref_mut.result.now ≡ map (is_settled whole) slices
     = c.deref_mut.ensures.value ∙ (c.in_ok-found.ensures ∙ ap (map (is_settled whole)) c.slices.ensures.field) in
     let same : length c.survey.new.found ≡ length c.in_ok-found.found.items
@@ -26,7 +27,7 @@ returns-clause-found g c = λ steady.
     let sized : length c.survey.new.found ≡ length slices = omega (arith, c.survey.auto.found, ap length was, length-map slices (is_settled whole)) in
     let kept : length c.unmark_unsearchable.new.found ≡ length slices = omega (arith, c.unmark_unsearchable.auto.found, ap length now, sized) in
     let marked : MarksSighted (scan_of own shelf) c.deref_mut.result.now c.survey.new.found
-    = subst (λ set. MarksSighted (scan_of set shelf) c.deref_mut.result.now c.survey.new.found) c.in_ok-index.ensures (c.in_ok-survey.ensures.found steady) in
+    = subst (λ set. MarksSighted (scan_of (sought_of set c.args.mode) shelf) c.deref_mut.result.now c.survey.new.found) c.requires.index (c.in_ok-survey.ensures.found steady) in
     take-all_back c.in_ok-found.found.len c.unmark_unsearchable.new.found _ (omega (arith, c.unmark_unsearchable.auto.found, ap length c.deref_mut-2.ensures.value))
     (omega (arith, ap length back, same))
     ∙ marks_found whole (scan_of own shelf) c.deref_mut.result.now c.survey.new.found c.unmark_unsearchable.new.found was sized kept marked (λ n within.
@@ -45,27 +46,6 @@ returns-in_err-survey-clause-none g c = λ needs_no_search.
     let was : c.deref_mut.result.now ≡ map (is_settled c.args.whole.now) c.args.set.now.slices
     = c.deref_mut.ensures.value ∙ (c.in_ok-found.ensures ∙ ap (map (is_settled c.args.whole.now)) c.slices.ensures.field) in
     c.survey.ensures.none (all_settled c.args.whole.now c.args.set.now.slices c.deref_mut.result.now was needs_no_search)
-
-pub returns-in_err-index-clause-found : goal.returns-in_err-index-clause-found
-returns-in_err-index-clause-found g c = grind (arith, common_steps) steps 100000
-
-pub returns-in_err-index-clause-stops : goal.returns-in_err-index-clause-stops
-returns-in_err-index-clause-stops g c = grind (arith, common_steps) steps 100000
-
-pub returns-in_err-index-clause-slices : goal.returns-in_err-index-clause-slices
-returns-in_err-index-clause-slices g c = grind (arith, common_steps) steps 100000
-
-pub returns-in_err-index-clause-handed : goal.returns-in_err-index-clause-handed
-returns-in_err-index-clause-handed g c = grind (arith, common_steps) steps 100000
-
-pub returns-in_err-index-clause-none : goal.returns-in_err-index-clause-none
-returns-in_err-index-clause-none g c = grind (arith, common_steps) steps 100000
-
-pub returns-in_err-index-clause-ok : goal.returns-in_err-index-clause-ok
-returns-in_err-index-clause-ok g c = grind (arith, common_steps) steps 100000
-
-pub returns-in_err-index-clause-fault : goal.returns-in_err-index-clause-fault
-returns-in_err-index-clause-fault g c = grind (arith, common_steps) steps 100000
 
 pub returns-in_err-found-clause-found : goal.returns-in_err-found-clause-found
 returns-in_err-found-clause-found g c = grind (arith, common_steps) steps 400000
@@ -117,23 +97,23 @@ returns-clause-fault g c = grind (arith, common_steps) steps 100000
 
 pub returns-clause-stops : goal.returns-clause-stops
 returns-clause-stops g c = λ steady.
-    let own = slice_set_of c.args.set.now.size c.args.set.now.slices in
+    let own = set_sought_of c.args.set.now c.args.mode in
     let old : ShelfState = g.Q.Shelf.state c.args.shelf.now in
     let new : ShelfState = g.Q.Shelf.state c.survey.new.shelf in
     let was : c.deref_mut.result.now ≡ map (is_settled c.args.whole.now) c.args.set.now.slices
     = c.deref_mut.ensures.value ∙ (c.in_ok-found.ensures ∙ ap (map (is_settled c.args.whole.now)) c.slices.ensures.field) in
     subst (λ marks. StopsOnceFound own old new marks) was
-    (subst (λ set. StopsOnceFound set old new c.deref_mut.result.now) c.in_ok-index.ensures (c.survey.ensures.stops steady))
+    (subst (λ set. StopsOnceFound (sought_of set c.args.mode) old new c.deref_mut.result.now) c.requires.index (c.survey.ensures.stops steady))
 
 pub returns-in_err-survey-clause-stops : goal.returns-in_err-survey-clause-stops
 returns-in_err-survey-clause-stops g c = λ steady.
-    let own = slice_set_of c.args.set.now.size c.args.set.now.slices in
+    let own = set_sought_of c.args.set.now c.args.mode in
     let old : ShelfState = g.Q.Shelf.state c.args.shelf.now in
     let new : ShelfState = g.Q.Shelf.state c.survey.new.shelf in
     let was : c.deref_mut.result.now ≡ map (is_settled c.args.whole.now) c.args.set.now.slices
     = c.deref_mut.ensures.value ∙ (c.in_ok-found.ensures ∙ ap (map (is_settled c.args.whole.now)) c.slices.ensures.field) in
     subst (λ marks. StopsOnceFound own old new marks) was
-    (subst (λ set. StopsOnceFound set old new c.deref_mut.result.now) c.in_ok-index.ensures (c.survey.ensures.stops steady))
+    (subst (λ set. StopsOnceFound (sought_of set c.args.mode) old new c.deref_mut.result.now) c.requires.index (c.survey.ensures.stops steady))
 
 pub unmark_unsearchable-requires : goal.unmark_unsearchable-requires
 unmark_unsearchable-requires g c = grind (arith, common_steps) steps 400000

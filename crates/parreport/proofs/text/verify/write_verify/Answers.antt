@@ -1,5 +1,5 @@
 use Rattle.std.proofs.lemmas.Grind.{common_steps}
-use Rattle.std.proofs.Common.{◌≡◌, ◌∙◌, ℕ, List, Ok, ap, length, subst, sym, arith}
+use Rattle.std.proofs.Common.{◌≡◌, ◌∙◌, ℕ, Bool, List, Result, Ok, Err, IfErr, true, false, ap, refl, length, subst, sym, arith}
 use Rattle.std.proofs.lemmas.Result.{err_from_is_err_and}
 use Rattle.parset.specs.RecoverySet.{SetView}
 use Rattle.parshelf.specs.Shelf.{ShelfState}
@@ -9,41 +9,69 @@ use Rattle.parreport.specs.Findings.{findings_of}
 use Rattle.parreport.specs.States.{named_files}
 use Rattle.parreport.specs.declared.states.findings.Findings.{Findings}
 use Rattle.parplan.specs.declared.command.Plan.{Plan}
-use Rattle.parreport.specs.Outcomes.{Answers}
+use Rattle.parreport.specs.Outcomes.{Answers, may_follow_text, written}
+use Rattle.parreport.specs.declared.text.faults.RunFault.{RunFault}
+use Rattle.parreport.specs.declared.text.faults.RunFault.TheVariants as fault
+use Rattle.parplan.specs.declared.command.Command.TheVariants as command
 use Rattle.parreport.specs.Report.{Report, verify_report}
 use Rattle.parreport.specs.VerifyText.{status_of, findings_text}
 use Rattle.parreport.specs.declared.text.status.Status.{Status}
-use Rattle.parreport.proofs.RunLaws.{answers_before_text}
+use Rattle.parfind.specs.Sought.{HasFewTails, sought_of}
+use Rattle.parfind.specs.declared.tracks.mode.Mode.{Mode}
+use Rattle.parreport.specs.SetSearch.{mode_of, set_sought_of}
+use Rattle.parreport.proofs.RunLaws.{answers_before_text, few_from_test, few_of_set, report_of_few, test_of_set}
 use Rattle.parreport.proofs.text.verify.write_verify.Goals as goal
 
 abbrev report : List ℕ → Status → Report
 report text status = record { text = text; answer = Ok status }
 
 -- the report by findings of a steady shelf is that over its files
-report_is : (quiet : ℕ) (plan : Plan) (set : SetView) (findings : Findings) (contents : List (List ℕ)) → length contents ≡ length plan.scanned
-    → findings ≡ findings_of set (named_files plan.scanned contents)
-    → report (findings_text quiet set (names_of plan.scanned) findings) (status_of set findings) ≡ verify_report plan quiet contents set
-report_is quiet plan set findings contents sized is =
+report_is : (quiet : ℕ) (mode : Mode) (plan : Plan) (set : SetView) (findings : Findings) (contents : List (List ℕ)) → length contents ≡ length plan.scanned
+    → HasFewTails (set_sought_of set mode) → findings ≡ findings_of set mode (named_files plan.scanned contents)
+    → report (findings_text quiet set (names_of plan.scanned) findings) (status_of set findings) ≡ verify_report plan quiet mode contents set
+report_is quiet mode plan set findings contents sized few is =
     ap (λ (f : Findings). report (findings_text quiet set (names_of plan.scanned) f) (status_of set f)) is
-    ∙ ap (λ (names : List (List ℕ)). report (findings_text quiet set names (findings_of set (named_files plan.scanned contents)))
-    (status_of set (findings_of set (named_files plan.scanned contents)))) (sym (map-name plan.scanned contents sized))
+    ∙ (ap (λ (names : List (List ℕ)). report (findings_text quiet set names (findings_of set mode (named_files plan.scanned contents)))
+    (status_of set (findings_of set mode (named_files plan.scanned contents)))) (sym (map-name plan.scanned contents sized))
+    ∙ sym (report_of_few (set_sought_of set mode) _ few))
+
+-- what holds of a fault in either mode holds of it in this one
+holds_for : (Holds : Bool → RunFault → Type 0) (result : Result Status RunFault) (tails : Bool) → IfErr result (λ fault. (either : Bool) → Holds either fault)
+    → IfErr result (Holds tails)
+holds_for Holds (Ok status) tails h = tt
+holds_for Holds (Err fault) tails h = h tails
+
+pub returns-then-has_too_many_tails-clause-text : goal.returns-then-has_too_many_tails-clause-text
+returns-then-has_too_many_tails-clause-text g c = λ steady.
+    let mode = mode_of c.args.tails in
+    let many = test_of_set c.args.set.now mode c.mode_of-mode.result c.in_ok-index.index c.in_ok-index.ensures c.mode_of-mode.ensures true
+    (sym c.has_too_many_tails.ensures ∙ c.if-has_too_many_tails.true) in
+    (rw many (refl {a = Err fault.TooManyTails}), refl)
+
+pub findings_on-requires-clause-few : goal.findings_on-requires-clause-few
+findings_on-requires-clause-few g c =
+    few_of_set c.args.set.now c.mode_of-mode.result c.mode_of-mode.result c.in_ok-index.index c.in_ok-index.ensures refl
+    (few_from_test (sought_of c.in_ok-index.index c.mode_of-mode.result) (sym c.has_too_many_tails.ensures ∙ c.if-has_too_many_tails.false))
 
 pub returns-in_err-findings-clause-text : goal.returns-in_err-findings-clause-text
 returns-in_err-findings-clause-text g c = λ steady.
-    let failed = err_from_is_err_and c.from_residual.result c.from_residual.ensures.1 in
-    rw (failed.1, failed.2) (answers_before_text _ c.in_err-findings.field-0.0 _)
+    let failed = err_from_is_err_and c.from_residual-in_err-findings.result c.from_residual-in_err-findings.ensures.1 in
+    rw (failed.1, failed.2) (answers_before_text _ c.in_err-findings.field-0.0 (g.Q.Shelf.state c.args.scanned.now) (g.Q.Shelf.state c.findings_on.new.shelf) _
+    c.in_err-findings.ensures.fault)
 
 pub returns-clause-text : goal.returns-clause-text
 returns-clause-text g c = λ steady.
-    let set = c.args.set.now in let plan = c.args.plan.now in
+    let set = c.args.set.now in let plan = c.args.plan.now in let mode = mode_of c.args.tails in
     let old : ShelfState = g.Q.Shelf.state c.args.scanned.now in
     let start = g.W.Sink.state c.args.out.now in let new = g.W.Sink.state c.write_findings.new.out in
     let sized = contents_sized old plan.scanned (g.met.Q.Shelf.well_formed c.args.scanned.now) c.requires steady in
-    let findings : c.in_ok-findings.findings ≡ findings_of set (named_files plan.scanned old.files)
-    = rw c.as_slice-files.ensures at (c.in_ok-findings.ensures.findings steady) in
+    let few = few_of_set set mode c.mode_of-mode.result c.in_ok-index.index c.in_ok-index.ensures c.mode_of-mode.ensures
+    (few_from_test (sought_of c.in_ok-index.index c.mode_of-mode.result) (sym c.has_too_many_tails.ensures ∙ c.if-has_too_many_tails.false)) in
+    let findings : c.in_ok-findings.findings ≡ findings_of set mode (named_files plan.scanned old.files)
+    = rw (c.as_slice-files.ensures, c.mode_of-mode.ensures) at (c.in_ok-findings.ensures.findings steady) in
     let after = rw c.as_slice-files.ensures at c.write_findings.ensures.text in
     subst (λ (whole : Report). Answers whole c.write_findings.result start new)
-    (report_is c.args.quiet plan set c.in_ok-findings.findings old.files sized findings) after
+    (report_is c.args.quiet mode plan set c.in_ok-findings.findings old.files sized few findings) after
 
 pub returns-in_err-findings-clause-no_packet : goal.returns-in_err-findings-clause-no_packet
 returns-in_err-findings-clause-no_packet g c = grind (arith, common_steps)
@@ -61,7 +89,10 @@ pub returns-clause-no_packet : goal.returns-clause-no_packet
 returns-clause-no_packet g c = grind (arith, common_steps)
 
 pub returns-clause-nothing_written : goal.returns-clause-nothing_written
-returns-clause-nothing_written g c = grind (arith, common_steps)
+returns-clause-nothing_written g c =
+    let old = g.W.Sink.state c.args.out.now in let new = g.W.Sink.state c.write_findings.new.out in
+    holds_for (λ tails fault. may_follow_text (command.Verify c.args.quiet tails) (written old new) fault ≡ false → new ≡ old)
+    c.write_findings.result c.args.tails c.write_findings.ensures.nothing_written
 
 pub returns-clause-scanned : goal.returns-clause-scanned
 returns-clause-scanned g c = grind (arith, common_steps)

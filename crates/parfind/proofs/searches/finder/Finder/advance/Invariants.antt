@@ -1,4 +1,4 @@
-use Rattle.parfind.specs.Finders.{BelongsTo}
+use Rattle.parfind.specs.Finders.{BelongsTo, sought_for}
 use Rattle.parfind.specs.Moves.{steps_left}
 use Rattle.parfind.proofs.TryLaws.{PassedSoFar}
 use Rattle.parfind.proofs.searches.finder.Finder.advance.Given as goal
@@ -6,7 +6,7 @@ use Rattle.parfind.proofs.searches.finder.Finder.advance.Given as goal
 abbrev pub invariant-loop-sighting : goal.invariant-loop-sighting
 invariant-loop-sighting g l = record {
   belongs : BelongsTo l.self l.index (g.H.Shelf.state l.shelf);
-  so_far : PassedSoFar l.index l.fn.budget l.left (g.H.Shelf.state l.fn.shelf) (g.H.Shelf.state l.shelf) l.fn.self l.self;
+  so_far : PassedSoFar (sought_for l.index l.fn.self) l.fn.budget l.left (g.H.Shelf.state l.fn.shelf) (g.H.Shelf.state l.shelf) l.fn.self l.self;
 }
 
 abbrev pub decreases-loop-sighting : goal.decreases-loop-sighting

@@ -4,7 +4,6 @@ use Rattle.std.proofs.lemmas.Result.{err_from_is_err_and}
 use Rattle.parshelf.specs.Shelf.{ShelfState}
 use Rattle.parwindow.specs.Index.{SliceSet}
 use Rattle.parfind.specs.declared.cursors.cursor.Cursor.{Cursor}
-use Rattle.parfind.specs.declared.tracks.track.Track.{Track}
 use Rattle.parfind.specs.Finders.{FinderState}
 use Rattle.parfind.proofs.AtPlaceLaws.{IsThere, Looked, hit_inside, fault_inside, pass_inside}
 use Rattle.parfind.proofs.BelongsLaws.{with_window}
@@ -15,17 +14,17 @@ returns-in-Some g c =
     let set : SliceSet = c.args.index.now in
     let s : ShelfState = g.H.Shelf.state c.args.shelf.now in
     let i = c.self.inside in
-    let f : FinderState = with_window (record c.args.self.now { opening = i.opening }) i.cursor i.window i.track in
+    let f : FinderState = with_window (record c.args.self.now { opening = i.opening; mode = i.look.mode }) i.cursor i.window i.track i.look.kept.items in
     let q = c.requires in
     let there : IsThere set s c.args.self.now =
     record { belongs = q.belongs; counted = q.file; there = q.there; stands = q.stands; full = q.full } in
     let w = c.first_seen.new in
     let r = c.first_seen.ensures in
-    let looked : Looked set s f c.rest_of-rest.result c.first_seen.result w.window w.self =
-    record { rest_is = c.rest_of-rest.ensures; first = r.first; looks = r.looks; remembers = r.remembers; marked = r.marked } in
+    let looked : Looked set s f c.rest_of-rest.result c.first_seen.result w.window w.self.kept.items =
+    record { rest_is = c.rest_of-rest.ensures; first = r.first; looks = r.looks; keeps = rw r.mode at r.keeps } in
     let seen = rw c.in-Some.is at r.there in
     let tried = hit_inside set s (g.met.H.Shelf.well_formed c.args.shelf.now) f c.args.self.now c.self.view_is there c.args.left q.left c.rest_of-rest.result
-    c.first_seen.result w.window w.self looked c.in-Some.slice c.in-Some.is seen.0 in
+    c.first_seen.result w.window w.self.kept.items looked w.self.mode r.mode c.in-Some.slice c.in-Some.is seen in
     record {
       belongs = tried.0;
       sees = tried.1.sees;
@@ -40,19 +39,19 @@ returns-in_err-count g c =
     let set : SliceSet = c.args.index.now in
     let s : ShelfState = g.H.Shelf.state c.args.shelf.now in
     let i = c.self.inside in
-    let f : FinderState = with_window (record c.args.self.now { opening = i.opening }) i.cursor i.window i.track in
+    let f : FinderState = with_window (record c.args.self.now { opening = i.opening; mode = i.look.mode }) i.cursor i.window i.track i.look.kept.items in
     let q = c.requires in
     let there : IsThere set s c.args.self.now =
     record { belongs = q.belongs; counted = q.file; there = q.there; stands = q.stands; full = q.full } in
     let w = c.first_seen.new in
     let r = c.first_seen.ensures in
-    let looked : Looked set s f c.rest_of-rest.result c.first_seen.result w.window w.self =
-    record { rest_is = c.rest_of-rest.ensures; first = r.first; looks = r.looks; remembers = r.remembers; marked = r.marked } in
+    let looked : Looked set s f c.rest_of-rest.result c.first_seen.result w.window w.self.kept.items =
+    record { rest_is = c.rest_of-rest.ensures; first = r.first; looks = r.looks; keeps = rw r.mode at r.keeps } in
     let v = c.slide_until_crc.new in
     let e = c.in_err-count.ensures in
     let tried = fault_inside set s (g.met.H.Shelf.well_formed c.args.shelf.now) f c.args.self.now c.self.view_is there c.args.left q.left c.rest_of-rest.result
-    c.first_seen.result w.window w.self looked (g.H.Shelf.state v.shelf) v.window v.self e.tied e.window e.reads
-    c.in_err-count.field-0.0 e.shelf e.stays.0 in
+    c.first_seen.result w.window w.self.kept.items looked w.self.mode r.mode (g.H.Shelf.state v.shelf) v.window v.self e.tied e.window e.reads
+    c.in_err-count.field-0.0 e.shelf e.stays.0 e.stays.1 in
     let failed = err_from_is_err_and c.from_residual.result c.from_residual.ensures.1 in
     rw (failed.1, failed.2) (record {
       belongs = tried.0;
@@ -68,19 +67,20 @@ returns g c =
     let set : SliceSet = c.args.index.now in
     let s : ShelfState = g.H.Shelf.state c.args.shelf.now in
     let i = c.self.inside in
-    let f : FinderState = with_window (record c.args.self.now { opening = i.opening }) i.cursor i.window i.track in
+    let f : FinderState = with_window (record c.args.self.now { opening = i.opening; mode = i.look.mode }) i.cursor i.window i.track i.look.kept.items in
     let q = c.requires in
     let there : IsThere set s c.args.self.now =
     record { belongs = q.belongs; counted = q.file; there = q.there; stands = q.stands; full = q.full } in
     let w = c.first_seen.new in
     let r = c.first_seen.ensures in
-    let looked : Looked set s f c.rest_of-rest.result c.first_seen.result w.window w.self =
-    record { rest_is = c.rest_of-rest.ensures; first = r.first; looks = r.looks; remembers = r.remembers; marked = r.marked } in
+    let looked : Looked set s f c.rest_of-rest.result c.first_seen.result w.window w.self.kept.items =
+    record { rest_is = c.rest_of-rest.ensures; first = r.first; looks = r.looks; keeps = rw r.mode at r.keeps } in
     let v = c.slide_until_crc.new in
     let e = c.in_ok-count.ensures in
     let tried = pass_inside set s (g.met.H.Shelf.well_formed c.args.shelf.now) f c.args.self.now c.self.view_is there c.args.left q.left c.rest_of-rest.result
-    c.first_seen.result w.window w.self looked (g.H.Shelf.state v.shelf) v.window v.self e.tied e.window e.reads
-    c.in_ok-count.count c.unwrap_or-most.result e.shelf e.same e.passes c.in_default.is (omega (arith, c.unwrap_or-most.ensures)) e.none in
+    c.first_seen.result w.window w.self.kept.items looked c.forget.new.self.mode (c.forget.ensures.mode ∙ r.mode)
+    (g.H.Shelf.state v.shelf) v.window v.self e.tied e.window e.reads c.in_ok-count.count c.unwrap_or-most.result c.forget.new.self.kept.items
+    c.forget.ensures.none e.shelf e.same e.passes c.in_default.is (omega (arith, c.unwrap_or-most.ensures)) e.none in
     record {
       belongs = tried.0;
       sees = tried.1.sees;
@@ -96,11 +96,9 @@ overflow_add-self-2 g c =
     let at : Cursor = c.args.self.now.cursor in
     let same : c.self.inside.cursor ≡ at = ap (λ (f : FinderState). f.cursor) c.self.view_is in
     let passes = c.in_ok-count.ensures.passes in
-    let file : c.first_seen.new.self.file ≡ at.file =
-    ap (λ (t : Track). t.file) c.first_seen.ensures.looks.track_is ∙ ap (λ (f : FinderState). f.track.file) c.self.view_is ∙ c.requires.stands.file_is in
-    let held : c.first_seen.new.self.window_offset ≡ at.offset =
-    ap (λ (t : Track). t.window_offset) c.first_seen.ensures.looks.track_is ∙ ap (λ (f : FinderState). f.track.window_offset) c.self.view_is
-    ∙ c.requires.stands.offset_is in
+    let file : c.self.inside.track.file ≡ at.file = ap (λ (f : FinderState). f.track.file) c.self.view_is ∙ c.requires.stands.file_is in
+    let held : c.self.inside.track.window_offset ≡ at.offset =
+    ap (λ (f : FinderState). f.track.window_offset) c.self.view_is ∙ c.requires.stands.offset_is in
     let inside = rw (held, file) at passes.inside in
     rw same (omega (arith, inside, (g.met.H.Shelf.well_formed c.args.shelf.now).short at.file 0 c.requires.file))
 
@@ -112,12 +110,6 @@ rest_of-rest-requires-clause-counted g c = grind (arith, common_steps) steps 100
 
 pub rest_of-rest-requires-clause-there : goal.rest_of-rest-requires-clause-there
 rest_of-rest-requires-clause-there g c = grind (arith, common_steps) steps 100000
-
-pub first_seen-requires-clause-remembers : goal.first_seen-requires-clause-remembers
-first_seen-requires-clause-remembers g c = grind (arith, common_steps) steps 100000
-
-pub first_seen-requires-clause-full : goal.first_seen-requires-clause-full
-first_seen-requires-clause-full g c = grind (arith, common_steps) steps 100000
 
 pub slide_until_crc-requires-clause-some : goal.slide_until_crc-requires-clause-some
 slide_until_crc-requires-clause-some g c = grind (arith, common_steps) steps 100000

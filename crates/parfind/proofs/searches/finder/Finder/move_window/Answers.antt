@@ -1,15 +1,18 @@
-use Rattle.std.proofs.lemmas.Grind.{common_steps}
-use Rattle.std.proofs.Common.{◌≡◌, ℕ, ap, ◌∙◌, arith, subst}
+use Rattle.std.proofs.Common.{◌≡◌, ℕ, sym, ap, ◌∙◌, arith, subst, true, false, List, length, replicate, Option, None}
 use Rattle.parshelf.specs.Shelf.{ShelfState}
 use Rattle.parwindow.specs.Index.{SliceSet}
 use Rattle.parwindow.specs.Window.{WindowState}
 use Rattle.parshelf.specs.Reads.{ReadsFile}
 use Rattle.parfind.specs.Tracks.{fetched_of}
 use Rattle.parfind.proofs.FetchedLaws.{hands_more}
-use Rattle.parfind.specs.Finders.{FinderState, StandsAt}
-use Rattle.parfind.proofs.EnterLaws.{enter_tied, enter_sized, enter_file, enter_held, enter_stands, enter_hands, enter_onward, enter_digests}
-use Rattle.parfind.proofs.BelongsLaws.{with_window, arrives_belongs, call_files}
+use Rattle.parfind.specs.Finders.{FinderState, BelongsTo, StandsAt, sought_for}
+use Rattle.parfind.proofs.EnterLaws.{enter_tied, enter_file, enter_stands, enter_hands, enter_digests, enter_belongs}
+use Rattle.parfind.proofs.BelongsLaws.{call_files, opened_as, with_window}
+use Rattle.parfield.specs.declared.hash16.Hash16.{Hash16}
+use Rattle.parfind.specs.Sought.{looked_lengths}
+use Rattle.parfind.specs.declared.tracks.track.Track.{Track}
 use Rattle.parfind.proofs.searches.finder.Finder.move_window.Goals as goal
+use Rattle.parfind.proofs.searches.finder.Finder.move_window.Goals.{else-at-file-via-then-at-file+else-is_full, else-at-file-via-else-at-file}
 
 pub fill-requires-clause-tied : goal.fill-requires-clause-tied
 fill-requires-clause-tied g c =
@@ -35,27 +38,31 @@ returns-clause-stands g c =
 pub returns-clause-belongs : goal.returns-clause-belongs
 returns-clause-belongs g c =
     let set : SliceSet = c.args.index.now in
+    let f : FinderState = c.args.self.now in
     let s : ShelfState = g.H.Shelf.state c.args.shelf.now in
     let t : ShelfState = g.H.Shelf.state c.fill.new.shelf in
-    let i = c.self.inside in
-    let track = ap (λ (f : FinderState). f.track) c.self.view_is in
-    let window = ap (λ (f : FinderState). f.window) c.self.view_is in
     let r = c.fill.ensures in
-    let file = enter_file c.args.self.now set s (g.met.H.Shelf.well_formed c.args.shelf.now) c.requires.belongs c.args.at c.requires.next c.requires.fits
-    c.enter_file.new.window c.enter_file.new.self (rw (track, window) at c.enter_file.ensures.same) (rw (track, window) at c.enter_file.ensures.other) in
-    let held = enter_held c.args.self.now set s (g.met.H.Shelf.well_formed c.args.shelf.now) c.requires.belongs c.args.at c.requires.next c.requires.fits
-    c.enter_file.new.window c.enter_file.new.self (rw (track, window) at c.enter_file.ensures.same) (rw (track, window) at c.enter_file.ensures.other) in
-    let sized = enter_sized c.args.self.now set s (g.met.H.Shelf.well_formed c.args.shelf.now) c.requires.belongs c.args.at c.requires.next c.requires.fits
-    c.enter_file.new.window c.enter_file.new.self (rw (track, window) at c.enter_file.ensures.same) (rw (track, window) at c.enter_file.ensures.other) in
-    let onward = enter_onward c.args.self.now set s (g.met.H.Shelf.well_formed c.args.shelf.now) c.requires.belongs c.args.at c.requires.next c.requires.fits
-    c.enter_file.new.window c.enter_file.new.self (rw (track, window) at c.enter_file.ensures.same) (rw (track, window) at c.enter_file.ensures.other) in
-    let digests = enter_digests c.args.self.now set s (g.met.H.Shelf.well_formed c.args.shelf.now) c.requires.belongs c.args.at c.requires.next c.requires.fits
-    c.enter_file.new.window c.enter_file.new.self (rw (track, window) at c.enter_file.ensures.same) (rw (track, window) at c.enter_file.ensures.other) in
-    let f : FinderState = with_window (record c.args.self.now { opening = i.opening }) i.cursor i.window i.track in
-    let is : f ≡ c.args.self.now = c.self.view_is in
-    arrives_belongs c.args.self.now set s t c.requires.belongs (call_files set s t c.enter_file.new.self.file c.fill.result r.shelf)
-    c.args.at c.enter_file.new.window c.enter_file.new.self c.fill.new.window c.fill.new.self r.tied r.window r.same sized digests onward file held
-    i.opening (ap (λ (x : FinderState). x.opening) is)
+    let track = ap (λ (x : FinderState). x.track) c.self.view_is in
+    let window = ap (λ (x : FinderState). x.window) c.self.view_is in
+    let kept : List (Option Hash16) = c.forget.new.self.kept.items in
+    let none : kept ≡ replicate (length (looked_lengths (sought_for set f))) None =
+    c.forget.ensures.none ∙ ap (λ (x : FinderState). replicate (length x.kept) None) c.self.view_is
+    ∙ ap (λ (n : ℕ). replicate n None) c.requires.belongs.keeps.room in
+    let unfilled : f.track.file ≡ c.args.at.file → ¬ (length f.window.content ≡ f.window.capacity) = λ file full.
+    elim c.else-at-file.branch [
+      | else-at-file-via-then-at-file+else-is_full w ↦
+          let is : w.is_full.result ≡ true = w.is_full.ensures.1 (rw window full) in
+          let both : true ≡ false = sym is ∙ w.if-is_full.false in cc
+      | else-at-file-via-else-at-file w ↦
+          absurd (w.if-at-file.false (sym file ∙ sym (ap (λ (x : Track). x.file) track) ∙ sym c.file.ensures))
+    ] in
+    let belongs : BelongsTo (with_window f c.args.at c.fill.new.window c.fill.new.self kept) set t =
+    enter_belongs f set s (g.met.H.Shelf.well_formed c.args.shelf.now) c.requires.belongs c.args.at c.requires.next c.requires.fits
+    c.enter_file.new.window c.enter_file.new.self (rw (track, window) at c.enter_file.ensures.same) (rw (track, window) at c.enter_file.ensures.other)
+    unfilled t (call_files s t c.enter_file.new.self.file c.fill.result r.shelf) kept none c.fill.new.window c.fill.new.self
+    r.tied r.window r.same in
+    opened_as (with_window f c.args.at c.fill.new.window c.fill.new.self kept) set t belongs c.self.inside.opening c.forget.new.self.mode
+    (ap (λ (x : FinderState). x.opening) c.self.view_is) (c.forget.ensures.mode ∙ ap (λ (x : FinderState). x.mode) c.self.view_is)
 
 pub returns-clause-along : goal.returns-clause-along
 returns-clause-along g c =
@@ -77,11 +84,6 @@ returns-clause-along g c =
           c.requires.fits c.enter_file.new.window c.enter_file.new.self (rw (track, window) at c.enter_file.ensures.same) (rw (track, window) at c.enter_file.ensures.other))
           c.fill.ensures.reads;
       opening_is = ap (λ (f : FinderState). f.opening) c.self.view_is;
+      mode_is = c.forget.ensures.mode ∙ ap (λ (f : FinderState). f.mode) c.self.view_is;
       no_fewer = omega (arith, counted, same, filled);
     }
-
-pub returns-clause-cursor : goal.returns-clause-cursor
-returns-clause-cursor g c = grind (arith, common_steps)
-
-pub returns-clause-full : goal.returns-clause-full
-returns-clause-full g c = grind (arith, common_steps)

@@ -1,39 +1,32 @@
-use Rattle.std.proofs.Common.{arith, rules}
-use Rattle.std.proofs.lemmas.Grind.{common_steps}
+use Rattle.std.proofs.Common.{rules, ◌≡◌, ◌<◌, ◌^◌, List, length, ap, ◌∙◌, arith, ℕ, sym, subst}
+use Rattle.parshelf.specs.Shelf.{ShelfState}
+use Rattle.parwindow.specs.Index.{SliceSet}
+use Rattle.parwindow.specs.Window.{WindowState, empty_window}
+use Rattle.parfind.specs.Finders.{BelongsTo}
+use Rattle.parfind.specs.Sought.{HasFewTails, sought_of, shorter_lengths}
+use Rattle.parfind.specs.Tracks.{fetched_of}
+use Rattle.parfind.proofs.OpenLaws.{opens_belongs}
 use Rattle.parfind.proofs.searches.finder.Finder.open.Goals as goal
 
-pub returns-clause-cursor : goal.returns-clause-cursor
-returns-clause-cursor g c = search rules steps 300000
-
 pub returns-clause-belongs : goal.returns-clause-belongs
-returns-clause-belongs g c = search rules steps 2000000
-
-pub new-requires-clause-some : goal.new-requires-clause-some
-new-requires-clause-some g c = grind (arith, common_steps) steps 100000
-
-pub new-requires-clause-within : goal.new-requires-clause-within
-new-requires-clause-within g c = grind (arith, common_steps) steps 100000
-
-pub returns-in_err-window-clause-cursor : goal.returns-in_err-window-clause-cursor
-returns-in_err-window-clause-cursor g c = grind (arith, common_steps) steps 100000
-
-pub returns-in_err-window-clause-opening : goal.returns-in_err-window-clause-opening
-returns-in_err-window-clause-opening g c = grind (arith, common_steps) steps 100000
-
-pub returns-in_err-window-clause-fetched : goal.returns-in_err-window-clause-fetched
-returns-in_err-window-clause-fetched g c = grind (arith, common_steps) steps 100000
-
-pub returns-in_err-window-clause-digests : goal.returns-in_err-window-clause-digests
-returns-in_err-window-clause-digests g c = grind (arith, common_steps) steps 100000
-
-pub returns-in_err-window-clause-belongs : goal.returns-in_err-window-clause-belongs
-returns-in_err-window-clause-belongs g c = grind (arith, common_steps) steps 100000
-
-pub returns-clause-opening : goal.returns-clause-opening
-returns-clause-opening g c = grind (arith, common_steps) steps 100000
-
-pub returns-clause-fetched : goal.returns-clause-fetched
-returns-clause-fetched g c = grind (arith, common_steps) steps 100000
-
-pub returns-clause-digests : goal.returns-clause-digests
-returns-clause-digests g c = grind (arith, common_steps) steps 100000
+returns-clause-belongs g c =
+    let set : SliceSet = c.args.index.now in
+    let s : ShelfState = g.H.Shelf.state c.args.shelf.now in
+    let lengths : c.shorter_lengths-tails.result.now ≡ shorter_lengths c.args.mode set = c.shorter_lengths-tails.ensures.all in
+    let few : HasFewTails (sought_of set c.args.mode) = omega (arith, ap (λ (xs : List ℕ). length xs) lengths, c.if-tails-gt-MOST_TAILS.false) in
+    let is : c.in_ok-window.window ≡ empty_window set.slice_size (shorter_lengths c.args.mode set) =
+    c.in_ok-window.ensures ∙ ap (λ (n : ℕ). empty_window n c.shorter_lengths-tails.result.now) c.size.ensures.size
+    ∙ ap (empty_window set.slice_size) lengths in
+    let small : c.args.at.offset < 2 ^ 64 = search rules in
+    subst (λ (w : WindowState). BelongsTo (record {
+      cursor = c.args.at;
+      opening = c.args.at;
+      fetched = fetched_of c.new.result;
+      digests = w.digests;
+      mode = c.in_ok-new.field-0.mode;
+      window = w;
+      track = c.new.result;
+      kept = c.in_ok-new.field-0.kept.items;
+    }) set s) (sym is)
+    (rw c.in_ok-new.ensures.mode (opens_belongs set s c.args.at c.args.mode c.new.result c.in_ok-new.field-0.kept.items small
+    c.size.ensures.set.greatest_size few c.new.ensures c.in_ok-new.ensures.none))

@@ -2,7 +2,7 @@ use Rattle.std.proofs.lemmas.Grind.{common_steps}
 use Rattle.std.proofs.Common.{◌≡◌, true, false, ◌∙◌, subst, sym, arith}
 use Rattle.parshelf.specs.Shelf.{ShelfState}
 use Rattle.parwindow.specs.Index.{SliceSet}
-use Rattle.parfind.specs.Finders.{FinderState, BelongsTo}
+use Rattle.parfind.specs.Finders.{FinderState, BelongsTo, sought_for}
 use Rattle.parfind.specs.NextPlace.{HasFit}
 use Rattle.parfind.proofs.PassLaws.{cursor_on}
 use Rattle.parfind.proofs.FitLaws.{unfit_belongs, unfit_passes, unfit_advances, unfit_sees, some_passed}
@@ -24,7 +24,7 @@ returns-clause-sees g c = λ steady.
     let e : true ≡ false = sym has ∙ (rw c.rest_of-rest.ensures at (sym c.fits.ensures ∙ c.if-fits.false)) in cc in
     let some = some_passed (g.H.Shelf.state c.args.shelf.now).lengths c.args.at c.args.left c.rest_of-rest.result c.unwrap_or.result c.min-count.result
     c.requires.left c.requires.next.there c.rest_of-rest.ensures c.unwrap_or.ensures c.min-count.ensures in
-    unfit_sees c.args.index.now (g.H.Shelf.state c.args.shelf.now) (g.met.H.Shelf.well_formed c.args.shelf.now) steady
+    unfit_sees (sought_for c.args.index.now c.args.self.now) (g.H.Shelf.state c.args.shelf.now) (g.met.H.Shelf.well_formed c.args.shelf.now) steady
     c.args.self.now.cursor c.args.at c.requires.next none c.min-count.result some
 
 pub returns-clause-passes : goal.returns-clause-passes

@@ -2,7 +2,7 @@ use Rattle.std.proofs.Common.{sym, ap, subst, arith, Some}
 use Rattle.std.proofs.lemmas.Result.{err_from_is_err_and}
 use Rattle.parshelf.specs.Shelf.{ShelfState}
 use Rattle.parwindow.specs.Index.{SliceSet}
-use Rattle.parfind.specs.Finders.{FinderState}
+use Rattle.parfind.specs.Finders.{FinderState, sought_for}
 use Rattle.parfind.specs.Moves.{StepMoves}
 use Rattle.parfind.specs.NextPlace.{IsNextPlace}
 use Rattle.parfind.specs.PlaceVisit.{answer_of, count_of}
@@ -25,9 +25,9 @@ returns g c =
     let next = subst (IsNextPlace old.lengths f.cursor) (sym m.cursor) found in
     let r = c.at_place.ensures in
     let along = rw c.in_default-pass_unfit.ensures.fits.1 at m.along in
-    let tried = tried_next set c.args.left old mid new f c.move_window.new.self c.at_place.new.self _ along next
+    let tried = tried_next (sought_for set f) c.args.left old mid new f c.move_window.new.self c.at_place.new.self _ along next
     (g.met.H.Shelf.well_formed c.args.shelf.now) c.at_place.result
-    (record { sees = r.sees; moves = r.moves; advances = r.advances; within = r.within; along = r.along }) in
+    (record { sees = rw along.mode_is at r.sees; moves = r.moves; advances = r.advances; within = r.within; along = r.along }) in
     record {
       belongs = r.belongs;
       sees = tried.sees;
@@ -57,13 +57,13 @@ pub returns-then-self-count-clause-sees : goal.returns-then-self-count-clause-se
 returns-then-self-count-clause-sees g c = λ steady.
     let same = ap (λ (f : FinderState). f.cursor) c.self.view_is in
     let none = rw same at c.in_default.ensures.none in
-    visit_ended c.args.index.now (g.H.Shelf.state c.args.shelf.now) (g.met.H.Shelf.well_formed c.args.shelf.now) steady c.args.self.now.cursor none
+    visit_ended (sought_for c.args.index.now c.args.self.now) (g.H.Shelf.state c.args.shelf.now) (g.met.H.Shelf.well_formed c.args.shelf.now) steady c.args.self.now.cursor none
 
 pub returns-else-self-count-clause-sees : goal.returns-else-self-count-clause-sees
 returns-else-self-count-clause-sees g c = λ steady.
     let same = ap (λ (f : FinderState). f.cursor) c.self.view_is in
     let none = rw same at c.in_default.ensures.none in
-    visit_ended c.args.index.now (g.H.Shelf.state c.args.shelf.now) (g.met.H.Shelf.well_formed c.args.shelf.now) steady c.args.self.now.cursor none
+    visit_ended (sought_for c.args.index.now c.args.self.now) (g.H.Shelf.state c.args.shelf.now) (g.met.H.Shelf.well_formed c.args.shelf.now) steady c.args.self.now.cursor none
 
 pub returns-in_err-move_window-clause-moves : goal.returns-in_err-move_window-clause-moves
 returns-in_err-move_window-clause-moves g c =
@@ -80,6 +80,6 @@ returns-in_err-move_window-clause-sees g c = λ steady.
     let same = ap (λ (f : FinderState). f.cursor) c.self.view_is in
     let found = rw same at c.in-Some.ensures.found in
     let failed = err_from_is_err_and c.from_residual.result c.from_residual.ensures.1 in
-    subst (λ answer. StepSees (scan_of c.args.index.now s) c.args.self.now.cursor (answer_of answer) c.move_window.new.self.cursor) (sym failed.1)
+    subst (λ answer. StepSees (scan_of (sought_for c.args.index.now c.args.self.now) s) c.args.self.now.cursor (answer_of answer) c.move_window.new.self.cursor) (sym failed.1)
     (rw c.in_err-move_window.ensures.cursor
-    (visit_stopped c.args.index.now s (g.met.H.Shelf.well_formed c.args.shelf.now) steady c.args.self.now.cursor c.in-Some.at found))
+    (visit_stopped (sought_for c.args.index.now c.args.self.now) s (g.met.H.Shelf.well_formed c.args.shelf.now) steady c.args.self.now.cursor c.in-Some.at found))

@@ -29,7 +29,6 @@ loop-self-preserved g c =
       same = record {
         file_is = r.same.file_is ∙ so_far.same.file_is;
         offset_is = r.same.offset_is ∙ so_far.same.offset_is;
-        digest_is = r.same.digest_is ∙ so_far.same.digest_is;
       };
       window_is = kept_window c.args.window.now v c.append.new.window _ so_far.window_is c.append.ensures;
       only = ReadsOnly_more s mid new so_far.only r.shelf;

@@ -15,7 +15,7 @@ returns-in-Ok-clause-reads g c =
 
 pub returns-in-Err-clause-on : goal.returns-in-Err-clause-on
 returns-in-Err-clause-on g c = record {
-  same = record { file_is = refl; offset_is = refl; digest_is = refl };
+  same = record { file_is = refl; offset_is = refl };
   buffer_offset_is = refl;
   buffer_fits = omega arith;
   small = search rules;

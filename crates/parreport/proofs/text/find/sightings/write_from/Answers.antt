@@ -1,21 +1,23 @@
-use Rattle.std.proofs.lemmas.Grind.{elements, common_steps}
-use Rattle.std.proofs.Common.{rules, ◌≢◌, ◌≡◌, Some, Ok, Err, refl, arith}
+use Rattle.std.proofs.lemmas.Grind.{common_steps}
+use Rattle.std.proofs.Common.{rules, ◌≢◌, ◌≡◌, ◌∙◌, Some, Ok, Err, refl, arith}
 use Rattle.std.proofs.lemmas.Result.{err_from_is_err_and}
 use Rattle.parset.specs.RecoverySet.{SetView}
 use Rattle.parshelf.specs.Shelf.{ShelfState}
 use Rattle.parshelf.proofs.ReadLaws.{ReadsOnly_more}
 use Rattle.parfind.specs.declared.cursors.cursor.Cursor.{Cursor}
 use Rattle.parfind.specs.Points.{search_at}
+use Rattle.parfind.proofs.AlongLaws.{faults_before}
 use Rattle.parfind.specs.declared.searches.finder.Step.TheVariants.{Hit, Done}
 use Rattle.parreport.specs.FindText.{Search, find_search_of}
+use Rattle.parreport.specs.SetSearch.{mode_of}
 use Rattle.parshelf.specs.SinkState.{SinkState}
-use Rattle.parreport.proofs.FindLaws.{hands_front, hands_one, hands_refused, ends_text, ends_refused, stops_text, stops_refused, keeps_after_fault, gives_from}
+use Rattle.parreport.proofs.FindLaws.{hands_none, hands_front, hands_one, hands_refused, ends_text, ends_refused, stops_text, stops_refused, keeps_after_fault, gives_from}
 use Rattle.parreport.proofs.LineLaws.{fault_text, last_text, line_reads, line_sink, line_keeps, line_fault}
 use Rattle.parreport.proofs.text.find.sightings.write_from.Goals as goal
 
 pub loop-left-preserved-in-Ok-Hit : goal.loop-left-preserved-in-Ok-Hit
 loop-left-preserved-in-Ok-Hit g c =
-    let s : Search = find_search_of c.args.files.now (g.Q.Shelf.state c.args.shelf.now).files c.args.set.now c.args.finder.now.cursor c.args.limit in
+    let s : Search = find_search_of c.args.files.now (g.Q.Shelf.state c.args.shelf.now).files c.args.set.now c.args.finder.now.cursor c.args.query in
     let set : SetView = c.args.set.now in
     let old : ShelfState = g.Q.Shelf.state c.args.shelf.now in
     let mid : ShelfState = g.Q.Shelf.state c.loop-left.shelf in
@@ -24,10 +26,11 @@ loop-left-preserved-in-Ok-Hit g c =
     let some : c.loop-left.left ≢ Some 0 = search rules in
     record {
       belongs = c.in-Ok-Hit.ensures.belongs;
+      mode = c.in-Ok-Hit.ensures.along.mode_is ∙ so_far.mode;
       reads = ReadsOnly_more old mid (g.Q.Shelf.state c.next.new.shelf) so_far.reads c.in-Ok-Hit.ensures.along.shelf;
       failures = rw line so_far.failures;
       handed = λ steady.
-          let gives = gives_from set c.args.index.now old mid c.loop-left.finder.cursor (search_at (g.Q.Shelf.state c.next.new.shelf) c.next.new.self.cursor) (Ok (Hit c.in-Ok-Hit.sighting)) c.requires.index
+          let gives = gives_from set (mode_of c.args.query.tails) c.loop-left.finder.mode c.args.index.now old mid c.loop-left.finder.cursor (search_at (g.Q.Shelf.state c.next.new.shelf) c.next.new.self.cursor) (Ok (Hit c.in-Ok-Hit.sighting)) c.requires.index so_far.mode
           so_far.reads steady (λ still. rw c.in-Ok-Hit.field-0-is at (c.in-Ok-Hit.ensures.answer still)) in
           rw c.limit_left-left.ensures
           (hands_one s c.loop-left.left c.loop-left.finder.cursor
@@ -37,7 +40,7 @@ loop-left-preserved-in-Ok-Hit g c =
 
 pub returns-in_err-write_sighting-in-Ok-Hit-clause-text : goal.returns-in_err-write_sighting-in-Ok-Hit-clause-text
 returns-in_err-write_sighting-in-Ok-Hit-clause-text g c = λ steady.
-    let s : Search = find_search_of c.args.files.now (g.Q.Shelf.state c.args.shelf.now).files c.args.set.now c.args.finder.now.cursor c.args.limit in
+    let s : Search = find_search_of c.args.files.now (g.Q.Shelf.state c.args.shelf.now).files c.args.set.now c.args.finder.now.cursor c.args.query in
     let set : SetView = c.args.set.now in
     let old : ShelfState = g.Q.Shelf.state c.args.shelf.now in
     let mid : ShelfState = g.Q.Shelf.state c.loop-left.shelf in
@@ -46,7 +49,7 @@ returns-in_err-write_sighting-in-Ok-Hit-clause-text g c = λ steady.
     let between : SinkState = g.W.Sink.state c.loop-left.out in
     let after : SinkState = g.W.Sink.state c.write_sighting.new.out in
     let some : c.loop-left.left ≢ Some 0 = search rules in
-    let gives = gives_from set c.args.index.now old mid c.loop-left.finder.cursor (search_at (g.Q.Shelf.state c.next.new.shelf) c.next.new.self.cursor) (Ok (Hit c.in-Ok-Hit.sighting)) c.requires.index
+    let gives = gives_from set (mode_of c.args.query.tails) c.loop-left.finder.mode c.args.index.now old mid c.loop-left.finder.cursor (search_at (g.Q.Shelf.state c.next.new.shelf) c.next.new.self.cursor) (Ok (Hit c.in-Ok-Hit.sighting)) c.requires.index so_far.mode
     so_far.reads steady (λ still. rw c.in-Ok-Hit.field-0-is at (c.in-Ok-Hit.ensures.answer still)) in
     let line = c.in_err-write_sighting-in-Ok-Hit.ensures in
     let failed = err_from_is_err_and c.from_residual.result c.from_residual.ensures.1 in
@@ -58,7 +61,7 @@ returns-in_err-write_sighting-in-Ok-Hit-clause-text g c = λ steady.
 
 pub returns-in-Ok-Done-clause-text : goal.returns-in-Ok-Done-clause-text
 returns-in-Ok-Done-clause-text g c = λ steady.
-    let s : Search = find_search_of c.args.files.now (g.Q.Shelf.state c.args.shelf.now).files c.args.set.now c.args.finder.now.cursor c.args.limit in
+    let s : Search = find_search_of c.args.files.now (g.Q.Shelf.state c.args.shelf.now).files c.args.set.now c.args.finder.now.cursor c.args.query in
     let set : SetView = c.args.set.now in
     let old : ShelfState = g.Q.Shelf.state c.args.shelf.now in
     let mid : ShelfState = g.Q.Shelf.state c.loop-left.shelf in
@@ -68,7 +71,7 @@ returns-in-Ok-Done-clause-text g c = λ steady.
     let between : SinkState = g.W.Sink.state c.loop-left.out in
     let new : SinkState = g.W.Sink.state c.write_end.new.out in
     let some : c.loop-left.left ≢ Some 0 = search rules in
-    let gives = gives_from set c.args.index.now old mid now (search_at (g.Q.Shelf.state c.next.new.shelf) c.next.new.self.cursor) (Ok Done) c.requires.index
+    let gives = gives_from set (mode_of c.args.query.tails) c.loop-left.finder.mode c.args.index.now old mid now (search_at (g.Q.Shelf.state c.next.new.shelf) c.next.new.self.cursor) (Ok Done) c.requires.index so_far.mode
     so_far.reads steady (λ still. rw c.in-Ok-Done.field-0-is at (c.in-Ok-Done.ensures.answer still)) in
     last_text _ _ c.write_end.result before between new c.write_end.ensures
     (hands_front s c.loop-left.left now before between (so_far.handed steady))
@@ -77,7 +80,7 @@ returns-in-Ok-Done-clause-text g c = λ steady.
 
 pub returns-clause-text : goal.returns-clause-text
 returns-clause-text g c = λ steady.
-    let s : Search = find_search_of c.args.files.now (g.Q.Shelf.state c.args.shelf.now).files c.args.set.now c.args.finder.now.cursor c.args.limit in
+    let s : Search = find_search_of c.args.files.now (g.Q.Shelf.state c.args.shelf.now).files c.args.set.now c.args.finder.now.cursor c.args.query in
     let set : SetView = c.args.set.now in
     let old : ShelfState = g.Q.Shelf.state c.args.shelf.now in
     let now : Cursor = c.loop-left.finder.cursor in
@@ -94,12 +97,12 @@ returns-clause-text g c = λ steady.
 
 pub returns-in-Err-clause-lines : goal.returns-in-Err-clause-lines
 returns-in-Err-clause-lines g c = λ steady.
-    let s : Search = find_search_of c.args.files.now (g.Q.Shelf.state c.args.shelf.now).files c.args.set.now c.args.finder.now.cursor c.args.limit in
+    let s : Search = find_search_of c.args.files.now (g.Q.Shelf.state c.args.shelf.now).files c.args.set.now c.args.finder.now.cursor c.args.query in
     let set : SetView = c.args.set.now in
     let old : ShelfState = g.Q.Shelf.state c.args.shelf.now in
     let handed = c.loop-left.invariant.handed steady in
     let some : c.loop-left.left ≢ Some 0 = search rules in
-    let gives = gives_from set c.args.index.now old (g.Q.Shelf.state c.loop-left.shelf) c.loop-left.finder.cursor (search_at (g.Q.Shelf.state c.next.new.shelf) c.next.new.self.cursor) (Err c.in-Err.fault) c.requires.index
+    let gives = gives_from set (mode_of c.args.query.tails) c.loop-left.finder.mode c.args.index.now old (g.Q.Shelf.state c.loop-left.shelf) c.loop-left.finder.cursor (search_at (g.Q.Shelf.state c.next.new.shelf) c.next.new.self.cursor) (Err c.in-Err.fault) c.requires.index c.loop-left.invariant.mode
     c.loop-left.invariant.reads steady (λ still. c.in-Err.ensures.answer still) in
     rw c.cursor-file.ensures
     (keeps_after_fault s old (g.Q.Shelf.state c.next.new.shelf) c.loop-left.left c.loop-left.finder.cursor c.next.new.self.cursor
@@ -169,10 +172,22 @@ pub limit_left-left-requires : goal.limit_left-left-requires
 limit_left-left-requires g c = grind (arith, common_steps) steps 400000
 
 pub returns-in-Err-clause-reads : goal.returns-in-Err-clause-reads
-returns-in-Err-clause-reads g c = grind (arith, elements) steps 400000
+returns-in-Err-clause-reads g c =
+    let mid : ShelfState = g.Q.Shelf.state c.loop-left.shelf in
+    rw c.cursor-file.ensures
+    (faults_before (g.Q.Shelf.state c.args.shelf.now) mid (g.Q.Shelf.state c.next.new.shelf) c.next.new.self.cursor.file c.in-Err.fault
+    c.loop-left.invariant.reads c.in-Err.ensures.along.shelf)
 
 pub loop-left-init : goal.loop-left-init
-loop-left-init g c = search rules steps 2000000
+loop-left-init g c = record {
+  belongs = c.requires.belongs;
+  mode = c.requires.mode;
+  reads = refl;
+  failures = refl;
+  handed = λ steady.
+      hands_none (find_search_of c.args.files.now (g.Q.Shelf.state c.args.shelf.now).files c.args.set.now c.args.finder.now.cursor c.args.query)
+      (g.W.Sink.state c.args.out.now);
+}
 
 pub returns-in_err-write_sighting-in-Ok-Hit-clause-fault : goal.returns-in_err-write_sighting-in-Ok-Hit-clause-fault
 returns-in_err-write_sighting-in-Ok-Hit-clause-fault g c =

@@ -3,16 +3,18 @@ use Rattle.parshelf.specs.Reads.{ReadsOnly}
 use Rattle.parfind.specs.Finders.{BelongsTo}
 use Rattle.parfind.specs.Moves.{steps_left}
 use Rattle.parreport.specs.FindText.{find_search_of}
+use Rattle.parreport.specs.SetSearch.{mode_of}
 use Rattle.parreport.proofs.FindLaws.{HandsOut}
 use Rattle.parreport.proofs.text.find.sightings.write_from.Given as goal
 
 abbrev pub invariant-loop-left : goal.invariant-loop-left
 invariant-loop-left g l = record {
   belongs : BelongsTo l.finder l.index (g.Q.Shelf.state l.shelf);
+  mode : l.finder.mode ≡ mode_of l.fn.query.tails;
   reads : ReadsOnly (g.Q.Shelf.state l.fn.shelf) (g.Q.Shelf.state l.shelf);
   failures : (g.W.Sink.state l.out).failures ≡ (g.W.Sink.state l.fn.out).failures;
   handed : IsTrue (g.Q.Shelf.state l.fn.shelf).is_steady
-      → HandsOut (find_search_of l.files (g.Q.Shelf.state l.fn.shelf).files l.set l.fn.finder.cursor l.fn.limit) l.left l.finder.cursor
+      → HandsOut (find_search_of l.files (g.Q.Shelf.state l.fn.shelf).files l.set l.fn.finder.cursor l.fn.query) l.left l.finder.cursor
       (g.W.Sink.state l.fn.out) (g.W.Sink.state l.out);
 }
 

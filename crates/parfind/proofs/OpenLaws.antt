@@ -1,0 +1,63 @@
+-- A finder that is opened belongs to its slices and files.
+use Rattle.std.proofs.Common.{◌≡◌, ◌<◌, ◌≤◌, ◌^◌, List, length, replicate, refl, ap, ◌∙◌, arith, Option, None}
+use Rattle.parfield.specs.declared.hash16.Hash16.{Hash16}
+use Rattle.parset.specs.Limits.{slice_size_limit}
+use Rattle.parshelf.specs.Shelf.{ShelfState, file_of}
+use Rattle.parwindow.specs.Index.{SliceSet}
+use Rattle.parwindow.specs.Window.{WindowState, empty_window}
+use Rattle.parfind.specs.declared.cursors.cursor.Cursor.{Cursor}
+use Rattle.parfind.specs.declared.tracks.mode.Mode.{Mode}
+use Rattle.parfind.specs.declared.tracks.track.Track.{Track}
+use Rattle.parfind.specs.Finders.{BelongsTo}
+use Rattle.parfind.specs.Looks.{kept_count}
+use Rattle.parfind.specs.Places.{start_of}
+use Rattle.parfind.specs.Sought.{HasFewTails, looked_lengths, sought_of, shorter_lengths}
+use Rattle.parfind.specs.Tracks.{IsUnread, cursor_of_track, fetched_of}
+use Rattle.parfind.proofs.KeptLaws.{count_none, keeps_none}
+use Rattle.parfind.proofs.OrderLaws.{is_from-true}
+use Rattle.parfind.proofs.TrackLaws.{no_bytes}
+
+-- the window is empty, nothing is read and no digest is kept
+pub opens_belongs : (set : SliceSet) (s : ShelfState) (at : Cursor) (mode : Mode) (t : Track) (kept : List (Option Hash16))
+    → at.offset < 2 ^ 64 → set.slice_size ≤ slice_size_limit → HasFewTails (sought_of set mode) → IsUnread at.file at.offset t
+    → kept ≡ replicate (length (looked_lengths (sought_of set mode))) None
+    → let w : WindowState = empty_window set.slice_size (shorter_lengths mode set) in
+    BelongsTo (record {
+      cursor = at;
+      opening = at;
+      fetched = fetched_of t;
+      digests = w.digests;
+      mode = mode;
+      window = w;
+      track = t;
+      kept = kept;
+    }) set s
+opens_belongs set s at mode t kept small few tails unread none =
+    let w : WindowState = empty_window set.slice_size (shorter_lengths mode set) in
+    let zero : kept_count kept ≡ 0 = ap kept_count none ∙ count_none (length (looked_lengths (sought_of set mode))) in
+    record {
+      made = record { sized = refl; tails_are = λ is. ap (λ (m : Mode). shorter_lengths m set) is; few = tails };
+      keeps = rw none (keeps_none (sought_of set mode) w);
+      kept_there = λ _ some. absurd (omega (arith, some, zero));
+      tied = record {
+        within = omega arith;
+        few = few;
+        buffer_fits = omega (arith, unread.buffer_len_is);
+        small = omega (arith, small, unread.buffer_offset_is, unread.buffer_len_is);
+        not_ahead = omega (arith, unread.buffer_offset_is, unread.offset_is);
+        reached = λ _. omega (arith, unread.buffer_offset_is, unread.offset_is, unread.buffer_len_is);
+        content = λ _. no_bytes (file_of s t.file) t.window_offset;
+        ahead = λ _. rw unread.buffer_len_is (no_bytes (file_of s t.file) t.buffer_offset);
+      };
+      not_ahead = omega (arith, unread.file_is);
+      not_past = λ _. omega (arith, unread.offset_is);
+      here = λ _ _. unread.offset_is;
+      fetched_is = refl;
+      digests_are = refl;
+      onward = is_from-true (start_of at) (cursor_of_track t) (record {
+        by_file = omega (arith, unread.file_is);
+        by_offset = λ _. omega (arith, unread.offset_is);
+        by_slice = λ _ _. omega arith;
+      });
+      counted = λ _. omega arith;
+    }

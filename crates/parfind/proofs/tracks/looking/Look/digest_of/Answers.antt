@@ -1,0 +1,10 @@
+use Rattle.std.proofs.Common.{◌<◌, arith, length, sym}
+use Rattle.parfind.proofs.DigestLaws.{looks_more}
+use Rattle.parfind.proofs.tracks.looking.Look.digest_of.Goals as goal
+
+pub returns-clause-looks : goal.returns-clause-looks
+returns-clause-looks c =
+    let kept = c.args.self.now.kept.items in
+    let below : c.args.k < length kept = omega (arith, c.requires.there, c.requires.keeps.room) in
+    looks_more c.args.window.now c.digest_at-digest.new.window kept c.args.k c.digest_at-digest.result below
+    (sym (rw c.in_default.is at c.index.ensures)) c.digest_at-digest.ensures.counted

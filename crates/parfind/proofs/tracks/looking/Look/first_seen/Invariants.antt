@@ -1,0 +1,20 @@
+use Rattle.std.proofs.Common.{◌≡◌, ◌<◌, length, take}
+use Rattle.std.specs.Prelude.{IfSome}
+use Rattle.parwindow.specs.Least.{IsLeastFrom}
+use Rattle.parfind.specs.Looks.{Keeps, Looks, IsFullFor}
+use Rattle.parfind.specs.Sought.{looked_lengths, sought_of}
+use Rattle.parfind.proofs.EachLengthLaws.{seen_by}
+use Rattle.parfind.proofs.tracks.looking.Look.first_seen.Given as goal
+
+abbrev pub invariant-loop-k : goal.invariant-loop-k
+invariant-loop-k l = record {
+  mode : l.self.mode ≡ l.fn.self.mode;
+  all : l.k-end ≡ length (looked_lengths (sought_of l.index l.fn.self.mode));
+  full : IsFullFor (sought_of l.index l.fn.self.mode) l.window;
+  content : l.window.content ≡ l.fn.window.content;
+  keeps : Keeps (sought_of l.index l.fn.self.mode) l.window l.self.kept.items;
+  looks : Looks l.fn.window l.fn.self.kept.items l.window l.self.kept.items;
+  seen : IsLeastFrom (seen_by l.index l.fn.self.mode l.fn.window.content l.left
+      (take l.k (looked_lengths (sought_of l.index l.fn.self.mode)))) l.first l.least;
+  there : IfSome l.least (λ n. n < length l.index.slices);
+}
