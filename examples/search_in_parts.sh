@@ -4,7 +4,8 @@
 # goes on behind the last part that is whole, when it is called again with the same words.
 # Usage: search_in_parts.sh [--tails] PARTS LIMIT FILES, the packet files among them
 # With --tails the last slice of a file, mostly a short one, is found before other bytes too.
-# Its exit status is that of parv; 3 also where PARTS is of a search with other words.
+# Its exit status is that of parv: 3 where a scanned file has another length than at the part before,
+# since the cursor is then one of other files; 3 also where PARTS is of a search with other words.
 set -euo pipefail
 parv=${PARV:-parv}
 tails=()
@@ -24,7 +25,10 @@ case $parts in
 *) parts=./$parts ;;
 esac
 
-# A cursor counts the scanned files in their order, so it holds for these words alone.
+# By the mark in its cursor parv itself refuses to go on over other scanned files. The words are kept
+# all the same: a search that is over isn't asked again, a cursor doesn't tell of --tails, and cursors
+# of versions before 0.3.0 have no mark. LIMIT isn't among the words, and may change. Neither words nor
+# mark see a file that was changed with its length kept.
 mkdir -p "$parts"
 words=${tails:+find --tails$'\n'}$(printf '%q\n' "$@")
 if [ ! -e "$parts/words" ]; then

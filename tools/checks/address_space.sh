@@ -52,6 +52,7 @@ steps packets many.par2
 steps set many.par2 v.par2
 steps find v.par2 x.bin
 steps find --limit 1 --cursor 617cdc72ba53d94fe713fea2ae18f776:0:2:1 v.par2 x.bin
+steps find --limit 1 --cursor 2:617cdc72ba53d94fe713fea2ae18f776:53e12607a1d11cab6b927147969fc38c:0:2:1 v.par2 x.bin
 steps verify v.par2 x.bin
 steps verify -q v.par2 x.bin
 steps verify --tails tails/two.par2 tails/turned

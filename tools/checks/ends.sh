@@ -30,6 +30,8 @@ wants "a limit of 0" 3 "" "parv: bad value" "$parv" find --limit 0 v.par2
 wants "a limit of 0 and no file" 3 "" "$usage" "$parv" find --limit 0
 wants "a cursor of another set" 3 "" "parv: cursor of another set" \
     "$parv" find --cursor 00000000000000000000000000000000:0:0:0 v.par2 x.bin
+wants "a cursor of other files" 3 "" "parv: cursor of other files" \
+    "$parv" find --cursor 2:$set:00000000000000000000000000000000:0:0:0 v.par2 x.bin
 
 lines_of() {
     printf '%s\n' "$1 0 92 main $set" "$1 92 128 filedesc $set" "$1 220 120 ifsc $set" "$1 340 76 recvslic $set"
@@ -86,6 +88,8 @@ wants "a reader that takes one line alone" 6 "x.bin 2 e345eacbe656c0e6fd20ed63cb
     bash -c 'many=$(yes x.bin | head -2000); { "$0" find --limit 100000 v.par2 $many; exit $?; } | { head -1; }; exit ${PIPESTATUS[0]}' "$parv"
 wants "a closed line for faults" 6 "" "" sh -c '"$0" packets none.par2 2>&-' "$parv"
 wants "a closed line for wrong usage" 3 "" "" sh -c '"$0" 2>&-' "$parv"
+wants "a closed line for a cursor of other files" 3 "" "" \
+    sh -c '"$0" find --cursor "$1" v.par2 x.bin 2>&-' "$parv" 2:$set:00000000000000000000000000000000:0:0:0
 wants "a closed line for no set" 4 "" "" sh -c '"$0" set empty.par2 2>&-' "$parv"
 wants "a full line" 6 "" "" sh -c '"$0" packets none.par2 2> /dev/full' "$parv"
 exit $failed

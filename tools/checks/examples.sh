@@ -81,6 +81,25 @@ if [ $? -eq 0 ] && cmp -s found wanted && [ "$(wc -l < told)" -eq 2 ]; then
 else
     fails "a search that goes on: $(cmp found wanted 2>&1), $(cat told)"
 fi
+# Other files: a part is not taken up, and a search that is over isn't asked again. A cursor of the first version is.
+mkdir parts
+cp -r parts7 parts/marked
+rm "parts/marked/$last"
+cp -r parts/marked parts/plain
+sed -i '$s/^cursor 2:\([0-9a-f]*\):[0-9a-f]*:/cursor \1:/' "parts/plain/$((last - 1))"
+printf 'x' >> 'disc image'
+wants "a search in parts over a file that has grown" 3 "" "parv: cursor of other files" \
+    "$search" parts/marked 7 "${words[@]}"
+wants "a search that is over, of a file that has grown since" 0 "$(cat wanted)" "" "$search" parts7 7 "${words[@]}"
+truncate -s -1 'disc image'
+for kind in marked plain; do
+    "$search" parts/$kind 7 "${words[@]}" > found 2> told
+    if [ $? -eq 0 ] && cmp -s found wanted && [ "$(wc -l < told)" -eq 1 ]; then
+        echo "ok: a search in parts goes on from a $kind cursor"
+    else
+        fails "a search from a $kind cursor: $(cmp found wanted 2>&1), $(cat told)"
+    fi
+done
 wants "a search that is over is told again" 0 "$(cat wanted)" "" "$search" parts7 7 "${words[@]}"
 wants "a search with other words" 3 "" \
     "search_in_parts.sh: ./parts7 is of a search with other words" \

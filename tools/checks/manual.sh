@@ -36,7 +36,7 @@ grep -o '`parv: [^`]*`' "$top/docs/FORMATS.md" | tr -d '`\\' | sed 's/ <[A-Za-z]
 while IFS= read -r message; do
     grep -qF "It \"$message" "$page" || fails "the page has no '$message'"
 done < messages
-[ "$(wc -l < messages)" -eq 13 ] || fails "there are $(wc -l < messages) messages"
+[ "$(wc -l < messages)" -eq 14 ] || fails "there are $(wc -l < messages) messages"
 
 # Each example is a file: its commands without `$ `, as bash reads them.
 mkdir examples
@@ -112,6 +112,18 @@ example 8 "the names of files with slices" 0 "./a\b c.raw
 example 9 "a search from a cursor on" 0 "$(cat ../found; awk '$1 == "end" || $2 > 51200' ../found)"
 sed -i 's/1000/3/' ../examples/10
 example 10 "a search in parts" 0 "$(sed '$d' ../found)"
+example 11 "a cursor made by hand" 0 "$(awk '$1 == "end" || $2 >= 51200' ../found)"
+printf 'XXabcdefgh' > x.bin
+{ sed '/^set=/,$d' ../examples/11; echo 'listed "$@" | md5sum'; } > ../mark
+# marked MARK NAME [FILE]: the mark by the functions of that example.
+marked() {
+    grep -q "$1" "$page" || fails "the page has no mark $1"
+    for shell in sh bash; do
+        wants "the mark of $2 by hand, in $shell" 0 "$1  -" "" $shell ../mark "${@:3}"
+    done
+}
+marked 53e12607a1d11cab6b927147969fc38c "one file" x.bin
+marked d41d8cd98f00b204e9800998ecf8427e "no files"
 if [ $given -eq "$(find ../examples -type f | wc -l)" ] && [ "$(wc -l < ../found)" -gt 20 ]; then
     echo "ok: each example of the manual page was run"
 else

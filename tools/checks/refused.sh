@@ -14,6 +14,10 @@ disturb REFUSE find --limit 2 v.par2 x.bin
 disturb REFUSE find --cursor $set:0:2:1 v.par2 x.bin
 disturb REFUSE find --cursor $set:4294967295:18446744073709551615:4294967295 v.par2 x.bin
 disturb REFUSE find --limit 1 --cursor $set:0:2:1 -B d v.par2 x.bin
+list=53e12607a1d11cab6b927147969fc38c
+disturb REFUSE find --cursor 2:$set:$list:0:2:1 v.par2 x.bin
+disturb REFUSE find --limit 1 --cursor 2:$set:$list:0:2:1 -B d v.par2 x.bin
+disturb REFUSE find --limit 1 v.par2 x.bin y.bin x.bin
 disturb REFUSE verify v.par2 x.bin
 disturb REFUSE verify -q v.par2 y.bin
 # Ends at a fault of another kind.
@@ -27,6 +31,8 @@ disturb REFUSE find --limit 0 v.par2
 disturb REFUSE find --limit 07 v.par2
 disturb REFUSE find --limit 0 v.par2 x.bin
 disturb REFUSE find --cursor 00000000000000000000000000000000:0:0:0 v.par2 x.bin
+disturb REFUSE find --cursor 2:$set:$list:0:2:1 v.par2 y.bin
+disturb REFUSE find --cursor 2:$set:0:2:1 v.par2 x.bin
 disturb REFUSE --help
 disturb REFUSE packets
 disturb REFUSE verify

@@ -14,6 +14,8 @@ for words in "two.par2 turned" "three.par2 abcd"; do
 done
 three=$("$tools/models/describe_set.py" three.par2 | sed -n '1s/^set \([^ ]*\) .*/\1/p')
 disturb REFUSE find --tails --cursor "$three:0:0:1" three.par2 abcd
+list=$("$tools/models/cursor_texts.py" abcd)
+disturb REFUSE find --tails --limit 1 --cursor "2:$three:$list:0:0:1" three.par2 abcd
 FAIL_READ=2 disturb REFUSE find --tails two.par2 turned
 FAIL_WRITE=1 disturb REFUSE verify --tails two.par2 turned
 disturb REFUSE find --tails 256.par2 abcd

@@ -42,6 +42,8 @@ finds "slices of three lengths at one place" three abcd 0:02:0 "0:01:0 0:02:0 0:
 # Searches that go on from a cursor.
 two=2b5d19a47ee4561a2c85b51d7f6d65c4
 three=3fb741695895a858b9947b2d67b83ef3
+two_at=2:$two:$("$tools/models/cursor_texts.py" turned)
+three_at=2:$three:$("$tools/models/cursor_texts.py" abcd)
 # goes_on NAME WORDS FILE [SIGHTING ..] LAST: the lines of `find` with these words, and the last one.
 goes_on() {
     local name=$1 words=$2 file=$3
@@ -49,13 +51,13 @@ goes_on() {
     wants "$name" 0 "$(sightings "$file" "${@:4:$#-4}"; echo "${!#}")" "" "$parv" find $words "$file"
 }
 goes_on "in the midst of a place" "--tails --cursor $three:0:0:1 three.par2" abcd 0:02:0 0:03:0 end
-goes_on "a part that ends in the midst of a place" "--tails --limit 1 three.par2" abcd 0:01:0 "cursor $three:0:0:1"
-goes_on "on without --tails, in the midst of a place" "--cursor $three:0:0:1 three.par2" abcd 0:02:0 end
-goes_on "a part without --tails" "--limit 1 three.par2" abcd 0:02:0 "cursor $three:0:0:2"
-goes_on "on with --tails, in the midst of a place" "--cursor $three:0:0:2 --tails three.par2" abcd 0:03:0 end
-goes_on "a part that ends before a whole slice" "--tails --limit 1 two.par2" turned 1:01:1 "cursor $two:0:1:2"
-goes_on "on without --tails" "--cursor $two:0:1:2 two.par2" turned 3:01:0 end
-goes_on "a part that ends behind the tail" "--limit 1 two.par2" turned 3:01:0 "cursor $two:0:3:1"
+goes_on "a part that ends in the midst of a place" "--tails --limit 1 three.par2" abcd 0:01:0 "cursor $three_at:0:0:1"
+goes_on "on without --tails, in the midst of a place" "--cursor $three_at:0:0:1 three.par2" abcd 0:02:0 end
+goes_on "a part without --tails" "--limit 1 three.par2" abcd 0:02:0 "cursor $three_at:0:0:2"
+goes_on "on with --tails, in the midst of a place" "--cursor $three_at:0:0:2 --tails three.par2" abcd 0:03:0 end
+goes_on "a part that ends before a whole slice" "--tails --limit 1 two.par2" turned 1:01:1 "cursor $two_at:0:1:2"
+goes_on "on without --tails" "--cursor $two_at:0:1:2 two.par2" turned 3:01:0 end
+goes_on "a part that ends behind the tail" "--limit 1 two.par2" turned 3:01:0 "cursor $two_at:0:3:1"
 goes_on "on with --tails, behind the tail" "--tails --cursor $two:0:3:1 two.par2" turned end
 "$tools/checks/cut_search.sh" --tails three.par2 abcd before turned two || failed=1
 "$tools/checks/cut_search.sh" --tails 256.par2 005 001 003 || failed=1

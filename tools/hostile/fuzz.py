@@ -24,6 +24,7 @@ sys.path[0] = os.path.dirname(os.path.dirname(os.path.realpath(__file__)))  # to
 
 from hostile.hostile_files import case, change
 from hostile.runs import TOP, Runner, as_text
+from models.cursor_texts import mark_of
 from models.describe_set import NoSet, packets_of, set_of
 from models.list_packets import is_packet_file, shown
 
@@ -77,13 +78,22 @@ def files_of(chance):
     return dict(packet_files + scanned)
 
 
-def option(chance, command, owners):
+def cursor_of(chance, owner, marks, numbers, odd):
+    """A cursor of either version, or nearly one."""
+    parts = [owner, *numbers[:chance.choice([3, 2]) if odd else 3]]
+    head = chance.choice([[], ["2"], ["2"], ["3"], ["02"]] if odd else [[], ["2"], ["2"]])
+    if head and not (odd and chance.randrange(3) == 0):
+        parts.insert(1, chance.choice(marks)[odd and chance.randrange(2):])
+    return ":".join([*head, *parts])
+
+
+def option(chance, command, owners, marks):
     """An option, mostly one of the command and in its form."""
     owner = chance.choice([*owners, "0" * 32])
     odd = chance.randrange(6) == 0
     numbers = [chance.choice(ODD_NUMBERS if odd else "00123") for _ in range(3)]
     limit = chance.choice(ODD_NUMBERS if odd else "1239")
-    cursor = ":".join([owner, *numbers[:chance.choice([3, 2]) if odd else 3]])
+    cursor = cursor_of(chance, owner, marks, numbers, odd)
     options = [["--set", owner], ["--set", owner.upper()], ["-B", "."], ["--base=./"]]
     if command == "find" or odd:
         options += [["--limit", limit], ["--limit=" + limit], ["--cursor", cursor]] * 2
@@ -96,12 +106,12 @@ def option(chance, command, owners):
     return chance.choice(options)
 
 
-def words_of(chance, names, owners):
+def words_of(chance, names, owners, marks):
     """A command, some options and some of the files, now and then with an odd word among them."""
     command = chance.choice(COMMANDS if chance.randrange(40) else ODD_WORDS)
     words = [command]
     for _ in range(chance.choice([0, 0, 0, 1, 1, 2, 3])):
-        words += option(chance, command, owners)
+        words += option(chance, command, owners, marks)
     chosen = chance.choice([names, names, names, chance.choices(names, k=3)])
     words += [chance.choice([name, name, name, b"./" + name]) for name in chosen]
     if chance.randrange(16) == 0:
@@ -146,7 +156,9 @@ def chunk(seed, numbers, keep):
         names = list(filter(is_packet_file, files))
         packets = {name: packets_of([(name, files[name])]) for name in names}
         owners = sorted({owner for found in packets.values() for _, _, _, owner, _ in found})
-        words = words_of(chance, list(files), owners)
+        scanned = [(name, len(data)) for name, data in files.items() if not is_packet_file(name)]
+        marks = [mark_of(*zip(*scanned)) if scanned else mark_of([], []), mark_of([], []), "0" * 32]
+        words = words_of(chance, list(files), owners, [marks[0], *marks])
         given = [name for word in map(os.fsencode, words) for name in names
                  if word in (name, b"./" + name)]
         listed = [packet for name in given for packet in packets[name]]

@@ -6,9 +6,11 @@ usage: hostile.py [--seed N] [--cases N] [--jobs N] [--keep FOLDER]
 Each case is made by the grammar of hostile_files.py from the seed and its own number. `packets` and
 `set`, one of them with --set too, and `find` and `verify`, without --tails and with it, where there
 is a set, now and then also where there is none, must give the status, standard output and standard
-error that list_packets.py, describe_set.py, find_slices.py and tell_states.py have by their own
-reading. FOLDER gets the files of the first case that differs. From 1,000 cases on each reason,
-cause, state and result must come, a tail before other bytes, and more tails than may be looked for.
+error that list_packets.py, describe_set.py, find_slices.py, tell_states.py and cursor_texts.py have
+by their own reading. Cursors are of both versions, also of another set or of other files, or damaged.
+FOLDER gets the files of the first case that differs. From 1,000 cases on each reason, cause, state
+and result must come, each answer to a cursor, a tail before other bytes, and more tails than may be
+looked for.
 
 PARV is the program (crates/parv/out/parv).
 """
@@ -19,11 +21,13 @@ import os
 import random
 import sys
 from concurrent.futures import ProcessPoolExecutor
+from typing import NamedTuple
 
 sys.path[0] = os.path.dirname(os.path.dirname(os.path.realpath(__file__)))  # tools/, where imports begin
 
 from hostile.hostile_files import case
 from hostile.runs import Runner, as_text
+from models.cursor_texts import BOUNDS, Cursor, mark_of, read, text_of
 from models.describe_set import NoSet, description, packets_of, set_of
 from models.find_slices import TOO_MANY_TAILS, has_too_many_tails, line_of, sightings, slices_of, wanted_of
 from models.list_packets import listing, shown
@@ -35,7 +39,8 @@ DEAR = 128 << 20        # bytes of windows that the model hashes in a search; sl
 WANTED = """packets 0,set 0,find 0,find 3,verify 0,verify 1,verify 2,no main,no description,
 name twice,too many slices,main 1,main 2,main 3,main 4,main 7,filedesc 1,filedesc 5,filedesc 7,
 ifsc 1,ifsc 7,recvslic 1,recvslic 7,creator 7,complete,renamed,damaged,missing,cursor,creator,
-unknown,tail before other bytes,find too many tails,verify too many tails"""
+unknown,tail before other bytes,find too many tails,verify too many tails,version 1,version 2,
+cursor of another set,cursor of other files,bad cursor,bad cursor and no set,cursor and no set"""
 
 
 class Case:
@@ -66,21 +71,28 @@ class Case:
         return self.chance.choice(self.owners)
 
 
-def words_of(command, options, made):
-    """The words of a command over the files of a case, and the names of scanned files by -B."""
+class Given(NamedTuple):
+    """How scanned files are given: options, the words that name them, and the names that they have."""
+    options: list
+    words: list
+    names: list
+
+
+def given_in(made):
+    """The scanned files of a case, with -B now and then."""
+    names = [name for name, _ in made.scanned]
+    if not names or made.chance.randrange(6):
+        return Given([], names, names)
+    base = made.chance.choice([b".", b"./", b"d"])
+    words = [b"./" + name for name in names]
+    return Given(["-B", base], words, words if base == b"d" else names)
+
+
+def words_of(made, command, options, given):
+    """The words of a command over the files of a case."""
     files = [name for name, _ in made.files]
-    scanned = [name for name, _ in made.scanned]
-    if scanned and made.chance.randrange(6) == 0:
-        base = made.chance.choice([b".", b"./", b"d"])
-        options = [*options, "-B", base]
-        given = [b"./" + name for name in scanned]
-        scanned = [name if base != b"d" else b"./" + name for name in scanned]
-    else:
-        given = scanned
-    between = files + given
-    if made.chance.randrange(4) == 0:
-        between = given + files
-    return [command, *options, *between], scanned
+    between = given.words + files if made.chance.randrange(4) == 0 else files + given.words
+    return [command, *options, *given.options, *between]
 
 
 def text(lines):
@@ -89,14 +101,14 @@ def text(lines):
 
 def packets_run(made, choice):
     options = [] if choice is None else ["--set", made.chance.choice([choice, choice.upper()])]
-    words, _ = words_of("packets", options, made)
+    words = words_of(made, "packets", options, given_in(made))
     lines = listing(made.files, choice)
     made.met["unknown"] += any(" unknown " in line for line in lines)
     return words, (0, text(lines), b"")
 
 
 def set_run(made, choice):
-    words, _ = words_of("set", [] if choice is None else ["--set", choice], made)
+    words = words_of(made, "set", [] if choice is None else ["--set", choice], given_in(made))
     found, line = made.set(choice)
     if found is None:
         return words, (4, b"", text([line]))
@@ -104,15 +116,83 @@ def set_run(made, choice):
     return words, (0, text(description(found)), b"")
 
 
-def cursor_of(made, found, slices, near):
-    """A cursor near one of these sightings or anywhere, of this set or, now and then, of another."""
+def place_near(made, slices, near):
+    """The numbers of a cursor near one of these sightings, or anywhere."""
     parts = [max(0, part + made.chance.choice([0, 0, 0, 1, -1]))
              for part in made.chance.choice(near or [(0, 0, 0)])]
     if made.chance.randrange(6) == 0:
         greatest = [2**32 - 1, 2**64 - 1]
         parts = [*(made.chance.choice([0, most]) for most in greatest), len(slices)]
-    other = made.chance.randrange(5) == 0
-    return "0" * 32 if other else found.id, tuple(parts)
+    return tuple(parts)
+
+
+def other_mark(chance, names, lengths):
+    """The mark of a list that is mostly another one: files renamed, grown, left out or in another order."""
+    listed = list(zip(names, lengths))
+    at = chance.randrange(len(listed)) if listed else 0
+    name, length = listed[at] if listed else (b"x", 0)
+    end = chance.randrange(len(name)) + 1
+    rest = listed[:at], listed[at + 1:]
+    change = chance.choice([
+        [*rest[0], (name + b"x", length), *rest[1]],
+        [*rest[0], (name, length + chance.choice([1, 256, 2**32])), *rest[1]],
+        [*rest[0], (name, max(0, length - 1)), *rest[1]],
+        [*rest[0], *rest[1]],
+        [*listed, (name, length)],
+        listed[::-1],
+        [*rest[1], (name, length), *rest[0]],
+        [*rest[0], (name[:end], 0), (name[end:], length), *rest[1]],
+    ])
+    return mark_of([name for name, _ in change], [length for _, length in change])
+
+
+ODD_NUMBERS = ["00", "", "+1", "-0", " 0", "0x0", "1.0", "x", "\u0661", "9" * 30]
+
+
+def damaged(chance, text):
+    """A cursor's text with one fault; now and then it is still a cursor."""
+    parts = text.split(":")
+    at, place = chance.randrange(len(parts)), chance.randrange(len(text) + 1)
+    number = chance.randrange(len(parts) - 3, len(parts))
+    swapped = parts[:]
+    bound = BOUNDS[number - len(parts)]
+    swapped[number] = chance.choice([*ODD_NUMBERS, *["0" + parts[number]] * 3, *[str(bound)] * 3])
+    hexes = parts[:]
+    digits = hexes[-4]
+    hexes[-4] = chance.choice([digits.upper(), digits[1:], digits + "0", "g" + digits[1:], ""])
+    return chance.choice([
+        text[:place],
+        text[place:],
+        text[:place] + chance.choice([":", "0", " ", "\n", "g"]) + text[place:],
+        text.upper(),
+        *[":".join(swapped)] * 5,
+        *[":".join(hexes)] * 3,
+        ":".join(parts[:at] + parts[at + 1:]),
+        ":".join(parts[:at + 1] + parts[at:]),
+        chance.choice(["3", "1", "0", "02", "", "22"]) + ":" + text.removeprefix("2:"),
+        "2:" + text,
+    ])
+
+
+def cursor_near(made, found, slices, near, names):
+    """The text of a cursor, mostly of this set and of these files."""
+    chance, lengths = made.chance, [len(data) for _, data in made.scanned]
+    owner = "0" * 32 if found is None or chance.randrange(6) == 0 else found.id
+    marks = [None, None, other_mark(chance, names, lengths), "0" * 32]
+    mark = chance.choice([*marks, *[mark_of(names, lengths)] * 4])
+    text = text_of(Cursor(owner, mark, place_near(made, slices, near)))
+    return damaged(chance, text) if chance.randrange(4) == 0 else text
+
+
+def refused_cursor(made, found, cursor, names):
+    """What a run must give where the cursor isn't one of this set or not of these files; else nothing."""
+    cause = None
+    if cursor.set != found.id:
+        cause = "cursor of another set"
+    elif cursor.mark not in (None, mark_of(names, [len(data) for _, data in made.scanned])):
+        cause = "cursor of other files"
+    made.met[cause or ("version 1" if cursor.mark is None else "version 2")] += 1
+    return cause and (3, b"", text([f"parv: {cause}"]))
 
 
 def refusal(made, command, found, line, tails):
@@ -127,25 +207,34 @@ def refusal(made, command, found, line, tails):
 
 def find_run(made, found, line, tails, seen, near):
     """A search whose sightings are `seen`, from a cursor near one of `near` or from the beginning."""
-    options, owner, start, limit = ["--tails"] * tails, None, (0, 0, 0), None
+    options, begun, start, limit, given = ["--tails"] * tails, None, (0, 0, 0), None, given_in(made)
     slices = [] if found is None else slices_of(found)
-    if found is not None and made.chance.randrange(2):
-        owner, start = cursor_of(made, found, slices, near)
-        options += ["--cursor", ":".join(map(str, (owner, *start)))]
+    if made.chance.randrange(2):
+        begun = cursor_near(made, found, slices, near, given.names)
+        options += ["--cursor", begun]
     if made.chance.randrange(2):
         limit = made.chance.choice([1, 1, 2, 3, max(1, len(seen)), 2**64 - 1])
         options = ["--limit", str(limit), *options]
-    words, names = words_of("find", options, made)
-    if found is not None and owner not in (None, found.id):
-        return words, (3, b"", b"parv: cursor of another set\n")
+    words = words_of(made, "find", options, given)
+    if begun is not None:
+        cursor = read(begun)
+        if cursor is None:
+            made.met["bad cursor" + " and no set" * (found is None)] += 1
+            return words, (3, b"", b"parv: bad value\n")
+        made.met["cursor and no set"] += found is None
+        refused = found and refused_cursor(made, found, cursor, given.names)
+        if refused:
+            return words, refused
+        start = cursor.at
     refused = refusal(made, "find", found, line, tails)
     if refused:
         return words, refused
     left = [sighting for sighting in seen if sighting >= start]
-    lines = [line_of(names[place], offset, slices[at]) for place, offset, at in left[:limit]]
+    lines = [line_of(given.names[place], offset, slices[at]) for place, offset, at in left[:limit]]
     if limit is not None and len(left) >= limit:
         place, offset, at = left[limit - 1]
-        lines.append(f"cursor {found.id}:{place}:{offset}:{at + 1}")
+        mark = mark_of(given.names, [len(data) for _, data in made.scanned])
+        lines.append("cursor " + text_of(Cursor(found.id, mark, (place, offset, at + 1))))
         made.met["cursor"] += 1
     else:
         lines.append("end")
@@ -154,11 +243,12 @@ def find_run(made, found, line, tails, seen, near):
 
 def verify_run(made, found, line, tails, seen):
     quiet = made.chance.choice([0, 0, 0, 1, 2, 3])
-    words, names = words_of("verify", ["-q"] * quiet + ["--tails"] * tails, made)
+    given = given_in(made)
+    words = words_of(made, "verify", ["-q"] * quiet + ["--tails"] * tails, given)
     refused = refusal(made, "verify", found, line, tails)
     if refused:
         return words, refused
-    status, lines = verdict(found, list(zip(names, [data for _, data in made.scanned])), seen)
+    status, lines = verdict(found, list(zip(given.names, [data for _, data in made.scanned])), seen)
     made.met.update(line.split()[0] for line in lines[1:-2])
     lines = lines if quiet == 0 else lines[-2:] if quiet == 1 else []
     return words, (status, text(lines), b"")

@@ -1,66 +1,24 @@
--- The text of a set ID and a cursor: how it is parted, and that it is read as it was written.
-use Rattle.std.proofs.Common.{◌≡◌, ℕ, ◌+◌, ◌-◌, ◌^◌, ◌<◌, ◌≤◌, Bool, true, false, cond, inl, inr, List, [], ◌∷◌, ◌++◌, length, take, drop, nat_lt, unwrap_or, Option, Some, None, refl, sym, ap, ◌∙◌, arith}
+-- The texts of cursors: how they are parted, and that they are read as they were written.
+use Rattle.std.proofs.Common.{◌≡◌, ℕ, ◌^◌, ◌<◌, false, inl, inr, List, [], ◌∷◌, ◌++◌, length, unwrap_or, Option, Some, None, refl, sym, ap, ◌∙◌, arith}
 use Rattle.std.specs.Fmt.{decimal}
-use Rattle.std.specs.List.{All, join_with_byte, list_all, position, position_or_len, slice_split}
+use Rattle.std.specs.List.{join_with_byte, slice_split}
 use Rattle.std.specs.Char.{is_ascii_digit}
-use Rattle.std.proofs.lemmas.Bool.{and_parts, cases_Bool, ne_eqb}
-use Rattle.std.proofs.lemmas.Bool.Decides.{nat_tests}
-use Rattle.std.proofs.lemmas.Fmt.{length-decimal-le}
-use Rattle.std.proofs.lemmas.List.{length-append, length-drop, take_all}
-use Rattle.std.proofs.lemmas.List.Elements.{All-nil, All-cons}
-use Rattle.std.proofs.lemmas.List.Splits.{join_with_byte-slice_split, slice_split_at, slice_split_first, slice_split_none}
+use Rattle.std.specs.Prelude.{codes}
+use Rattle.std.specs.Str.{bytes_eq}
+use Rattle.std.proofs.lemmas.Bool.{cases_Bool}
+use Rattle.std.proofs.lemmas.List.Splits.{join_with_byte-slice_split, slice_split_at, slice_split_none}
+use Rattle.std.proofs.lemmas.Slice.Eq.{bytes_eq-Decides}
 use Rattle.hex.specs.Hex.{encode_lower, lower_digits}
 use Rattle.hex.proofs.HexLemmas.{length-encode_with}
 use Rattle.parfield.specs.declared.hash16.Hash16.{Hash16}
 use Rattle.parfind.specs.declared.cursors.cursor.Cursor.{Cursor}
-use Rattle.parfind.specs.CursorText.{cursor_pair_of, cursor_text, id_of, is_canonical, is_colon, is_lower_digit, number_of, pair_of_parts, IsPair, ReadsItsText, HasOnePair, ◌>>=◌}
-use Rattle.parfind.proofs.IdLaws.{encode_lower-id_of, id_of-encode_lower, lower-encode_lower}
-use Rattle.parfind.proofs.NumberLaws.{canonical_parts, decimal-number_of, digits-decimal, number_of-decimal}
+use Rattle.parfind.specs.declared.cursors.cursor_text.CursorText.{CursorText}
+use Rattle.parfind.specs.CursorText.{cursor_of_parts, cursor_text, cursor_text_of, first_version, hash_of, hash_text, is_canonical, is_colon, is_lower_digit, number_of, second_version, text_of_parts, versioned_text, where_text, HasOneText, IsCursorText, IsHash, ReadsItsText, ◌>>=◌}
+use Rattle.parfind.proofs.ColonLaws.{no_colon, no_colon-decimal}
+use Rattle.parfind.proofs.IdLaws.{encode_lower-hash_of, hash_of-encode_lower, lower-encode_lower}
+use Rattle.parfind.proofs.NumberLaws.{canonical_parts, decimal-number_of, number_of-decimal}
 
--- ---- parts
-
-some_position : (n len at : ℕ) → cond (nat_lt n len) (Some n) None ≡ Some at → (n < len) × (n ≡ at)
-some_position n len at h = grind (arith, nat_tests)
-
-no_position : (n len : ℕ) → cond (nat_lt n len) (Some n) None ≡ None → len ≤ n
-no_position n len h = grind (arith, nat_tests)
-
--- the first colon parts a text
-pub slice_split-some : (s : List ℕ) (at : ℕ) → position is_colon s ≡ Some at
-    → slice_split is_colon s
-    ≡ take at s ∷ slice_split is_colon (take (length s - (at + 1)) (drop (at + 1) s))
-slice_split-some s at h =
-    let p = some_position (position_or_len is_colon s) (length s) at h in
-    let all : take (length s - (at + 1)) (drop (at + 1) s) ≡ drop (at + 1) s =
-    take_all (length s - (at + 1)) (drop (at + 1) s) (omega (arith, length-drop (at + 1) s)) in
-    rw all (rw p.1 at (slice_split_first is_colon s 0 p.0))
-
-slice_split-whole : (s : List ℕ) → length s ≤ position_or_len is_colon s
-    → slice_split is_colon s ≡ s ∷ []
-slice_split-whole [] h = refl
-slice_split-whole (x ∷ xs) h =
-    elim (cases_Bool (is_colon x)) [
-      | inl colon ↦ absurd (omega (arith, rw colon at h))
-      | inr other ↦
-          let more = rw other at h in
-          rw (other, slice_split-whole xs (omega arith)) refl
-    ]
-
--- a text with no colon is one part
-pub slice_split-none : (s : List ℕ) → position is_colon s ≡ None
-    → slice_split is_colon s ≡ s ∷ []
-slice_split-none s h =
-    slice_split-whole s (no_position (position_or_len is_colon s) (length s) h)
-
-no_colon : (test : ℕ → Bool) → test 58 ≡ false → (s : List ℕ) → list_all test s ≡ true
-    → All (λ x. is_colon x ≡ false) s
-no_colon test not_colon [] h = All-nil (λ x. is_colon x ≡ false)
-no_colon test not_colon (x ∷ xs) h =
-    let p = and_parts (test x) (list_all test xs) h in
-    let other : x ≡ 58 → ⊥ = λ e. (cc (sym p.0 ∙ ap test e ∙ not_colon)) in
-    All-cons (λ y. is_colon y ≡ false) x xs (ne_eqb x 58 other) (no_colon test not_colon xs p.1)
-
--- ---- pairs
+-- ---- reading
 
 bind_some : {A B : Type 0} (o : Option A) (f : A → Option B) (y : B)
     → (o >>= f) ≡ Some y → (x : A) × (o ≡ Some x) × (f x ≡ Some y)
@@ -72,127 +30,202 @@ bind_none : {A B : Type 0} (o : Option A) (f : A → Option B)
 bind_none (Some x) f h = h x
 bind_none None f h = refl
 
--- four parts of which the last is no number
-no_slice : (a b d e : List ℕ) → number_of (2 ^ 32) e ≡ None
-    → pair_of_parts (a ∷ b ∷ d ∷ e ∷ []) ≡ None
-no_slice a b d e h =
-    bind_none (id_of a) _ (λ id. bind_none (number_of (2 ^ 32) b) _ (λ file.
-    bind_none (number_of (2 ^ 64) d) _ (λ offset. rw h refl)))
+same_some : {A : Type 0} (x y : A) → Some x ≡ Some y → x ≡ y
+same_some x y h = ap (λ (o : Option _). unwrap_or o x) h
 
-no_slice_parts : (a b d e : List ℕ) (parts : List (List ℕ)) → number_of (2 ^ 32) e ≡ None
-    → join_with_byte 58 parts ≡ e → pair_of_parts (a ∷ b ∷ d ∷ parts) ≡ None
-no_slice_parts a b d e [] h whole = refl
-no_slice_parts a b d e (x ∷ []) h whole = no_slice a b d x (ap (number_of (2 ^ 32)) whole ∙ h)
-no_slice_parts a b d e (x ∷ y ∷ more) h whole = refl
+-- three parts of which the last is no number
+no_slice : (a b d : List ℕ) → number_of (2 ^ 32) d ≡ None
+    → cursor_of_parts (a ∷ b ∷ d ∷ []) ≡ None
+no_slice a b d h =
+    bind_none (number_of (2 ^ 32) a) _ (λ file.
+    bind_none (number_of (2 ^ 64) b) _ (λ offset. rw h refl))
 
--- the part after the third colon has none where it is a number
-last_part : (a b d e : List ℕ)
-    → pair_of_parts (a ∷ b ∷ d ∷ slice_split is_colon e) ≡ pair_of_parts (a ∷ b ∷ d ∷ e ∷ [])
-last_part a b d e =
-    elim (cases_Bool (is_canonical e)) [
+no_slice_parts : (a b d : List ℕ) (parts : List (List ℕ))
+    → (number_of (2 ^ 32) d ≡ None) × (join_with_byte 58 parts ≡ d)
+    → cursor_of_parts (a ∷ b ∷ parts) ≡ None
+no_slice_parts a b d [] h = refl
+no_slice_parts a b d (x ∷ []) h = no_slice a b x (ap (number_of (2 ^ 32)) h.1 ∙ h.0)
+no_slice_parts a b d (x ∷ y ∷ more) h = refl
+
+-- the part after the second colon of three numbers has none where it is a number
+pub last_part : (a b d : List ℕ)
+    → cursor_of_parts (a ∷ b ∷ slice_split is_colon d) ≡ cursor_of_parts (a ∷ b ∷ d ∷ [])
+last_part a b d =
+    elim (cases_Bool (is_canonical d)) [
       | inl canonical ↦
-          let digits = (canonical_parts e canonical).digits in
-          ap (λ (parts : List (List ℕ)). pair_of_parts (a ∷ b ∷ d ∷ parts))
-          (slice_split_none is_colon e (no_colon is_ascii_digit refl e digits))
+          let digits = (canonical_parts d canonical).digits in
+          ap (λ (parts : List (List ℕ)). cursor_of_parts (a ∷ b ∷ parts))
+          (slice_split_none is_colon d (no_colon is_ascii_digit refl d digits))
       | inr other ↦
-          let none : number_of (2 ^ 32) e ≡ None = rw other refl in
-          no_slice_parts a b d e (slice_split is_colon e) none (join_with_byte-slice_split 58 e)
-          ∙ sym (no_slice a b d e none)
+          let none : number_of (2 ^ 32) d ≡ None = rw other refl in
+          no_slice_parts a b d (slice_split is_colon d) (none, join_with_byte-slice_split 58 d)
+          ∙ sym (no_slice a b d none)
     ]
 
--- the pair of a text that was parted three times
-pub cursor_pair_of-parted : (text rest more a b d e : List ℕ)
-    → slice_split is_colon text ≡ a ∷ slice_split is_colon rest
-    → slice_split is_colon rest ≡ b ∷ slice_split is_colon more
-    → slice_split is_colon more ≡ d ∷ slice_split is_colon e
-    → cursor_pair_of text ≡ pair_of_parts (a ∷ b ∷ d ∷ e ∷ [])
-unfolding cursor_pair_of
-cursor_pair_of-parted text rest more a b d e first second third =
-    rw (first, second, third) (last_part a b d e)
+-- ---- what is read is what was written
 
--- ---- writing and reading
+-- the numbers of a cursor fit
+abbrev Fits : Cursor → Type 0
+Fits c = (c.file < 2 ^ 32) × (c.offset < 2 ^ 64) × (c.slice < 2 ^ 32)
 
--- no text is longer than 75 bytes
-pub length-cursor_text : (id : Hash16) (c : Cursor) → length id.0 ≡ 16 → c.file < 2 ^ 32
-    → c.offset < 2 ^ 64 → c.slice < 2 ^ 32 → length (cursor_text id c) ≤ 75
+numbers_joined : (a b d : List ℕ) (c : Cursor)
+    → (a ≡ decimal c.file) × (b ≡ decimal c.offset) × (d ≡ decimal c.slice)
+    → join_with_byte 58 (a ∷ b ∷ d ∷ []) ≡ where_text c
+numbers_joined a b d c h = rw (h.0, h.1, h.2) refl
+
+-- parts that are read as a cursor are its text
+where_written : (parts : List (List ℕ)) (c : Cursor) → cursor_of_parts parts ≡ Some c
+    → Fits c × (join_with_byte 58 parts ≡ where_text c)
+where_written [] c h = cc h
+where_written (a ∷ []) c h = cc h
+where_written (a ∷ b ∷ []) c h = cc h
+where_written (a ∷ b ∷ d ∷ x ∷ more) c h = cc h
+where_written (a ∷ b ∷ d ∷ []) c h =
+    let first = bind_some (number_of (2 ^ 32) a) _ c h in
+    let second = bind_some (number_of (2 ^ 64) b) _ c first.2 in
+    let third = bind_some (number_of (2 ^ 32) d) _ c second.2 in
+    let at : Cursor = record { file = first.0; offset = second.0; slice = third.0 } in
+    let same = same_some at c third.2 in
+    let own_a = decimal-number_of (2 ^ 32) first.0 a (omega arith) first.1 in
+    let own_b = decimal-number_of (2 ^ 64) second.0 b (omega arith) second.1 in
+    let own_d = decimal-number_of (2 ^ 32) third.0 d (omega arith) third.1 in
+    rw (← same) ((own_a.1, own_b.1, own_d.1), numbers_joined a b d at (own_a.0, own_b.0, own_d.0))
+
+-- the digits of sixteen bytes and the parts of a cursor are joined by a colon
+joined_some : (first : List ℕ) (parts : List (List ℕ)) (hash : Hash16) (c : Cursor)
+    → (first ≡ encode_lower hash.0) × (cursor_of_parts parts ≡ Some c)
+    → join_with_byte 58 (first ∷ parts) ≡ hash_text hash (where_text c)
+joined_some first [] hash c h = cc h.1
+joined_some first (x ∷ more) hash c h =
+    ap (λ (rest : List ℕ). first ++ (58 ∷ rest)) (where_written (x ∷ more) c h.1).1
+    ∙ ap (λ (part : List ℕ). part ++ (58 ∷ where_text c)) h.0
+
+first_written : (id : List ℕ) (parts : List (List ℕ)) (t : CursorText)
+    → first_version id parts ≡ Some t
+    → IsCursorText t × (join_with_byte 58 (id ∷ parts) ≡ cursor_text t)
 unfolding cursor_text
-length-cursor_text id c sixteen file offset slice =
-    let digits = length-encode_with lower_digits id.0 in
-    let a = length-decimal-le 10 c.file (omega arith) (omega arith) (omega arith) in
-    let b = length-decimal-le 20 c.offset (omega arith) (omega arith) (omega arith) in
-    let d = length-decimal-le 10 c.slice (omega arith) (omega arith) (omega arith) in
-    simp length-append (omega arith)
-
-pair_of_some : (p q : Hash16 × Cursor) → Some p ≡ Some q → p ≡ q
-pair_of_some p q h = ap (λ (o : Option (Hash16 × Cursor)). unwrap_or o p) h
-
--- parts that are read as a pair are its text
-pair_written : (parts : List (List ℕ)) (id : Hash16) (c : Cursor)
-    → pair_of_parts parts ≡ Some (id, c)
-    → IsPair id c × (join_with_byte 58 parts ≡ cursor_text id c)
-unfolding cursor_text
-pair_written [] id c h = cc h
-pair_written (a ∷ []) id c h = cc h
-pair_written (a ∷ b ∷ []) id c h = cc h
-pair_written (a ∷ b ∷ d ∷ []) id c h = cc h
-pair_written (a ∷ b ∷ d ∷ e ∷ x ∷ more) id c h = cc h
-pair_written (a ∷ b ∷ d ∷ e ∷ []) id c h =
-    let first = bind_some (id_of a) _ (id, c) h in
-    let second = bind_some (number_of (2 ^ 32) b) _ (id, c) first.2 in
-    let third = bind_some (number_of (2 ^ 64) d) _ (id, c) second.2 in
-    let fourth = bind_some (number_of (2 ^ 32) e) _ (id, c) third.2 in
-    let pair : Hash16 × Cursor =
-    (first.0, record { file = second.0; offset = third.0; slice = fourth.0 }) in
-    let same = pair_of_some pair (id, c) fourth.2 in
-    let read_a = first.1 ∙ ap (λ (p : Hash16 × Cursor). Some p.0) same in
-    let read_b = second.1 ∙ ap (λ (p : Hash16 × Cursor). Some p.1.file) same in
-    let read_d = third.1 ∙ ap (λ (p : Hash16 × Cursor). Some p.1.offset) same in
-    let read_e = fourth.1 ∙ ap (λ (p : Hash16 × Cursor). Some p.1.slice) same in
-    let own_a = encode_lower-id_of a id read_a in
-    let own_b = decimal-number_of (2 ^ 32) c.file b (omega arith) read_b in
-    let own_d = decimal-number_of (2 ^ 64) c.offset d (omega arith) read_d in
-    let own_e = decimal-number_of (2 ^ 32) c.slice e (omega arith) read_e in (
-      record { id_is = own_a.1; file_fits = own_b.1; offset_fits = own_d.1; slice_fits = own_e.1 },
-      rw (own_a.0, own_b.0, own_d.0, own_e.0) refl,
+first_written id parts t h =
+    let set = bind_some (hash_of id) _ t h in
+    let at = bind_some (cursor_of_parts parts) _ t set.2 in
+    let told : CursorText = record { set = set.0; list = None; at = at.0 } in
+    let same = same_some told t at.2 in
+    let own = encode_lower-hash_of id set.0 set.1 in
+    let fits = (where_written parts at.0 at.1).0 in
+    rw (← same) (
+      record {
+        set_is = own.1;
+        list_is = tt;
+        file_fits = fits.0;
+        offset_fits = fits.1;
+        slice_fits = fits.2;
+      },
+      joined_some id parts set.0 at.0 (own.0, at.1),
     )
 
--- what is read as a pair is its text
-pub cursor_text-cursor_pair_of : (text : List ℕ) (id : Hash16) (c : Cursor)
-    → cursor_pair_of text ≡ Some (id, c) → IsPair id c × (text ≡ cursor_text id c)
-unfolding cursor_pair_of
-cursor_text-cursor_pair_of text id c h =
-    let p = pair_written (slice_split is_colon text) id c h in
+second_written : (parts : List (List ℕ)) (t : CursorText) → second_version parts ≡ Some t
+    → IsCursorText t × (join_with_byte 58 (codes "2" ∷ parts) ≡ cursor_text t)
+unfolding cursor_text
+second_written [] t h = cc h
+second_written (id ∷ []) t h = cc h
+second_written (id ∷ mark ∷ parts) t h =
+    let set = bind_some (hash_of id) _ t h in
+    let list = bind_some (hash_of mark) _ t set.2 in
+    let at = bind_some (cursor_of_parts parts) _ t list.2 in
+    let told : CursorText = record { set = set.0; list = Some list.0; at = at.0 } in
+    let same = same_some told t at.2 in
+    let own = encode_lower-hash_of id set.0 set.1 in
+    let own_list = encode_lower-hash_of mark list.0 list.1 in
+    let fits = (where_written parts at.0 at.1).0 in
+    let rest = hash_text list.0 (where_text at.0) in
+    let joined = joined_some mark parts list.0 at.0 (own_list.0, at.1) in
+    rw (← same) (
+      record {
+        set_is = own.1;
+        list_is = own_list.1;
+        file_fits = fits.0;
+        offset_fits = fits.1;
+        slice_fits = fits.2;
+      },
+      ap (λ (more : List ℕ). codes "2:" ++ (id ++ (58 ∷ more))) joined
+          ∙ ap (λ (part : List ℕ). codes "2:" ++ (part ++ (58 ∷ rest))) own.0,
+    )
+
+parts_written : (parts : List (List ℕ)) (t : CursorText) → text_of_parts parts ≡ Some t
+    → IsCursorText t × (join_with_byte 58 parts ≡ cursor_text t)
+parts_written [] t h = cc h
+parts_written (first ∷ parts) t h =
+    elim (cases_Bool (bytes_eq first (codes "2"))) [
+      | inl two ↦
+          let is_two = (bytes_eq-Decides first (codes "2")).0 two in
+          let p = second_written parts t (rw two at h) in
+          (p.0, ap (λ (part : List ℕ). join_with_byte 58 (part ∷ parts)) is_two ∙ p.1)
+      | inr other ↦ first_written first parts t (rw other at h)
+    ]
+
+-- a text is the text of what it tells
+cursor_text-cursor_text_of : (text : List ℕ) (t : CursorText) → cursor_text_of text ≡ Some t
+    → IsCursorText t × (text ≡ cursor_text t)
+unfolding cursor_text_of
+cursor_text-cursor_text_of text t h =
+    let p = parts_written (slice_split is_colon text) t h in
     (p.0, sym (join_with_byte-slice_split 58 text) ∙ p.1)
 
-plain : (n : ℕ) → n < 2 ^ 64 → All (λ x. is_colon x ≡ false) (decimal n)
-plain n small = no_colon is_ascii_digit refl (decimal n) (digits-decimal n small)
+-- ---- what is written is read
 
--- a pair is read of its text
-pub cursor_pair_of-cursor_text : (id : Hash16) (c : Cursor) → IsPair id c
-    → cursor_pair_of (cursor_text id c) ≡ Some (id, c)
-unfolding cursor_pair_of cursor_text
-cursor_pair_of-cursor_text id c h =
-    let file = number_of-decimal (2 ^ 32) c.file (omega arith) h.file_fits in
-    let offset = number_of-decimal (2 ^ 64) c.offset (omega arith) h.offset_fits in
-    let slice = number_of-decimal (2 ^ 32) c.slice (omega arith) h.slice_fits in
+cursor_of-where_text : (c : Cursor) → Fits c
+    → cursor_of_parts (slice_split is_colon (where_text c)) ≡ Some c
+cursor_of-where_text c fits =
+    let file = number_of-decimal (2 ^ 32) c.file (omega arith) fits.0 in
+    let offset = number_of-decimal (2 ^ 64) c.offset (omega arith) fits.1 in
+    let slice = number_of-decimal (2 ^ 32) c.slice (omega arith) fits.2 in
     let more : List ℕ = decimal c.offset ++ (58 ∷ decimal c.slice) in
-    let rest : List ℕ = decimal c.file ++ (58 ∷ more) in
-    let lower = no_colon is_lower_digit refl (encode_lower id.0) (lower-encode_lower id h.id_is) in
-    let first = slice_split_at is_colon (encode_lower id.0) 58 rest lower refl in
-    let second =
-    slice_split_at is_colon (decimal c.file) 58 more (plain c.file (omega arith)) refl in
-    let digits = plain c.offset h.offset_fits in
-    let third = slice_split_at is_colon (decimal c.offset) 58 (decimal c.slice) digits refl in
-    let fourth = slice_split_none is_colon (decimal c.slice) (plain c.slice (omega arith)) in
-    rw (first, second, third, fourth, id_of-encode_lower id h.id_is, file, offset, slice) refl
+    let first = slice_split_at is_colon (decimal c.file) 58 more (no_colon-decimal c.file (omega arith)) refl in
+    let digits = no_colon-decimal c.offset fits.1 in
+    let second = slice_split_at is_colon (decimal c.offset) 58 (decimal c.slice) digits refl in
+    let third = slice_split_none is_colon (decimal c.slice) (no_colon-decimal c.slice (omega arith)) in
+    rw (first, second, third, file, offset, slice) refl
+
+hash_parted : (hash : Hash16) (rest : List ℕ) → IsHash hash
+    → slice_split is_colon (hash_text hash rest) ≡ encode_lower hash.0 ∷ slice_split is_colon rest
+hash_parted hash rest h =
+    let lower = no_colon is_lower_digit refl (encode_lower hash.0) (lower-encode_lower hash h) in
+    slice_split_at is_colon (encode_lower hash.0) 58 rest lower refl
+
+-- the digits of sixteen bytes are not the number of a version
+no_version : (hash : Hash16) → IsHash hash → bytes_eq (encode_lower hash.0) (codes "2") ≡ false
+no_version hash h =
+    elim (cases_Bool (bytes_eq (encode_lower hash.0) (codes "2"))) [
+      | inr other ↦ other
+      | inl two ↦
+          let same = (bytes_eq-Decides (encode_lower hash.0) (codes "2")).0 two in
+          let short : length (encode_lower hash.0) ≡ 1 = rw same refl in
+          absurd (omega (arith, short, length-encode_with lower_digits hash.0, h.sixteen))
+    ]
+
+versioned_read : (set : Hash16) (list : Option Hash16) (at : Cursor)
+    → IsCursorText (record { set = set; list = list; at = at })
+    → cursor_text_of (versioned_text set list at) ≡ Some (record { set = set; list = list; at = at })
+unfolding cursor_text_of
+versioned_read set None at h =
+    let cursor = cursor_of-where_text at (h.file_fits, h.offset_fits, h.slice_fits) in
+    let parted = hash_parted set (where_text at) h.set_is in
+    let id = hash_of-encode_lower set h.set_is in
+    rw (parted, no_version set h.set_is, id, cursor) refl
+versioned_read set (Some list) at h =
+    let cursor = cursor_of-where_text at (h.file_fits, h.offset_fits, h.slice_fits) in
+    let mark : IsHash list = h.list_is in
+    let parted = hash_parted set (hash_text list (where_text at)) h.set_is in
+    let more = hash_parted list (where_text at) mark in
+    let id = hash_of-encode_lower set h.set_is in
+    rw (parted, more, id, hash_of-encode_lower list mark, cursor) refl
+
+text_read : (t : CursorText) → IsCursorText t → cursor_text_of (cursor_text t) ≡ Some t
+unfolding cursor_text
+text_read t h = versioned_read t.set t.list t.at h
 
 pub reads_its_text : ReadsItsText
-reads_its_text text id c =
-    (cursor_text-cursor_pair_of text id c, λ h. rw h.1 (cursor_pair_of-cursor_text id c h.0))
+reads_its_text text t = (cursor_text-cursor_text_of text t, λ h. rw h.1 (text_read t h.0))
 
-pub has_one_pair : HasOnePair
-has_one_pair id other c d h k same =
-    let e : Some (id, c) ≡ Some (other, d) =
-    sym (cursor_pair_of-cursor_text id c h) ∙ ap cursor_pair_of same ∙ cursor_pair_of-cursor_text other d k in
-    let pair = pair_of_some (id, c) (other, d) e in
-    (ap (λ (p : Hash16 × Cursor). p.0) pair, ap (λ (p : Hash16 × Cursor). p.1) pair)
+pub has_one_text : HasOneText
+has_one_text t other h k same =
+    same_some t other (sym (text_read t h) ∙ ap cursor_text_of same ∙ text_read other k)

@@ -11,7 +11,7 @@ use Rattle.hex.proofs.HexLemmas.{decode_of-encode_lower, decode_of-ok, decode_si
 use Rattle.hex.proofs.Pairs.{decode_sized-pairs}
 use Rattle.parfield.specs.Hash16.{decoded_hash_of}
 use Rattle.parfield.specs.declared.hash16.Hash16.{Hash16}
-use Rattle.parfind.specs.CursorText.{id_of, is_lower_digit, IsId}
+use Rattle.parfind.specs.CursorText.{hash_of, is_lower_digit, IsHash}
 
 -- ---- the table of digits
 
@@ -115,9 +115,9 @@ decoded (Ok bytes) id h = ap (λ (o : Option Hash16). Ok (unwrap_or o (record { 
 decoded (Err fault) id h = cc h
 
 -- what is read as an ID is its digits
-pub encode_lower-id_of : (s : List ℕ) (id : Hash16) → id_of s ≡ Some id
-    → (s ≡ encode_lower id.0) × IsId id
-encode_lower-id_of s id h =
+pub encode_lower-hash_of : (s : List ℕ) (id : Hash16) → hash_of s ≡ Some id
+    → (s ≡ encode_lower id.0) × IsHash id
+encode_lower-hash_of s id h =
     elim (cases_Bool (list_all is_lower_digit s)) [
       | inr other ↦ cc (rw other at h)
       | inl lower ↦
@@ -138,13 +138,13 @@ IsBytes-id [] h k = omega arith
 IsBytes-id (x ∷ xs) h zero = All-head (λ byte. byte < 256) x xs h
 IsBytes-id (x ∷ xs) h (suc k) = IsBytes-id xs (All-tail (λ byte. byte < 256) x xs h) k
 
-pub lower-encode_lower : (id : Hash16) → IsId id
+pub lower-encode_lower : (id : Hash16) → IsHash id
     → list_all is_lower_digit (encode_lower id.0) ≡ true
 lower-encode_lower id h = lower_bytes id.0 (IsBytes-id id.0 h.bytes)
 
 -- an ID is read of its digits
-pub id_of-encode_lower : (id : Hash16) → IsId id → id_of (encode_lower id.0) ≡ Some id
-id_of-encode_lower id h =
+pub hash_of-encode_lower : (id : Hash16) → IsHash id → hash_of (encode_lower id.0) ≡ Some id
+hash_of-encode_lower id h =
     let long : length (encode_lower id.0) ≡ 2 * 16 =
     omega (arith, length-encode_with lower_digits id.0, h.sixteen) in
     let read = decode_sized-twice (encode_lower id.0) 16 long

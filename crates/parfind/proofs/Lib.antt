@@ -11,6 +11,7 @@ pub mod DriveLaws
 pub mod OrderLaws
 pub mod NumberLaws
 pub mod IdLaws
+pub mod ColonLaws
 pub mod CursorTextLaws
 pub mod ListLaws
 pub mod RisingLaws

@@ -8,6 +8,8 @@ mod laws;
 mod sighting;
 
 pub use crate::cursors::cursor::Cursor;
-pub use crate::cursors::cursor_text::{CursorFault, read_cursor, split_cursor};
+pub use crate::cursors::cursor_text::{
+    CursorFault, CursorText, Foreign, read_cursor, split_cursor,
+};
 pub use crate::cursors::laws::{cursor_order_law, cursor_text_law, sighting_laws};
 pub use crate::cursors::sighting::Sighting;

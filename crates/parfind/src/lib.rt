@@ -17,8 +17,8 @@ mod surveys;
 mod tracks;
 
 pub use crate::cursors::{
-    Cursor, CursorFault, Sighting, cursor_order_law, cursor_text_law, read_cursor, sighting_laws,
-    split_cursor,
+    Cursor, CursorFault, CursorText, Foreign, Sighting, cursor_order_law, cursor_text_law,
+    read_cursor, sighting_laws, split_cursor,
 };
 pub use crate::drives::{Answer, Call, Drive, calls_law, drive};
 pub use crate::searches::{Finder, StartFault, Step, mode_law, reach_law, step_law};

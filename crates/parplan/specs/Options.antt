@@ -6,8 +6,8 @@ use Rattle.clap.specs.Walk.{Row, first_of, count_of}
 use Rattle.parfield.specs.Chain.{◌>>=◌}
 use Rattle.parfield.specs.Hash16.{hex_hash_of}
 use Rattle.parfield.specs.declared.hash16.Hash16.{Hash16}
-use Rattle.parfind.specs.declared.cursors.cursor.Cursor.{Cursor}
-use Rattle.parfind.specs.CursorText.{cursor_pair_of}
+use Rattle.parfind.specs.declared.cursors.cursor_text.CursorText.{CursorText}
+use Rattle.parfind.specs.CursorText.{cursor_text_of}
 use Rattle.parplan.specs.Limit.{limit_of}
 use Rattle.parplan.specs.declared.command.Command.{Command}
 use Rattle.parplan.specs.declared.command.Command.TheVariants as command
@@ -44,8 +44,8 @@ abbrev pub limit_option_of : List Row → Result (Option ℕ) PlanFault
 limit_option_of rows = option_value_of limit_of (first_of (codes "limit") rows)
 
 -- `--cursor TEXT`
-abbrev pub cursor_option_of : List Row → Result (Option (Hash16 × Cursor)) PlanFault
-cursor_option_of rows = option_value_of cursor_pair_of (first_of (codes "cursor") rows)
+abbrev pub cursor_option_of : List Row → Result (Option CursorText) PlanFault
+cursor_option_of rows = option_value_of cursor_text_of (first_of (codes "cursor") rows)
 
 -- how often `-q` stands, at most 2
 abbrev pub quiet_of : List Row → ℕ

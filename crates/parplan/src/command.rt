@@ -3,7 +3,8 @@ ghost use Rattle.parplan.specs.Commands.{reads_scanned, files_to_scan_of};
 ghost use Rattle.parplan.specs.declared.command.PlanFault.TheVariants.{Memory};
 
 use parfield::{Hash16, Sequence, Text};
-use parfind::Cursor;
+use parfind::CursorText;
+use parshelf::Named;
 use std::alloc::AllocError;
 use std::convert::AsStr;
 use thiserror::Error;
@@ -15,12 +16,12 @@ pub enum Command {
     Packets,
     /// Shows the recovery set that the packets describe.
     Set,
-    /// Lists where slices of the set are seen in the scanned files: from a cursor on, which has the
-    /// set's ID beside it, and as many as the limit allows, which is not 0. With `tails` a slice
-    /// shorter than the others is seen whatever bytes come behind it.
+    /// Lists where slices of the set are seen in the scanned files: from a cursor on, which comes
+    /// with all that its text tells, and as many as the limit allows, which is not 0. With `tails` a
+    /// slice shorter than the others is seen whatever bytes come behind it.
     Find {
         limit: Option<u64>,
-        cursor: Option<(Hash16, Cursor)>,
+        cursor: Option<CursorText>,
         tails: bool,
     },
     /// Tells what of the set is there; with `quiet` 1 only its last two lines, with more nothing.
@@ -69,6 +70,15 @@ impl AsStr for Scanned {
 
     fn as_str(&self) -> &str {
         self.path.as_str()
+    }
+}
+
+/// In the mark of a list of files it has the name, whatever path leads to it.
+impl Named for Scanned {
+    ghost name = { λ file. file.name };
+
+    fn name(&self) -> &str {
+        self.name.as_str()
     }
 }
 

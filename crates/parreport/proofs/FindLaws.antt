@@ -26,8 +26,8 @@ use Rattle.parfind.proofs.ListLaws.{Each-weaker, Each-passes, All-from}
 use Rattle.parfind.proofs.RisingLaws.{between_and_from}
 use Rattle.parfind.proofs.SightingLaws.{Rises-sightings_of}
 use Rattle.parreport.specs.Findings.{set_scan_of}
-use Rattle.parreport.specs.FindText.{Search, seen_from, found_line, limited, last_line, find_text, limit_left, WritesLinesBefore}
-use Rattle.parreport.specs.Lines.{end_line, cursor_line}
+use Rattle.parreport.specs.FindText.{Search, line_of_cursor, seen_from, found_line, limited, last_line, find_text, limit_left, WritesLinesBefore}
+use Rattle.parreport.specs.Lines.{end_line}
 use Rattle.parreport.proofs.LimitLaws.{CountsDown, limited-parts, limited-one, limited-nil, counted_one, below_limit, counted_none, last_line-end, last_line-cursor}
 use Rattle.parreport.proofs.LineLaws.{RefusesFront_later}
 use Rattle.parshelf.specs.SinkState.{SinkState, appended, WritesPrefix, FailsAfterPrefix}
@@ -62,18 +62,18 @@ module _ (s : Search) where
 
   module _ (left : Option ℕ) (now : Cursor) (old mid : SinkState) (h : HandsOut s left now old mid) where
     text_parts : find_text s
-        ≡ flat_map line h.handed ++ (flat_map line (limited left (from now)) ++ last_line s.set.id s.limit (from s.at))
+        ≡ flat_map line h.handed ++ (flat_map line (limited left (from now)) ++ last_line (line_of_cursor s) s.limit (from s.at))
     unfolding find_text
     text_parts =
-        ap (λ (xs : List Sighting). flat_map line xs ++ last_line s.set.id s.limit (from s.at))
+        ap (λ (xs : List Sighting). flat_map line xs ++ last_line (line_of_cursor s) s.limit (from s.at))
         (ap (limited s.limit) h.whole ∙ limited-parts s.limit left h.handed (from now) h.counted)
-        ∙ (ap (λ (ys : List ℕ). ys ++ last_line s.set.id s.limit (from s.at)) (flat_map-append line h.handed (limited left (from now)))
-        ∙ append_assoc (flat_map line h.handed) (flat_map line (limited left (from now))) (last_line s.set.id s.limit (from s.at)))
+        ∙ (ap (λ (ys : List ℕ). ys ++ last_line (line_of_cursor s) s.limit (from s.at)) (flat_map-append line h.handed (limited left (from now)))
+        ∙ append_assoc (flat_map line h.handed) (flat_map line (limited left (from now))) (last_line (line_of_cursor s) s.limit (from s.at)))
 
     pub hands_front : WritesPrefix old mid (find_text s)
     hands_front = record {
       front = flat_map line h.handed;
-      rest = flat_map line (limited left (from now)) ++ last_line s.set.id s.limit (from s.at);
+      rest = flat_map line (limited left (from now)) ++ last_line (line_of_cursor s) s.limit (from s.at);
       whole = text_parts;
       after = h.after;
     }
@@ -97,7 +97,7 @@ module _ (s : Search) where
       pub hands_refused : (new : SinkState) → FailsAfterPrefix mid new (line x) → FailsAfterPrefix old new (find_text s)
       hands_refused new refuses =
           let others : List ℕ = flat_map line (limited (limit_left left) (from d)) in
-          let last : List ℕ = last_line s.set.id s.limit (from s.at) in
+          let last : List ℕ = last_line (line_of_cursor s) s.limit (from s.at) in
           let parts : flat_map line (limited left (from now)) ++ last ≡ line x ++ (others ++ last)
           = ap (λ (xs : List Sighting). flat_map line xs ++ last) (ap (limited left) first ∙ limited-one left x (from d) some)
           ∙ append_assoc (line x) others last in
@@ -108,9 +108,9 @@ module _ (s : Search) where
       text_ends : find_text s ≡ flat_map line h.handed ++ end_line
       text_ends =
           text_parts ∙ ap (λ (ys : List ℕ). flat_map line h.handed ++ ys)
-          (ap (λ (xs : List Sighting). flat_map line xs ++ last_line s.set.id s.limit (from s.at)) (ap (limited left) none ∙ limited-nil left)
-          ∙ (ap (last_line s.set.id s.limit) (h.whole ∙ ap (λ (xs : List Sighting). h.handed ++ xs) none)
-          ∙ last_line-end s.set.id s.limit left h.handed h.counted some))
+          (ap (λ (xs : List Sighting). flat_map line xs ++ last_line (line_of_cursor s) s.limit (from s.at)) (ap (limited left) none ∙ limited-nil left)
+          ∙ (ap (last_line (line_of_cursor s) s.limit) (h.whole ∙ ap (λ (xs : List Sighting). h.handed ++ xs) none)
+          ∙ last_line-end (line_of_cursor s) s.limit left h.handed h.counted some))
 
       pub ends_text : (new : SinkState) → new ≡ appended mid end_line → new ≡ appended old (find_text s)
       ends_text new after =
@@ -143,20 +143,20 @@ module _ (s : Search) where
         }
 
   module _ (now : Cursor) (old mid : SinkState) (h : HandsOut s (Some 0) now old mid) (some : s.limit ≢ Some 0) where
-    text_stops : find_text s ≡ flat_map line h.handed ++ cursor_line s.set.id now
+    text_stops : find_text s ≡ flat_map line h.handed ++ line_of_cursor s now
     text_stops =
         text_parts (Some 0) now old mid h ∙ ap (λ (ys : List ℕ). flat_map line h.handed ++ ys)
-        (ap (last_line s.set.id s.limit) h.whole ∙ last_line-cursor s.set.id s.limit h.handed (from now) now h.counted some h.stands_after)
+        (ap (last_line (line_of_cursor s) s.limit) h.whole ∙ last_line-cursor (line_of_cursor s) s.limit h.handed (from now) now h.counted some h.stands_after)
 
-    pub stops_text : (new : SinkState) → new ≡ appended mid (cursor_line s.set.id now) → new ≡ appended old (find_text s)
+    pub stops_text : (new : SinkState) → new ≡ appended mid (line_of_cursor s now) → new ≡ appended old (find_text s)
     stops_text new after =
-        appended_twice old mid new (flat_map line h.handed) (cursor_line s.set.id now) h.after after ∙ ap (appended old) (sym text_stops)
+        appended_twice old mid new (flat_map line h.handed) (line_of_cursor s now) h.after after ∙ ap (appended old) (sym text_stops)
 
-    pub stops_refused : (new : SinkState) → FailsAfterPrefix mid new (cursor_line s.set.id now)
+    pub stops_refused : (new : SinkState) → FailsAfterPrefix mid new (line_of_cursor s now)
         → FailsAfterPrefix old new (find_text s)
     stops_refused new refuses =
-        RefusesFront_later old mid new (flat_map line h.handed) (cursor_line s.set.id now) [] (find_text s) h.after
-        (text_stops ∙ ap (λ (ys : List ℕ). flat_map line h.handed ++ ys) (sym (append-nil (cursor_line s.set.id now)))) refuses
+        RefusesFront_later old mid new (flat_map line h.handed) (line_of_cursor s now) [] (find_text s) h.after
+        (text_stops ∙ ap (λ (ys : List ℕ). flat_map line h.handed ++ ys) (sym (append-nil (line_of_cursor s now)))) refuses
 
 -- on a steady shelf the answer to a step from where a search stands, as that of the shelf at its beginning
 pub gives_from : (set : SetView) (mode own : Mode) (index : SliceSet) (old mid : ShelfState) (c : Cursor) (new : SearchPoint) (answer : Result Step ReadFault)

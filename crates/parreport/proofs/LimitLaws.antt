@@ -2,13 +2,12 @@
 use Rattle.std.proofs.Common.{◌≡◌, ◌≢◌, ℕ, ◌+◌, ◌-◌, ◌<◌, List, [], ◌∷◌, ◌++◌, length, take, Option, None, Some, slice_get, get_or, zero, suc, refl, sym, ap, ◌∙◌, subst, arith, append-nil}
 use Rattle.std.proofs.Math.Seq.{take-append-add}
 use Rattle.std.proofs.lemmas.Option.{slice_get_past, slice_get-get_or}
-use Rattle.parfield.specs.declared.hash16.Hash16.{Hash16}
 use Rattle.parfind.specs.Moves.{IsBelow}
 use Rattle.parfind.specs.Order.{cursor_after}
 use Rattle.parfind.specs.declared.cursors.cursor.Cursor.{Cursor}
 use Rattle.parfind.specs.declared.cursors.sighting.Sighting.{Sighting}
 use Rattle.parreport.specs.FindText.{limited, last_line, line_after, limit_left}
-use Rattle.parreport.specs.Lines.{end_line, cursor_line}
+use Rattle.parreport.specs.Lines.{end_line}
 
 -- so many lines were written of a limit, and so many are left
 abbrev pub CountsDown : Option ℕ → Option ℕ → ℕ → Type 0
@@ -61,26 +60,26 @@ counted_none None = tt
 counted_none (Some n) = omega arith
 
 -- with nothing left after the handed ones, the last line is `end`
-pub last_line-end : (id : Hash16) (limit left : Option ℕ) (xs : List Sighting) → CountsDown limit left (length xs) → left ≢ Some 0
-    → last_line id limit (xs ++ []) ≡ end_line
-last_line-end id None left xs h some = refl
-last_line-end id (Some limit) None xs h some = absurd h
-last_line-end id (Some limit) (Some zero) xs h some = absurd (some refl)
-last_line-end id (Some limit) (Some (suc left)) xs h some =
+pub last_line-end : (line : Cursor → List ℕ) (limit left : Option ℕ) (xs : List Sighting) → CountsDown limit left (length xs) → left ≢ Some 0
+    → last_line line limit (xs ++ []) ≡ end_line
+last_line-end line None left xs h some = refl
+last_line-end line (Some limit) None xs h some = absurd h
+last_line-end line (Some limit) (Some zero) xs h some = absurd (some refl)
+last_line-end line (Some limit) (Some (suc left)) xs h some =
     rw (append-nil xs, slice_get_past xs (limit - 1) (omega arith)) refl
 
 -- with as many handed as the limit allows, it is that of the cursor after them
-pub last_line-cursor : (id : Hash16) (limit : Option ℕ) (xs ys : List Sighting) (now : Cursor) → CountsDown limit (Some 0) (length xs)
+pub last_line-cursor : (line : Cursor → List ℕ) (limit : Option ℕ) (xs ys : List Sighting) (now : Cursor) → CountsDown limit (Some 0) (length xs)
     → limit ≢ Some 0 → ((x : Sighting) → slice_get xs (length xs - 1) ≡ Some x → now ≡ cursor_after x)
-    → last_line id limit (xs ++ ys) ≡ cursor_line id now
-last_line-cursor id None xs ys now h some stands = absurd h
-last_line-cursor id (Some zero) xs ys now h some stands = absurd (some refl)
-last_line-cursor id (Some (suc n)) [] ys now h some stands = absurd (omega (arith, h))
-last_line-cursor id (Some (suc n)) (x ∷ xs) ys now h some stands =
+    → last_line line limit (xs ++ ys) ≡ line now
+last_line-cursor line None xs ys now h some stands = absurd h
+last_line-cursor line (Some zero) xs ys now h some stands = absurd (some refl)
+last_line-cursor line (Some (suc n)) [] ys now h some stands = absurd (omega (arith, h))
+last_line-cursor line (Some (suc n)) (x ∷ xs) ys now h some stands =
     let within : n < length (x ∷ xs) = omega (arith, h) in
     let last : slice_get (x ∷ xs) n ≡ Some (get_or (x ∷ xs) n x) = slice_get-get_or (x ∷ xs) n x within in
     let place : length (x ∷ xs) - 1 ≡ n = omega (arith, h) in
     let less : suc n - 1 ≡ n = omega arith in
-    ap (λ (k : ℕ). line_after id (slice_get (x ∷ xs ++ ys) k)) less
-    ∙ ap (line_after id) (slice_get-front (x ∷ xs) ys n within ∙ last)
-    ∙ ap (cursor_line id) (sym (stands (get_or (x ∷ xs) n x) (ap (slice_get (x ∷ xs)) place ∙ last)))
+    ap (λ (k : ℕ). line_after line (slice_get (x ∷ xs ++ ys) k)) less
+    ∙ ap (line_after line) (slice_get-front (x ∷ xs) ys n within ∙ last)
+    ∙ ap line (sym (stands (get_or (x ∷ xs) n x) (ap (slice_get (x ∷ xs)) place ∙ last)))

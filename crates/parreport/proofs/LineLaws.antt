@@ -30,6 +30,7 @@ fault_text line text fault.Memory old mid new h front refuses = subst (λ (s : S
 fault_text line text (fault.Read packet file cause) old mid new h front refuses = absurd h
 fault_text line text (fault.Set cause) old mid new h front refuses = absurd h
 fault_text line text fault.OtherSet old mid new h front refuses = absurd h
+fault_text line text fault.OtherList old mid new h front refuses = absurd h
 fault_text line text fault.TooManyTails old mid new h front refuses = absurd h
 
 -- the last line
@@ -48,6 +49,7 @@ line_reads line (Err fault.Memory) old new before after h reads = reads
 line_reads line (Err (fault.Read packet file cause)) old new before after h reads = absurd h
 line_reads line (Err (fault.Set cause)) old new before after h reads = absurd h
 line_reads line (Err fault.OtherSet) old new before after h reads = absurd h
+line_reads line (Err fault.OtherList) old new before after h reads = absurd h
 line_reads line (Err fault.TooManyTails) old new before after h reads = absurd h
 
 -- nor of a failure of the sink that is not the line's own
@@ -59,6 +61,7 @@ line_sink line (Err fault.Memory) old mid new h same = ap (λ (s : SinkState). s
 line_sink line (Err (fault.Read packet file cause)) old mid new h same = absurd h
 line_sink line (Err (fault.Set cause)) old mid new h same = absurd h
 line_sink line (Err fault.OtherSet) old mid new h same = absurd h
+line_sink line (Err fault.OtherList) old mid new h same = absurd h
 line_sink line (Err fault.TooManyTails) old mid new h same = absurd h
 
 -- nor of one that the lines end before
@@ -70,6 +73,7 @@ line_keeps Leaves line (Err fault.Memory) mid new h = tt
 line_keeps Leaves line (Err (fault.Read packet file cause)) mid new h = absurd h
 line_keeps Leaves line (Err (fault.Set cause)) mid new h = absurd h
 line_keeps Leaves line (Err fault.OtherSet) mid new h = absurd h
+line_keeps Leaves line (Err fault.OtherList) mid new h = absurd h
 line_keeps Leaves line (Err fault.TooManyTails) mid new h = absurd h
 
 -- it is a fault of the search
@@ -81,4 +85,5 @@ line_fault line (Err fault.Memory) mid new h = tt
 line_fault line (Err (fault.Read packet file cause)) mid new h = absurd h
 line_fault line (Err (fault.Set cause)) mid new h = absurd h
 line_fault line (Err fault.OtherSet) mid new h = absurd h
+line_fault line (Err fault.OtherList) mid new h = absurd h
 line_fault line (Err fault.TooManyTails) mid new h = absurd h

@@ -24,6 +24,7 @@ StopsIn_later fault.Memory a b c text waiting part rest before breaks = record {
 StopsIn_later (fault.Read packet file cause) a b c text waiting part rest before breaks = absurd breaks
 StopsIn_later (fault.Set cause) a b c text waiting part rest before breaks = absurd breaks
 StopsIn_later fault.OtherSet a b c text waiting part rest before breaks = absurd breaks
+StopsIn_later fault.OtherList a b c text waiting part rest before breaks = absurd breaks
 StopsIn_later fault.TooManyTails a b c text waiting part rest before breaks = absurd breaks
 
 -- a list that broke is answered so
@@ -34,6 +35,7 @@ breaks_answer fault.Memory a c text answer breaks = WrotePrefix_front a c text b
 breaks_answer (fault.Read packet file cause) a c text answer breaks = absurd breaks
 breaks_answer (fault.Set cause) a c text answer breaks = absurd breaks
 breaks_answer fault.OtherSet a c text answer breaks = absurd breaks
+breaks_answer fault.OtherList a c text answer breaks = absurd breaks
 breaks_answer fault.TooManyTails a c text answer breaks = absurd breaks
 
 -- what a list that broke leaves of a verification: nothing where less than a block was written
@@ -45,6 +47,7 @@ breaks_silent fault.Memory quiet tails a c text breaks silent =
 breaks_silent (fault.Read packet file cause) quiet tails a c text breaks silent = absurd breaks
 breaks_silent (fault.Set cause) quiet tails a c text breaks silent = absurd breaks
 breaks_silent fault.OtherSet quiet tails a c text breaks silent = absurd breaks
+breaks_silent fault.OtherList quiet tails a c text breaks silent = absurd breaks
 breaks_silent fault.TooManyTails quiet tails a c text breaks silent = absurd breaks
 
 -- all that waited was written, or the sink failed in it

@@ -54,6 +54,7 @@ exit_status_of (end.Run (run.Read packet file fault)) = 6
 exit_status_of (end.Run run.Write) = 6
 exit_status_of (end.Run run.Memory) = 8
 exit_status_of (end.Run run.OtherSet) = 3
+exit_status_of (end.Run run.OtherList) = 3
 exit_status_of (end.Run run.TooManyTails) = 4
 
 -- why there is no usable set
@@ -79,6 +80,7 @@ message_of (end.Run (run.Read packet file fault)) argument =
 message_of (end.Run run.Write) argument = Some (codes "write fault")
 message_of (end.Run run.Memory) argument = Some (codes "out of memory")
 message_of (end.Run run.OtherSet) argument = Some (codes "cursor of another set")
+message_of (end.Run run.OtherList) argument = Some (codes "cursor of other files")
 message_of (end.Run run.TooManyTails) argument = Some (codes "no usable set: too many tails")
 
 -- the line with the program's name before the message

@@ -1,5 +1,7 @@
 -- The faults of a run.
 use Rattle.std.specs.Prelude.{◌≡◌, ℕ, Result, Ok, Err, ⊤, true, false}
+use Rattle.parfind.specs.declared.cursors.cursor_text.Foreign.{Foreign}
+use Rattle.parfind.specs.declared.cursors.cursor_text.Foreign.TheVariants as foreign
 use Rattle.parfind.specs.declared.surveys.surveying.SurveyFault.{SurveyFault}
 use Rattle.parfind.specs.declared.surveys.surveying.SurveyFault.TheVariants as survey_fault
 use Rattle.parfind.specs.declared.searches.start_fault.StartFault.{StartFault}
@@ -30,6 +32,11 @@ scanned_fault_of survey_fault.TooManyTails = fault.TooManyTails
 abbrev pub start_fault_of : StartFault → RunFault
 start_fault_of start_fault.TooManyTails = fault.TooManyTails
 start_fault_of start_fault.Memory = fault.Memory
+
+-- the fault that it is for a run that a cursor is none of its set and its files
+abbrev pub foreign_fault_of : Foreign → RunFault
+foreign_fault_of foreign.OtherSet = fault.OtherSet
+foreign_fault_of foreign.OtherList = fault.OtherList
 
 -- it is one of reading packet files
 abbrev pub IsPacketFault : RunFault → Type 0

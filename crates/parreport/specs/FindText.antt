@@ -1,7 +1,6 @@
 -- The text of `find`, and how much of it stands where it stops.
-use Rattle.std.specs.Prelude.{◌≡◌, ℕ, ◌-◌, ◌≤◌, List, [], ◌++◌, length, take, All, Option, Some, None, Result, Ok, Err, slice_get, slice_index_or}
+use Rattle.std.specs.Prelude.{◌≡◌, ℕ, ◌-◌, ◌≤◌, List, [], ◌++◌, length, take, map, All, Option, Some, None, Result, Ok, Err, slice_get, slice_index_or}
 use Rattle.std.specs.List.{flat_map}
-use Rattle.parfield.specs.declared.hash16.Hash16.{Hash16}
 use Rattle.parset.specs.RecoverySet.{SetView}
 use Rattle.parset.specs.declared.recovery_set.SetSlice.{SetSlice}
 use Rattle.parfind.specs.Order.{cursor_after}
@@ -12,7 +11,7 @@ use Rattle.parfind.specs.declared.cursors.sighting.Sighting.{Sighting}
 use Rattle.parfind.specs.declared.tracks.mode.Mode.{Mode}
 use Rattle.parreport.specs.Findings.{set_scan_of}
 use Rattle.parreport.specs.SetSearch.{mode_of}
-use Rattle.parreport.specs.Names.{names_of}
+use Rattle.parreport.specs.Names.{list_of, names_of}
 use Rattle.parreport.specs.Lines.{sighting_line, end_line, cursor_line}
 use Rattle.parshelf.specs.SinkState.{SinkState, appended, FailsAfterPrefix}
 use Rattle.parplan.specs.declared.command.Scanned.{Scanned}
@@ -61,21 +60,30 @@ abbrev pub limited : Option ℕ → List Sighting → List Sighting
 limited None xs = xs
 limited (Some n) xs = take n xs
 
--- the line after the last sighting that is asked for, or `end` where there is none
-abbrev pub line_after : Hash16 → Option Sighting → List ℕ
-line_after id None = end_line
-line_after id (Some x) = cursor_line id (cursor_after x)
+-- the line of a cursor in a search, which tells the set and the list of files
+abbrev pub line_of_cursor : Search → Cursor → List ℕ
+line_of_cursor s at = cursor_line (record {
+  set = s.set.id;
+  list = Some (list_of s.names (map length s.contents));
+  at = at;
+})
+
+-- the line after the last sighting that is asked for, or `end` where there is none; each cursor has
+-- its line
+abbrev pub line_after : (Cursor → List ℕ) → Option Sighting → List ℕ
+line_after line None = end_line
+line_after line (Some x) = line (cursor_after x)
 
 -- the last line: `end`, or the cursor after so many sightings where there are so many
-abbrev pub last_line : Hash16 → Option ℕ → List Sighting → List ℕ
-last_line id None xs = end_line
-last_line id (Some n) xs = line_after id (slice_get xs (n - 1))
+abbrev pub last_line : (Cursor → List ℕ) → Option ℕ → List Sighting → List ℕ
+last_line line None xs = end_line
+last_line line (Some n) xs = line_after line (slice_get xs (n - 1))
 
 -- a line for each sighting that is written, and the last line
 unfoldable pub find_text : Search → List ℕ
 find_text s =
     flat_map (found_line s.names s.set) (limited s.limit (seen_from s s.at))
-    ++ last_line s.set.id s.limit (seen_from s s.at)
+    ++ last_line (line_of_cursor s) s.limit (seen_from s s.at)
 
 -- the lines of some first sightings from a cursor on were written, fewer than the limit has, among
 -- them all that lie in files before this one

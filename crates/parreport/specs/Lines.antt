@@ -12,9 +12,8 @@ use Rattle.parset.specs.Slices.{slice_count}
 use Rattle.parset.specs.declared.recovery_set.SetAside.{SetAside}
 use Rattle.parset.specs.declared.recovery_set.SetFile.{SetFile}
 use Rattle.parset.specs.declared.recovery_set.SetSlice.{SetSlice}
-use Rattle.parfield.specs.declared.hash16.Hash16.{Hash16}
 use Rattle.parfind.specs.CursorText.{cursor_text}
-use Rattle.parfind.specs.declared.cursors.cursor.Cursor.{Cursor}
+use Rattle.parfind.specs.declared.cursors.cursor_text.CursorText.{CursorText}
 
 -- the word of a kind
 abbrev pub kind_word : Kind → List ℕ
@@ -80,6 +79,6 @@ sighting_line name offset slice =
 unfoldable pub end_line : List ℕ
 end_line = codes "end\n"
 
--- `cursor <text>`, in a search for the slices of this set
-unfoldable pub cursor_line : Hash16 → Cursor → List ℕ
-cursor_line set c = codes "cursor " ++ (cursor_text set c ++ codes "\n")
+-- `cursor <text>`
+unfoldable pub cursor_line : CursorText → List ℕ
+cursor_line t = codes "cursor " ++ (cursor_text t ++ codes "\n")

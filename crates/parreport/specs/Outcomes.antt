@@ -1,5 +1,5 @@
 -- What a run leaves: of its output, and of the files that it reads.
-use Rattle.std.specs.Prelude.{◌≡◌, ℕ, ◌+◌, ◌-◌, ◌&&◌, ◌||◌, not, nat_le, Bool, true, false, List, [], length, IsTrue, IsSomeAnd, Result, Ok, Err, ⊤}
+use Rattle.std.specs.Prelude.{◌≡◌, ℕ, ◌+◌, ◌-◌, ◌&&◌, ◌||◌, not, nat_le, Bool, true, false, List, [], length, IsTrue, IsOkAnd, Result, Ok, Err, ⊤}
 use Rattle.parshelf.specs.Shelf.{ShelfState}
 use Rattle.parshelf.specs.Reads.{ReadsOnly, FaultsIn}
 use Rattle.parsalvage.specs.declared.kept.Kept.{Kept}
@@ -7,7 +7,7 @@ use Rattle.parset.specs.RecoverySet.{SetView, set_of}
 use Rattle.parset.specs.declared.recovery_set.SetFault.{SetFault}
 use Rattle.parreport.specs.FindText.{find_search_of, WritesLinesBefore}
 use Rattle.parplan.specs.Commands.{is_find, reads_scanned}
-use Rattle.parreport.specs.Report.{Report, report_with_set, start_cursor_of}
+use Rattle.parreport.specs.Report.{Report, report_with_set, find_start_of}
 use Rattle.parreport.specs.Blocks.{block}
 use Rattle.parshelf.specs.SinkState.{SinkState, appended, WritesPrefix, FailsAfterPrefix}
 use Rattle.parplan.specs.declared.command.Command.{Command}
@@ -24,6 +24,7 @@ abbrev pub Answers : Report → Result Status RunFault → SinkState → SinkSta
 Answers report (Ok status) old new = (report.answer ≡ Ok status) × (new ≡ appended old report.text)
 Answers report (Err (fault.Set why)) old new = (report.answer ≡ Err (fault.Set why)) × (new ≡ old)
 Answers report (Err fault.OtherSet) old new = (report.answer ≡ Err fault.OtherSet) × (new ≡ old)
+Answers report (Err fault.OtherList) old new = (report.answer ≡ Err fault.OtherList) × (new ≡ old)
 Answers report (Err fault.TooManyTails) old new =
     (report.answer ≡ Err fault.TooManyTails) × (new ≡ old)
 Answers report (Err fault.Write) old new = FailsAfterPrefix old new report.text
@@ -47,7 +48,7 @@ pub record ReadFaultLeaves (plan : Plan) (input : Input) (file : ℕ) (old new :
   pub set : SetView
   pub reads : IsTrue (reads_scanned plan.command)
   pub made : set_of input.packets plan.set ≡ Ok set
-  pub lines : OnFind plan.command (λ query. IsSomeAnd (start_cursor_of set query.cursor) (λ at.
+  pub lines : OnFind plan.command (λ query. IsOkAnd (find_start_of plan query input.contents set) (λ at.
       WritesLinesBefore (find_search_of plan.scanned input.contents set at query) file old new))
 
 -- so many bytes were written
@@ -81,6 +82,7 @@ abbrev pub LeavesScanned : Result Status RunFault → ShelfState → ShelfState 
 LeavesScanned (Err (fault.Read false file why)) old new = FaultsIn old new file why
 LeavesScanned (Err (fault.Set why)) old new = new ≡ old
 LeavesScanned (Err fault.OtherSet) old new = new ≡ old
+LeavesScanned (Err fault.OtherList) old new = new ≡ old
 LeavesScanned (Err fault.TooManyTails) old new = new ≡ old
 LeavesScanned _ old new = ReadsOnly old new
 

@@ -1,10 +1,12 @@
 -- What a run writes and answers, over whole files, where nothing comes between.
-use Rattle.std.specs.Prelude.{ℕ, List, [], Option, None, Some, Result, Ok, Err, if◌then◌else◌}
-use Rattle.std.specs.Str.{bytes_eq}
+use Rattle.std.specs.Prelude.{ℕ, List, [], map, length, Option, None, Some, Result, Ok, Err, if◌then◌else◌}
 use Rattle.parfield.specs.declared.hash16.Hash16.{Hash16}
+use Rattle.parfind.specs.CursorText.{cursor_for}
 use Rattle.parfind.specs.Order.{origin}
 use Rattle.parfind.specs.declared.cursors.cursor.Cursor.{Cursor}
-use Rattle.parreport.specs.Faults.{set_fault_of}
+use Rattle.parfind.specs.declared.cursors.cursor_text.CursorText.{CursorText}
+use Rattle.parfind.specs.declared.cursors.cursor_text.Foreign.{Foreign}
+use Rattle.parreport.specs.Faults.{foreign_fault_of, set_fault_of}
 use Rattle.parreport.specs.FindText.{Search, find_text, find_search_of}
 use Rattle.parreport.specs.SetSearch.{has_too_many_tails, mode_of, set_sought_of}
 use Rattle.parfind.specs.Sought.{Sought}
@@ -13,6 +15,7 @@ use Rattle.parsalvage.specs.Kept.{kept_of_files}
 use Rattle.parsalvage.specs.declared.kept.Kept.{Kept}
 use Rattle.parset.specs.RecoverySet.{SetView, set_of}
 use Rattle.parset.specs.declared.recovery_set.SetFault.{SetFault}
+use Rattle.parreport.specs.Names.{list_of, names_of}
 use Rattle.parreport.specs.PacketsText.{packets_text}
 use Rattle.parreport.specs.SetText.{set_text}
 use Rattle.parreport.specs.States.{named_files}
@@ -48,10 +51,16 @@ packets_report plan packets = listed (packets_text plan.packets plan.set packets
 abbrev pub set_report : Plan → SetView → Report
 set_report plan set = listed (set_text plan.packets set)
 
--- where a search begins in a set: at the first cursor, or at one that is of this set
-abbrev pub start_cursor_of : SetView → Option (Hash16 × Cursor) → Option Cursor
-start_cursor_of set None = Some origin
-start_cursor_of set (Some (id, at)) = if bytes_eq id.0 set.id.0 then Some at else None
+-- where a search for a set of this ID begins in a list of files with this mark: at the first cursor,
+-- or at one of this set and this list
+abbrev pub start_of : Hash16 → Hash16 → Option CursorText → Result Cursor Foreign
+start_of set list None = Ok origin
+start_of set list (Some t) = cursor_for set list t
+
+-- where `find` begins in these contents
+abbrev pub find_start_of : Plan → Query → List (List ℕ) → SetView → Result Cursor Foreign
+find_start_of plan query scanned set =
+    start_of set.id (list_of (names_of plan.scanned) (map length scanned)) query.cursor
 
 -- the report after a search, unless it would have to look for too many short lengths
 abbrev pub report_after : Sought → Report → Report
@@ -63,15 +72,15 @@ report_after sought report =
 abbrev pub search_report : Search → Report
 search_report s = report_after (set_sought_of s.set s.mode) (listed (find_text s))
 
--- the report of `find` from a cursor on, if it is of the set
-abbrev pub report_from : Option Cursor → (Cursor → Report) → Report
-report_from None report = record { text = []; answer = Err fault.OtherSet }
-report_from (Some at) report = report at
+-- the report of `find` from a cursor on, if it is of the set and the list of files
+abbrev pub report_from : Result Cursor Foreign → (Cursor → Report) → Report
+report_from (Err why) report = record { text = []; answer = Err (foreign_fault_of why) }
+report_from (Ok at) report = report at
 
 -- the report of `find`
 abbrev pub find_report : Plan → Query → List (List ℕ) → SetView → Report
 find_report plan query scanned set =
-    report_from (start_cursor_of set query.cursor)
+    report_from (find_start_of plan query scanned set)
     (λ at. search_report (find_search_of plan.scanned scanned set at query))
 
 -- the report of `verify`

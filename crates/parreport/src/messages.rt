@@ -27,7 +27,7 @@ fn exit_status(end: &End) -> u8
         End::Status(Status::Possible) => 1,
         End::Status(Status::Impossible) => 2,
         End::Plan(PlanFault::Memory) | End::Memory | End::Run(RunFault::Memory) => 8,
-        End::Plan(_) | End::Run(RunFault::OtherSet) => 3,
+        End::Plan(_) | End::Run(RunFault::OtherSet | RunFault::OtherList) => 3,
         End::Run(RunFault::Set(_) | RunFault::TooManyTails) => 4,
         End::CannotOpen | End::Run(RunFault::Read { .. }) | End::Run(RunFault::Write) => 6,
     }
@@ -49,6 +49,7 @@ fn line(alloc: Global, end: &End, argument: &str) -> Result<String, AllocError>
         End::Run(RunFault::Set(cause)) => no_set(alloc, *cause),
         End::Run(RunFault::Write) => plain(alloc, "write fault"),
         End::Run(RunFault::OtherSet) => plain(alloc, "cursor of another set"),
+        End::Run(RunFault::OtherList) => plain(alloc, "cursor of other files"),
         End::Run(RunFault::TooManyTails) => plain(alloc, "no usable set: too many tails"),
         End::CannotOpen => of_file(alloc, "cannot open ", name),
         End::Run(RunFault::Read { .. }) => of_file(alloc, "read fault in ", name),

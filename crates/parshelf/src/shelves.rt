@@ -1,12 +1,14 @@
 //! Files that are read by offset: `shelf` has the trait, `memory` and `disk` the two that there are,
-//! and `reading` what is read of any of them.
+//! `reading` what is read of any of them, and `names` the mark of a list of files.
 
 mod disk;
 mod memory;
+mod names;
 mod reading;
 mod shelf;
 
 pub use crate::shelves::disk::{DiskShelf, OpenFault};
 pub use crate::shelves::memory::MemShelf;
+pub use crate::shelves::names::{Named, list_mark};
 pub use crate::shelves::reading::{ReadFault, digest_of, digest_of_part, fill};
 pub use crate::shelves::shelf::Shelf;

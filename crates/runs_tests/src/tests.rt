@@ -8,6 +8,7 @@ mod listing;
 mod many_tails;
 mod parts;
 mod reads;
+mod resuming;
 mod surface;
 mod tails;
 mod verifying;

@@ -1,59 +1,139 @@
-ghost use Rattle.std.specs.Prelude.{◌≡◌, ◌^◌, ◌≤◌, ◌∷◌, [], length, IfOk, IfErr, IfSome, IfNone, true, false};
+ghost use Rattle.std.specs.Prelude.{◌≡◌, ◌^◌, ◌≤◌, ◌∷◌, [], length, IfOk, IfSome, IfNone, true, false};
 ghost use Rattle.std.specs.Char.{is_ascii_digit};
 ghost use Rattle.std.specs.List.{list_all, position, slice_split};
-ghost use Rattle.parfind.specs.CursorText.{cursor_pair_of, cursor_text, id_of, is_canonical, is_colon, is_lower_digit, number_of, pair_of_parts, IsCursorFault};
+ghost use Rattle.parfind.specs.CursorText.{cursor_for, cursor_of_parts, cursor_text, cursor_text_of, cursor_fault_of, hash_of, is_canonical, is_colon, is_lower_digit, number_of, read_for, second_version};
 
 use crate::cursors::cursor::Cursor;
 use parfield::Hash16;
 use std::alloc::{AllocError, Global};
 
-/// Why a text is no cursor of a set; the first that applies.
+/// Why a text is no cursor of a set and a list of scanned files; the first that applies.
 #[derive(Clone, Copy, Debug, PartialEq, Eq)]
 pub enum CursorFault {
     /// It is no cursor text.
     Form,
     /// It is the text of another set's cursor.
     OtherSet,
+    /// It is the text of a cursor of another list of files: one that differs in a name, a length or
+    /// the order.
+    OtherList,
+}
+
+/// What a cursor belongs to instead of a given set and list of scanned files; the first that applies.
+#[derive(Clone, Copy, Debug, PartialEq, Eq)]
+pub enum Foreign {
+    /// Another set.
+    OtherSet,
+    /// Another list of files: one that differs in a name, a length or the order.
+    OtherList,
+}
+
+impl From<Foreign> for CursorFault {
+    ghost from_gives = { λ other fault. fault ≡ cursor_fault_of other };
+
+    fn from(other: Foreign) -> CursorFault {
+        match other {
+            Foreign::OtherSet => CursorFault::OtherSet,
+            Foreign::OtherList => CursorFault::OtherList,
+        }
+    }
+}
+
+/// What a cursor's text tells.
+#[derive(Clone, Copy, Debug, PartialEq, Eq)]
+pub struct CursorText {
+    /// The ID of the set.
+    pub set: Hash16,
+    /// The mark of the list of scanned files; `None` in the first version, which has none.
+    pub list: Option<Hash16>,
+    /// The cursor.
+    pub at: Cursor,
+}
+
+impl CursorText {
+    /// The cursor, where it is one of this set and of the list with this mark. A text without a mark
+    /// is taken for every list.
+    pub fn cursor_for(self, set: Hash16, list: Hash16) -> Result<Cursor, Foreign>
+        ensures { result ≡ cursor_for set list self }
+    {
+        if self.set != set {
+            return Err(Foreign::OtherSet);
+        }
+        match self.list {
+            Some(mark) if mark != list => Err(Foreign::OtherList),
+            _ => Ok(self.at),
+        }
+    }
 }
 
 impl Cursor {
-    /// The one text of this cursor in the set of this ID.
+    /// The text of this cursor, in the second version, in the set of this ID and the list of scanned
+    /// files with this mark.
     #[tactic(auto, unfolding(crate::specs::CursorText::cursor_text))]
-    pub fn text(self, alloc: Global, set: Hash16) -> Result<Vec<u8>, AllocError>
-        ensures text { IfOk result (λ text. text.items ≡ cursor_text set self) }
-        ensures short { IfOk result (λ text. length text.items ≤ 75) }
+    pub fn text(self, alloc: Global, set: Hash16, list: Hash16) -> Result<Vec<u8>, AllocError>
+        ensures text { IfOk result (λ text.
+            text.items ≡ cursor_text (record { set = set; list = Some list; at = self })) }
+        ensures short { IfOk result (λ text. length text.items ≤ 110) }
     {
-        let text = format!(in alloc; "{set}:{}:{}:{}", self.file, self.offset, self.slice)?;
+        let text = format!(in alloc;
+            "2:{set}:{list}:{}:{}:{}",
+            self.file, self.offset, self.slice
+        )?;
         Ok(text.into_bytes())
     }
 }
 
-/// The set ID and the cursor whose text this is; `None` for any other text.
-#[tactic(auto, unfolding(crate::specs::CursorText::cursor_pair_of))]
-pub fn split_cursor(text: &[u8]) -> Option<(Hash16, Cursor)>
-    ensures { result ≡ cursor_pair_of text.now }
+/// What a text tells that is a cursor's, in either version; `None` for any other text.
+#[tactic(auto, unfolding(crate::specs::CursorText::cursor_text_of))]
+pub fn split_cursor(text: &[u8]) -> Option<CursorText>
+    ensures { result ≡ cursor_text_of text.now }
 {
-    let (id, rest) = parted(text)?;
-    let (file, rest) = parted(rest)?;
-    let (offset, slice) = parted(rest)?;
-    pair_of_parts(id, file, offset, slice)
+    let (first, rest) = parted(text)?;
+    if first == b"2".as_slice() {
+        split_second(rest)
+    } else {
+        let set = hash_of(first)?;
+        let at = cursor_of(rest)?;
+        Some(CursorText {
+            set,
+            list: None,
+            at,
+        })
+    }
 }
 
-/// The cursor of this set whose text this is, or the first fault that the text has.
-pub fn read_cursor(text: &[u8], set: Hash16) -> Result<Cursor, CursorFault>
-    ensures cursor { IfOk result (λ c. cursor_pair_of text.now ≡ Some (set, c)) }
-    ensures fault { IfErr result (IsCursorFault text.now set) }
+/// The cursor that a text of this set tells, and of the list of scanned files with this mark, or the
+/// first fault that the text has.
+pub fn read_cursor(text: &[u8], set: Hash16, list: Hash16) -> Result<Cursor, CursorFault>
+    ensures { result ≡ read_for set list (cursor_text_of text.now) }
 {
-    match split_cursor(text) {
-        None => Err(CursorFault::Form),
-        Some((id, cursor)) => {
-            if id == set {
-                Ok(cursor)
-            } else {
-                Err(CursorFault::OtherSet)
-            }
-        }
-    }
+    let text = split_cursor(text).ok_or(CursorFault::Form)?;
+    Ok(text.cursor_for(set, list)?)
+}
+
+// What the parts behind the `2` of the second version tell.
+fn split_second(text: &[u8]) -> Option<CursorText>
+    ensures { result ≡ second_version (slice_split is_colon text.now) }
+{
+    let (id, rest) = parted(text)?;
+    let (mark, rest) = parted(rest)?;
+    let set = hash_of(id)?;
+    let list = hash_of(mark)?;
+    let at = cursor_of(rest)?;
+    Some(CursorText {
+        set,
+        list: Some(list),
+        at,
+    })
+}
+
+// The cursor that three numbers are, with a colon between two.
+fn cursor_of(text: &[u8]) -> Option<Cursor>
+    ensures { result ≡ cursor_of_parts (slice_split is_colon text.now) }
+{
+    let (file, rest) = parted(text)?;
+    let (offset, slice) = parted(rest)?;
+    cursor_of_parts(file, offset, slice)
 }
 
 // What stands before the first colon, and all that stands after it.
@@ -72,25 +152,23 @@ fn first_colon(text: &[u8]) -> Option<usize>
     text.iter().position(|byte| *byte == b':')
 }
 
-// The set ID and the cursor that these parts of a text name; `None` where one is not of its form.
-fn pair_of_parts(id: &[u8], file: &[u8], offset: &[u8], slice: &[u8]) -> Option<(Hash16, Cursor)>
-    ensures { result ≡ pair_of_parts (id.now ∷ file.now ∷ offset.now ∷ slice.now ∷ []) }
+// The cursor that these parts are; `None` where one is not of its form.
+fn cursor_of_parts(file: &[u8], offset: &[u8], slice: &[u8]) -> Option<Cursor>
+    ensures { result ≡ cursor_of_parts (file.now ∷ offset.now ∷ slice.now ∷ []) }
 {
-    let id = id_of(id)?;
     let file = u32_of(file)?;
     let offset = u64_of(offset)?;
     let slice = u32_of(slice)?;
-    let cursor = Cursor {
+    Some(Cursor {
         file,
         offset,
         slice,
-    };
-    Some((id, cursor))
+    })
 }
 
-// The ID that a part is in 32 digits, those above 9 in lower case; `None` for any other part.
-fn id_of(part: &[u8]) -> Option<Hash16>
-    ensures { result ≡ id_of part.now }
+// The sixteen bytes that a part is in 32 digits, those above 9 in lower case; `None` for any other part.
+fn hash_of(part: &[u8]) -> Option<Hash16>
+    ensures { result ≡ hash_of part.now }
 {
     if are_lower_hex_digits(part) {
         Hash16::read(part)

@@ -1,7 +1,7 @@
 ghost use Rattle.std.specs.Prelude.{◌≡◌};
 ghost use Rattle.std.specs.Ordering.{is_lt, is_gt};
 ghost use Rattle.parfind.specs.Order.{is_before};
-ghost use Rattle.parfind.specs.CursorText.{ReadsItsText, HasOnePair};
+ghost use Rattle.parfind.specs.CursorText.{ReadsItsText, HasOneText};
 ghost use Rattle.parfind.specs.Sightings.{SightingsRise, AllFromOrigin, RestFollows, BetweenJoins};
 
 use crate::cursors::cursor::Cursor;
@@ -12,11 +12,11 @@ pub fn cursor_order_law()
     ensures greater { (a b : Cursor) → is_gt (⟦<Cursor as Ord>⟧.cmp a b) ≡ is_before b a }
 {}
 
-/// The law of cursor texts: a text is read as one pair, and exactly as it was written. Does
-/// nothing.
+/// The law of cursor texts: a text tells at most one set, mark (or none) and cursor, and is the one
+/// text of them. Does nothing.
 pub fn cursor_text_law()
     ensures read { ReadsItsText }
-    ensures one { HasOnePair }
+    ensures one { HasOneText }
 {}
 
 /// The laws of sightings: they rise strictly, and parts of them follow one another. Does nothing.

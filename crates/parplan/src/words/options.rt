@@ -9,7 +9,7 @@ use crate::words::matches::{uses_of, value_of};
 use crate::{Command, PlanFault};
 use clap::ArgMatches;
 use parfield::Hash16;
-use parfind::{Cursor, split_cursor};
+use parfind::{CursorText, split_cursor};
 
 /// The command of a verb, with the options that it alone has.
 pub fn command_given(verb: Verb, matches: &ArgMatches<'_>) -> Result<Command, PlanFault>
@@ -72,7 +72,7 @@ fn limit_given(matches: &ArgMatches<'_>) -> Result<Option<u64>, PlanFault>
 }
 
 // `--cursor TEXT`.
-fn cursor_given(matches: &ArgMatches<'_>) -> Result<Option<(Hash16, Cursor)>, PlanFault>
+fn cursor_given(matches: &ArgMatches<'_>) -> Result<Option<CursorText>, PlanFault>
     ensures { result ≡ cursor_option_of (rows_of (found_of matches.now)) }
 {
     match value_of(matches, "cursor") {

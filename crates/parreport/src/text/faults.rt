@@ -1,9 +1,9 @@
 ghost use Rattle.std.specs.Prelude.{◌≡◌};
-ghost use Rattle.parreport.specs.Faults.{set_fault_of, scanned_fault_of, start_fault_of};
+ghost use Rattle.parreport.specs.Faults.{set_fault_of, scanned_fault_of, start_fault_of, foreign_fault_of};
 ghost use Rattle.parreport.specs.declared.text.faults.RunFault.TheVariants as run_fault;
 
 use parfield::Hash16;
-use parfind::{StartFault, SurveyFault};
+use parfind::{Foreign, StartFault, SurveyFault};
 use parset::SetFault;
 use parshelf::{Failed, ReadFault};
 use std::alloc::AllocError;
@@ -44,6 +44,10 @@ pub enum RunFault {
     /// The cursor is one in a search for the slices of another set; nothing was written.
     #[error("cursor of another set")]
     OtherSet,
+    /// The cursor is one of another list of files, by a name, a length or the order; no scanned file
+    /// was read, and nothing was written.
+    #[error("cursor of other files")]
+    OtherList,
     /// More than 256 short lengths of slices would have to be looked for; no scanned file was read,
     /// and nothing was written.
     #[error("no usable set: too many tails")]
@@ -94,6 +98,18 @@ impl From<SurveyFault> for RunFault {
             },
             SurveyFault::Memory => RunFault::Memory,
             SurveyFault::TooManyTails => RunFault::TooManyTails,
+        }
+    }
+}
+
+// The cursor is none of the set and the scanned files.
+impl From<Foreign> for RunFault {
+    ghost from_gives = { λ why e. e ≡ foreign_fault_of why };
+
+    fn from(why: Foreign) -> RunFault {
+        match why {
+            Foreign::OtherSet => RunFault::OtherSet,
+            Foreign::OtherList => RunFault::OtherList,
         }
     }
 }

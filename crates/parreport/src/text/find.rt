@@ -1,18 +1,18 @@
-ghost use Rattle.std.specs.Prelude.{◌≡◌, ◌≢◌, IsTrue, false, IfErr, IsSomeAnd, Some};
+ghost use Rattle.std.specs.Prelude.{◌≡◌, ◌≢◌, length, IsTrue, false, IfErr, IsOkAnd, Some};
 ghost use Rattle.parreport.specs.Faults.{OnScannedFault};
 ghost use Rattle.parreport.specs.FindText.{find_search_of, WritesLinesBefore};
 ghost use Rattle.parreport.specs.Outcomes.{is_packet_file_fault, written, may_follow_text, Answers, LeavesScanned, LeavesSink};
-ghost use Rattle.parreport.specs.Report.{find_report, start_cursor_of};
+ghost use Rattle.parreport.specs.Names.{list_of, names_of};
+ghost use Rattle.parreport.specs.Report.{find_report, find_start_of, start_of};
 ghost use Rattle.parplan.specs.declared.command.Command.TheVariants as command;
 
 use crate::text::faults::RunFault;
 use crate::text::find::sightings::write_sightings;
 use crate::text::status::Status;
-use parfield::Hash16;
-use parfind::Cursor;
-use parplan::Plan;
+use parfind::{Cursor, CursorText, Foreign};
+use parplan::{Plan, Scanned};
 use parset::RecoverySet;
-use parshelf::{Shelf, Sink};
+use parshelf::{Shelf, Sink, list_mark};
 use std::alloc::Global;
 
 mod lines;
@@ -23,8 +23,8 @@ mod sightings;
 pub(crate) struct Query {
     /// How many lines at most, where there is a limit.
     pub limit: Option<u64>,
-    /// Where to begin, and the set in which a search stood there.
-    pub cursor: Option<(Hash16, Cursor)>,
+    /// Where to begin, and the set and the list of files in which a search stood there.
+    pub cursor: Option<CursorText>,
     /// Whether short slices are seen whatever bytes come behind them.
     pub tails: bool,
 }
@@ -38,13 +38,15 @@ pub(crate) fn write_find<Q: Shelf, W: Sink>(
     scanned: &mut Q,
     out: &mut W,
 ) -> Result<Status, RunFault>
-    requires { query.limit ≢ Some 0 }
+    requires limit { query.limit ≢ Some 0 }
+    requires scanned { length (Q.state scanned.old).lengths ≡ length plan.now.scanned }
 
     ensures text { IsTrue (Q.state scanned.old).is_steady
         → Answers (find_report plan.now query (Q.state scanned.old).files set.now) result
         (W.state out.old) (W.state out.new) }
     ensures lines { IsTrue (Q.state scanned.old).is_steady → IfErr result (OnScannedFault (λ file.
-        IsSomeAnd (start_cursor_of set.now query.cursor) (λ at. WritesLinesBefore
+        IsOkAnd (find_start_of plan.now query (Q.state scanned.old).files set.now)
+        (λ at. WritesLinesBefore
         (find_search_of plan.now.scanned (Q.state scanned.old).files set.now at query)
         file (W.state out.old) (W.state out.new)))) }
     ensures no_packet { IfErr result (λ fault. is_packet_file_fault fault ≡ false) }
@@ -55,25 +57,29 @@ pub(crate) fn write_find<Q: Shelf, W: Sink>(
     ensures scanned { LeavesScanned result (Q.state scanned.old) (Q.state scanned.new) }
     ensures sink { LeavesSink result (W.state out.old) (W.state out.new) }
 {
-    let Some(at) = start(set, query.cursor) else {
-        return Err(RunFault::OtherSet);
-    };
     let files = plan.scanned.as_slice();
+    let at = start(files, set, scanned, query.cursor)?;
     write_sightings(alloc, files, set, at, query, scanned, out)?;
     Ok(Status::Listed)
 }
 
-// Where a search begins, unless the cursor is one of another set.
-fn start(set: &RecoverySet, cursor: Option<(Hash16, Cursor)>) -> Option<Cursor>
-    ensures { result ≡ start_cursor_of set.now cursor }
+// Where a search begins, unless the cursor is one of another set or of other files.
+fn start<Q: Shelf>(
+    files: &[Scanned],
+    set: &RecoverySet,
+    scanned: &Q,
+    cursor: Option<CursorText>,
+) -> Result<Cursor, Foreign>
+    requires { length (Q.state scanned.now).lengths ≡ length files.now }
+    ensures { result ≡ start_of set.now.id
+        (list_of (names_of files.now) (Q.state scanned.now).lengths) cursor }
 {
-    let Some((of, at)) = cursor else {
-        return Some(Cursor {
+    match cursor {
+        None => Ok(Cursor {
             file: 0,
             offset: 0,
             slice: 0,
-        });
-    };
-    let id = set.id();
-    if of.0 == id.0 { Some(at) } else { None }
+        }),
+        Some(text) => text.cursor_for(set.id(), list_mark(scanned, files)),
+    }
 }

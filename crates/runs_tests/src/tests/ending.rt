@@ -12,7 +12,7 @@ const READ: RunFault = RunFault::Read {
 // An end, and its exit status and line where the argument is a, a line end and b.
 type Ending = (End, u8, &'static str);
 
-static ENDINGS: [Ending; 15] = [
+static ENDINGS: [Ending; 16] = [
     (End::Status(Status::Listed), 0, ""),
     (End::Status(Status::Complete), 0, ""),
     (End::Status(Status::Possible), 1, ""),
@@ -38,6 +38,11 @@ static ENDINGS: [Ending; 15] = [
         End::Run(RunFault::OtherSet),
         3,
         "parv: cursor of another set\n",
+    ),
+    (
+        End::Run(RunFault::OtherList),
+        3,
+        "parv: cursor of other files\n",
     ),
     (
         End::Run(RunFault::TooManyTails),

@@ -20,10 +20,10 @@ end
 
 $ find --limit 1 v.par2 x.bin | g | XXabcdefgh
 x.bin 2 e345eacbe656c0e6fd20ed63cb7b062c 0
-cursor 617cdc72ba53d94fe713fea2ae18f776:0:2:1
+cursor 2:617cdc72ba53d94fe713fea2ae18f776:53e12607a1d11cab6b927147969fc38c:0:2:1
 = 0
 
-$ find --cursor 617cdc72ba53d94fe713fea2ae18f776:0:2:1 v.par2 x.bin | g | XXabcdefgh
+$ find --cursor 2:617cdc72ba53d94fe713fea2ae18f776:53e12607a1d11cab6b927147969fc38c:0:2:1 v.par2 x.bin | g | XXabcdefgh
 x.bin 6 e345eacbe656c0e6fd20ed63cb7b062c 1
 end
 = 0
@@ -31,7 +31,7 @@ end
 $ find --limit 2 v.par2 x.bin | g | XXabcdefgh
 x.bin 2 e345eacbe656c0e6fd20ed63cb7b062c 0
 x.bin 6 e345eacbe656c0e6fd20ed63cb7b062c 1
-cursor 617cdc72ba53d94fe713fea2ae18f776:0:6:2
+cursor 2:617cdc72ba53d94fe713fea2ae18f776:53e12607a1d11cab6b927147969fc38c:0:6:2
 = 0
 
 $ find --limit=3 v.par2 x.bin | g | XXabcdefgh
@@ -40,7 +40,7 @@ x.bin 6 e345eacbe656c0e6fd20ed63cb7b062c 1
 end
 = 0
 
-$ find --cursor 617cdc72ba53d94fe713fea2ae18f776:4294967295:18446744073709551615:4294967295 v.par2 x.bin | g | XXabcdefgh
+$ find --cursor 2:617cdc72ba53d94fe713fea2ae18f776:53e12607a1d11cab6b927147969fc38c:4294967295:18446744073709551615:4294967295 v.par2 x.bin | g | XXabcdefgh
 end
 = 0
 

@@ -106,6 +106,19 @@ $ find --tails --cursor 00000000000000000000000000000000:0:0:0 v.par2 FILES | 25
 parv: cursor of another set
 = 3
 
+# So is one of other files. That of these is none such.
+$ find --tails --cursor 2:cb8c0edbc7e1c143fc59f0f64a062bda:53e12607a1d11cab6b927147969fc38c:0:0:0 v.par2 FILES | 257
+parv: cursor of other files
+= 3
+
+$ find --tails --cursor 2:cb8c0edbc7e1c143fc59f0f64a062bda:f20fb57c3ca77002317c508d115b25a9:0:0:0 v.par2 | 257
+parv: cursor of other files
+= 3
+
+$ find --tails --cursor 2:cb8c0edbc7e1c143fc59f0f64a062bda:f20fb57c3ca77002317c508d115b25a9:0:0:0 v.par2 FILES | 257
+parv: no usable set: too many tails
+= 4
+
 $ verify --tails v.par2 FILES | 257
 parv: no usable set: too many tails
 = 4
@@ -117,6 +130,10 @@ parv: no usable set: too many tails
 
 const TAKEN: &str = r"
 $ find v.par2 | 257
+end
+= 0
+
+$ find --cursor 2:cb8c0edbc7e1c143fc59f0f64a062bda:f20fb57c3ca77002317c508d115b25a9:0:0:0 v.par2 FILES | 257
 end
 = 0
 
@@ -160,14 +177,14 @@ fn ends_so(rt: &(impl Abort + AllocGlobal), row: &Row<'_>, unread: bool) {
 
 #[test]
 fn more_than_256_short_lengths_are_refused_unread(rt: HostRuntime) {
-    for row in rows_of(&rt, REFUSED, 5).as_slice() {
+    for row in rows_of(&rt, REFUSED, 8).as_slice() {
         ends_so(&rt, row, true);
     }
 }
 
 #[test]
 fn sets_of_256_short_lengths_are_searched(rt: HostRuntime) {
-    for row in rows_of(&rt, TAKEN, 5).as_slice() {
+    for row in rows_of(&rt, TAKEN, 6).as_slice() {
         ends_so(&rt, row, false);
     }
 }

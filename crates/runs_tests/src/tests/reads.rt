@@ -2,7 +2,9 @@ use crate::runs::{
     Outcome, ROOMY, Reads, Row, cut, has_ended, holds, is_same, is_text, number, parted, ran_row,
     replaced, rows_of, there,
 };
-use crate::tests::whole_rows::{OPTIONS_COUNT, WHOLE, WHOLE_COUNT, WITH_OPTIONS};
+use crate::tests::whole_rows::{
+    CURSORS_COUNT, OPTIONS_COUNT, WHOLE, WHOLE_COUNT, WITH_CURSORS, WITH_OPTIONS,
+};
 use parreport::RunFault;
 use parshelf::ReadFault;
 use std::process::Abort;
@@ -26,7 +28,7 @@ parv: cursor of another set
 # The first read gives the whole file; a second one would fail.
 $ find --limit 1 v.par2 x.bin | g | XXabcdefgh
 x.bin 2 e345eacbe656c0e6fd20ed63cb7b062c 0
-cursor 617cdc72ba53d94fe713fea2ae18f776:0:2:1
+cursor 2:617cdc72ba53d94fe713fea2ae18f776:53e12607a1d11cab6b927147969fc38c:0:2:1
 = 0 | 2
 
 # A fault names the file, and not the name that it goes by.
@@ -217,7 +219,7 @@ fn scanned_reads(
     let mut left = 0;
     for read in 1..1000u64 {
         let ran = ran_failing(rt, row, turn, read);
-        if ran.fault.is_none() {
+        if ran.line.as_slice() == row.line.as_bytes() {
             has_ended(rt, &ran, row);
             is_same(rt, &row.words, &left, &bytes);
             return read.saturating_sub(1);
@@ -261,6 +263,11 @@ fn all_fail_in_turn(rt: &(impl Abort + AllocGlobal), table: &str, count: usize) 
 #[test]
 fn each_failing_read_is_told_behind_whole_lines(rt: HostRuntime) {
     all_fail_in_turn(&rt, WHOLE, WHOLE_COUNT);
+}
+
+#[test]
+fn each_failing_read_is_told_behind_whole_lines_with_cursors(rt: HostRuntime) {
+    all_fail_in_turn(&rt, WITH_CURSORS, CURSORS_COUNT);
 }
 
 #[test]

@@ -1,6 +1,8 @@
 // What the libraries offer, by the path at which each call, type and field is found: a caller sees here
 // where to look. Calls that serve other libraries alone are left out, and laws, which do nothing.
 
+mod searches;
+
 use crate::runs::{is_same, must};
 use parfixtures::{WORKED, file_of, shelf_of};
 use parreport::Sink;
@@ -16,6 +18,11 @@ use std::{fs, process};
 const SET: parfield::Hash16 = parfield::Hash16(*b"a|\xdcr\xbaS\xd9O\xe7\x13\xfe\xa2\xae\x18\xf7v");
 
 const FILE: parfield::Hash16 = parfield::Hash16(*b"\xe3E\xea\xcb\xe6V\xc0\xe6\xfd \xedc\xcb{\x06,");
+
+// The mark of `x.bin` of ten bytes alone, as Python's `hashlib` has it.
+const LIST: parfield::Hash16 = parfield::Hash16(
+    *b"S\xe1&\x07\xa1\xd1\x1c\xabk\x92qG\x96\x9f\xc3\x8c",
+);
 
 // Wants that a value is this one.
 fn is<T: Debug + Drop + PartialEq>(rt: &impl Abort, got: T, wanted: T) {
@@ -78,6 +85,17 @@ fn of_parshelf_files_in_memory(rt: HostRuntime) -> Result<(), Fail> {
     is(&rt, &buf, b"abcdefgh");
     let digest = parfield::Hash16(*b"\xe8\xdc@\x81\xb144\xb4Q\x89\xa7 \xb7{h\x18");
     is(&rt, parshelf::digest_of(&mut shelf, 0), Ok(digest));
+    Ok(())
+}
+
+#[test]
+fn of_parshelf_lists(rt: HostRuntime) -> Result<(), Fail> {
+    let shelf = file_of(rt.alloc(), b"XXabcdefgh", 64, &[])?;
+    let name = parfield::Text::from_string(format!(in rt.alloc(); "x.bin")?);
+    is(&rt, parshelf::Named::name(&name), "x.bin");
+    let names = Vec::from_array(rt.alloc(), [name])?;
+    assert!(rt; shelf.count() as usize == names.len());
+    is(&rt, parshelf::list_mark(&shelf, &names), LIST);
     Ok(())
 }
 
@@ -224,123 +242,6 @@ fn of_parwindow(rt: HostRuntime) {
     );
     is(&rt, index.next_match(crc, digest, 0), Some(0));
     is(&rt, index.next_crc(crc, 1), None);
-}
-
-// The beginning of all files.
-const START: parfind::Cursor = parfind::Cursor {
-    file: 0,
-    offset: 0,
-    slice: 0,
-};
-
-// What the search of `XXabcdefgh` sees first.
-const FIRST: parfind::Sighting = parfind::Sighting {
-    file: 0,
-    offset: 2,
-    slice: 0,
-};
-
-#[test]
-fn of_parfind_searches(rt: HostRuntime) {
-    let index = index(&rt);
-    let mut shelf = must(&rt, shelf_of(rt.alloc(), &[b"XXabcdefgh"], 64, &[]));
-    let opened = parfind::Finder::open(rt.alloc(), &index, &shelf, START, parfind::Mode::Plain);
-    let mut finder = opened.expect(&rt, "error");
-    is(
-        &rt,
-        finder.step(&index, &mut shelf, 2),
-        Ok(parfind::Step::Spent),
-    );
-    is(
-        &rt,
-        finder.next(&index, &mut shelf),
-        Ok(parfind::Step::Hit(FIRST)),
-    );
-    let at = finder.cursor();
-    is(&rt, (at.file, at.offset, at.slice), (0, 2, 1));
-    let text = must(&rt, at.text(rt.alloc(), SET));
-    is(
-        &rt,
-        text.as_slice(),
-        b"617cdc72ba53d94fe713fea2ae18f776:0:2:1",
-    );
-    is(&rt, parfind::split_cursor(&text), Some((SET, at)));
-    is(&rt, parfind::read_cursor(&text, SET), Ok(at));
-    is(
-        &rt,
-        parfind::read_cursor(&text, FILE),
-        Err(parfind::CursorFault::OtherSet),
-    );
-}
-
-#[test]
-fn of_parfind_drives(rt: HostRuntime) {
-    let index = index(&rt);
-    let mut shelf = must(&rt, shelf_of(rt.alloc(), &[b"XXabcdefgh"], 64, &[]));
-    let calls = [
-        parfind::Call::Next,
-        parfind::Call::Reopen,
-        parfind::Call::Step(1),
-    ];
-    let drive = must(
-        &rt,
-        parfind::drive(
-            rt.alloc(),
-            &calls,
-            &index,
-            &mut shelf,
-            START,
-            parfind::Mode::Tails,
-        ),
-    );
-    let parfind::Drive {
-        answers,
-        cursor,
-        ..
-    } = drive;
-    let hit = parfind::Answer::Step(Ok(parfind::Step::Hit(FIRST)));
-    let spent = parfind::Answer::Step(Ok(parfind::Step::Spent));
-    is(
-        &rt,
-        answers.as_slice(),
-        &[hit, parfind::Answer::Reopened, spent],
-    );
-    is(&rt, cursor.offset, 3);
-}
-
-#[test]
-fn of_parfind_surveys(rt: HostRuntime) {
-    let index = index(&rt);
-    assert!(rt; index.slices() == 2);
-    let mut shelf = must(&rt, shelf_of(rt.alloc(), &[b"Xefgh"], 64, &[1]));
-    let mut found = [false; 2];
-    let mode = parfind::Mode::Tails;
-    let fault = parfind::SurveyFault::Read(0, parshelf::ReadFault::Failed);
-    is(
-        &rt,
-        parfind::survey(rt.alloc(), &index, &mut shelf, &mut found, mode),
-        Err(fault),
-    );
-    is(
-        &rt,
-        parfind::survey(rt.alloc(), &index, &mut shelf, &mut found, mode),
-        Ok(()),
-    );
-    is(&rt, &found, &[false, true]);
-    let mut again = [false; 2];
-    let mut window = parwindow::Window::new(rt.alloc(), index.size() as usize).expect(&rt, "error");
-    is(
-        &rt,
-        parfind::survey_in(
-            &index,
-            &mut shelf,
-            &mut window,
-            &mut again,
-            parfind::Mode::Plain,
-        ),
-        Ok(()),
-    );
-    is(&rt, again, found);
 }
 
 // These words.

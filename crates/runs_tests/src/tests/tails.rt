@@ -67,26 +67,26 @@ fn find_sees_short_slices_before_other_bytes(rt: HostRuntime) {
 const RESUMED: &str = "\
 $ find --tails --limit 1 v.par2 x.bin | ab_abcd_a | abcd
 x.bin 0 01010101010101010101010101010101 0
-cursor 3fb741695895a858b9947b2d67b83ef3:0:0:1
+cursor 2:3fb741695895a858b9947b2d67b83ef3:74b74174a38157c2d4f1dddc8f4ab3da:0:0:1
 = 0
 
-$ find --tails --cursor 3fb741695895a858b9947b2d67b83ef3:0:0:1 v.par2 x.bin | ab_abcd_a | abcd
+$ find --tails --cursor 2:3fb741695895a858b9947b2d67b83ef3:74b74174a38157c2d4f1dddc8f4ab3da:0:0:1 v.par2 x.bin | ab_abcd_a | abcd
 x.bin 0 02020202020202020202020202020202 0
 x.bin 0 03030303030303030303030303030303 0
 end
 = 0
 
-$ find --cursor 3fb741695895a858b9947b2d67b83ef3:0:0:1 v.par2 x.bin | ab_abcd_a | abcd
+$ find --cursor 2:3fb741695895a858b9947b2d67b83ef3:74b74174a38157c2d4f1dddc8f4ab3da:0:0:1 v.par2 x.bin | ab_abcd_a | abcd
 x.bin 0 02020202020202020202020202020202 0
 end
 = 0
 
 $ find --limit 1 v.par2 x.bin | ab_abcd_a | abcd
 x.bin 0 02020202020202020202020202020202 0
-cursor 3fb741695895a858b9947b2d67b83ef3:0:0:2
+cursor 2:3fb741695895a858b9947b2d67b83ef3:74b74174a38157c2d4f1dddc8f4ab3da:0:0:2
 = 0
 
-$ find --cursor 3fb741695895a858b9947b2d67b83ef3:0:0:2 --tails v.par2 x.bin | ab_abcd_a | abcd
+$ find --cursor 2:3fb741695895a858b9947b2d67b83ef3:74b74174a38157c2d4f1dddc8f4ab3da:0:0:2 --tails v.par2 x.bin | ab_abcd_a | abcd
 x.bin 0 03030303030303030303030303030303 0
 end
 = 0

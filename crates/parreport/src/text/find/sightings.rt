@@ -1,4 +1,4 @@
-ghost use Rattle.std.specs.Prelude.{◌≡◌, ◌≢◌, IsTrue, IfErr, Some};
+ghost use Rattle.std.specs.Prelude.{◌≡◌, ◌≢◌, length, IsTrue, IfErr, Some};
 ghost use Rattle.parfind.specs.Finders.{BelongsTo};
 ghost use Rattle.parwindow.specs.Index.{slice_set_of};
 ghost use Rattle.parreport.specs.Faults.{listing_of, IsFindFault, IsSearchFault, OnScannedFault};
@@ -15,7 +15,7 @@ use crate::text::find::lines::{write_cursor, write_end, write_sighting};
 use parfind::{Cursor, Finder, Step};
 use parplan::Scanned;
 use parset::RecoverySet;
-use parshelf::{Shelf, Sink};
+use parshelf::{Shelf, Sink, list_mark};
 use parwindow::Index;
 use std::alloc::Global;
 
@@ -30,7 +30,8 @@ pub fn write_sightings<Q: Shelf, W: Sink>(
     shelf: &mut Q,
     out: &mut W,
 ) -> Result<(), RunFault>
-    requires { query.limit ≢ Some 0 }
+    requires limit { query.limit ≢ Some 0 }
+    requires scanned { length (Q.state shelf.old).lengths ≡ length files.now }
 
     // The text on a steady shelf.
     ensures text { IsTrue (Q.state shelf.old).is_steady
@@ -65,6 +66,7 @@ fn write_from<Q: Shelf, W: Sink>(
     out: &mut W,
 ) -> Result<(), RunFault>
     requires limit { query.limit ≢ Some 0 }
+    requires scanned { length (Q.state shelf.old).lengths ≡ length files.now }
     requires index { index.now ≡ slice_set_of set.now.size set.now.slices }
     requires belongs { BelongsTo finder.old index.now (Q.state shelf.old) }
     requires mode { finder.old.mode ≡ mode_of query.tails }
@@ -101,7 +103,8 @@ fn write_from<Q: Shelf, W: Sink>(
             }
         }
     }
-    write_cursor(alloc, set.id(), finder.cursor(), out)
+    let list = list_mark(shelf, files);
+    write_cursor(alloc, set.id(), list, finder.cursor(), out)
 }
 
 // How many lines are left once one more is written, where there is a limit.

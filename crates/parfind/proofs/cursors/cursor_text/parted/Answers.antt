@@ -1,5 +1,5 @@
 use Rattle.std.proofs.Common.{sym}
-use Rattle.parfind.proofs.CursorTextLaws.{slice_split-none, slice_split-some}
+use Rattle.parfind.proofs.ColonLaws.{slice_split-none, slice_split-some}
 use Rattle.parfind.proofs.cursors.cursor_text.parted.Goals as goal
 
 pub returns-in_err-at-clause-whole : goal.returns-in_err-at-clause-whole

@@ -1,5 +1,5 @@
-use Rattle.parfind.proofs.CursorTextLaws.{has_one_pair, reads_its_text}
+use Rattle.parfind.proofs.CursorTextLaws.{has_one_text, reads_its_text}
 use Rattle.parfind.proofs.cursors.laws.cursor_text_law.Goals as goal
 
 pub returns : goal.returns
-returns c = record { read = reads_its_text; one = has_one_pair }
+returns c = record { read = reads_its_text; one = has_one_text }

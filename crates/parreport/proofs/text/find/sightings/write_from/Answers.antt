@@ -13,6 +13,7 @@ use Rattle.parreport.specs.SetSearch.{mode_of}
 use Rattle.parshelf.specs.SinkState.{SinkState}
 use Rattle.parreport.proofs.FindLaws.{hands_none, hands_front, hands_one, hands_refused, ends_text, ends_refused, stops_text, stops_refused, keeps_after_fault, gives_from}
 use Rattle.parreport.proofs.LineLaws.{fault_text, last_text, line_reads, line_sink, line_keeps, line_fault}
+use Rattle.parreport.proofs.RunLaws.{lengths_kept, list_same}
 use Rattle.parreport.proofs.text.find.sightings.write_from.Goals as goal
 
 pub loop-left-preserved-in-Ok-Hit : goal.loop-left-preserved-in-Ok-Hit
@@ -89,7 +90,9 @@ returns-clause-text g c = λ steady.
     let new : SinkState = g.W.Sink.state c.write_cursor.new.out in
     let none : c.loop-left.left ≡ Some 0 = search rules in
     let handed = rw none at (c.loop-left.invariant.handed steady) in
-    let line = rw (c.id.ensures, c.cursor.ensures) at c.write_cursor.ensures in
+    let list = list_same c.list_mark-list.result s.names _ _ c.list_mark-list.ensures
+    (lengths_kept old _ (g.met.Q.Shelf.well_formed c.args.shelf.now) steady c.loop-left.invariant.reads) in
+    let line = rw (c.id.ensures, c.cursor.ensures, list) at c.write_cursor.ensures in
     last_text _ _ c.write_cursor.result before mid new line
     (hands_front s (Some 0) now before mid handed)
     (stops_text s now before mid handed c.requires.limit new)
@@ -131,10 +134,10 @@ pub returns-clause-lines : goal.returns-clause-lines
 returns-clause-lines g c = grind (arith, common_steps) steps 400000
 
 pub returns-clause-reads : goal.returns-clause-reads
-returns-clause-reads g c = grind (arith, common_steps) steps 100000
+returns-clause-reads g c = grind (arith, common_steps) steps 1000000
 
 pub returns-clause-sink : goal.returns-clause-sink
-returns-clause-sink g c = grind (arith, common_steps) steps 100000
+returns-clause-sink g c = grind (arith, common_steps) steps 1000000
 
 pub returns-in-Ok-Done-clause-reads : goal.returns-in-Ok-Done-clause-reads
 returns-in-Ok-Done-clause-reads g c =

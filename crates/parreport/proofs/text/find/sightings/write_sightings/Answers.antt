@@ -11,7 +11,7 @@ use Rattle.parreport.proofs.RunLaws.{few_of_set, report_of_few, unstarted_scanne
 use Rattle.parreport.proofs.text.find.sightings.write_sightings.Goals as goal
 
 pub returns-in_err-index-clause-text : goal.returns-in_err-index-clause-text
-returns-in_err-index-clause-text g c = grind (arith, common_steps) steps 100000
+returns-in_err-index-clause-text g c = grind (arith, common_steps) steps 1000000
 
 pub returns-in_err-index-clause-lines : goal.returns-in_err-index-clause-lines
 returns-in_err-index-clause-lines g c = grind (arith, common_steps) steps 100000
