@@ -1,14 +1,19 @@
 #!/usr/bin/env python3
 """Measures parv against `par2 verify`, case by case.
 
-usage: bench.py [small|large [CASE]]
+usage: bench.py [small|large [CASE ..]]
 
-With CASE only those cases are measured whose names begin so. Needs par2 (Debian package par2).
+With CASE only those cases are measured whose names begin so, or like one of several, and only their sets
+are made: `bench.py large 61 "2,000" "find --tails"`. Needs par2 (Debian package par2).
 Of each case the two run in turn, and the best of the rounds counts: processor time (user and system)
 against par2 on one thread, time on the clock against par2 with as many threads as it takes by itself,
 and peak memory. Each case is run once before it is measured, to see that it is what it says: both
 verdicts, and what parv lists. A case isn't measured where a run would take longer than the limit:
 where parv hashes each window anew, that is told by the smallest set, and such a run isn't begun.
+
+par2 has no --tails, so in the cases with that flag parv without it stands in par2's place, as `plain`.
+Their numbers are those of own lengths below the slice size. `find` meets no slice there. `verify` has so many
+files, the last of which has another last byte, and needs the last slice of that one alone.
 
 With BEFORE, another parv runs in turn with them. Each case then has a second line, of that one beside
 par2, and at the end of the first the processor time of parv by that of the one before. Both must give the
@@ -52,11 +57,22 @@ VERIFIED, LISTED, SEEN = r"^need (\d+) have \d+$", r"^\S+ \d+ \d+ recvslic ", r"
 
 
 class Case(NamedTuple):
-    """What is measured: a folder of the sets, parv's command, and par2's exit status over that folder."""
+    """What is measured: a folder of the sets, parv's command, the exit status over that folder of par2 or of
+    what stands in its place, and whether parv gets --tails."""
     name: str
     folder: str
     command: str
     status: int
+    tails: bool = False
+
+    @property
+    def words(self):
+        return [self.command, "--tails"] if self.tails else [self.command]
+
+    @property
+    def beside(self):
+        """What the program is measured beside."""
+        return "plain" if self.tails else "par2"
 
 
 CASES = [
@@ -70,6 +86,12 @@ CASES = [
     Case("find, one byte left out", "left out", "find", 1),
     Case("find, every slice damaged", "every slice", "find", 2),
     Case("packets of a volume", "volume", "packets", 1),
+    Case("61 of 64 files", "61 of 64", "verify", 2),
+    Case("61 of 64, a byte flipped", "61 of 64, flipped", "verify", 2),
+    Case("2,000 of 2,000 files", "2000 of 2000", "verify", 0),
+    Case("1,998 of 2,000 files", "1998 of 2000", "verify", 2),
+    *[Case(f"find --tails, {count}", f"{count} tails", "find", 0, True) for count in (1, 16, 256)],
+    *[Case(f"verify --tails, {count}", f"{count} tails, flipped", "verify", 1, True) for count in (1, 16, 256)],
 ]
 
 
@@ -120,7 +142,7 @@ def best(runs):
 
 
 def by_parv(program, case, folder):
-    return [program, case.command, *packet_files(folder), *data_files(folder)]
+    return [program, *case.words, *packet_files(folder), *data_files(folder)]
 
 
 def by_par2(folder, options=()):
@@ -135,13 +157,20 @@ def one_thread():
     return ([], options) if "-t1" in options else (["taskset", "-c", str(min(os.sched_getaffinity(0)))], [])
 
 
+def beside(case, folder, alone):
+    """What stands beside parv: par2 on one thread and par2 by itself, or twice parv without the flag."""
+    if case.tails:
+        return [by_parv(PARV, case._replace(tails=False), folder)] * 2
+    words, options = alone
+    return [words + by_par2(folder, options), by_par2(folder)]
+
+
 def expected(case, shape):
     """What parv's text has of the case: the slices that it needs, or how many it sees or lists."""
-    slices = shape.data // shape.slice_size
     if case.command == "packets":
         return shape.volume // shape.slice_size
-    lost = {"flipped": 1, "left out": 1, "every slice": slices}.get(case.folder, 0)
-    return lost if case.command == "verify" else slices - lost
+    lost = shape.lost(case.folder)
+    return lost if case.command == "verify" else shape.slices - lost
 
 
 def told(case, text):
@@ -164,12 +193,12 @@ def answer(program, case, folder, limit):
 
 
 def disagreement(case, shape, ours, theirs):
-    """How the answer of a parv, or the exit status of par2, isn't the case's; or nothing."""
+    """How the answer of a parv, or the exit status of what stands beside it, isn't the case's; or nothing."""
     status = ours.status
     if case.command != "verify" and status == 0:
         status = case.status
     if (status, theirs, ours.number) != (case.status, case.status, expected(case, shape)):
-        return f"NOT THE CASE: parv {status}, par2 {theirs} for {case.status}, " \
+        return f"NOT THE CASE: parv {status}, {case.beside} {theirs} for {case.status}, " \
                f"{ours.number} slices for {expected(case, shape)}"
     return None
 
@@ -186,10 +215,11 @@ def difference(ours, before):
 
 
 def window_cost(program, case, probe, sets, limit):
-    """Seconds for each byte of each window where parv hashes each anew, by the smallest set; 0 where it doesn't."""
-    folder = os.path.join(sets, case.folder)
-    if case.command == "packets":
+    """Seconds for each byte of each window where parv hashes each anew, by the smallest set; 0 where it doesn't,
+    and where that set has no such case."""
+    if case.command == "packets" or case.folder not in probe.folders:
         return 0
+    folder = os.path.join(sets, case.folder)
     runs = [run(by_parv(program, case, folder), folder, limit) for _ in range(2)]
     seconds = limit if None in runs else best(runs).processor
     return seconds / (probe.slice_size * probe.data) if seconds > PLAIN else 0
@@ -200,16 +230,14 @@ def ratio(ours, theirs):
 
 
 def in_turn(programs, case, folder, limit, rounds, alone):
-    """The best runs of each program, of par2 on one thread and of par2 by itself; nothing for one that was stopped."""
-    words, options = alone
-    commands = [*(by_parv(program, case, folder) for program in programs),
-                words + by_par2(folder, options), by_par2(folder)]
+    """The best runs of each program, and of the two that stand beside; nothing for one that was stopped."""
+    commands = [*(by_parv(program, case, folder) for program in programs), *beside(case, folder, alone)]
     turns = [[run(command, folder, limit) for command in commands] for _ in range(rounds)]
     return [None if None in runs else best(runs) for runs in zip(*turns)]
 
 
 def columns(ours, theirs, threads):
-    """A program beside par2 on one thread, and beside par2 by itself."""
+    """A program, by the processor and on the clock, beside the two that stand there."""
     return f"{ours.processor:8.3f} {theirs.processor:8.3f} {ratio(ours.processor, theirs.processor)} " \
            f"{ours.wall:9.3f} {threads.wall:8.3f} {ratio(ours.wall, threads.wall)} " \
            f"{ours.memory / 1024:8.1f} {theirs.memory / 1024:7.1f}"
@@ -223,9 +251,9 @@ def rows(programs, costs, case, shape, folder, limit, rounds, alone):
     if not any(answers):
         return [over for _ in programs], None
     differs = difference(*answers) if len(programs) == 2 and all(answers) else None
-    theirs = run(by_par2(folder), folder, limit)
+    theirs = run(beside(case, folder, alone)[-1], folder, limit)
     if theirs is None:
-        return [f"not measured (par2 over {limit:g} s)" for _ in programs], differs
+        return [f"not measured ({case.beside} over {limit:g} s)" for _ in programs], differs
     texts = [disagreement(case, shape, ours, theirs.status) if ours else over for ours in answers]
     measured = [place for place, text in enumerate(texts) if text is None]
     if not measured:
@@ -236,6 +264,12 @@ def rows(programs, costs, case, shape, folder, limit, rounds, alone):
     if len(runs) == 2 and all([*runs, theirs, threads]):
         texts[0] += f"        {ratio(runs[0].processor, runs[1].processor)}"
     return texts, differs
+
+
+def sets_for(cases, size, shapes):
+    """The folder of each shape that has one of these cases."""
+    return {shape: sets_of(ROOT, size, shape) for shape in shapes
+            if any(case.folder in shape.folders for case in cases)}
 
 
 def say_machine(size, rounds, limit, alone):
@@ -251,12 +285,24 @@ def say_machine(size, rounds, limit, alone):
     print(f"{size} sets, best of {rounds} rounds; a run may take {limit:g} s")
 
 
+def say_heading(other):
+    print(f"\n{'':35} processor time, s         clock, s                  peak, MiB")
+    print(f"{'case':26} {'slices':8} {'parv':>8} {other:>8}  ratio {'parv':>9} {other:>8}  ratio "
+          f"{'parv':>8} {other:>7}{'   parv/before' if BEFORE else ''}")
+
+
+def chosen():
+    """The size and the cases that are asked for."""
+    size, *begins = sys.argv[1:] or ["small"]
+    cases = [case for case in CASES if case.name.startswith(tuple(begins or [""]))]
+    if size not in SHAPES or not all(any(case.name.startswith(begin) for case in cases) for begin in begins):
+        sys.exit("usage: bench.py [small|large [CASE ..]], where a CASE is how one of these begins: "
+                 + "; ".join(case.name for case in CASES))
+    return size, cases
+
+
 def main():
-    size = sys.argv[1] if len(sys.argv) > 1 else "small"
-    begin = sys.argv[2] if len(sys.argv) > 2 else ""
-    cases = [case for case in CASES if case.name.startswith(begin)]
-    if size not in SHAPES or not cases:
-        sys.exit("usage: bench.py [small|large [CASE]]")
+    size, cases = chosen()
     if not shutil.which("par2"):
         sys.exit("bench: par2 isn't here, so nothing is measured: apt-get update && apt-get install par2")
     if not os.access(PARV, os.X_OK):
@@ -268,19 +314,18 @@ def main():
     limit = float(os.environ.get("LIMIT") or LIMIT[size])
     alone = one_thread()
     probe = SHAPES["small"][0]
-    probes = sets_of(ROOT, "small", probe)
-    folders = [sets_of(ROOT, size, shape) for shape in SHAPES[size]]
+    probes, sets = sets_for(cases, "small", [probe]), sets_for(cases, size, SHAPES[size])
     say_machine(size, rounds, limit, alone)
-    print(f"\n{'':35} processor time, s         clock, s                  peak, MiB")
-    print(f"{'case':26} {'slices':8} {'parv':>8} {'par2':>8}  ratio {'parv':>9} {'par2':>8}  ratio "
-          f"{'parv':>8} {'par2':>7}{'   parv/before' if BEFORE else ''}")
-    wrong, compared, differing = False, 0, 0
+    wrong, compared, differing, other = False, 0, 0, None
     for case in cases:
-        costs = [window_cost(program, case, probe, probes, limit) for program in programs]
-        for shape, sets in zip(SHAPES[size], folders):
-            folder = os.path.join(sets, case.folder)
-            if not os.path.exists(folder):
+        if case.beside != other:
+            other = case.beside
+            say_heading(other)
+        costs = [window_cost(program, case, probe, probes.get(probe), limit) for program in programs]
+        for shape in SHAPES[size]:
+            if case.folder not in shape.folders:
                 continue
+            folder = os.path.join(sets[shape], case.folder)
             texts, differs = rows(programs, costs, case, shape, folder, limit, rounds, alone)
             wrong = wrong or any(text.startswith("NOT") for text in texts)
             print(f"{case.name:26} {size_text(shape.slice_size):8} {texts[0]}", flush=True)
@@ -289,7 +334,7 @@ def main():
             compared += differs is not None
             if differs:
                 differing += 1
-                print(f"DIFFERENT ANSWERS: {differs}: parv {case.command} in {folder}", flush=True)
+                print(f"DIFFERENT ANSWERS: {differs}: parv {' '.join(case.words)} in {folder}", flush=True)
     if BEFORE:
         print(f"DIFFERENT ANSWERS in {differing} of {compared} cases" if differing
               else f"The two programs answer alike in {compared} cases.")

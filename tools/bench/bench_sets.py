@@ -1,8 +1,9 @@
 """The sets that bench.py measures: made with par2 from a fixed seed, once, and kept.
 
 Of each slice size there is a folder with a folder for each case, which holds the packet files and
-the files as that case has them. A folder is made aside and renamed, so that it is there whole or
-not at all; its file `made` tells what it was made of, and another bench makes it anew.
+the files as that case has them; so there is of each number of files of one length, and of each number
+of tails. A folder is made aside and renamed, so that it is there whole or not at all; its file `made`
+tells what it was made of, and another bench makes it anew.
 """
 
 import hashlib
@@ -11,6 +12,7 @@ import shutil
 import subprocess
 from typing import NamedTuple
 
+from bench.search_cost import packets_with_tails, searched, tails_about, written
 from make.damage import flip, in_file, insert, remove
 
 VERSION = 1  # of what is made here
@@ -26,12 +28,120 @@ class Shape(NamedTuple):
     files: int
     volume: int
 
+    @property
+    def name(self):
+        return size_text(self.slice_size).replace(" ", "")
+
+    @property
+    def folders(self):
+        return ["intact", *DAMAGED, "many", *(["volume"] if self.volume else [])]
+
+    @property
+    def slices(self):
+        return self.data // self.slice_size
+
+    def lost(self, folder):
+        """How many slices aren't there."""
+        return {"flipped": 1, "left out": 1, "every slice": self.slices}.get(folder, 0)
+
+    def make(self, folder):
+        intact = os.path.join(folder, "intact")
+        os.makedirs(intact)
+        write_data(os.path.join(intact, DATA), self.data)
+        create(intact, self.slice_size, 1)
+        for case in DAMAGED:
+            damage(folder, case, self)
+        lengths = [self.data // self.files - 17 * number for number in range(self.files)]
+        make_many(os.path.join(folder, "many"), self.slice_size, lengths)
+        if self.volume:
+            make_volume(os.path.join(folder, "volume"), self)
+
+
+class Files(NamedTuple):
+    """A set of files of one length: how many are gone, and in how many of the others a byte is flipped then."""
+    slice_size: int
+    length: int
+    files: int
+    gone: int
+    flipped: int
+
+    @property
+    def name(self):
+        return f"{self.files}files"
+
+    @property
+    def folders(self):
+        rest = f"{self.files - self.gone} of {self.files}"
+        return [f"{self.files} of {self.files}", rest, *([f"{rest}, flipped"] if self.flipped else [])]
+
+    @property
+    def data(self):
+        return self.files * self.length
+
+    @property
+    def slices(self):
+        return self.data // self.slice_size
+
+    def lost(self, folder):
+        gone = self.gone * self.length // self.slice_size
+        return dict(zip(self.folders, [0, gone, gone + self.flipped]))[folder]
+
+    def make(self, folder):
+        whole, *others = [os.path.join(folder, name) for name in self.folders]
+        os.makedirs(whole)
+        for number in range(self.files):
+            write_data(os.path.join(whole, f"{number:04}.bin"), self.length)
+        create(whole, self.slice_size, 1)
+        names = data_files(whole)
+        for place, other in enumerate(others):
+            link_all(whole, other, names[self.gone:])
+            for name in names[-self.flipped:] if place else []:
+                damage_copy(whole, other, name, flip, self.length // 2)
+
+
+class Tails(NamedTuple):
+    """Sets with so many own lengths below their slice size, and bytes that are searched for them."""
+    slice_size: int
+    data: int
+    files: int
+
+    @property
+    def name(self):
+        return f"{self.files}tails"
+
+    @property
+    def folders(self):
+        return [f"{self.files} tails", f"{self.files} tails, flipped"]
+
+    @property
+    def slices(self):
+        return self.files
+
+    def lost(self, folder):
+        return dict(zip(self.folders, [self.files, 1]))[folder]
+
+    def make(self, folder):
+        """A set that nothing is seen of, and one of files, of which the last has another last byte."""
+        nowhere, flipped = [os.path.join(folder, name) for name in self.folders]
+        os.makedirs(nowhere)
+        written(nowhere, "set", packets_with_tails(self.slice_size, tails_about(self.slice_size * 3 // 4, self.files)))
+        searched(nowhere, self.data)
+        longest = self.data // self.files - 1
+        make_many(flipped, self.slice_size, range(longest, longest - self.files, -1))
+        in_file(os.path.join(flipped, data_files(flipped)[-1]), flip, -1)
+
+
+DAMAGED = ["renamed", "flipped", "left out", "in front", "every slice"]
 
 SHAPES = {
     "small": [Shape(2 * KIB, 64 * KIB, 16, 0), Shape(64 * KIB, 4 * MIB, 16, 4 * MIB),
-              Shape(MIB, 16 * MIB, 16, 32 * MIB)],
+              Shape(MIB, 16 * MIB, 16, 32 * MIB),
+              Files(16 * KIB, 64 * KIB, 64, 3, 1), Files(KIB, 4 * KIB, 2000, 2, 0),
+              Tails(KIB, 4 * MIB, 1), Tails(KIB, 4 * MIB, 16), Tails(KIB, MIB, 256)],
     "large": [Shape(2 * KIB, 64 * MIB, 256, 0), Shape(64 * KIB, 256 * MIB, 256, 128 * MIB),
-              Shape(MIB, 256 * MIB, 256, 128 * MIB)],
+              Shape(MIB, 256 * MIB, 256, 128 * MIB),
+              Files(MIB, 4 * MIB, 64, 3, 1), Files(4 * KIB, 32 * KIB, 2000, 2, 0),
+              Tails(4 * KIB, 64 * MIB, 1), Tails(4 * KIB, 16 * MIB, 16), Tails(4 * KIB, 4 * MIB, 256)],
 }
 
 
@@ -68,34 +178,41 @@ def flip_each(data, size):
         flip(data, at)
 
 
+def link_all(source, target, names):
+    """A folder with the packet files of another, and these of its files."""
+    os.mkdir(target)
+    for name in [*packet_files(source), *names]:
+        os.link(os.path.join(source, name), os.path.join(target, name))
+
+
+def damage_copy(source, target, name, *damage):
+    """A file is there for itself, damaged, and no link."""
+    path = os.path.join(target, name)
+    if os.path.exists(path):
+        os.remove(path)
+    shutil.copyfile(os.path.join(source, name), path)
+    in_file(path, *damage)
+
+
 def damage(folder, case, shape):
     """A folder beside the intact one, in which the file is as the case has it."""
     intact, target = os.path.join(folder, "intact"), os.path.join(folder, case)
-    os.mkdir(target)
-    for name in packet_files(intact):
-        os.link(os.path.join(intact, name), os.path.join(target, name))
-    source, middle = os.path.join(intact, DATA), shape.data // 2 + shape.slice_size // 3
+    link_all(intact, target, [])
     if case == "renamed":
-        os.link(source, os.path.join(target, OTHER))
+        os.link(os.path.join(intact, DATA), os.path.join(target, OTHER))
         return
-    file = os.path.join(target, DATA)
-    shutil.copyfile(source, file)
-    if case == "flipped":
-        in_file(file, flip, middle)
-    if case == "left out":
-        in_file(file, remove, middle, 1)
-    if case == "in front":
-        in_file(file, insert, 0, b"x")
-    if case == "every slice":
-        in_file(file, flip_each, shape.slice_size)
+    middle = shape.data // 2 + shape.slice_size // 3
+    damages = {"flipped": (flip, middle), "left out": (remove, middle, 1), "in front": (insert, 0, b"x"),
+               "every slice": (flip_each, shape.slice_size)}
+    damage_copy(intact, target, DATA, *damages[case])
 
 
-def make_many(folder, shape):
+def make_many(folder, slice_size, lengths):
     """Files of unlike lengths, whose last slices are short."""
     os.mkdir(folder)
-    for number in range(shape.files):
-        write_data(os.path.join(folder, f"{number:03}.bin"), shape.data // shape.files - 17 * number)
-    create(folder, shape.slice_size, 1)
+    for number, length in enumerate(lengths):
+        write_data(os.path.join(folder, f"{number:03}.bin"), length)
+    create(folder, slice_size, 1)
 
 
 def make_volume(folder, shape):
@@ -107,21 +224,9 @@ def make_volume(folder, shape):
     os.remove(data)
 
 
-def make(folder, shape):
-    intact = os.path.join(folder, "intact")
-    os.makedirs(intact)
-    write_data(os.path.join(intact, DATA), shape.data)
-    create(intact, shape.slice_size, 1)
-    for case in ["renamed", "flipped", "left out", "in front", "every slice"]:
-        damage(folder, case, shape)
-    make_many(os.path.join(folder, "many"), shape)
-    if shape.volume:
-        make_volume(os.path.join(folder, "volume"), shape)
-
-
 def sets_of(root, size, shape):
     """The folder of the sets of this shape, which are made if they aren't there."""
-    folder = os.path.join(root, size, size_text(shape.slice_size).replace(" ", ""))
+    folder = os.path.join(root, size, shape.name)
     made, wanted = os.path.join(folder, "made"), f"{VERSION} {tuple(shape)}\n"
     if os.path.exists(made):
         with open(made) as file:
@@ -131,7 +236,7 @@ def sets_of(root, size, shape):
     print(f"makes {folder}", flush=True)
     part = folder + ".part"
     shutil.rmtree(part, ignore_errors=True)
-    make(part, shape)
+    shape.make(part)
     with open(os.path.join(part, "made"), "w") as file:
         file.write(wanted)
     os.rename(part, folder)

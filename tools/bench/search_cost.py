@@ -88,6 +88,12 @@ def crc_of_none(size):
     return next(crc for crc in map(zlib.crc32, map(numbers, range(1 << 32))) if crc not in windows)
 
 
+def tails_about(length, count):
+    """So many own lengths about this one, each with a CRC-32 that no window of it has."""
+    first = length - count // 2
+    return [(tail, crc_of_none(tail)) for tail in range(first, first + count)]
+
+
 def packets_with_tails(size, crcs):
     """A set of one file for each of these lengths, whose only slice has this CRC-32 before the zeros that fill it."""
     ids, bodies = ids_of(len(crcs), 1), []
@@ -138,11 +144,9 @@ def cost_of_sizes(folder):
 
 
 def cost_of_tails(folder):
-    most = TAIL_COUNTS[-1]
     print("| Own lengths | " + " | ".join(f"of about {length // KIB} KiB" for length in TAILS) + " |")
     print("|---" * (len(TAILS) + 1) + "|", flush=True)
-    crcs = {length: [(tail, crc_of_none(tail)) for tail in range(length - most // 2, length + most // 2)]
-            for length in TAILS}
+    crcs = {length: tails_about(length, TAIL_COUNTS[-1]) for length in TAILS}
     for count in TAIL_COUNTS:
         path, row = searched(folder, 64 * MIB if count < 64 else 16 * MIB), f"| {count} |"
         for length in TAILS:
