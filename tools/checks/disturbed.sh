@@ -48,6 +48,14 @@ for words in "two.par2 turned" "three.par2 abcd"; do
         reads "$named" $command --tails "tails/${words% *}" "tails/${words#* }"
     done
 done
+# A cursor of either version is read where its list is that of the files; where x.bin has grown, it isn't read.
+set=617cdc72ba53d94fe713fea2ae18f776
+list=53e12607a1d11cab6b927147969fc38c
+mkdir grown
+{ cat x.bin; printf X; } > grown/x.bin
+reads "$(about v.par2 x.bin)" find --cursor 2:$set:$list:0:2:1 v.par2 x.bin
+reads "$(about v.par2 x.bin)" find --cursor $set:0:2:1 v.par2 x.bin
+reads "$(about v.par2)" find --cursor 2:$set:$list:0:2:1 -B grown v.par2 grown/x.bin
 # Any error of the system is a fault: a call that was interrupted (4), want of memory (12), a file that is gone (116).
 for number in 4 12 116; do
     ERROR=$number names "$(about v.par2 x.bin)" FAIL_READ find v.par2 x.bin
@@ -67,6 +75,7 @@ for what in FAIL_OPEN FAIL_STAT; do
 done
 disturb SHORT packets none.par2
 for words in "packets v.par2 w.par2" "set v.par2 w.par2" "find v.par2 x.bin y.bin" "verify v.par2 x.bin y.bin" \
+    "find --cursor 2:$set:$list:0:2:1 v.par2 x.bin" "find --cursor $set:0:2:1 v.par2 x.bin" \
     "find --tails tails/two.par2 tails/turned" "verify --tails tails/two.par2 tails/turned" \
     "find --tails tails/three.par2 tails/abcd" "verify --tails tails/three.par2 tails/abcd"; do
     # shellcheck disable=SC2086

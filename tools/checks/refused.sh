@@ -3,6 +3,8 @@
 # fails too; each end leaves nothing behind. (More sets: refused_sets.sh.)
 . "$(dirname "$0")/disturbing.sh"
 head -c 92 v.par2 > main.par2
+mkdir grown
+{ cat x.bin; printf X; } > grown/x.bin
 
 disturb REFUSE packets v.par2
 disturb REFUSE set v.par2
@@ -32,6 +34,7 @@ disturb REFUSE find --limit 07 v.par2
 disturb REFUSE find --limit 0 v.par2 x.bin
 disturb REFUSE find --cursor 00000000000000000000000000000000:0:0:0 v.par2 x.bin
 disturb REFUSE find --cursor 2:$set:$list:0:2:1 v.par2 y.bin
+disturb REFUSE find --cursor 2:$set:$list:0:2:1 -B grown v.par2 grown/x.bin
 disturb REFUSE find --cursor 2:$set:0:2:1 v.par2 x.bin
 disturb REFUSE --help
 disturb REFUSE packets

@@ -40,12 +40,15 @@ impl Ord for Hash16 {
 
     /// The order of the sixteen bytes as a little-endian number: the last byte weighs most.
     fn cmp(&self, other: &Hash16) -> Ordering {
-        let mut bytes = self.0;
-        let mut other_bytes = other.0;
-        bytes.reverse();
-        other_bytes.reverse();
-        bytes.cmp(&other_bytes)
+        cmp_as_numbers(self.0, other.0)
     }
+}
+
+// By value: behind a reference the bound of a byte isn't at hand.
+fn cmp_as_numbers(a: [u8; 16], b: [u8; 16]) -> Ordering
+    ensures { result ≡ slice_cmp nat_cmp (reverse a) (reverse b) }
+{
+    u128::from_le_bytes(a).cmp(&u128::from_le_bytes(b))
 }
 
 impl PartialOrd for Hash16 {

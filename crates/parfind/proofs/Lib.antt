@@ -46,3 +46,4 @@ pub mod SweepLaws
 pub mod SoFarLaws
 pub mod SurveyFilesLaws
 pub mod HandingLaws
+pub mod MissingSetLaws

@@ -11,3 +11,4 @@ pub mod BlockLaws
 pub mod WriterLaws
 pub mod LineLaws
 pub mod LimitLaws
+pub mod LookupLaws

@@ -1,11 +1,7 @@
 -- What the scanned files show, by their names, lengths and MD5s, and by the marks of a survey.
-use Rattle.std.proofs.Common.{◌≡◌, ℕ, ◌+◌, ◌<◌, ◌≤◌, ◌∙◌, ◌&&◌, ◌||◌, not, Bool, false, List, [], ◌∷◌, ◌++◌, Option, None, length, map, drop, take, get_or, position, ap, sym, refl, cond, append-nil, arith, nat_lt, Some, IsTrue, inl, inr}
+use Rattle.std.proofs.Common.{◌≡◌, ℕ, ◌+◌, ◌<◌, ◌∙◌, ◌&&◌, ◌||◌, not, Bool, false, List, [], ◌∷◌, ◌++◌, Option, None, length, map, drop, take, get_or, position, ap, sym, refl, cond, append-nil, arith, nat_lt, Some, IsTrue}
 use Rattle.std.specs.BTreeSet.{BTreeSet, contains}
 use Rattle.std.specs.List.{list_any, zip, enumerate_from, prefix_len}
-use Rattle.std.proofs.Math.Seq.{drop-append-add}
-use Rattle.std.proofs.lemmas.Bool.{cases_Bool}
-use Rattle.std.proofs.lemmas.Bool.Decides.{nat_tests}
-use Rattle.std.proofs.lemmas.Slice.Zip.{length-zip}
 use Rattle.std.proofs.lemmas.List.{ext_get_or, get_or-map, drop_all, length-map, take_all}
 use Rattle.parfield.specs.HashOrder.{id_cmp}
 use Rattle.parfield.specs.declared.hash16.Hash16.{Hash16}
@@ -94,43 +90,6 @@ checked_state_of-state_of own files contents e file shows =
     let whole = complete_same own file files contents shows in
     let first = position_same own file files contents shows e in
     let named = named_same file files contents e in cc
-
-some_position : (n len at : ℕ) → cond (nat_lt n len) (Some n) None ≡ Some at → n ≡ at
-some_position n len at h = grind (arith, nat_tests)
-
-no_position : (n len : ℕ) → cond (nat_lt n len) (Some n) None ≡ None → len ≤ n
-no_position n len h = grind (arith, nat_tests)
-
--- whether one has both shows from the first on that has the content, since none before it has
-none_before : (file : SetFile) (files : List Scanned) (asked : List (Option LengthAndMd5))
-    → list_any (shows_both file) (zip files asked)
-    ≡ list_any (shows_both file) (drop (prefix_len (λ c. not (shows_content_of file c)) asked) (zip files asked))
-none_before file [] asked = ap (list_any (shows_both file)) (sym (drop_all _ [] (omega arith)))
-none_before file (one ∷ files) [] = refl
-none_before file (one ∷ files) (content ∷ asked) =
-    let n = prefix_len (λ c. not (shows_content_of file c)) asked in
-    let rest = zip files asked in
-    let from = λ (b : Bool). list_any (shows_both file) (drop (cond (not b) (1 + n) 0) ((one, content) ∷ rest)) in
-    elim (cases_Bool (shows_content_of file content)) [
-      | inl shows ↦ ap from (sym shows)
-      | inr hides ↦ ap (λ b. (b && is_name_of file one.name) || list_any (shows_both file) rest) hides
-          ∙ (none_before file files asked
-          ∙ (ap (list_any (shows_both file)) (sym (drop-append-add ((one, content) ∷ []) rest n)) ∙ ap from (sym hides)))
-    ]
-
--- the same, where the number of that first one is known
-pub both_from : (file : SetFile) (files : List Scanned) (asked : List (Option LengthAndMd5)) (first : ℕ) → position (shows_content_of file) asked ≡ Some first
-    → list_any (shows_both file) (zip files asked) ≡ list_any (shows_both file) (drop first (zip files asked))
-both_from file files asked first at =
-    none_before file files asked ∙ ap (λ k. list_any (shows_both file) (drop k (zip files asked))) (some_position _ (length asked) first at)
-
--- where none has the content, none has both
-pub none_both : (file : SetFile) (files : List Scanned) (asked : List (Option LengthAndMd5)) → position (shows_content_of file) asked ≡ None
-    → list_any (shows_both file) (zip files asked) ≡ false
-none_both file files asked none =
-    let n = prefix_len (λ c. not (shows_content_of file c)) asked in
-    let all = no_position n (length asked) none in let zipped = length-zip files asked in
-    none_before file files asked ∙ ap (list_any (shows_both file)) (drop_all n (zip files asked) (omega arith))
 
 -- maps by functions that agree are the same
 pub map-same : {A B : Type 0} (f g : A → B) → ((x : A) → f x ≡ g x) → (xs : List A) → map f xs ≡ map g xs

@@ -17,3 +17,4 @@ pub mod SetSearch
 pub mod Names
 pub mod OpenedFiles
 pub mod Unchanged
+pub mod Lookups

@@ -48,6 +48,14 @@ FaultsAfter-more s t u file m n limit Ended a b fits = record {
   unsteady = λ steady. b.unsteady (Hands-steady s t file m a steady);
 }
 
+-- fewer bytes are within a greater bound
+pub Hands-wider : (s t : ShelfState) (file n limit : ℕ) → Hands s t file n → n ≤ limit → Hands s t file limit
+Hands-wider s t file n limit h fits = Hands-more s s t file 0 n limit (Hands-none s file 0) h (λ _. omega arith)
+
+pub FaultsAfter-wider : (s t : ShelfState) (file n limit : ℕ) (fault : ReadFault) → FaultsAfter s t file n fault → n ≤ limit
+    → FaultsAfter s t file limit fault
+FaultsAfter-wider s t file n limit fault h fits = FaultsAfter-more s s t file 0 n limit fault (Hands-none s file 0) h (λ _. omega arith)
+
 pub FaultsAfter-within : (s t : ShelfState) (file n limit : ℕ) (fault : ReadFault) → FaultsWithin s t file n fault
     → (IsTrue s.is_steady → n ≤ limit) → FaultsAfter s t file limit fault
 FaultsAfter-within s t file n limit Failed h fits = record {

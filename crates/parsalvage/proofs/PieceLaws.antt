@@ -1,5 +1,6 @@
--- A part of a piece of a file is a part of the file.
-use Rattle.std.proofs.Common.{◌≡◌, ◌≤◌, ◌+◌, ◌-◌, ◌∙◌, ℕ, List, length, take, drop, ap, arith}
+-- A part of a piece of a file is a part of the file, and what follows it there is the rest.
+use Rattle.std.proofs.Common.{◌≡◌, ◌≤◌, ◌+◌, ◌-◌, ◌∙◌, ℕ, List, ◌++◌, length, take, drop, ap, sym, arith}
+use Rattle.std.proofs.Math.Seq.{take-add}
 use Rattle.std.proofs.lemmas.List.{drop-take, take-take, drop-drop}
 use Rattle.parsalvage.specs.Pieces.{IsPiece}
 
@@ -15,3 +16,14 @@ part_of_piece file bytes base from size piece low fits =
     ∙ (take-take size (length bytes - (from - base)) (drop (from - base) (drop base file)) (omega arith)
     ∙ (ap (take size) (drop-drop (from - base) base file)
     ∙ ap (λ (n : ℕ). take size (drop n file)) place))))
+
+-- the front of a part, and the rest of the part behind it
+pub front_then_rest : (file front : List ℕ) (from size : ℕ) → front ≡ take (length front) (drop from file) → length front ≤ size
+    → front ++ take (size - length front) (drop (from + length front) file) ≡ take size (drop from file)
+front_then_rest file front from size is few =
+    let part : List ℕ = drop from file in
+    let all : length front + (size - length front) ≡ size = omega arith in
+    ap (λ (xs : List ℕ). xs ++ take (size - length front) (drop (from + length front) file)) is
+    ∙ (ap (λ (xs : List ℕ). take (length front) part ++ take (size - length front) xs) (sym (drop-drop (length front) from file))
+    ∙ (sym (take-add (length front) (size - length front) part)
+    ∙ ap (λ (n : ℕ). take n part) all))

@@ -37,6 +37,20 @@ module _ (s t : ShelfState) (file at : ℕ) (head : Header)
   validated_fault u fault hashing =
       FaultsAfter-more s t u file 64 (head.length - 32) _ fault read hashing cost
 
+  -- of what is hashed, the bytes before this end aren't read
+  rest_cost : (end : ℕ) → 64 ≤ head.length → IsTrue s.is_steady
+      → 64 + (at + 32 + (head.length - 32) - end) ≤ 64 + (at + framed_size (drop at (file_of s file)) - end)
+  rest_cost end long steady = omega (arith, sized steady, framed_size-framed (drop at (file_of s file)) (framed steady))
+
+  pub validated_rest : (u : ShelfState) (end : ℕ) → 64 ≤ head.length → Hands t u file (at + 32 + (head.length - 32) - end)
+      → Hands s u file (64 + (at + framed_size (drop at (file_of s file)) - end))
+  validated_rest u end long hashed = Hands-more s t u file 64 _ _ read hashed (rest_cost end long)
+
+  pub validated_rest_fault : (u : ShelfState) (end : ℕ) (fault : ReadFault) → 64 ≤ head.length
+      → FaultsAfter t u file (at + 32 + (head.length - 32) - end) fault
+      → FaultsAfter s u file (64 + (at + framed_size (drop at (file_of s file)) - end)) fault
+  validated_rest_fault u end fault long hashing = FaultsAfter-more s t u file 64 _ _ fault read hashing (rest_cost end long)
+
   pub validated_packet : (hash : List ℕ) (same : Bool) → IsTrue s.is_steady
       → (IsTrue t.is_steady → hash ≡ md5 (bytes_at t file (at + 32) (head.length - 32)))
       → same ≡ bytes_eq hash head.hash.0 → same ≡ begins_packet (drop at (file_of s file))

@@ -1,4 +1,4 @@
-ghost use Rattle.std.specs.Prelude.{◌≡◌, ℕ, List, ◌+◌, ◌≤◌, ◌<◌, length, take, drop, slice_index, IsTrue, IfSome, IfNone, OnOk};
+ghost use Rattle.std.specs.Prelude.{◌≡◌, ℕ, List, ◌+◌, ◌-◌, ◌≤◌, ◌<◌, length, take, drop, slice_index, IsTrue, IfSome, IfNone, OnOk};
 ghost use Rattle.parshelf.specs.Shelf.{bytes_at};
 ghost use Rattle.parsalvage.specs.Hands.{ReadsAtMost};
 ghost use Rattle.parsalvage.specs.Pieces.{IsPiece, IsPieceOf};
@@ -23,16 +23,32 @@ impl<'a> Piece<'a> {
         ensures none { IfNone result (self.now.base ≤ from
             → self.now.base + length self.now.bytes.now < from + size) }
     {
-        let room = self.bytes.len() as u64;
-        if from < self.base || from - self.base > room || size > room - (from - self.base) {
+        let front = self.front_of_part(from, size);
+        if (front.len() as u64) < size {
             return None;
         }
-        let place = (from - self.base) as usize;
-        Some(&self.bytes[place..place + size as usize])
+        Some(front)
+    }
+
+    /// As much of a part's front as stands in the piece.
+    pub fn front_of_part(&self, from: u64, size: u64) -> &'a [u8]
+        ensures size { length result.now ≤ size }
+        ensures bytes { (file : List ℕ) → IsPiece file self.now.base self.now.bytes.now
+            → result.now ≡ take (length result.now) (drop from file) }
+        ensures most { self.now.base ≤ from → size - length result.now
+            ≤ from + size - (self.now.base + length self.now.bytes.now) }
+    {
+        let room = self.bytes.len() as u64;
+        if from < self.base || from - self.base > room {
+            return &[];
+        }
+        let place = from - self.base;
+        let count = size.min(room - place);
+        &self.bytes[place as usize..(place + count) as usize]
     }
 }
 
-/// Fills `buf` with a file's bytes from an offset on. What stands in the piece isn't read again.
+/// Fills `buf` with a file's bytes from an offset on. Nothing is read where all stand in the piece.
 pub fn read<H: Shelf>(
     shelf: &mut H,
     file: u32,

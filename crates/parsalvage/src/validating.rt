@@ -1,4 +1,4 @@
-ghost use Rattle.std.specs.Prelude.{◌≡◌, ◌+◌, ◌<◌, ◌≤◌, length, drop, slice_index, is_some, IsTrue, IfOk, IfSome};
+ghost use Rattle.std.specs.Prelude.{◌≡◌, ◌+◌, ◌-◌, ◌<◌, ◌≤◌, length, drop, slice_index, is_some, IsTrue, IfOk, IfSome};
 ghost use Rattle.md5.specs.Md5.{md5};
 ghost use Rattle.parfield.specs.Packet.{begins_packet, header_of};
 ghost use Rattle.parshelf.specs.Shelf.{file_of, bytes_at};
@@ -9,7 +9,7 @@ ghost use Rattle.parsalvage.specs.Pieces.{IsPieceOf};
 use crate::piece::{Piece, read};
 use md5::{Digest, Md5};
 use parfield::{Hash16, Header, header};
-use parshelf::{ReadFault, Shelf, digest_of_part};
+use parshelf::{ReadFault, Shelf, hash_part};
 
 /// The header at this offset of a file, if a packet begins there. What doesn't stand in the piece
 /// is hashed through `buffer`.
@@ -34,6 +34,10 @@ pub fn validate<H: Shelf>(
         (λ head. head ≡ header_of (drop at (file_of (H.state shelf.old) file)))) }
 
     ensures leaves { ReadsAtMost (64 + framed_size (drop at (file_of (H.state shelf.old) file)))
+        file (H.state shelf.old) (H.state shelf.new) result }
+    ensures rest { piece.now.base ≤ at
+        → ReadsAtMost (64 + (at + framed_size (drop at (file_of (H.state shelf.old) file))
+        - (piece.now.base + length piece.now.bytes.now)))
         file (H.state shelf.old) (H.state shelf.new) result }
 {
     match header_at(shelf, file, piece, at)? {
@@ -96,9 +100,13 @@ fn hash_at<H: Shelf>(
     ensures digest { IsTrue (H.state shelf.old).is_steady →
         IfOk result (λ hash. hash.0 ≡ md5 (bytes_at (H.state shelf.old) file from size)) }
     ensures leaves { ReadsAtMost size file (H.state shelf.old) (H.state shelf.new) result }
+    ensures rest { piece.now.base ≤ from
+        → ReadsAtMost (from + size - (piece.now.base + length piece.now.bytes.now))
+        file (H.state shelf.old) (H.state shelf.new) result }
 {
-    match piece.part(from, size) {
-        Some(part) => Ok(Hash16(Md5::digest(part))),
-        None => digest_of_part(shelf, file, from, size, buffer),
-    }
+    let front = piece.front_of_part(from, size);
+    let held = front.len() as u64;
+    let mut hasher = Md5::new_with_prefix(front);
+    hash_part(shelf, file, from + held, size - held, buffer, &mut hasher)?;
+    Ok(Hash16(hasher.finalize()))
 }

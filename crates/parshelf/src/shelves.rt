@@ -10,5 +10,5 @@ mod shelf;
 pub use crate::shelves::disk::{DiskShelf, OpenFault};
 pub use crate::shelves::memory::MemShelf;
 pub use crate::shelves::names::{Named, list_mark};
-pub use crate::shelves::reading::{ReadFault, digest_of, digest_of_part, fill};
+pub use crate::shelves::reading::{ReadFault, digest_of, digest_of_part, fill, hash_part};
 pub use crate::shelves::shelf::Shelf;

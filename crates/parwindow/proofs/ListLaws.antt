@@ -1,5 +1,5 @@
 -- Lists of any items.
-use Rattle.std.proofs.Common.{◌≡◌, ℕ, ◌+◌, ◌-◌, ◌<◌, Bool, false, List, length, take, drop, get_or, refl, ◌∙◌, arith, length-drop}
+use Rattle.std.proofs.Common.{◌≡◌, ℕ, ◌+◌, ◌-◌, ◌<◌, ◌≤◌, zero, suc, Bool, false, List, [], ◌∷◌, length, take, drop, get_or, refl, ap, ◌∙◌, arith, length-drop}
 use Rattle.std.specs.List.{list_any}
 use Rattle.std.proofs.lemmas.List.{take_all}
 use Rattle.std.proofs.lemmas.List.Folds.{list_any_more}
@@ -13,3 +13,10 @@ pub none_more : {A : Type 0} (p : A → Bool) (xs : List A) (i : ℕ) (d : A) �
     → list_any p (take i xs) ≡ false
     → p (get_or xs i d) ≡ false → list_any p (take (i + 1) xs) ≡ false
 none_more p xs i d within none shut = list_any_more p xs i d within ∙ (rw (none, shut) refl)
+
+-- the first of more
+pub take_fewer : {A : Type 0} (m n : ℕ) (xs : List A) → m ≤ n → take m (take n xs) ≡ take m xs
+take_fewer zero n xs few = refl
+take_fewer (suc m) zero xs few = absurd (omega arith)
+take_fewer (suc m) (suc n) [] few = refl
+take_fewer (suc m) (suc n) (x ∷ xs) few = ap (λ l. x ∷ l) (take_fewer m n xs (omega arith))

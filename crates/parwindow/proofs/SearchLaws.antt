@@ -1,5 +1,5 @@
 -- What a binary search finds among the entries of an index.
-use Rattle.std.proofs.Common.{◌≡◌, ℕ, ◌<◌, ◌≤◌, List, length, get_or, Result, Ok, Err, Ordering, Less, Equal, Greater, false, true, refl, sym, ◌∙◌, arith, inl, inr}
+use Rattle.std.proofs.Common.{◌≡◌, ℕ, ◌<◌, ◌≤◌, List, length, get_or, Ok, Err, Ordering, Less, Equal, Greater, false, true, refl, sym, ◌∙◌, arith, inl, inr}
 use Rattle.std.specs.Ordering.{nat_cmp, then_cmp, on, ordering_then, is_lt}
 use Rattle.std.specs.Cmp.Lexicographic.{slice_cmp}
 use Rattle.std.specs.List.Sorted.{IsSorted, IsSearchInRange, IsBinarySearchResult}
@@ -9,16 +9,13 @@ use Rattle.std.proofs.lemmas.List.{get_or_default}
 use Rattle.std.proofs.lemmas.Slice.Eq.{slice_eq-Decides}
 use Rattle.std.proofs.lemmas.Bool.Decides.{Decides-eqb}
 use Rattle.std.specs.Cmp.Lexicographic.{pointwise}
-use Rattle.std.proofs.Common.{eqb, []}
-use Rattle.std.specs.Prelude.{IsTrue, is_ok, ◌↔◌}
+use Rattle.std.proofs.Common.{eqb}
 use Rattle.std.proofs.lemmas.List.Sorted.{searchable_from_sorted, sorted_far, ranks_by}
 use Rattle.parset.specs.declared.recovery_set.SetSlice.{SetSlice}
 use Rattle.parwindow.specs.declared.entry.Entry.{Entry}
-use Rattle.parwindow.specs.Index.{slice_passes, has_sums, has_known_crc}
+use Rattle.parwindow.specs.Index.{slice_passes, has_sums}
 use Rattle.parwindow.specs.Least.{IsLeast}
 use Rattle.parwindow.specs.Entries.{entry_cmp, HasSums, IsIndexOf, IsFloor}
-use Rattle.std.specs.List.{list_any}
-use Rattle.parwindow.proofs.SumLaws.{any_from_sums, sums_from_any, same_bools}
 use Rattle.parwindow.proofs.OrderLaws.{entry_cmp_total, nat_cmp-equal, slice_cmp-equal, squeezed}
 
 abbrev pub entry_of : ℕ → List ℕ → ℕ → Entry
@@ -131,7 +128,7 @@ same_bytes xs ys h = (slice_eq-Decides Decides-eqb xs ys true h).0 refl
 pub other_bytes : (xs ys : List ℕ) → false ≡ pointwise eqb xs ys → xs ≡ ys → ⊥
 other_bytes xs ys h e = let q = (slice_eq-Decides Decides-eqb xs ys false h).1 e in cc
 
--- ---- a search by the checksum alone
+-- where entries rise, their CRC-32s do
 first_not_less : (o p : Ordering) → is_lt (ordering_then o p) ≡ false → is_lt o ≡ false
 first_not_less Less p h = h
 first_not_less Equal p h = refl
@@ -140,46 +137,3 @@ first_not_less Greater p h = refl
 pub crc_rises : (entries : List Entry) → IsSorted entry_cmp entries
     → IsSorted (on (λ (e : Entry). e.crc) nat_cmp) entries
 crc_rises entries rises k d low high = first_not_less _ _ (rises k d low high)
-
-has_from_search : (slices : List SetSlice) (entries : List Entry) → IsIndexOf slices entries
-    → IsSorted entry_cmp entries → (c : ℕ) (r : Result ℕ ℕ)
-    → IsSearchInRange r (length entries)
-    → IsBinarySearchResult (λ (y : Entry). nat_cmp y.crc c) entries r
-    → IsTrue (is_ok r) ↔ IsTrue (list_any (has_known_crc c) slices)
-has_from_search slices entries ix rises c (Ok at) range here =
-    let d = entry_of 0 [] 0 in
-    let e = get_or entries at d in (
-      (λ t. any_from_sums slices e.slice c e.digest
-          (rw (← nat_cmp-equal e.crc c (here d)) (ix.sound at d range))),
-      λ there. refl,
-    )
-has_from_search slices entries ix rises c (Err at) range parted =
-    let halves = parted (searchable_from_sorted nat_cmp_total (λ (e : Entry). e.crc) entries c
-    (crc_rises entries rises)) in (
-      (λ t. cc),
-      λ any.
-          let there = sums_from_any slices c any in
-          let x = entry_of c there.1.0 there.0 in
-          let place = ix.complete there.0 c there.1.0 there.1.1 in
-          elim (cases_lt place.0 at) [
-            | inl before ↦
-                let less : nat_cmp c c ≡ Less =
-                rw place.2 at (halves.0 place.0 x (omega arith) before) in
-                let even = tied_itself nat_cmp_total c in
-                cc
-            | inr after ↦
-                let more : nat_cmp c c ≡ Greater =
-                rw place.2 at (halves.1 place.0 x after place.1) in
-                let even = tied_itself nat_cmp_total c in
-                cc
-          ],
-    )
-
-pub has_crc_from_search : (slices : List SetSlice) (entries : List Entry) → IsIndexOf slices entries
-    → IsSorted entry_cmp entries → (c : ℕ) (r : Result ℕ ℕ)
-    → IsSearchInRange r (length entries)
-    → IsBinarySearchResult (λ (y : Entry). nat_cmp y.crc c) entries r
-    → is_ok r ≡ list_any (has_known_crc c) slices
-has_crc_from_search slices entries ix rises c r range found =
-    same_bools (is_ok r) (list_any (has_known_crc c) slices)
-    (has_from_search slices entries ix rises c r range found)

@@ -53,6 +53,10 @@ ends_at Has at i r s n false on is last tells =
     rw (← last) (ends Has at s (i + 1)
     (goes_on Has at i r s on is (λ has. let wrong : false ≡ true = tells.1 has in cc)))
 
+-- a test that says it
+pub told : (b has : Bool) → b ≡ has → IsTrue b ↔ IsTrue has
+told b has is = (λ yes. sym is ∙ yes, λ yes. is ∙ yes)
+
 -- a test that failed
 pub refuses : (b : Bool) (P : Type 0) → (IsTrue b ↔ P) → b ≡ false → ¬ P
 refuses b P tells missed has = let yes : b ≡ true = tells.1 has in cc

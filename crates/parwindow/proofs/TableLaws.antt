@@ -11,12 +11,12 @@ use Rattle.parwindow.proofs.CrcLaws.{crc_step-even, crc_steps-xor, crc_steps-add
 use Rattle.parwindow.proofs.XorLaws.{xor_parts}
 
 -- each of the first n entries is its index after so many steps
-abbrev agrees_below : ℕ → List ℕ → ℕ → Bool
+abbrev pub agrees_below : ℕ → List ℕ → ℕ → Bool
 agrees_below steps table zero = true
 agrees_below steps table (suc n) = eqb (get_or table n 0)
     (crc_steps steps n) && agrees_below steps table n
 
-agrees_at : (steps : ℕ) (table : List ℕ) (n k : ℕ) → agrees_below steps table n ≡ true → k < n
+pub agrees_at : (steps : ℕ) (table : List ℕ) (n k : ℕ) → agrees_below steps table n ≡ true → k < n
     → get_or table k 0 ≡ crc_steps steps k
 agrees_at steps table zero k agrees below = absurd (omega arith)
 agrees_at steps table (suc n) k agrees below =

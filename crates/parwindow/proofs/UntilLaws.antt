@@ -1,12 +1,16 @@
 -- Where pushes into a full window stop.
-use Rattle.std.proofs.Common.{◌≡◌, ℕ, ◌+◌, ◌<◌, ◌≤◌, true, false, List, [], length, ◌++◌, take, get_or, refl, sym, ap, ◌∙◌, inl, inr, arith, IsTrue, length-append, length-drop, length-take}
+use Rattle.std.proofs.Common.{◌≡◌, ℕ, ◌+◌, ◌<◌, ◌≤◌, true, false, List, [], length, ◌++◌, take, drop, get_or, append_assoc, ◌-◌, refl, sym, ap, ◌∙◌, inl, inr, arith, IsTrue, length-append, length-drop, length-take}
 use Rattle.std.proofs.lemmas.Bool.{cases_Bool, cases_lt}
+use Rattle.std.proofs.lemmas.List.{drop-append-le, drop-drop}
+use Rattle.std.proofs.Math.Seq.{take-add}
+use Rattle.parwindow.specs.Ahead.{PushesPast}
 use Rattle.parwindow.specs.Crc32.{crc_of, register_of}
 use Rattle.parwindow.specs.Index.{SliceSet}
 use Rattle.parwindow.specs.Slide.{HasRegister, StopsAt}
 use Rattle.parwindow.specs.Until.{NoTails, PushesUntil, is_at_slice, slid_content, slid_window}
 use Rattle.parwindow.specs.Window.{WindowState, content_after}
 use Rattle.parwindow.specs.declared.slid.Slid.{Slid}
+use Rattle.parwindow.proofs.ListLaws.{take_fewer}
 use Rattle.parwindow.proofs.SlideLaws.{pushes_slide}
 
 pub no_tails : NoTails
@@ -78,3 +82,58 @@ module _ (set : SliceSet) (w : WindowState) (bytes : List ℕ) (k : ℕ) (now af
           let wrong : true ≡ false = sym there ∙ miss in cc
     ];
   }
+
+-- a piece of the bytes, behind the first ones
+slid_more : (content bytes piece : List ℕ) (done n : ℕ) → done ≤ length bytes
+    → piece ≡ take (length piece) (drop done bytes) → n ≤ length piece
+    → slid_content (slid_content content bytes done) piece n ≡ slid_content content bytes (done + n)
+slid_more content bytes piece done n few is within =
+    let inside : done ≤ length (content ++ take done bytes) =
+    omega (arith, length-append content (take done bytes), length-take done bytes) in
+    let front : take n piece ≡ take n (drop done bytes) =
+    ap (take n) is ∙ take_fewer n (length piece) (drop done bytes) within in
+    ap (drop n) (sym (drop-append-le done (content ++ take done bytes) (take n piece) inside))
+    ∙ drop-drop n done ((content ++ take done bytes) ++ take n piece)
+    ∙ ap (drop (done + n)) (append_assoc content (take done bytes) (take n piece)
+    ∙ ap (λ l. content ++ l) (ap (λ l. take done bytes ++ l) front ∙ sym (take-add done n bytes)))
+
+-- all of a piece is pushed, and after none of its bytes the window is at a slice
+pub pushed_past : (set : SliceSet) (w now after : WindowState) (bytes piece : List ℕ) (done : ℕ)
+    → length w.content ≡ w.capacity → PushedSoFar set w bytes done now
+    → done + length piece ≤ length bytes → piece ≡ take (length piece) (drop done bytes)
+    → PushesPast set now piece after → PushedSoFar set w bytes (done + length piece) after
+pushed_past set w now after bytes piece done full so_far within is past =
+    let moves : (n : ℕ) → n ≤ length piece
+    → slid_window now piece n ≡ slid_window w bytes (done + n) =
+    λ n few.
+    ap (λ (x : WindowState). slid_window x piece n) so_far.here
+    ∙ ap (λ xs. record w { content = xs })
+    (slid_more w.content bytes piece done n (omega arith) is few) in
+    let here : after ≡ slid_window w bytes (done + length piece) =
+    past.all ∙ moves (length piece) (omega arith) in
+    record {
+      here = here;
+      full = rw here (length_slid w.content bytes (done + length piece) within ∙ full);
+      none = λ j some few hit. elim (cases_lt done j) [
+        | inl more ↦
+            let sum : done + (j - done) ≡ j = omega arith in
+            let same : slid_window now piece (j - done) ≡ slid_window w bytes j =
+            moves (j - done) (omega arith) ∙ ap (slid_window w bytes) sum in
+            past.none (j - done) (omega arith) (omega arith)
+            (ap (is_at_slice set) same ∙ hit)
+        | inr early ↦ so_far.none j some early hit
+      ];
+    }
+
+-- the first of the bytes that are left
+pub piece_of : (bytes : List ℕ) (done m : ℕ) → m ≤ length bytes - done
+    → (length (take m (take (length bytes - done) (drop done bytes))) ≡ m)
+    × (take m (take (length bytes - done) (drop done bytes))
+    ≡ take (length (take m (take (length bytes - done) (drop done bytes)))) (drop done bytes))
+piece_of bytes done m few =
+    let is : take m (take (length bytes - done) (drop done bytes)) ≡ take m (drop done bytes) =
+    take_fewer m (length bytes - done) (drop done bytes) few in
+    let long : length (take m (take (length bytes - done) (drop done bytes))) ≡ m =
+    ap length is ∙ (let l : length (take m (drop done bytes)) ≡ m =
+    omega (arith, length-take m (drop done bytes), length-drop done bytes) in l) in
+    (long, is ∙ ap (λ n. take n (drop done bytes)) (sym long))

@@ -1,4 +1,6 @@
+pub mod Ahead
 pub mod Crc32
+pub mod CrcList
 pub mod Entries
 pub mod FilterBits
 pub mod Indexed

@@ -1,6 +1,6 @@
 -- The slices that have a CRC-32 and fit into what is left of a file, and those of them without a
--- mark.
-use Rattle.std.specs.Prelude.{ℕ, ◌&&◌, nat_le, not, Bool, false, List, length, slice_index_or}
+-- mark; and the set in which those with one have no sums.
+use Rattle.std.specs.Prelude.{ℕ, ◌&&◌, nat_le, not, Bool, true, false, None, List, length, map, zip, slice_index_or}
 use Rattle.std.specs.List.{list_any, range_with_len}
 use Rattle.parset.specs.declared.recovery_set.SetSlice.{SetSlice}
 use Rattle.parwindow.specs.Index.{SliceSet, slice_passes, has_known_crc, has_own}
@@ -31,3 +31,13 @@ set_has_missing set found crc left = has_unmarked set.slices found (has_fit_crc_
 abbrev pub set_has_own_missing : SliceSet → List Bool → ℕ → ℕ → ℕ → Bool
 set_has_own_missing set found crc own left =
     has_unmarked set.slices found (has_own own (has_fit_crc_of crc left))
+
+-- a slice that has a mark loses its sums
+abbrev pub unless_marked : SetSlice × Bool → SetSlice
+unless_marked (slice, true) = record slice { sums = None }
+unless_marked (slice, false) = slice
+
+-- the set of which the slices that have a mark lose their sums, so that nothing looks for them; each
+-- keeps its number and its own length, and there is a mark for each
+abbrev pub missing_set : SliceSet → List Bool → SliceSet
+missing_set set found = record set { slices = map unless_marked (zip set.slices found) }

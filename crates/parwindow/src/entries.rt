@@ -30,14 +30,6 @@ impl Entries {
         Ok(Entries { list })
     }
 
-    /// Whether some slice has this CRC-32.
-    pub fn has_crc(&self, crc: u32) -> bool
-        ensures { (slices : List SetSlice) → IsIndexOf slices self.now.list.items
-            → result ≡ list_any (has_known_crc crc) slices }
-    {
-        has_crc_in(&self.list, crc)
-    }
-
     /// The first slice from a number on that has this CRC-32.
     pub fn next_crc(&self, crc: u32, from: u32) -> Option<u32>
         ensures { (slices : List SetSlice) → IsIndexOf slices self.now.list.items
@@ -110,17 +102,6 @@ fn floor_of(entries: &[Entry], wanted: &Entry) -> usize
         Ok(at) => at,
         Err(at) => at,
     }
-}
-
-// Whether some slice of these entries has this CRC-32.
-fn has_crc_in(entries: &[Entry], crc: u32) -> bool
-    requires { IsSorted entry_cmp entries.now }
-    ensures { (slices : List SetSlice) → IsIndexOf slices entries.now
-        → result ≡ list_any (has_known_crc crc) slices }
-{
-    entries
-        .binary_search_by_key(&crc, |entry| entry.crc)
-        .is_ok()
 }
 
 // The first slice of these entries from a number on that has both sums.

@@ -1,17 +1,18 @@
-ghost use Rattle.std.specs.Prelude.{◌≡◌, ℕ, ◌-◌, ◌<◌, ◌≤◌, ◌%◌, ◌↔◌, length, slice_get, slice_index, IfOk, IfSome, IsTrue};
+ghost use Rattle.std.specs.Prelude.{◌≡◌, ℕ, ◌-◌, ◌<◌, ◌≤◌, ◌%◌, ◌↔◌, length, map, zip, slice_get, slice_index, IfOk, IfSome, IsTrue};
 ghost use Rattle.std.specs.Option.{IsSomeAnd};
 ghost use Rattle.parwindow.specs.Index.{IsSliceSet, slice_set_of, slice_passes, has_own, has_sums, has_known_crc, set_has_crc, set_has_fit, set_has_own_crc, tails_of};
 ghost use Rattle.parwindow.specs.FilterBits.{zeros_crc};
 ghost use Rattle.parwindow.specs.Indexed.{IsShortest};
 ghost use Rattle.parwindow.specs.Least.{IsLeastFrom};
 ghost use Rattle.parset.specs.Limits.{slice_size_limit, slice_limit};
-ghost use Rattle.parwindow.specs.Missing.{set_has_fit_crc, set_has_missing, set_has_own_missing};
-ghost use Rattle.parwindow.specs.Slide.{HasRegister};
+ghost use Rattle.parwindow.specs.Missing.{missing_set, set_has_fit_crc, set_has_missing, set_has_own_missing, unless_marked};
 ghost use Rattle.parwindow.specs.Window.{AreTails};
 
 use crate::bloom_filter::BloomFilter;
+use crate::crc_list::CrcList;
 use crate::entries::Entries;
 use crate::own_lengths::OwnLengths;
+use crate::sought::Sought;
 use crate::tail_lengths::tail_lengths;
 use parfield::{Hash16, Sequence};
 use parset::{RecoverySet, SetSlice};
@@ -25,6 +26,7 @@ pub struct Index {
     slices: Sequence<SetSlice>,
     filter: BloomFilter,
     tail_filter: BloomFilter,
+    crcs: CrcList,
     entries: Entries,
     lengths: OwnLengths,
     shortest: Option<u64>,
@@ -43,22 +45,52 @@ impl Model for Index {
     ghost invariant = { IsIndexed };
 }
 
+impl Sought for Index {
+    ghost use Rattle.std.specs.Prelude.{bit_xor};
+    ghost use Rattle.parwindow.specs.Index.{set_has_crc};
+
+    ghost has = { λ set register. set_has_crc set (bit_xor register 0xFFFFFFFF) };
+
+    fn has(&self, register: u32) -> bool {
+        self.has_crc(register ^ 0xFFFF_FFFF)
+    }
+}
+
 impl Index {
-    /// The slices of a recovery set. No other call takes memory.
+    /// The slices of a recovery set. No call but this one and `missing` takes memory.
     pub fn new(alloc: Global, set: &RecoverySet) -> Result<Index, AllocError>
         ensures { IfOk result (λ index. index ≡ slice_set_of set.now.size set.now.slices) }
     {
         let slices = Vec::from_slice(alloc, set.slices())?;
-        let tails = tail_lengths(alloc, set.size(), set.slices())?;
+        Index::of(alloc, set.size(), slices)
+    }
+
+    /// All slices by their numbers, of which those that have a mark lose their sums, so that nothing
+    /// looks for them. `found` has a mark for each slice, by number.
+    pub fn missing(&self, alloc: Global, found: &[bool]) -> Result<Index, AllocError>
+        requires { length found.now ≡ length self.now.slices }
+        ensures { IfOk result (λ index. index ≡ missing_set self.now found.now) }
+    {
+        let slices = unmarked(alloc, self.slices.as_slice(), found)?;
+        Index::of(alloc, self.size(), slices)
+    }
+
+    // These slices, of this slice size.
+    fn of(alloc: Global, size: u64, slices: Vec<SetSlice>) -> Result<Index, AllocError>
+        requires { IsSliceSet (slice_set_of size slices.items) }
+        ensures { IfOk result (λ index. index ≡ slice_set_of size slices.items) }
+    {
+        let tails = tail_lengths(alloc, size, &slices)?;
         Ok(Index {
-            size: set.size(),
-            slices: Sequence::from_vec(slices),
-            filter: BloomFilter::of(alloc, set.slices())?,
-            tail_filter: BloomFilter::of_tails(alloc, set.size(), set.slices())?,
-            entries: Entries::of(alloc, set.slices())?,
-            lengths: OwnLengths::of(alloc, set.slices())?,
-            shortest: shortest_of(set.slices()),
+            size,
+            filter: BloomFilter::of(alloc, &slices)?,
+            tail_filter: BloomFilter::of_tails(alloc, size, &slices)?,
+            crcs: CrcList::of(alloc, &slices)?,
+            entries: Entries::of(alloc, &slices)?,
+            lengths: OwnLengths::of(alloc, &slices)?,
+            shortest: shortest_of(&slices),
             tails: Sequence::from_vec(tails),
+            slices: Sequence::from_vec(slices),
         })
     }
 
@@ -125,7 +157,7 @@ impl Index {
     pub fn has_crc(&self, crc: u32) -> bool
         ensures { result ≡ set_has_crc self.now crc }
     {
-        self.filter.may_have(crc ^ 0xFFFF_FFFF) && self.entries.has_crc(crc)
+        self.filter.may_have(crc ^ 0xFFFF_FFFF) && self.crcs.has(crc)
     }
 
     /// Whether some slice has this CRC-32 and at most so many bytes of its file.
@@ -169,13 +201,6 @@ impl Index {
         self.entries.next_crc(crc, from)
     }
 
-    /// Whether some slice has the CRC-32 of this register.
-    pub(crate) fn has_register(&self, register: u32) -> bool
-        ensures { IsTrue result ↔ HasRegister self.now register }
-    {
-        self.has_crc(register ^ 0xFFFF_FFFF)
-    }
-
     /// Whether zeros up to the slice size may make of this register the CRC-32 of a slice that is
     /// shorter.
     pub(crate) fn may_have_tail(&self, register: u32) -> bool
@@ -215,6 +240,32 @@ impl Index {
             next = slice + 1;
         }
         None
+    }
+}
+
+// The slices, of which those that have a mark lose their sums.
+fn unmarked(alloc: Global, slices: &[SetSlice], found: &[bool]) -> Result<Vec<SetSlice>, AllocError>
+    requires { length found.now ≡ length slices.now }
+    ensures { IfOk result (λ list. list.items ≡ map unless_marked (zip slices.now found.now)) }
+{
+    let mut list = Vec::with_capacity(alloc, slices.len())?;
+    for (number, slice) in slices.iter().enumerate() {
+        list.push(unless_marked(slice, found[number]))?;
+    }
+    Ok(list)
+}
+
+// The slice, without its sums where it has a mark.
+fn unless_marked(slice: &SetSlice, is_marked: bool) -> SetSlice
+    ensures { result ≡ unless_marked (slice.now, is_marked) }
+{
+    if is_marked {
+        SetSlice {
+            sums: None,
+            ..*slice
+        }
+    } else {
+        *slice
     }
 }
 

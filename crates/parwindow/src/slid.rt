@@ -1,6 +1,7 @@
 ghost use Rattle.std.specs.Prelude.{◌≡◌, true, false};
+ghost use Rattle.parwindow.specs.Ahead.{passed_of};
 
-/// How far a window slid, its register there, and whether that is a slice's.
+/// How far a window slid, its register there, and whether it stopped there at a slice's.
 #[derive(Clone, Copy, Drop)]
 pub struct Slid {
     pub count: usize,
@@ -9,6 +10,17 @@ pub struct Slid {
 }
 
 impl Slid {
+    /// How many places it came past.
+    pub fn passed(&self) -> usize
+        ensures { result ≡ passed_of self.now }
+    {
+        if self.hit {
+            self.count.saturating_sub(1)
+        } else {
+            self.count
+        }
+    }
+
     /// A slide that stopped at the register of a slice.
     pub fn hit(count: usize, register: u32) -> Slid
         ensures { result ≡ record { count = count; register = register; hit = true } }
@@ -20,7 +32,7 @@ impl Slid {
         }
     }
 
-    /// A slide that went to the end, where the register is no slice's.
+    /// A slide that went to the end and stopped at no slice's register.
     pub fn missed(count: usize, register: u32) -> Slid
         ensures { result ≡ record { count = count; register = register; hit = false } }
     {

@@ -1,4 +1,4 @@
-ghost use Rattle.std.specs.Prelude.{◌≡◌, ◌+◌, ◌<◌, ◌≤◌, ◌++◌, length, min};
+ghost use Rattle.std.specs.Prelude.{◌≡◌, ◌+◌, ◌<◌, ◌≤◌, ◌++◌, length, min, IsTrue};
 ghost use Rattle.parwindow.specs.Crc32.{register_of};
 ghost use Rattle.parset.specs.Limits.{slice_size_limit};
 ghost use Rattle.parwindow.specs.Slide.{slid_register, moved_register, rolled_register, HasRegister, StopsAt};
@@ -7,6 +7,7 @@ ghost use Rattle.parwindow.specs.Until.{slid_content};
 use crate::checksum::after_byte;
 use crate::index::Index;
 use crate::slid::Slid;
+use crate::sought::Sought;
 use crate::table::{STEPPED_BYTES, STEPPED_TWICE};
 use crate::tables::SlideTables;
 use crate::zero_run::removal_table;
@@ -37,8 +38,8 @@ impl SlideTables {
         }
     }
 
-    // The register once one byte goes and one comes.
-    fn slid_once(&self, register: u32, gone: u8, come: u8) -> u32
+    /// The register once one byte goes and one comes.
+    pub fn slid_once(&self, register: u32, gone: u8, come: u8) -> u32
         ensures { result ≡ slid_register self.now.others register gone come }
     {
         (register >> 8)
@@ -57,9 +58,11 @@ impl SlideTables {
             ^ self.bytes[(((register >> 8) ^ u32::from(next_come)) & 0xFF) as usize]
     }
 
-    // Slides over bytes that go and bytes that come, as long as there are both.
-    fn slide(&self, index: &Index, gone: &[u8], come: &[u8], start: u32) -> Slid
-        ensures { StopsAt (HasRegister index.now)
+    /// Slides over bytes that go and bytes that come, as long as there are both. The loop stands once
+    /// for each kind of what is sought, and not once for each call.
+    #[inline(never)]
+    pub fn slide<S: Sought>(&self, sought: &S, gone: &[u8], come: &[u8], start: u32) -> Slid
+        ensures { StopsAt (λ register. IsTrue (S.has sought.now register))
             (rolled_register self.now.others start gone.now come.now)
             (min (length gone.now) (length come.now)) result }
     {
@@ -68,12 +71,12 @@ impl SlideTables {
         let mut i = 0;
         while i + 2 <= len {
             let between = self.slid_once(register, gone[i], come[i]);
-            if index.has_register(between) {
+            if sought.has(between) {
                 return Slid::hit(i + 1, between);
             }
             register = self.slid_twice(register, gone[i], come[i], gone[i + 1], come[i + 1]);
             i += 2;
-            if index.has_register(register) {
+            if sought.has(register) {
                 return Slid::hit(i, register);
             }
         }
@@ -84,7 +87,7 @@ impl SlideTables {
         Slid {
             count: len,
             register: last,
-            hit: index.has_register(last),
+            hit: sought.has(last),
         }
     }
 

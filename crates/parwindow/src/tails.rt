@@ -2,16 +2,16 @@ ghost use Rattle.std.specs.Prelude.{◌≡◌, ℕ, ◌+◌, ◌-◌, ◌<◌, �
 ghost use Rattle.circular_buffer.specs.Buffer.{keep_last};
 ghost use Rattle.parset.specs.Limits.{slice_size_limit};
 ghost use Rattle.parwindow.specs.Crc32.{register_of};
-ghost use Rattle.parwindow.specs.FilterBits.{zeros_crc};
-ghost use Rattle.parwindow.specs.Index.{set_has_own_crc};
+ghost use Rattle.parwindow.specs.Ahead.{is_tail_register};
 ghost use Rattle.parwindow.specs.Slide.{slid_register};
 ghost use Rattle.parwindow.specs.Tails.{is_tail_slice, lengths_of, some_tail_slice, IsTail};
 ghost use Rattle.parwindow.specs.Window.{AreTails};
 
 use crate::checksum::after_byte;
 use crate::index::Index;
+use crate::tables::SlideTables;
 use crate::tail::Tail;
-use crate::zero_run::{ZeroRun, removal_table};
+use crate::zero_run::ZeroRun;
 use circular_buffer::HeapCircularBuffer;
 use std::alloc::{AllocError, Global};
 
@@ -45,19 +45,26 @@ impl Tail {
         self.slid(gone, come)
     }
 
-    /// Whether its bytes and zeros have the CRC-32 of a slice of this own length; `sized` says that
-    /// they are as many as a slice of the index has.
-    pub fn is_slice(&self, index: &Index, sized: bool) -> bool
+    /// Whether bytes with this register and its zeros have the CRC-32 of a slice of this own length;
+    /// `sized` says that they are as many as a slice of the index has.
+    pub fn is_slice(&self, register: u32, index: &Index, sized: bool) -> bool
         requires shorter { 0 < self.now.zeros.len }
         requires sized { IsTrue sized
             → self.now.length + self.now.zeros.len ≡ index.now.slice_size }
-        ensures { result ≡ set_has_own_crc index.now
-            (zeros_crc self.now.zeros.len self.now.register) self.now.length }
+        ensures { result ≡ is_tail_register index.now self.now register }
     {
-        if sized && !index.may_have_tail(self.register) {
+        if sized && !index.may_have_tail(register) {
             return false;
         }
-        let crc = self.zeros.apply(self.register) ^ 0xFFFF_FFFF;
+        self.is_exactly_slice(register, index)
+    }
+
+    // The same without a filter. Nearly no register comes so far, so it stays out of the loop.
+    #[inline(never)]
+    fn is_exactly_slice(&self, register: u32, index: &Index) -> bool
+        ensures { result ≡ is_tail_register index.now self.now register }
+    {
+        let crc = self.zeros.apply(register) ^ 0xFFFF_FFFF;
         index.has_crc_of(crc, self.length as u64)
     }
 
@@ -75,7 +82,7 @@ impl Tail {
             (keep_last ring.now.capacity (ring.now.items ++ byte ∷ [])) self.old.length }
     {
         self.register = self.slid_on(ring, gone);
-        self.is_slice(index, sized)
+        self.is_slice(self.register, index, sized)
     }
 
     // The register once one byte goes and one comes.
@@ -83,7 +90,7 @@ impl Tail {
         requires { 0 < self.now.length }
         ensures { result ≡ slid_register (self.now.length - 1) self.now.register gone come }
     {
-        after_byte(self.register, come) ^ self.removed[gone as usize]
+        self.tables.slid_once(self.register, gone, come)
     }
 }
 
@@ -99,7 +106,8 @@ pub fn tails_for(alloc: Global, size: usize, lengths: &[usize]) -> Result<Vec<Ta
         tails.push(Tail {
             length,
             register: 0xFFFF_FFFF,
-            removed: removal_table(length),
+            ahead: 0xFFFF_FFFF,
+            tables: SlideTables::new(length),
             zeros: ZeroRun::new(size - length),
         })?;
     }

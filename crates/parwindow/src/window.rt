@@ -1,11 +1,15 @@
 ghost use Rattle.std.specs.Prelude.{◌≡◌, ◌+◌, ◌<◌, ◌≤◌, ◌↔◌, ◌++◌, [], length, replicate, slice_index, take, IfOk, IsTrue};
 ghost use Rattle.parfield.specs.Md5.{md5};
+ghost use Rattle.parwindow.specs.Ahead.{PushesPast};
 ghost use Rattle.parwindow.specs.Crc32.{crc_of};
 ghost use Rattle.parset.specs.Limits.{slice_size_limit};
 ghost use Rattle.parwindow.specs.Until.{has_tail_slice, is_at_slice, slid_content, slid_window, PushesUntil};
 ghost use Rattle.parwindow.specs.Window.{content_after, empty_window, fallen_byte, tail_content, tail_limit, AreTails};
 
+use crate::ahead::pass_tails;
+use crate::checksum::after_bytes;
 use crate::index::Index;
+use crate::stream::Stream;
 use crate::tables::SlideTables;
 use crate::tail::Tail;
 use crate::tails::{clear_tails, move_tails, slide_tails, tails_for};
@@ -15,6 +19,9 @@ use md5::{Digest, Md5};
 use parfield::{Hash16, Tally};
 use std::alloc::{AllocError, Global};
 use std::marker::Model;
+
+// How many bytes of a stream are looked at in one go at most, where there are tails.
+const LONGEST_PIECE: usize = 512;
 
 /// The last bytes of a stream, at most as many as its capacity, and their CRC-32.
 #[derive(Drop)]
@@ -80,6 +87,30 @@ impl Window {
         fallen
     }
 
+    /// Appends bytes, for all of which there is room.
+    pub fn extend(&mut self, bytes: &[u8])
+        requires { length self.old.content + length bytes.now ≤ self.old.capacity }
+        ensures { self.new ≡ record self.old { content = self.old.content ++ bytes.now } }
+    {
+        if self.tails.is_empty() {
+            self.extend_plain(bytes);
+        } else {
+            for &byte in bytes {
+                self.push(byte);
+            }
+        }
+    }
+
+    // The same without tails: the ring and the register take all bytes at once.
+    fn extend_plain(&mut self, bytes: &[u8])
+        requires room { length self.old.content + length bytes.now ≤ self.old.capacity }
+        requires none { self.old.tails ≡ [] }
+        ensures { self.new ≡ record self.old { content = self.old.content ++ bytes.now } }
+    {
+        self.ring.extend_from_slice(bytes);
+        self.register = after_bytes(self.register, bytes);
+    }
+
     /// Pushes bytes into a full window until its CRC-32 is that of a slice, or that of one of its
     /// tails is that of a slice of this own length, or they are used up; the answer is how many.
     /// Where none is left, the last place may be such a one or not.
@@ -93,7 +124,7 @@ impl Window {
         if self.tails.is_empty() {
             self.slide_until(index, bytes)
         } else {
-            self.push_each_until(index, bytes)
+            self.push_pieces_until(index, bytes)
         }
     }
 
@@ -114,18 +145,60 @@ impl Window {
         slid.count
     }
 
-    // The same with tails, byte by byte.
-    fn push_each_until(&mut self, index: &Index, bytes: &[u8]) -> usize
+    // The same with tails: a single byte, and ever longer pieces while it is at no slice. Of a piece
+    // that has one the bytes before it are a piece again, and then comes a single byte.
+    fn push_pieces_until(&mut self, index: &Index, bytes: &[u8]) -> usize
         requires full { length self.old.content ≡ self.old.capacity }
         ensures content { self.new ≡ slid_window self.old bytes.now result }
         ensures until { PushesUntil index.now self.old bytes.now result }
     {
-        for (i, &byte) in bytes.iter().enumerate() {
-            if self.push_on(index, byte) {
-                return i + 1;
+        let mut done = 0;
+        let mut most = 1;
+        while done < bytes.len() {
+            let rest = &bytes[done..];
+            let piece = &rest[..rest.len().min(most)];
+            let passed = self.slide_past(index, piece);
+            if passed == piece.len() {
+                done += passed;
+                most = (2 * most).min(LONGEST_PIECE);
+            } else if passed > 0 {
+                most = passed;
+            } else {
+                let hit = self.push_on(index, bytes[done]);
+                done += 1;
+                if hit {
+                    return done;
+                }
+                most = (2 * most).min(LONGEST_PIECE);
             }
         }
-        bytes.len()
+        done
+    }
+
+    // Pushes all bytes into a full window that is at a slice after none of them. Otherwise nothing is
+    // changed, and the answer is fewer; how many hangs on the first slice, and the next piece on it.
+    fn slide_past(&mut self, index: &Index, bytes: &[u8]) -> usize
+        requires full { length self.old.content ≡ self.old.capacity }
+        ensures within { result ≤ length bytes.now }
+        ensures all { result ≡ length bytes.now → PushesPast index.now self.old bytes.now self.new }
+        ensures fewer { result < length bytes.now → self.new ≡ self.old }
+    {
+        // A single byte is sooner pushed than looked at.
+        if bytes.len() == 1 {
+            return 0;
+        }
+        let (front, back) = self.ring.as_slices();
+        let slid = self
+            .tables
+            .slide_over(index, front, back, bytes, self.register);
+        let stream = Stream { front, back, bytes };
+        let passed = pass_tails(&mut self.tails, index, &stream, slid.passed());
+        if passed < bytes.len() {
+            return passed;
+        }
+        self.register = slid.register;
+        self.ring.extend_from_slice(bytes);
+        passed
     }
 
     // Pushes a byte into a full window; whether it is at a slice then.

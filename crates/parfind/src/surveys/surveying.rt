@@ -1,4 +1,5 @@
 ghost use Rattle.std.specs.Prelude.{◌≡◌, ◌+◌, ◌≤◌, ◌<◌, ℕ, [], false, length, IsTrue, IfErr};
+ghost use Rattle.std.specs.List.{list_any};
 ghost use Rattle.parfind.specs.Tracks.{IsUnread};
 ghost use Rattle.parset.specs.Limits.{slice_size_limit};
 ghost use Rattle.parshelf.specs.Reads.{ReadsFile};
@@ -6,9 +7,9 @@ ghost use Rattle.parfind.specs.Handover.{HandsEachOnce, SkipsUnfit};
 ghost use Rattle.parfind.specs.Marks.{missing_count};
 ghost use Rattle.parfind.specs.Steps.{scan_of};
 ghost use Rattle.parfind.specs.Surveys.{SurveyMarks, MarksUpToFault, KeepsMarks, IsAllMarked, StopsOnceFound, ReadsNamed, SurveyLeaves, SurveyTellsTails, marked_at};
-ghost use Rattle.parwindow.specs.Missing.{mark_of};
+ghost use Rattle.parwindow.specs.Missing.{mark_of, missing_set};
 ghost use Rattle.parfind.specs.Surveying.{SurveyEnds, survey_at};
-ghost use Rattle.parfind.specs.Sought.{IsWindowFor, sought_of};
+ghost use Rattle.parfind.specs.Sought.{HasFewTails, IsWindowFor, sought_of};
 ghost use Rattle.parfind.specs.declared.surveys.surveying.SurveyFault.TheVariants.{Memory};
 
 use crate::surveys::marking::Exhausted;
@@ -25,7 +26,7 @@ pub enum SurveyFault {
     Read(u32, ReadFault),
     /// Memory was refused.
     Memory,
-    /// There are more lengths of short slices than 256.
+    /// There are more lengths of short slices than 256, whichever slices have marks.
     TooManyTails,
 }
 
@@ -38,6 +39,8 @@ impl From<AllocError> for SurveyFault {
 }
 
 /// Marks each slice of the set that has a sighting; `found` has a mark for each slice, by number.
+/// Only slices that have no mark at the call are looked for. Memory is taken for a window, and where
+/// some slices have a mark and others none for a second index too; none where each has one.
 pub fn survey<H: Shelf>(
     alloc: Global,
     index: &Index,
@@ -61,13 +64,49 @@ pub fn survey<H: Shelf>(
         (marked_at (H.state shelf.new) found.new) result }
     ensures tails { SurveyTellsTails (sought_of index.now mode) result }
     ensures handed { HandsEachOnce (H.state shelf.old) (H.state shelf.new) }
+    ensures unfit { SkipsUnfit (missing_set index.now found.old)
+        (H.state shelf.old) (H.state shelf.new) }
+    ensures none { IsAllMarked found.old → H.state shelf.new ≡ H.state shelf.old }
+{
+    if shorter_lengths(index, mode).len() > MOST_TAILS {
+        return Err(SurveyFault::TooManyTails);
+    }
+    if next_missing(found, 0) == found.len() {
+        return Ok(());
+    }
+    if !has_mark(found) {
+        return survey_few_tails(alloc, index, shelf, found, mode);
+    }
+    let missing = index.missing(alloc, found)?;
+    survey_few_tails(alloc, &missing, shelf, found, mode)
+}
+
+// Marks each slice of the set that has a sighting, where there are no more tails than a window may
+// have.
+fn survey_few_tails<H: Shelf>(
+    alloc: Global,
+    index: &Index,
+    shelf: &mut H,
+    found: &mut [bool],
+    mode: Mode,
+) -> Result<(), SurveyFault>
+    requires each { length found.old ≡ length index.now.slices }
+    requires few { HasFewTails (sought_of index.now mode) }
+    ensures found { IsTrue (H.state shelf.old).is_steady →
+        SurveyMarks (scan_of (sought_of index.now mode) (H.state shelf.old))
+        found.old found.new result }
+    ensures stops { IsTrue (H.state shelf.old).is_steady →
+        StopsOnceFound (sought_of index.now mode)
+        (H.state shelf.old) (H.state shelf.new) found.old }
+    ensures kept { KeepsMarks found.old found.new }
+    ensures leaves { SurveyLeaves (marked_at (H.state shelf.old) found.old)
+        (marked_at (H.state shelf.new) found.new) result }
+    ensures tails { SurveyTellsTails (sought_of index.now mode) result }
+    ensures handed { HandsEachOnce (H.state shelf.old) (H.state shelf.new) }
     ensures unfit { SkipsUnfit index.now (H.state shelf.old) (H.state shelf.new) }
     ensures none { IsAllMarked found.old → H.state shelf.new ≡ H.state shelf.old }
 {
     let tails = shorter_lengths(index, mode);
-    if tails.len() > MOST_TAILS {
-        return Err(SurveyFault::TooManyTails);
-    }
     let mut window = Window::with_tails(alloc, index.size() as usize, tails)?;
     match survey_in(index, shelf, &mut window, found, mode) {
         Ok(()) => Ok(()),
@@ -184,4 +223,11 @@ fn next_missing(found: &[bool], from: usize) -> usize
         number += 1;
     }
     number
+}
+
+// Whether some slice has a mark.
+fn has_mark(found: &[bool]) -> bool
+    ensures { result ≡ list_any (λ is_marked. is_marked) found.now }
+{
+    found.iter().any(|is_marked| *is_marked)
 }

@@ -42,10 +42,8 @@ impl Track {
         while !window.is_full() {
             self.ensure_next_byte(window, shelf)?;
             let room = (window.size() - window.len()) as u64;
-            append(
-                window,
-                self.next_bytes(window, shelf.length(self.file), room),
-            );
+            let bytes = self.next_bytes(window, shelf.length(self.file), room);
+            window.extend(bytes);
         }
         Ok(())
     }
@@ -93,15 +91,5 @@ impl Track {
         let count = window.push_until(index, bytes) as u64;
         self.window_offset += count;
         Ok(count)
-    }
-}
-
-// Appends bytes to a window that has room for them.
-fn append(window: &mut Window, bytes: &[u8])
-    requires { length window.old.content + length bytes.now ≤ window.old.capacity }
-    ensures { window.new ≡ record window.old { content = window.old.content ++ bytes.now } }
-{
-    for &byte in bytes {
-        let _ = window.push(byte);
     }
 }

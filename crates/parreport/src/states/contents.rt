@@ -15,7 +15,7 @@ use std::alloc::{AllocError, Global};
 use std::collections::BTreeSet;
 
 /// What the content of a scanned file is compared by.
-#[derive(Clone, Copy, PartialEq, Eq)]
+#[derive(Clone, Copy, PartialEq, Eq, PartialOrd, Ord)]
 pub struct LengthAndMd5 {
     /// The length in bytes.
     pub length: u64,

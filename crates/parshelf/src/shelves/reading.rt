@@ -1,5 +1,5 @@
-ghost use Rattle.std.specs.Prelude.{◌≡◌, ◌+◌, ◌<◌, ◌≤◌, ◌↔◌, length, slice_index, IsTrue, OnOk, IfOk, IfErr};
-ghost use Rattle.md5.specs.Md5.{md5};
+ghost use Rattle.std.specs.Prelude.{◌≡◌, ◌+◌, ◌++◌, ◌<◌, ◌≤◌, ◌↔◌, List, ℕ, length, slice_index, IsTrue, OnOk, IfOk, IfErr};
+ghost use Rattle.md5.specs.Md5.{md5, Holds};
 ghost use Rattle.parshelf.specs.Shelf.{after_handing, bytes_at, file_of, failure_count, early_end_count};
 ghost use Rattle.parshelf.specs.Reads.{FaultsWithin};
 
@@ -100,8 +100,38 @@ pub fn digest_of_part<H: Shelf>(
     ensures ended { (result ≡ Err ReadFault.Ended)
         ↔ (early_end_count (H.state shelf.old) < early_end_count (H.state shelf.new)) }
 {
-    let room = buffer.len() as u64;
     let mut hasher = Md5::new();
+    hash_part(shelf, file, offset, size, buffer, &mut hasher)?;
+    Ok(Hash16(hasher.finalize()))
+}
+
+/// Hashes a part of a file behind what was hashed before. It is read into `buffer` piece by piece.
+/// After a fault what the hasher holds is open.
+pub fn hash_part<H: Shelf>(
+    shelf: &mut H,
+    file: u32,
+    offset: u64,
+    size: u64,
+    buffer: &mut [u8],
+    hasher: &mut Md5,
+) -> Result<(), ReadFault>
+    requires file { file < length (H.state shelf.old).lengths }
+    requires within { offset + size ≤ slice_index (H.state shelf.old).lengths file }
+    requires buffer { 0 < length buffer.old }
+
+    ensures ok { OnOk result (H.state shelf.new ≡ after_handing (H.state shelf.old) file size) }
+    ensures hashed { IsTrue (H.state shelf.old).is_steady → (front : List ℕ)
+        → Holds hasher.old front
+        → OnOk result (Holds hasher.new (front ++ bytes_at (H.state shelf.old) file offset size)) }
+
+    // There is one failure or early end at most, and none is passed over.
+    ensures fault { IfErr result (FaultsWithin (H.state shelf.old) (H.state shelf.new) file size) }
+    ensures failed { (result ≡ Err ReadFault.Failed)
+        ↔ (failure_count (H.state shelf.old) < failure_count (H.state shelf.new)) }
+    ensures ended { (result ≡ Err ReadFault.Ended)
+        ↔ (early_end_count (H.state shelf.old) < early_end_count (H.state shelf.new)) }
+{
+    let room = buffer.len() as u64;
     let mut done = 0;
     while done < size {
         let next = (size - done).min(room) as usize;
@@ -110,5 +140,5 @@ pub fn digest_of_part<H: Shelf>(
         hasher.update(&*piece);
         done += next as u64;
     }
-    Ok(Hash16(hasher.finalize()))
+    Ok(())
 }

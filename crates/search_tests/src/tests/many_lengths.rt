@@ -131,6 +131,30 @@ fn a_survey_for_256_lengths_takes_no_memory_once_it_has_a_window(
     told(marked?, "all marked without Memory")
 }
 
+// Surveys for no slice, also where memory is refused.
+fn marks_none(
+    rt: &(impl Abort + AllocGlobal),
+    index: &Index,
+    shelf: &mut MemShelf,
+) -> Result<bool, Fail> {
+    assert!(rt; index.slices() == 256);
+    let mut marks = [true; 256];
+    let refused = is_refused(rt.alloc());
+    let marked = survey(rt.alloc(), index, shelf, &mut marks, Mode::Tails);
+    is(rt, &marked, &Ok(()));
+    is(rt, &shelf.handed(), &0);
+    Ok(refused)
+}
+
+#[test]
+fn a_survey_takes_no_memory_where_each_slice_has_its_mark(rt: HostRuntime) -> Result<(), Fail> {
+    let index = must(&rt, index_with_last(rt.alloc(), 0));
+    let mut shelf = file_with(rt.alloc(), b"X")?;
+    let marked = marks_none(&rt, &index, &mut shelf);
+    drop(index);
+    told(marked?, "none marked without Memory")
+}
+
 #[test]
 fn a_drive_finds_slices_of_256_lengths(rt: HostRuntime) -> Result<(), Fail> {
     let index = must(&rt, index_with_last(rt.alloc(), 0));

@@ -1,8 +1,11 @@
 // Checksums, and the windows that have them.
 ghost use Rattle.std.specs.Prelude.{◌<◌, ◌≤◌};
 
+mod missing;
+mod pieces;
 mod slices;
 mod tails;
+mod told;
 
 use crate::tests::fixtures::{is, must};
 use parwindow::{Window, crc32};

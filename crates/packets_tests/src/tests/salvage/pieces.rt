@@ -3,8 +3,8 @@ use parfixtures::{SLICE_TYPE, WORKED, packet_of};
 
 const UNKNOWN: [u8; 16] = *b"PAR 2.0\0Unknown\0";
 
-// A packet of set ID zeros.
-fn packet(rt: &(impl Abort + AllocGlobal), kind: [u8; 16], body: &[u8]) -> Vec<u8> {
+/// A packet of set ID zeros.
+pub fn packet(rt: &(impl Abort + AllocGlobal), kind: [u8; 16], body: &[u8]) -> Vec<u8> {
     must(rt, packet_of(rt.alloc(), [0; 16], kind, body))
 }
 

@@ -1,7 +1,8 @@
 use Rattle.std.proofs.lemmas.Grind.{common_steps}
 use Rattle.std.proofs.Common.{true, false, arith}
 use Rattle.std.proofs.lemmas.Result.{err_from_is_err_and}
-use Rattle.parsalvage.proofs.ValidateLaws.{validated_hands, validated_fault, validated_packet}
+use Rattle.parsalvage.proofs.HandLaws.{Hands-wider, FaultsAfter-wider}
+use Rattle.parsalvage.proofs.ValidateLaws.{validated_hands, validated_fault, validated_rest, validated_rest_fault, validated_packet}
 use Rattle.parsalvage.proofs.validating.validate.Goals as goal
 
 pub returns-in_err-hash-in-Some-clause-leaves : goal.returns-in_err-hash-in-Some-clause-leaves
@@ -40,6 +41,41 @@ returns-else-eq-clause-leaves g c =
     (λ steady. rw c.in-Some.is at (c.in_ok-head.ensures.found steady))
     (λ steady. rw c.in-Some.is at (c.in_ok-head.ensures.fields steady))
     c.in_ok-head.ensures.leaves _ c.in_ok-hash-in-Some.ensures.leaves
+
+-- what is read to hash the packet stands behind the piece
+
+pub returns-in_err-head-clause-rest : goal.returns-in_err-head-clause-rest
+returns-in_err-head-clause-rest g c = λ begins.
+    let same = err_from_is_err_and c.from_residual.result c.from_residual.ensures.1 in
+    rw (same.1, same.2) (FaultsAfter-wider _ _ c.args.file 64 _ _ c.in_err-head.ensures.leaves (omega arith))
+
+pub returns-in_err-hash-in-Some-clause-rest : goal.returns-in_err-hash-in-Some-clause-rest
+returns-in_err-hash-in-Some-clause-rest g c = λ begins.
+    let same = err_from_is_err_and c.from_residual-in_err-hash-in-Some.result c.from_residual-in_err-hash-in-Some.ensures.1 in
+    rw (same.1, same.2)
+    (validated_rest_fault _ _ c.args.file c.args.at c.in-Some.head
+    (λ steady. rw c.in-Some.is at (c.in_ok-head.ensures.found steady))
+    (λ steady. rw c.in-Some.is at (c.in_ok-head.ensures.fields steady))
+    c.in_ok-head.ensures.leaves _ _ _ (rw c.in-Some.is at c.in_ok-head.ensures.long)
+    (c.in_err-hash-in-Some.ensures.rest (omega arith)))
+
+pub returns-then-eq-clause-rest : goal.returns-then-eq-clause-rest
+returns-then-eq-clause-rest g c = λ begins.
+    validated_rest _ _ c.args.file c.args.at c.in-Some.head
+    (λ steady. rw c.in-Some.is at (c.in_ok-head.ensures.found steady))
+    (λ steady. rw c.in-Some.is at (c.in_ok-head.ensures.fields steady))
+    c.in_ok-head.ensures.leaves _ _ (rw c.in-Some.is at c.in_ok-head.ensures.long) (c.in_ok-hash-in-Some.ensures.rest (omega arith))
+
+pub returns-else-eq-clause-rest : goal.returns-else-eq-clause-rest
+returns-else-eq-clause-rest g c = λ begins.
+    validated_rest _ _ c.args.file c.args.at c.in-Some.head
+    (λ steady. rw c.in-Some.is at (c.in_ok-head.ensures.found steady))
+    (λ steady. rw c.in-Some.is at (c.in_ok-head.ensures.fields steady))
+    c.in_ok-head.ensures.leaves _ _ (rw c.in-Some.is at c.in_ok-head.ensures.long) (c.in_ok-hash-in-Some.ensures.rest (omega arith))
+
+pub returns-in-None-clause-rest : goal.returns-in-None-clause-rest
+returns-in-None-clause-rest g c = λ begins.
+    Hands-wider _ _ c.args.file 64 _ c.in_ok-head.ensures.leaves (omega arith)
 
 pub returns-in_err-head-clause-fits : goal.returns-in_err-head-clause-fits
 returns-in_err-head-clause-fits g c = grind (arith, common_steps) steps 100000

@@ -6,4 +6,4 @@ pub loop-length-preserved : goal.loop-length-preserved
 loop-length-preserved c =
     rw c.in_ok-push.ensures.items
     (tail_pushed c.args.size c.args.lengths.now c.loop-length.tails.items c.loop-length.length-index
-    _ c.requires.tails c.loop-length-test.true refl refl c.new.ensures c.loop-length.invariant)
+    _ c.requires.tails c.loop-length-test.true refl refl c.new-in-loop-length.ensures c.loop-length.invariant)

@@ -232,6 +232,33 @@ fn after_a_failed_read_the_marks_before_it_stand(rt: HostRuntime) {
     }
 }
 
+static LEFT: &str = "\
+# Of a file into which no slice fits but those with a mark nothing is read.
+abcdefgh,ij|ij,abX|--+|--+||0
+ij,ij\0|ij|+-|+-||0
+# A slice whose equal has a mark is looked for.
+abcdabcd|Xabcd|+-|++||5
+ij,ij|abX,Xij|+-|++||6
+# Marks of slices that are not seen stay.
+abcdefghijkl|efgh,XXX|+--|++-||7
+";
+
+// Surveys in windows of their own by each row of a table.
+fn marks_own(rt: &(impl Abort + AllocGlobal), table: &str, mode: Mode) {
+    for row in table.lines() {
+        if is_row(row) {
+            must(rt, marks(rt, row, 1, 0, In::OwnWindow, mode));
+            must(rt, marks(rt, row, 64, 0, In::OwnWindow, mode));
+        }
+    }
+}
+
+#[test]
+fn a_survey_looks_for_slices_without_a_mark(rt: HostRuntime) {
+    marks_own(&rt, LEFT, Mode::Plain);
+    marks_own(&rt, LEFT, Mode::Tails);
+}
+
 // Surveys in windows of their own: of files of which the first read fails, and of others.
 #[test]
 fn a_survey_marks_what_a_search_finds(rt: HostRuntime) -> Result<(), AllocError> {

@@ -1,60 +1,35 @@
-use Rattle.std.proofs.lemmas.Grind.{common_steps}
-use Rattle.std.proofs.Common.{arith}
+use Rattle.std.proofs.Common.{length, sym, ap, ◌∙◌, arith}
+use Rattle.parfind.specs.Sought.{HasFewTails, sought_of}
+use Rattle.parfind.proofs.MissingSetLaws.{as_many, few_missing, skips_same, marks_all, stops_all, tells_few}
 use Rattle.parfind.proofs.surveys.surveying.survey.Goals as goal
 
-pub returns-in_err-window-clause-found : goal.returns-in_err-window-clause-found
-returns-in_err-window-clause-found g c = grind (arith, common_steps) steps 100000
+pub returns-then-not-has_mark-clause-unfit : goal.returns-then-not-has_mark-clause-unfit
+returns-then-not-has_mark-clause-unfit g c =
+    skips_same c.args.index.now c.args.found.now (g.H.Shelf.state c.args.shelf.now) (g.H.Shelf.state c.survey_few_tails.new.shelf)
+    c.requires (sym c.has_mark.ensures ∙ c.if-not-has_mark.true) c.survey_few_tails.ensures.unfit
 
-pub returns-in_err-window-clause-stops : goal.returns-in_err-window-clause-stops
-returns-in_err-window-clause-stops g c = grind (arith, common_steps) steps 100000
+pub survey_few_tails-requires-2-clause-each : goal.survey_few_tails-requires-2-clause-each
+survey_few_tails-requires-2-clause-each g c =
+    rw c.in_ok-missing.ensures (c.requires ∙ sym (as_many c.args.index.now.slices c.args.found.now c.requires))
 
-pub returns-in_err-window-clause-kept : goal.returns-in_err-window-clause-kept
-returns-in_err-window-clause-kept g c = grind (arith, common_steps) steps 100000
-
-pub returns-in_err-window-clause-handed : goal.returns-in_err-window-clause-handed
-returns-in_err-window-clause-handed g c = grind (arith, common_steps) steps 100000
-
-pub returns-in_err-window-clause-unfit : goal.returns-in_err-window-clause-unfit
-returns-in_err-window-clause-unfit g c = grind (arith, common_steps) steps 100000
-
-pub returns-in_err-window-clause-none : goal.returns-in_err-window-clause-none
-returns-in_err-window-clause-none g c = grind (arith, common_steps) steps 100000
-
-pub returns-in-Ok-clause-found : goal.returns-in-Ok-clause-found
-returns-in-Ok-clause-found g c = grind (arith, common_steps)
-
-pub returns-in-Ok-clause-stops : goal.returns-in-Ok-clause-stops
-returns-in-Ok-clause-stops g c = grind (arith, common_steps) steps 100000
-
-pub returns-in-Ok-clause-kept : goal.returns-in-Ok-clause-kept
-returns-in-Ok-clause-kept g c = grind (arith, common_steps) steps 100000
-
-pub returns-in-Ok-clause-handed : goal.returns-in-Ok-clause-handed
-returns-in-Ok-clause-handed g c = grind (arith, common_steps) steps 100000
-
-pub returns-in-Ok-clause-unfit : goal.returns-in-Ok-clause-unfit
-returns-in-Ok-clause-unfit g c = grind (arith, common_steps) steps 100000
-
-pub returns-in-Ok-clause-none : goal.returns-in-Ok-clause-none
-returns-in-Ok-clause-none g c = grind (arith, common_steps) steps 100000
+pub survey_few_tails-requires-2-clause-few : goal.survey_few_tails-requires-2-clause-few
+survey_few_tails-requires-2-clause-few g c =
+    let few : HasFewTails (sought_of c.args.index.now c.args.mode) = omega (arith, ap length c.shorter_lengths.ensures.all) in
+    rw c.in_ok-missing.ensures (few_missing c.args.index.now c.args.found.now c.args.mode few)
 
 pub returns-clause-found : goal.returns-clause-found
-returns-clause-found g c = grind (arith, common_steps)
+returns-clause-found g c = λ steady.
+    marks_all c.args.index.now c.args.found.now c.requires c.args.mode (g.H.Shelf.state c.args.shelf.now)
+    c.survey_few_tails-2.new.found c.survey_few_tails-2.result (rw c.in_ok-missing.ensures at c.survey_few_tails-2.ensures.found steady)
 
 pub returns-clause-stops : goal.returns-clause-stops
-returns-clause-stops g c = grind (arith, common_steps) steps 100000
+returns-clause-stops g c = λ steady.
+    stops_all c.args.index.now c.args.found.now c.requires c.args.mode (g.H.Shelf.state c.args.shelf.now)
+    (g.H.Shelf.state c.survey_few_tails-2.new.shelf) (rw c.in_ok-missing.ensures at c.survey_few_tails-2.ensures.stops steady)
 
-pub returns-clause-kept : goal.returns-clause-kept
-returns-clause-kept g c = grind (arith, common_steps) steps 100000
-
-pub returns-clause-handed : goal.returns-clause-handed
-returns-clause-handed g c = grind (arith, common_steps) steps 100000
-
-pub returns-clause-unfit : goal.returns-clause-unfit
-returns-clause-unfit g c = grind (arith, common_steps) steps 100000
-
-pub returns-clause-none : goal.returns-clause-none
-returns-clause-none g c = grind (arith, common_steps) steps 100000
-
-pub survey_in-requires-clause-each : goal.survey_in-requires-clause-each
-survey_in-requires-clause-each g c = grind (arith, common_steps) steps 100000
+pub returns-clause-tails : goal.returns-clause-tails
+returns-clause-tails g c =
+    let few : HasFewTails (sought_of c.args.index.now c.args.mode) = omega (arith, ap length c.shorter_lengths.ensures.all) in
+    tells_few (sought_of c.args.index.now c.args.mode) (sought_of c.in_ok-missing.missing c.args.mode) c.survey_few_tails-2.result few
+    (rw c.in_ok-missing.ensures (few_missing c.args.index.now c.args.found.now c.args.mode few))
+    c.survey_few_tails-2.ensures.tails

@@ -1,15 +1,15 @@
-use Rattle.std.proofs.Common.{◌+◌, ◌-◌, ◌≡◌, ◌≤◌, length, min}
-use Rattle.parwindow.specs.Slide.{rolled_register, HasRegister}
+use Rattle.std.proofs.Common.{IsTrue, ◌+◌, ◌-◌, ◌≡◌, ◌≤◌, length, min}
+use Rattle.parwindow.specs.Slide.{rolled_register}
 use Rattle.parwindow.proofs.StopLaws.{GoesOn}
 use Rattle.parwindow.proofs.tables.SlideTables.slide.Given as goal
 
 abbrev pub invariant-loop-i : goal.invariant-loop-i
-invariant-loop-i l = record {
+invariant-loop-i g l = record {
   is_len : l.len ≡ min (length l.gone) (length l.come);
   within : l.i ≤ l.len;
-  on : GoesOn (HasRegister l.index) (rolled_register l.self.others l.start l.gone l.come)
+  on : GoesOn (λ register. IsTrue (g.S.Sought.has l.sought register)) (rolled_register l.self.others l.start l.gone l.come)
       l.i l.register;
 }
 
 abbrev pub decreases-loop-i : goal.decreases-loop-i
-decreases-loop-i l = l.len + 1 - l.i
+decreases-loop-i g l = l.len + 1 - l.i

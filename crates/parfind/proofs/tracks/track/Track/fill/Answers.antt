@@ -21,16 +21,16 @@ loop-self-preserved g c =
     let file_end : c.length.result ≡ slice_index new.lengths t.file = c.length.ensures.value in
     let lengths : mid.lengths ≡ s.lengths = ap (λ (u : ShelfState). u.lengths) so_far.only in
     record {
-      tied = subst (λ (w : WindowState). IsTied new w t) (sym c.append.ensures)
+      tied = subst (λ (w : WindowState). IsTied new w t) (sym c.extend.ensures)
           (follows_more (slice_index new.lengths t.file) new.is_steady (file_of new t.file) v t r.tied
           (length-file_of new t.file (g.met.H.Shelf.well_formed c.ensure_next_byte.new.shelf))
-          c.next_bytes.result.now (rw file_end at c.next_bytes.ensures.bytes) (λ before. c.next_bytes.ensures.hand (rw file_end before))
-          c.next_bytes.ensures.some (omega (arith, c.next_bytes.ensures.within, c.size.ensures, c.len.ensures.len, r.tied.within)));
+          c.next_bytes-bytes.result.now (rw file_end at c.next_bytes-bytes.ensures.bytes) (λ before. c.next_bytes-bytes.ensures.hand (rw file_end before))
+          c.next_bytes-bytes.ensures.some (omega (arith, c.next_bytes-bytes.ensures.within, c.size.ensures, c.len.ensures.len, r.tied.within)));
       same = record {
         file_is = r.same.file_is ∙ so_far.same.file_is;
         offset_is = r.same.offset_is ∙ so_far.same.offset_is;
       };
-      window_is = kept_window c.args.window.now v c.append.new.window _ so_far.window_is c.append.ensures;
+      window_is = kept_window c.args.window.now v c.extend.new.self _ so_far.window_is c.extend.ensures;
       only = ReadsOnly_more s mid new so_far.only r.shelf;
       reads = hands_more s.lengths s.handed mid.handed new.handed (fetched_of c.args.self.now) (fetched_of c.loop-self.self) (fetched_of t)
           so_far.reads (rw lengths at r.reads);
@@ -84,20 +84,20 @@ returns-in_err-ensure_next_byte-clause-shelf g c = grind (arith, common_steps) s
 pub overflow_sub-room : goal.overflow_sub-room
 overflow_sub-room g c = grind (arith, common_steps) steps 100000
 
-pub next_bytes-requires-clause-some : goal.next_bytes-requires-clause-some
-next_bytes-requires-clause-some g c = grind (arith, common_steps) steps 100000
+pub next_bytes-bytes-requires-clause-some : goal.next_bytes-bytes-requires-clause-some
+next_bytes-bytes-requires-clause-some g c = grind (arith, common_steps) steps 100000
 
-pub next_bytes-requires-clause-small : goal.next_bytes-requires-clause-small
-next_bytes-requires-clause-small g c = grind (arith, common_steps) steps 400000
+pub next_bytes-bytes-requires-clause-small : goal.next_bytes-bytes-requires-clause-small
+next_bytes-bytes-requires-clause-small g c = grind (arith, common_steps) steps 400000
 
-pub next_bytes-requires-clause-fits : goal.next_bytes-requires-clause-fits
-next_bytes-requires-clause-fits g c = grind (arith, common_steps) steps 100000
+pub next_bytes-bytes-requires-clause-fits : goal.next_bytes-bytes-requires-clause-fits
+next_bytes-bytes-requires-clause-fits g c = grind (arith, common_steps) steps 100000
 
-pub next_bytes-requires-clause-not_ahead : goal.next_bytes-requires-clause-not_ahead
-next_bytes-requires-clause-not_ahead g c = grind (arith, common_steps) steps 100000
+pub next_bytes-bytes-requires-clause-not_ahead : goal.next_bytes-bytes-requires-clause-not_ahead
+next_bytes-bytes-requires-clause-not_ahead g c = grind (arith, common_steps) steps 100000
 
-pub next_bytes-requires-clause-next : goal.next_bytes-requires-clause-next
-next_bytes-requires-clause-next g c = grind (arith, common_steps) steps 400000
+pub next_bytes-bytes-requires-clause-next : goal.next_bytes-bytes-requires-clause-next
+next_bytes-bytes-requires-clause-next g c = grind (arith, common_steps) steps 400000
 
-pub append-requires : goal.append-requires
-append-requires g c = grind (arith, common_steps) steps 100000
+pub extend-requires : goal.extend-requires
+extend-requires g c = grind (arith, common_steps) steps 100000

@@ -1,0 +1,35 @@
+ghost use Rattle.std.specs.Prelude.{◌≡◌, ◌<◌, drop, length, take};
+ghost use Rattle.parwindow.specs.Ahead.{content_of, stream_of};
+
+/// The bytes of a full window, in two parts, and those that come.
+#[derive(Clone, Copy, Drop)]
+pub struct Stream<'a> {
+    pub front: &'a [u8],
+    pub back: &'a [u8],
+    pub bytes: &'a [u8],
+}
+
+impl<'a> Stream<'a> {
+    /// How many bytes the window has.
+    pub fn size(&self) -> usize
+        ensures { result ≡ length (content_of self.now) }
+    {
+        self.front.len() + self.back.len()
+    }
+
+    /// The bytes from a place on, up to the end of a part.
+    pub fn from(&self, place: usize) -> &'a [u8]
+        requires { place < length (stream_of self.now) }
+        ensures piece { result.now ≡ take (length result.now) (drop place (stream_of self.now)) }
+        ensures some { 0 < length result.now }
+    {
+        if place < self.front.len() {
+            return &self.front[place..];
+        }
+        let behind = place - self.front.len();
+        if behind < self.back.len() {
+            return &self.back[behind..];
+        }
+        &self.bytes[behind - self.back.len()..]
+    }
+}
