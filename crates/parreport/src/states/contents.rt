@@ -67,7 +67,9 @@ fn add_length(lengths: &mut BTreeSet<u64>, length: u64) -> Result<(), AllocError
     Ok(())
 }
 
-// The length and the MD5 of a file, where its length is one of those of the files of the set.
+// The length and the MD5 of a file, where its length is one of those of the files of the set. Inlined,
+// the array of a digest would stay on the stack beside the window of a survey.
+#[inline(never)]
 fn content_at<Q: Shelf>(
     files: &[SetFile],
     lengths: &BTreeSet<u64>,

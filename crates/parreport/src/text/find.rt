@@ -30,6 +30,8 @@ pub(crate) struct Query {
 }
 
 /// Writes where slices of the set are seen, from the cursor on.
+// Inlined, its finder would stay on the stack beside the arrays of salvage.
+#[inline(never)]
 pub(crate) fn write_find<Q: Shelf, W: Sink>(
     alloc: Global,
     plan: &Plan,

@@ -25,6 +25,8 @@ mod lines;
 mod status;
 
 /// Writes what of the set is there.
+// Inlined, what it holds would stay on the stack beside the arrays of salvage.
+#[inline(never)]
 pub(crate) fn write_verify<Q: Shelf, W: Sink>(
     alloc: Global,
     plan: &Plan,
