@@ -3,6 +3,7 @@
 
 usage: compare_with_par2.py [SLICE_SIZE ..]
        compare_with_par2.py --sets N [--seed N] [--jobs N]
+       compare_with_par2.py --creators
 
 Needs par2 (Debian package par2). With slices of 512 bytes, 64 KiB and 1 MiB, or of the sizes that are
 given, each case makes a set of three files of some thirty slices anew, damages the folder, and runs both
@@ -12,6 +13,9 @@ answers differ is one that EXPLAINED names and has no difference with --tails, o
 With --sets it takes N sets of damaged_sets.py instead, prints of each how many slices are needed by
 par2, by parv and by parv with --tails, and at last in how many each needs fewer. The exit status is 1
 where parv with --tails needs more in one.
+
+With --creators it takes the sets of creator_sets.py, each whole and without its first file; where the
+answers differ, EXPLAINED_SETS has both. Of the first one par2 has to lay out the same packets.
 
 PARV is the program (crates/parv/out/parv).
 """
@@ -29,8 +33,9 @@ from concurrent.futures import ProcessPoolExecutor
 sys.path[0] = os.path.dirname(os.path.dirname(os.path.realpath(__file__)))  # tools/, where imports begin
 
 from hostile.runs import PARV
-from make import damaged_sets
+from make import creator_sets, damaged_sets
 from make.damage import cut, flip, in_file, insert, remove, swap
+from models.list_packets import packets_in
 
 VERDICTS = {0: "complete", 1: "possible", 2: "impossible", 4: "no set"}
 SIZES = [512, 65536, 1048576]
@@ -42,6 +47,19 @@ SHORT_SLICE = "par2 also sees a short last slice where other bytes follow it; pa
 EXPLAINED = {
     "bytes added at the end": (("possible", 1, 8), ("possible", 0, 8), SHORT_SLICE),
     "all files joined into one": (("possible", 1, 8), ("possible", 0, 8), SHORT_SLICE),
+}
+
+# The sets of other creators of which par2 says something else, and why.
+FIRST_PACKET = "par2 takes the set of the first packet, parv that of the first Main"
+SIGNAL = "par2 ends by a signal where it finds a file that isn't recoverable"
+EXPLAINED_SETS = {
+    "names, whole": (("possible", 0, 0), ("complete", 0, 0), "par2 takes a backslash in a name for a slash"),
+    "mixed, whole": (("complete", 0, 3), ("complete", 0, 2), FIRST_PACKET),
+    "mixed, a file missing": (("complete", 0, 3), ("impossible", 3, 2), FIRST_PACKET),
+    "others, whole": (("complete", 0, 2), ("no set", None, 2), SIGNAL),
+    "others, a file missing": (("impossible", 3, 2), ("no set", None, 2), SIGNAL),
+    **{f"packed, {state}": (("no set", None, None), ("no set", None, 0), "neither reads packed sets")
+       for state in ["whole", "a file missing"]},
 }
 
 
@@ -102,7 +120,7 @@ def by_parv(packet_files, files, *options):
 
 
 def by_par2(packet_files, files):
-    run = subprocess.run(["par2", "verify", packet_files[0], *files], capture_output=True, text=True)
+    run = subprocess.run(["par2", "verify", packet_files[0], *files], capture_output=True, text=True, errors="replace")
     text = run.stdout
     blocks = re.search(r"You have (\d+) out of (\d+) data blocks available", text)
     have = re.search(r"You have (\d+) recovery blocks available", text)
@@ -124,6 +142,10 @@ def answers():
     return by_parv(packet_files, files), by_parv(packet_files, files, "--tails"), by_par2(packet_files, files)
 
 
+def as_text(name, answer):
+    return "{} {}, need {} have {}".format(name, *answer)
+
+
 def compare(size, case, damage):
     """Prints what both say of a case, and whether that is as it should be."""
     times = size // 512
@@ -139,9 +161,8 @@ def compare(size, case, damage):
         os.chdir("/")
     explained = EXPLAINED.get(case, (ours, ours, "the same"))
     same = explained[2] if (ours, theirs) == explained[:2] and tails == theirs else "DIFFERENT"
-    told = [f"{name} {verdict}, need {need} have {have}" for name, (verdict, need, have) in
-            [("parv", ours), ("parv --tails", tails), ("par2", theirs)]]
-    print(f"slices of {size}, {case}: {'; '.join(told)}; {same}", flush=True)
+    answered = "; ".join(map(as_text, ["parv", "parv --tails", "par2"], [ours, tails, theirs]))
+    print(f"slices of {size}, {case}: {answered}; {same}", flush=True)
     return same != "DIFFERENT"
 
 
@@ -170,14 +191,63 @@ def compare_sets(count, seed, jobs):
     return all(needs[1] <= needs[2] for needs in all_needs)
 
 
+def bodies(name):
+    """Set ID, type and body of each packet of a file, without recovery data."""
+    with open(name, "rb") as file:
+        data = file.read()
+    return [(data[at + 32:at + 64], data[at + 64:at + 68 if kind == "recvslic" else at + length])
+            for at, length, kind, _ in packets_in(data)]
+
+
+def laid_out_alike():
+    """Whether par2 makes the packet files of `interleaved` of its files; prints it."""
+    with tempfile.TemporaryDirectory() as folder:
+        creator_sets.write(folder, creator_sets.interleaved())
+        os.chdir(folder)
+        ours = {name: bodies(name) for name in glob.glob("*.par2")}
+        for name in ours:
+            os.remove(name)
+        subprocess.run(["par2", "create", "-q", "-q", f"-s{creator_sets.SIZE}", "-c7", "set.par2",
+                        *[name for name, _ in creator_sets.FILES]], check=True, stdout=subprocess.DEVNULL)
+        alike = ours == {name: bodies(name) for name in glob.glob("*.par2")}
+        os.chdir("/")
+    print(f"interleaved, made by par2: {'the same packets' if alike else 'DIFFERENT'}", flush=True)
+    return alike
+
+
+def compare_creator(layout):
+    """Prints what both say of a set, whole and without its first file, and whether that is as it should be."""
+    agree = True
+    with tempfile.TemporaryDirectory() as folder:
+        creator_sets.write(folder, layout())
+        os.chdir(folder)
+        paths = sorted(path for path in glob.glob("**", recursive=True) if os.path.isfile(path))
+        packet_files = [path for path in paths if path.lower().endswith(".par2")]
+        files = [path for path in paths if path not in packet_files]
+        for state in "whole", "a file missing":
+            if state != "whole":
+                os.remove(files.pop(0))
+            case = f"{layout.__name__}, {state}"
+            ours, theirs = by_parv(packet_files, files, "--tails"), by_par2(packet_files, files)
+            explained = EXPLAINED_SETS.get(case, (ours, ours, "the same"))
+            end = explained[2] if (ours, theirs) == explained[:2] else "DIFFERENT"
+            print(f"{case}: {as_text('parv --tails', ours)}; {as_text('par2', theirs)}; {end}", flush=True)
+            agree = agree and end != "DIFFERENT"
+        os.chdir("/")
+    return agree
+
+
 def main():
     parser = argparse.ArgumentParser(usage=__doc__.split("\n\n")[1][7:])
     parser.add_argument("sizes", nargs="*", type=int)
     for option, value in [("--sets", 0), ("--seed", 1), ("--jobs", 1)]:
         parser.add_argument(option, type=int, default=value)
+    parser.add_argument("--creators", action="store_true")
     asked = parser.parse_args()
     if any(size < 512 or size % 512 for size in asked.sizes):
         parser.error("slices have a multiple of 512 bytes")
+    if asked.creators:
+        return 0 if all(list(map(compare_creator, creator_sets.SETS)) + [laid_out_alike()]) else 1
     if asked.sets:
         return 0 if compare_sets(asked.sets, asked.seed, asked.jobs) else 1
     agree = [compare(size, case, damage) for size in asked.sizes or SIZES for case, damage in CASES.items()]

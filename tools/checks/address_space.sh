@@ -58,10 +58,12 @@ steps verify -q v.par2 x.bin
 steps verify --tails tails/two.par2 tails/turned
 steps find --tails tails/256.par2 tails/abcd
 
-# Neither recovery data nor a file's length is taken as memory: 64 MiB in one packet, a file of 1 GiB, and 64 MiB
-# to scan, in 4 MiB more than the least. Nor are bodies held more than once that lie in one another.
+# Neither recovery data nor a file's length is taken as memory: 64 MiB in one packet, a file of 1 GiB, also behind
+# packets, and 64 MiB to scan, in 4 MiB more than the least. Nor are bodies held more than once that lie in one
+# another, nor is more room asked for where there are more packet files; a search asks for one window.
 few=$((least + 4096))
 PYTHONPATH=$tools python3 - << 'END'
+from bench.memory_cost import one_file
 from hostile.hostile_packets import nested_creators
 from make.packets import desc_body, main_body, packet, set_of
 owner, content = bytes(16), bytes(64 << 20)
@@ -73,6 +75,8 @@ with open("zeros.bin", "wb") as file:
     file.truncate(len(content))
 with open("zeros.par2", "wb") as file:
     file.write(set_of(main_body(65536, [owner]), ("filedesc", desc_body(owner, b"zeros.bin", content))))
+with open("window.par2", "wb") as file:
+    file.write(one_file(len(content), 4, 1))
 with open("nested.par2", "wb") as file:
     file.write(nested_creators(128 << 10))
 END
@@ -80,6 +84,19 @@ in_few=(sh -c 'ulimit -v "$0" && exec "$@"' $few "$parv")
 wants "a recovery slice of 64 MiB in $few KiB" 0 "large.par2 0 67108932 recvslic 00000000000000000000000000000000
 packets 1" "" "${in_few[@]}" packets large.par2
 wants "a file of 1 GiB in $few KiB" 0 "packets 0" "" "${in_few[@]}" packets sparse.par2
+cp v.par2 behind.par2
+truncate -s 1G behind.par2
+"$tools/models/describe_set.py" v.par2 | sed 's/v[.]par2/behind.par2/' > wanted
+gives "a set before 1 GiB in $few KiB" 0 wanted "" "${in_few[@]}" set behind.par2
+many=()
+for i in $(seq 300); do many+=(v.par2); done
+wants "three hundred packet files in $few KiB" 1 "need 0 have 0
+result possible" "" "${in_few[@]}" verify -q "${many[@]}" x.bin
+for words in find "find --tails"; do
+    # shellcheck disable=SC2086
+    wants "a window of 64 MiB in $((few + 65536)) KiB: $words" 0 end "" \
+        sh -c 'ulimit -v "$0" && exec "$@"' $((few + 65536)) "$parv" $words window.par2 x.bin
+done
 { "$tools/models/describe_set.py" zeros.par2 | grep '^set'; printf '%s\n' "complete zeros.bin" "need 0 have 0" \
     "result complete"; } > wanted
 gives "the verdict on 64 MiB in $few KiB" 0 wanted "" "${in_few[@]}" verify zeros.par2 zeros.bin

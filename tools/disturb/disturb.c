@@ -7,7 +7,11 @@
    As the program ends, the file that REPORT names gets one line of eight numbers: 1 where any of that was
    done (where an allocation is to be refused, 1 where it was), or 0; the allocations that were not given
    back; the files that were not closed; how many allocations there were; the reads behind the one that
-   failed or ended; the writes to standard output; the openings for more than reading; and the reads. */
+   failed or ended; the writes to standard output; the openings for more than reading; and the reads.
+   The file that CALLS names gets a line for each call on a file, as it is made: `statx PATH FLAGS` or
+   `statx NUMBER FLAGS`, `open PATH FLAGS NUMBER`, `pread NUMBER OFFSET SIZE GIVEN` and `close NUMBER`. NUMBER
+   is that of the opening, from 1 (0: none); FLAGS are hexadecimal; SIZE is what was asked for, and GIVEN what
+   it gave (-1: it failed). */
 #define _GNU_SOURCE
 #include <dlfcn.h>
 #include <errno.h>
@@ -16,6 +20,7 @@
 #include <stdio.h>
 #include <stdlib.h>
 #include <sys/stat.h>
+#include <sys/syscall.h>
 #include <unistd.h>
 
 static long refused, later, unopened, unknown, failing, cut, full, empty, most; /* the numbers asked for; 0: none */
@@ -24,10 +29,35 @@ static long allocations, opens, stats, reads, writes, done; /* how many there we
 static long live, opened;                       /* what is taken and not yet given back */
 static long changing;                           /* openings for more than reading */
 static char early[4096];                        /* dlsym itself asks for a little */
+static int calls = -1;                          /* the file that gets the calls */
+static long numbers[1 << 17];                   /* the number of the opening of each open file */
 
 static void *next_of(const char *name)
 {
     return dlsym(RTLD_NEXT, name);
+}
+
+/* Writes a line about a call, without a call of the program. */
+__attribute__((format(printf, 1, 2))) static void tell(const char *form, ...)
+{
+    char line[8192];
+    va_list rest;
+    int size, error_before = errno;
+    if (calls < 0)
+        return;
+    va_start(rest, form);
+    size = vsnprintf(line, sizeof line, form, rest);
+    va_end(rest);
+    if (size >= (int)sizeof line || syscall(SYS_write, calls, line, size) != size)
+        abort();
+    errno = error_before;
+}
+
+/* The number of the opening of a file. */
+static long *number_of(int file)
+{
+    static long none;
+    return file >= 0 && file < 1 << 17 ? &numbers[file] : &none;
 }
 
 static int is_refused(void)
@@ -135,12 +165,16 @@ int open(const char *path, int flags, ...)
     va_end(rest);
     if (++opens == unopened) {
         met();
+        tell("open %s %x 0\n", path, flags);
         errno = error;
         return -1;
     }
     file = next(path, flags, mode);
     opened += file >= 0;
     changing += (flags & (O_ACCMODE | O_CREAT | O_TRUNC)) != O_RDONLY;
+    if (file >= 0)
+        *number_of(file) = opens;
+    tell("open %s %x %ld\n", path, flags, file < 0 ? 0 : opens);
     return file;
 }
 
@@ -149,6 +183,10 @@ int statx(int folder, const char *path, int flags, unsigned mask, struct statx *
     static int (*next)(int, const char *, int, unsigned, struct statx *);
     if (!next)
         next = next_of("statx");
+    if (*path)
+        tell("statx %s %x\n", path, flags);
+    else
+        tell("statx %ld %x\n", *number_of(folder), flags);
     if (++stats == unknown) {
         met();
         errno = error;
@@ -163,12 +201,14 @@ int close(int file)
     int status;
     if (!next)
         next = next_of("close");
+    tell("close %ld\n", *number_of(file));
     status = next(file);
     opened -= status == 0;
     return status;
 }
 
-ssize_t pread(int file, void *place, size_t size, off_t offset)
+/* What a read gives. */
+static ssize_t give(int file, void *place, size_t size, off_t offset)
 {
     static ssize_t (*next)(int, void *, size_t, off_t);
     if (!next)
@@ -188,6 +228,13 @@ ssize_t pread(int file, void *place, size_t size, off_t offset)
         return 0;
     }
     return next(file, place, size, offset);
+}
+
+ssize_t pread(int file, void *place, size_t size, off_t offset)
+{
+    ssize_t given = give(file, place, size, offset);
+    tell("pread %ld %lu %zu %zd\n", *number_of(file), (unsigned long)offset, size, given);
+    return given;
 }
 
 ssize_t write(int file, const void *place, size_t size)
@@ -237,6 +284,8 @@ __attribute__((constructor)) static void start(void)
     full = number_in("FAIL_WRITE");
     empty = number_in("EMPTY_WRITE");
     most = number_in("SHORT");
+    if (getenv("CALLS"))
+        calls = syscall(SYS_openat, AT_FDCWD, getenv("CALLS"), O_WRONLY | O_CREAT | O_TRUNC | O_CLOEXEC, 0644);
     allocations = opens = stats = reads = writes = done = live = opened = changing = 0;
 }
 
@@ -248,6 +297,7 @@ __attribute__((destructor)) static void end(void)
     const char *name = getenv("REPORT");
     FILE *file;
     refused = later = 0;
+    calls = -1;
     if (name && (file = fopen(name, "w"))) {
         fprintf(file, "%ld %ld %ld %ld %ld %ld %ld %ld\n", done, left, unclosed, taken, behind, writes,
                 changed, reads);

@@ -57,7 +57,8 @@ def packet(owner, kind, body):
 
 def set_of(main, *rest):
     """The packets of the set with this Main body; the rest are pairs of kind and body."""
-    return b"".join(packet(md5(main), kind, body) for kind, body in [("main", main), *rest])
+    owner = md5(main)
+    return b"".join(packet(owner, kind, body) for kind, body in [("main", main), *rest])
 
 
 def main_body(slice_size, recovery, others=()):

@@ -32,10 +32,8 @@ def eight(value):
 
 def mark_of(names, lengths):
     """The mark of a list of scanned files, by their names as they are told and their lengths."""
-    listed = b""
-    for name, length in zip(names, lengths):
-        listed += eight(len(name)) + name + eight(length)
-    return hashlib.md5(listed).hexdigest()
+    listed = [eight(len(name)) + name + eight(length) for name, length in zip(names, lengths)]
+    return hashlib.md5(b"".join(listed)).hexdigest()
 
 
 def text_of(cursor):

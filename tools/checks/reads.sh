@@ -1,0 +1,239 @@
+#!/usr/bin/env bash
+# What reading costs: which files are opened and read by a run, in which order, and by reads of which places and
+# sizes, as worked out from where things stand in files that are made for it.
+. "$(dirname "$0")/recording.sh"
+
+# What was opened, in order, and the reads: a line for each run of reads of one file of which each begins where the
+# one before ended, with the file, the offset where it begins, and the sizes; 4096*3 is three reads of 4,096. A read
+# that gave less than it was asked for has what it gave behind a slash.
+reads_of() {
+    awk 'function shown() { return size (times > 1 ? "*" times : "") }
+    $1 == "open" { path[$4] = $2; opened = opened " " $2 }
+    $1 == "pread" {
+        asked = $4 ($5 == $4 ? "" : "/" $5)
+        if (line != "" && $2 == file && $3 == end && asked == size) times++
+        else {
+            if (line != "" && $2 == file && $3 == end) line = line " " shown()
+            else {
+                if (line != "") lines = lines line " " shown() "\n"
+                line = path[$2] " " $3
+            }
+            size = asked
+            times = 1
+        }
+        file = $2
+        end = $3 + $5
+    }
+    END { printf "%s\n%s%s", "open" opened, lines, line == "" ? "" : line " " shown() "\n" }' calls
+}
+
+# reads NAME WORDS LAST OPENED LINES..: the run of these words ends with this line, opens these files and makes
+# these reads.
+reads() {
+    local name=$1 words=$2 last=$3
+    { printf 'open %s\n' "$4"; [ $# -lt 5 ] || printf '%s\n' "${@:5}"; } > wanted
+    # shellcheck disable=SC2086
+    record $words
+    reads_of > found
+    if [ "$(tail -n 1 text)" = "$last" ] && cmp -s found wanted; then
+        echo "ok: $name"
+    else
+        fails "$name: $(tail -n 1 text), $(diff found wanted | tr '\n' ';')"
+    fi
+}
+
+# salvages NAME FILE PACKETS LINE..: `packets` lists so many packets of the file, and reads it so.
+salvages() {
+    reads "$1" "packets $2" "packets $3" "$2" "${@:4}"
+}
+
+PYTHONPATH=$tools python3 - << 'END' || exit 1
+import hashlib
+from make.damage import flip
+from make.packets import NO_ID, TYPES, desc_body, ids_of, ifsc_body, main_body, md5, packet, recvslic_body, set_of
+
+def write(name, *parts):
+    with open(name, "wb") as out:
+        out.write(b"".join(parts))
+
+def junk(name, size):
+    return hashlib.shake_256(name.encode()).digest(size)
+
+# A file of zeros with one packet in it.
+def at(name, place, data, size):
+    write(name, bytes(place), data, bytes(size - place - len(data)))
+
+for size in 0, 63, 64, 65592, 65593, 200000:
+    write(f"zeros{size}.par2", bytes(size))
+
+# Each kind at once, and a packet that isn't one for its last byte.
+kinds = b"".join(packet(NO_ID, kind, bytes(1500)) for kind in [*TYPES, b"PAR 2.0\0Another\0"]) * 5
+broken = bytearray(packet(NO_ID, "creator", bytes(400)))
+flip(broken, len(broken) - 1)
+write("inside.par2", kinds, broken, bytes(50000 - len(kinds) - len(broken)))
+
+small = packet(NO_ID, "creator", b"x" * 40)
+for place in 65472, 65500, 65528, 65529:
+    at(f"at{place}.par2", place, small if place > 65472 else packet(NO_ID, "creator", b""), 65700)
+at("beyond.par2", 65500, packet(NO_ID, "creator", b"x" * 400)[:200], 65700)
+large = bytearray(packet(NO_ID, "creator", b"x" * 20000))
+at("body.par2", 65000, large, 90000)
+flip(large, len(large) - 1)
+at("wrong.par2", 65000, large, 90000)
+at("slice.par2", 65000, packet(NO_ID, "recvslic", recvslic_body(0, b"x" * 20000)), 90000)
+at("front.par2", 65470, packet(NO_ID, "recvslic", recvslic_body(0, b"x" * 1000)), 66700)
+
+# A packet inside the body of another, behind the end of the piece and over it; and one over the end of another.
+inner = packet(NO_ID, "creator", b"y" * 400)
+for place in 65400, 66000:
+    front = place - 64064
+    at(f"inner{place}.par2", 64000, packet(NO_ID, "creator", bytes(front) + inner + bytes(4000 - front - 464)), 70000)
+second = packet(NO_ID, "creator", b"y" * 4000)
+at("overlap.par2", 64000, packet(NO_ID, "creator", second[:1064]) + second[1064:], 70000)
+write("limit.par2", packet(NO_ID, "creator", bytes(1048576)))
+write("above.par2", packet(NO_ID, "creator", bytes(1048580)))
+
+# Three files in slices of 8,192 bytes, whose last ones have 3,616, 3,000 and 1,696.
+contents = {name: junk(name, size) for name, size in [("a", 20000), ("b", 3000), ("c", 100000)]}
+ids = ids_of(3, 1)
+main = main_body(8192, ids)
+descs = [("filedesc", desc_body(owner, name.encode(), contents[name])) for owner, name in zip(ids, contents)]
+sums = [("ifsc", ifsc_body(owner, content, 8192)) for owner, content in zip(ids, contents.values())]
+write("s.par2", set_of(main, *descs, *sums))
+write("n.par2", set_of(main, *descs))
+write("s.id", md5(main).hex().encode())
+for name, content in contents.items():
+    write(name, content)
+damaged = bytearray(contents["c"])
+flip(damaged, 50000)
+write("cc", damaged)
+write("j", junk("before", 10000), contents["c"], junk("behind", 50000))
+write("k", junk("before", 5000), contents["b"], bytes(20000))
+for size in 1695, 1696, 20000:
+    write(f"other{size}", junk("other", size))
+
+# A slice of zeros, which stands at each place of ten thousand zeros but the last.
+owner = bytes(16)
+write("zero.par2", set_of(main_body(64, [owner]), ("filedesc", desc_body(owner, b"zero", bytes(64))),
+                          ("ifsc", ifsc_body(owner, bytes(64), 64))))
+write("zeros", bytes(10000))
+END
+set=$(< s.id)
+
+# Packets are looked for in pieces of 65,536 bytes, each of which begins with the last seven of the one before, as
+# long as a header fits behind those.
+salvages "nothing of an empty packet file" zeros0.par2 0
+salvages "nothing of 63 bytes" zeros63.par2 0
+salvages "64 bytes once" zeros64.par2 0 "zeros64.par2 0 64"
+salvages "no second piece for 63 bytes" zeros65592.par2 0 "zeros65592.par2 0 65536"
+salvages "a second piece for 64" zeros65593.par2 0 "zeros65593.par2 0 65536 57"
+salvages "four pieces: 65,536 and twice 65,529, and 3,406 are 200,000" zeros200000.par2 0 \
+    "zeros200000.par2 0 65536 65529*2 3406"
+# What stands in the piece at hand isn't read again: no header, no body, and nothing to be hashed.
+salvages "packets inside a piece, and one that is none" inside.par2 30 "inside.par2 0 50000"
+salvages "a packet that ends with the piece" at65472.par2 1 "at65472.par2 0 65536 164"
+# A header over its end is read, 64 bytes; of what is hashed, 72 bytes from 65,532 on, the 68 behind it; and the body.
+salvages "a header over the end of a piece" at65500.par2 1 \
+    "at65500.par2 0 65536" "at65500.par2 65500 64" "at65500.par2 65536 68" "at65500.par2 65564 40" \
+    "at65500.par2 65536 164"
+# The magic ends with the piece: all that is hashed stands behind it.
+salvages "the last magic of a piece" at65528.par2 1 \
+    "at65528.par2 0 65536" "at65528.par2 65528 64" "at65528.par2 65560 72" "at65528.par2 65592 40" \
+    "at65528.par2 65536 164"
+salvages "the first magic of the next piece" at65529.par2 1 "at65529.par2 0 65536 164"
+salvages "a packet that is longer than the file" beyond.par2 0 \
+    "beyond.par2 0 65536" "beyond.par2 65500 64" "beyond.par2 65536 164"
+# 504 of the 20,032 bytes that are hashed stand in the piece, so 19,528 are read, in pieces of 8,192; the body at once.
+salvages "a body over the end of a piece" body.par2 1 \
+    "body.par2 0 65536 8192*2 3144" "body.par2 65064 20000" "body.par2 65536 24464"
+salvages "no body of what is no packet" wrong.par2 0 "wrong.par2 0 65536 8192*2 3144" "wrong.par2 65536 24464"
+salvages "no recovery data but for its hash" slice.par2 1 \
+    "slice.par2 0 65536 8192*2 3148" "slice.par2 65536 24464"
+# 34 of 1,036 bytes stand in the piece, and two of the first four of the body.
+salvages "an exponent over the end of a piece" front.par2 1 \
+    "front.par2 0 65536 1002" "front.par2 65534 4" "front.par2 65536 1164"
+# Of bodies that overlap each byte is read once.
+salvages "a packet inside another's body, in the next piece" inner66000.par2 2 \
+    "inner66000.par2 0 65536 2528" "inner66000.par2 64064 4000" "inner66000.par2 65536 4464"
+salvages "the same over the end of the piece" inner65400.par2 2 \
+    "inner65400.par2 0 65536 2528" "inner65400.par2 64064 4000" "inner65400.par2 65536 328" \
+    "inner65400.par2 65536 4464"
+salvages "a packet over the end of another" overlap.par2 2 \
+    "overlap.par2 0 65536 2592" "overlap.par2 65128 3000" "overlap.par2 65536 4464"
+# 120 pieces of 8,192 and 64 bytes are hashed behind the first piece, and that much is searched in 16.
+salvages "a body of 1,048,576 bytes" limit.par2 1 \
+    "limit.par2 0 65536 8192*120 64" "limit.par2 64 1048576" "limit.par2 65536 65529*15 169"
+salvages "a body of 1,048,580 bytes, which isn't held" above.par2 1 \
+    "above.par2 0 65536 8192*120 68" "above.par2 65536 65529*15 173"
+
+# Each packet file that is named is opened and read once, in order, and no scanned file before them.
+reads "packets of three names" "packets v.par2 x.bin w.par2 v.par2" "packets 12" "v.par2 w.par2 v.par2" \
+    "v.par2 0 416" "w.par2 0 416" "v.par2 0 416"
+body=("body.par2 0 65536 8192*2 3144" "body.par2 65064 20000" "body.par2 65536 24464")
+reads "a set" "set a body.par2 s.par2" "have 0" "body.par2 s.par2" "${body[@]}" "s.par2 0 1076"
+
+# A search reads 4,096 bytes ahead from its cursor on, each once: 20,000, 3,000 and 100,000 bytes. No slice has fewer
+# than 1,696 bytes.
+a=("a 0 4096*4 3616")
+b=("b 0 3000")
+c=("c 0 4096*24 1696")
+for tails in "" " --tails"; do
+    reads "a search of three files$tails" "find$tails a b s.par2 c" end "s.par2 a b c" \
+        "s.par2 0 1076" "${a[@]}" "${b[@]}" "${c[@]}"
+    reads "nothing of a file into which no slice fits$tails" "find$tails s.par2 other1695 other1696" end \
+        "s.par2 other1695 other1696" "s.par2 0 1076" "other1696 0 1696"
+done
+reads "a search behind packets over the end of a piece" "find body.par2 s.par2 a" end "body.par2 s.par2 a" \
+    "${body[@]}" "s.par2 0 1076" "${a[@]}"
+reads "a search from a cursor on" "find --cursor $set:1:5000:0 s.par2 a c" end "s.par2 a c" \
+    "s.par2 0 1076" "c 5000 4096*23 792"
+reads "a cursor behind the last place of a slice" "find --cursor $set:0:18305:0 s.par2 a c" end "s.par2 a c" \
+    "s.par2 0 1076" "${c[@]}"
+# What follows the set's ID in a cursor of the files s.par2 and c.
+mark=$(printf '\001\0\0\0\0\0\0\0c\240\206\001\0\0\0\0\0' | md5sum)
+for limit in 1 2 3; do
+    reads "the window of sighting $limit and no more" "find --limit $limit s.par2 c" \
+        "cursor 2:$set:${mark%% *}:0:$((8192 * (limit - 1))):$((limit + 4))" "s.par2 c" "s.par2 0 1076" \
+        "c 0 4096*$((2 * limit))"
+done
+reads "a slice at each place" "find zero.par2 zeros" end "zero.par2 zeros" "zero.par2 0 316" "zeros 0 4096*2 1808"
+
+# `verify` hashes each file that has a length of the set, in pieces of 32,768, and then searches all until each slice
+# that is missing is found, through the window at which the last is.
+whole=("s.par2 0 1076" "a 0 20000" "b 0 3000" "c 0 32768*3 1696")
+reads "files that are complete" "verify s.par2 a other1696 b c" "result complete" "s.par2 a other1696 b c" "${whole[@]}"
+reads "the same twice" "verify s.par2 a a b c" "result complete" "s.par2 a a b c" \
+    "s.par2 0 1076" "a 0 20000" "${whole[@]:1}"
+for tails in "" " --tails"; do
+    reads "a damaged file, by one search of all$tails" "verify$tails -q s.par2 a b cc" "result impossible" \
+        "s.par2 a b cc" "${whole[@]:0:3}" "cc 0 32768*3 1696" "${a[@]}" "${b[@]}" "cc 0 4096*24 1696"
+done
+reads "a file inside another whose last slice isn't seen" "verify s.par2 a b j" "result impossible" "s.par2 a b j" \
+    "${whole[@]:0:3}" "${a[@]}" "${b[@]}" "j 0 4096*39 256"
+reads "a search up to the last slice, of 8,192 bytes from 108,304 on" "verify --tails s.par2 a b j" "result possible" \
+    "s.par2 a b j" "${whole[@]:0:3}" "${a[@]}" "${b[@]}" "j 0 4096*29"
+reads "a search that is over in the first file" "verify s.par2 k a c" "result possible" "s.par2 k a c" \
+    "s.par2 0 1076" "a 0 20000" "c 0 32768*3 1696" "k 0 4096*4"
+reads "nothing of a file into which only slices fit that are found" "verify s.par2 other1696 a c" "result impossible" \
+    "s.par2 other1696 a c" "s.par2 0 1076" "a 0 20000" "c 0 32768*3 1696" "${a[@]}" "${c[@]}"
+reads "no search for slices without their sums" "verify n.par2 a c other20000" "result impossible" \
+    "n.par2 a c other20000" "n.par2 0 496" "a 0 20000" "c 0 32768*3 1696" "other20000 0 20000"
+
+# Each of these faults makes other reads, of each command.
+for words in "packets body.par2" "set body.par2 s.par2" "find s.par2 a c" "verify -q s.par2 a b cc"; do
+    # shellcheck disable=SC2086
+    record $words
+    reads_of > wanted
+    for fault in "one byte a read" "a piece of half the size" "each read made twice" "64 bytes read again" \
+        "all read again" "opened twice"; do
+        # shellcheck disable=SC2086
+        WRONG=$fault record $words
+        reads_of > found
+        if [ "$status" -lt 124 ] && ! cmp -s found wanted; then
+            echo "ok: it is seen: $fault: parv $words"
+        else
+            fails "it isn't seen: $fault: parv $words"
+        fi
+    done
+done
+exit $failed
