@@ -1,5 +1,5 @@
 -- The registers of tails at the places ahead.
-use Rattle.std.proofs.Common.{◌≡◌, ℕ, ◌+◌, ◌-◌, ◌<◌, ◌≤◌, false, IsTrue, List, ◌++◌, length, take, drop, get_or, set, get_or-set_same, get_or-set_other, ◌≢◌, min, inl, inr, refl, sym, ap, ◌∙◌, arith, length-append, length-drop, length-take, get_or-drop}
+use Rattle.std.proofs.Common.{◌≡◌, ℕ, ◌+◌, ◌-◌, ◌<◌, ◌≤◌, false, IsTrue, List, ◌++◌, length, take, drop, get_or, set, min, inl, inr, refl, sym, ap, ◌∙◌, arith, length-append, length-drop, length-take, get_or-drop}
 use Rattle.std.proofs.lemmas.List.{append-nil, drop-take, get_or-take, take-append-drop, take-append-le}
 use Rattle.std.proofs.Math.Seq.{take-add, take-append-add}
 use Rattle.std.proofs.lemmas.Bool.{cases_Bool, cases_lt}
@@ -76,7 +76,7 @@ own_rolls items bytes gone come own n r base count room few within goes enough c
     ∙ ap register_of (own_slides items bytes own (base + k) few (omega arith))
 
 -- where it stopped it stops up to there
-here_only : (Has : ℕ → Type 0) (at : ℕ → ℕ) (n : ℕ) (s : Slid) → StopsAt Has at n s
+pub here_only : (Has : ℕ → Type 0) (at : ℕ → ℕ) (n : ℕ) (s : Slid) → StopsAt Has at n s
     → StopsAt Has at s.count s
 here_only Has at n s stops = record {
   within = omega arith;
@@ -100,6 +100,26 @@ front_piece piece stream place most is few =
     ap (take most) is ∙ take_fewer most (length piece) (drop place stream) few
     ∙ ap (λ n. take n (drop place stream)) long
 
+-- one stretch more, up to where it stopped
+pub one_stretch : (Has : ℕ → Type 0) (items bytes gone come : List ℕ) (own n most : ℕ) (a b : Slid)
+    → n + 1 ≡ own → own ≤ length items → a.count + most ≤ length bytes
+    → gone ≡ take (length gone) (drop a.count (items ++ bytes)) → most ≤ length gone
+    → come ≡ take (length come) (drop (own + a.count) (items ++ bytes))
+    → b.count ≤ most → b.count ≤ length come
+    → a.hit ≡ false → StopsAt Has (own_register own items bytes) a.count a
+    → StopsAt Has (rolled_register n a.register (take most gone) come) b.count b
+    → StopsAt Has (own_register own items bytes) (a.count + b.count)
+    (record { count = a.count + b.count; register = b.register; hit = b.hit })
+one_stretch Has items bytes gone come own n most a b room few within goes inside comes fewer enough
+    missed first second =
+    let long : length (take most gone) ≡ most = omega (arith, length-take most gone) in
+    joined Has (own_register own items bytes) a.count b.count a b missed first
+    (along Has (λ k. own_register own items bytes (a.count + k))
+    (rolled_register n a.register (take most gone) come) b.count b
+    (own_rolls items bytes (take most gone) come own n a.register a.count b.count room few
+    (omega arith) (front_piece gone (items ++ bytes) a.count most goes inside) (omega arith)
+    comes enough first.register) second)
+
 -- one piece more
 pub one_piece : (Has : ℕ → Type 0) (items bytes gone come : List ℕ) (own n limit most : ℕ)
     (a b : Slid)
@@ -115,21 +135,12 @@ pub one_piece : (Has : ℕ → Type 0) (items bytes gone come : List ℕ) (own n
     (record { count = a.count + b.count; register = b.register; hit = b.hit })
 one_piece Has items bytes gone come own n limit most a b room few within goes inside up comes
     missed first second =
-    let long : length (take most gone) ≡ most = omega (arith, length-take most gone) in
-    let count : ℕ = min (length (take most gone)) (length come) in (
+    let long : length (take most gone) ≡ most = omega (arith, length-take most gone) in (
       omega (arith, second.within),
-      here_only Has (own_register own items bytes)
-          (a.count + min (length (take most gone)) (length come))
-          (record { count = a.count + b.count; register = b.register; hit = b.hit })
-          (joined Has (own_register own items bytes) a.count
-          (min (length (take most gone)) (length come)) a b missed first
-          (along Has (λ k. own_register own items bytes (a.count + k))
-          (rolled_register n a.register (take most gone) come)
-          (min (length (take most gone)) (length come)) b
-          (own_rolls items bytes (take most gone) come own n a.register a.count
-          (min (length (take most gone)) (length come)) room few (omega arith)
-          (front_piece gone (items ++ bytes) a.count most goes inside) (omega arith)
-          comes (omega arith) first.register) second)),
+      one_stretch Has items bytes gone come own n most a b room few (omega arith) goes inside comes
+          (omega (arith, second.within)) (omega (arith, second.within)) missed first
+          (here_only Has (rolled_register n a.register (take most gone) come)
+          (min (length (take most gone)) (length come)) b second),
     )
 
 -- at the start
@@ -189,26 +200,4 @@ tail_passed set content bytes old t limit passed s length_is zeros_is ahead_is w
                   },
                 ),
           )
-    ]
-
--- the tails up to this one came past all places
-pub past_more : (slices : SliceSet) (content bytes : List ℕ) (tails : List Tail) (k : ℕ) (t e : Tail)
-    (limit passed : ℕ) (s : Slid) → k < length tails → t.length ≡ (get_or tails k e).length
-    → t.zeros.len ≡ (get_or tails k e).zeros.len → t.ahead ≡ s.register → limit ≤ length bytes
-    → StopsAt (λ register. IsTrue (is_tail_register slices (get_or tails k e) register))
-    (own_register (get_or tails k e).length content bytes) limit s
-    → passed ≡ passed_of s
-    → (limit ≡ length bytes → (j : ℕ) (d : Tail) → j < k
-    → HasPassed slices content bytes (get_or tails j d))
-    → passed ≡ length bytes → (j : ℕ) (d : Tail) → j < k + 1
-    → HasPassed slices content bytes (get_or (set tails k t) j d)
-past_more slices content bytes tails k t e limit passed s below length_is zeros_is ahead_is within
-    stops is so_far all j d few =
-    let one = (tail_passed slices content bytes (get_or tails k e) t limit passed s length_is
-    zeros_is ahead_is within stops is).1 all in
-    elim (cases_lt j k) [
-      | inl early ↦
-          let ne : j ≢ k = omega arith in
-          rw get_or-set_other (so_far one.0 j d early)
-      | inr up ↦ let last : j ≡ k = omega arith in rw (last, get_or-set_same) one.1
     ]

@@ -30,3 +30,5 @@ pub mod BackLaws
 pub mod TailSlideLaws
 pub mod AheadLaws
 pub mod PastLaws
+pub mod FourLaws
+pub mod LookLaws

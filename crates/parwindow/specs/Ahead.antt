@@ -41,6 +41,12 @@ pub record HasPassed (set : SliceSet) (content bytes : List ℕ) (tail : Tail) :
 abbrev pub IsAhead : List ℕ → Tail → Type 0
 IsAhead content tail = tail.ahead ≡ register_of (take tail.length content)
 
+-- two tails are of one length, have as many zeros behind them and one register
+pub record AreOneTail (a b : Tail) : Type 0 where
+  pub length : a.length ≡ b.length
+  pub zeros : a.zeros.len ≡ b.zeros.len
+  pub register : a.register ≡ b.register
+
 -- all bytes are pushed, and after none of them the window is at a slice
 pub record PushesPast (set : SliceSet) (before : WindowState) (bytes : List ℕ)
     (after : WindowState) : Type 0 where

@@ -3,6 +3,7 @@ pub mod Crc32
 pub mod CrcList
 pub mod Entries
 pub mod FilterBits
+pub mod InTurn
 pub mod Indexed
 pub mod OwnLengths
 pub mod Index

@@ -71,7 +71,7 @@ impl Index {
         requires { length found.now ≡ length self.now.slices }
         ensures { IfOk result (λ index. index ≡ missing_set self.now found.now) }
     {
-        let slices = unmarked(alloc, self.slices.as_slice(), found)?;
+        let slices = each_unless_marked(alloc, self.slices.as_slice(), found)?;
         Index::of(alloc, self.size(), slices)
     }
 
@@ -243,8 +243,12 @@ impl Index {
     }
 }
 
-// The slices, of which those that have a mark lose their sums.
-fn unmarked(alloc: Global, slices: &[SetSlice], found: &[bool]) -> Result<Vec<SetSlice>, AllocError>
+// All slices, of which those that have a mark lose their sums.
+fn each_unless_marked(
+    alloc: Global,
+    slices: &[SetSlice],
+    found: &[bool],
+) -> Result<Vec<SetSlice>, AllocError>
     requires { length found.now ≡ length slices.now }
     ensures { IfOk result (λ list. list.items ≡ map unless_marked (zip slices.now found.now)) }
 {

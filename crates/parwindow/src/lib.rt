@@ -12,8 +12,9 @@
 //! bytes come, so that it rolls until it has what is `sought`. `tail_lengths` collects the lengths
 //! of slices that are shorter than a slice; `tail` is such a length with a register of its own,
 //! `tails` moves these registers along byte by byte, `ahead` along a whole `stream`, up to one of
-//! the `tail_slices`, and `zeros` fills up what is hashed. `window` is the ring with all registers.
-//! `laws` says what CRC-32s and windows keep.
+//! the `tail_slices`, `four` tails `in_turn`, since none of these waits for another's tables, and
+//! `zeros` fills up what is hashed. `window` is the ring with all registers. `laws` says what
+//! CRC-32s and windows keep.
 #![tactic(auto)]
 
 mod ahead;
@@ -24,6 +25,8 @@ mod crc_list;
 mod entries;
 mod entry;
 mod far_table;
+mod four;
+mod in_turn;
 mod index;
 mod laws;
 mod own_lengths;

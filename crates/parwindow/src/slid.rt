@@ -1,4 +1,4 @@
-ghost use Rattle.std.specs.Prelude.{◌≡◌, true, false};
+ghost use Rattle.std.specs.Prelude.{◌≡◌, ◌+◌, ◌^◌, ◌<◌, true, false};
 ghost use Rattle.parwindow.specs.Ahead.{passed_of};
 
 /// How far a window slid, its register there, and whether it stopped there at a slice's.
@@ -18,6 +18,28 @@ impl Slid {
             self.count.saturating_sub(1)
         } else {
             self.count
+        }
+    }
+
+    /// It and another one behind it.
+    pub fn then(self, next: Slid) -> Slid
+        requires { self.count + next.count < 2 ^ 64 }
+        ensures { result ≡ record next { count = self.count + next.count } }
+    {
+        Slid {
+            count: self.count + next.count,
+            ..next
+        }
+    }
+
+    /// A slide to a register, and whether it stopped there.
+    pub fn new(count: usize, register: u32, hit: bool) -> Slid
+        ensures { result ≡ record { count = count; register = register; hit = hit } }
+    {
+        Slid {
+            count,
+            register,
+            hit,
         }
     }
 

@@ -18,7 +18,7 @@ impl<'a> Stream<'a> {
     }
 
     /// The bytes from a place on, up to the end of a part.
-    pub fn from(&self, place: usize) -> &'a [u8]
+    pub fn piece_from(&self, place: usize) -> &'a [u8]
         requires { place < length (stream_of self.now) }
         ensures piece { result.now ≡ take (length result.now) (drop place (stream_of self.now)) }
         ensures some { 0 < length result.now }

@@ -154,22 +154,26 @@ impl Window {
     {
         let mut done = 0;
         let mut most = 1;
+        let mut then = 2;
         while done < bytes.len() {
             let rest = &bytes[done..];
             let piece = &rest[..rest.len().min(most)];
             let passed = self.slide_past(index, piece);
             if passed == piece.len() {
                 done += passed;
-                most = (2 * most).min(LONGEST_PIECE);
+                most = then;
+                then = (2 * then).min(LONGEST_PIECE);
             } else if passed > 0 {
                 most = passed;
+                then = 1;
             } else {
                 let hit = self.push_on(index, bytes[done]);
                 done += 1;
                 if hit {
                     return done;
                 }
-                most = (2 * most).min(LONGEST_PIECE);
+                most = then;
+                then = (2 * then).min(LONGEST_PIECE);
             }
         }
         done

@@ -13,10 +13,10 @@ returns-then-slid c =
     let s = c.args.stream.now in
     let short : tail.length ≤ length (content_of s) = omega (arith, c.requires.tail.shorter) in
     let more = one_piece (λ register. IsTrue (is_tail_register c.args.index.now tail register))
-    (content_of s) s.bytes.now c.from-gone.result.now c.from-come.result.now tail.length
+    (content_of s) s.bytes.now c.piece_from-gone.result.now c.piece_from-come.result.now tail.length
     tail.tables.others c.args.limit c.min-most.result c.loop-slid.slid c.slide-next.result
-    tail.own short c.requires.within c.from-gone.ensures.piece (omega arith) (omega arith)
-    c.from-come.ensures.piece c.loop-slid.invariant.goes_on c.loop-slid.invariant.here
+    tail.own short c.requires.within c.piece_from-gone.ensures.piece (omega arith) (omega arith)
+    c.piece_from-come.ensures.piece c.loop-slid.invariant.goes_on c.loop-slid.invariant.here
     c.slide-next.ensures in
     arrived _ _ _ c.args.limit _ more.1 (inl c.if-slid.true) more.0
 
@@ -26,9 +26,9 @@ loop-slid-preserved c =
     let s = c.args.stream.now in
     let short : tail.length ≤ length (content_of s) = omega (arith, c.requires.tail.shorter) in
     let more = one_piece (λ register. IsTrue (is_tail_register c.args.index.now tail register))
-    (content_of s) s.bytes.now c.from-gone.result.now c.from-come.result.now tail.length
+    (content_of s) s.bytes.now c.piece_from-gone.result.now c.piece_from-come.result.now tail.length
     tail.tables.others c.args.limit c.min-most.result c.loop-slid.slid c.slide-next.result
-    tail.own short c.requires.within c.from-gone.ensures.piece (omega arith) (omega arith)
-    c.from-come.ensures.piece c.loop-slid.invariant.goes_on c.loop-slid.invariant.here
+    tail.own short c.requires.within c.piece_from-gone.ensures.piece (omega arith) (omega arith)
+    c.piece_from-come.ensures.piece c.loop-slid.invariant.goes_on c.loop-slid.invariant.here
     c.slide-next.ensures in
     record { goes_on = c.if-slid.false; within = more.0; here = more.1 }

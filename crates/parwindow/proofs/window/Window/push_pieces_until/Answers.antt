@@ -15,8 +15,10 @@ loop-done-preserved-then-passed-piece c =
           c.requires.full held.so_far (omega (arith, piece.0, held.within)) piece.1
           (c.slide_past-passed.ensures.all c.if-passed-piece.true));
       within = omega (arith, piece.0, held.within);
-      some = omega (arith, held.some);
-      most = omega arith;
+      some = held.then_some;
+      most = held.then_most;
+      then_some = omega (arith, held.then_some);
+      then_most = omega arith;
     }
 
 pub returns-then-hit-clause-content : goal.returns-then-hit-clause-content
@@ -46,6 +48,8 @@ loop-done-preserved c =
           (rw same held.so_far) c.loop-done-test.true c.push_on-hit.ensures.content
           (sym c.push_on-hit.ensures.slice ∙ c.if-hit.false);
       within = omega arith;
-      some = omega (arith, held.some);
-      most = omega arith;
+      some = held.then_some;
+      most = held.then_most;
+      then_some = omega (arith, held.then_some);
+      then_most = omega arith;
     }

@@ -8,6 +8,8 @@ invariant-loop-done l = record {
   within : l.done ≤ length l.bytes;
   some : 0 < l.most;
   most : l.most ≤ 512;
+  then_some : 0 < l.then;
+  then_most : l.then ≤ 512;
 }
 
 abbrev pub decreases-loop-done : goal.decreases-loop-done

@@ -1,6 +1,6 @@
 use Rattle.std.proofs.Common.{arith, ◌∙◌}
 use Rattle.parwindow.proofs.UnmarkedLaws.{unmarked_more, unmarked_all}
-use Rattle.parwindow.proofs.index.unmarked.Goals as goal
+use Rattle.parwindow.proofs.index.each_unless_marked.Goals as goal
 
 pub loop-number-preserved : goal.loop-number-preserved
 loop-number-preserved c =
