@@ -5,6 +5,7 @@ pub mod Hash16
 pub mod HashOrder
 pub mod Kind
 pub mod Packet
+pub mod Readings
 pub mod Shown
 pub use Rattle.hex.specs.Hex
 pub use Rattle.md5.specs.Md5

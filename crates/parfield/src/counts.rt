@@ -1,10 +1,12 @@
-//! Counts and lists of bytes that only contracts see: `per_file` a number for each file, `tally` one
-//! number, `transcript` a list of bytes.
+//! What only contracts see: `per_file` has a number for each file, `tally` one number, `transcript` a
+//! list of bytes, and `readings` what reads gave.
 
 mod per_file;
+mod readings;
 mod tally;
 mod transcript;
 
 pub use crate::counts::per_file::Counts;
+pub use crate::counts::readings::Readings;
 pub use crate::counts::tally::Tally;
 pub use crate::counts::transcript::Transcript;

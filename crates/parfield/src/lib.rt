@@ -1,10 +1,10 @@
 //! Fields of PAR2 files: hashes, packet headers, one packet in bytes, names as they are shown; and
-//! counts that only contracts see.
+//! what only contracts see.
 //!
 //! `hash16` and `kind` have the types of a header's fields, `headers` those of headers and packets, and
 //! `packet` finds a header or a packet at the front of bytes. `shown` shows names, by `hex_byte`;
 //! `sequence` and `text` are lists and texts that contracts see by what they hold. `counts` has counts
-//! that take no bytes at run time, and `laws` the law of the order of IDs.
+//! and readings that take no bytes at run time, and `laws` the law of the order of IDs.
 #![tactic(auto)]
 
 mod counts;
@@ -18,7 +18,7 @@ mod sequence;
 mod shown;
 mod text;
 
-pub use crate::counts::{Counts, Tally, Transcript};
+pub use crate::counts::{Counts, Readings, Tally, Transcript};
 pub use crate::hash16::Hash16;
 pub use crate::headers::{Header, HeaderFault, Packet};
 pub use crate::kind::Kind;

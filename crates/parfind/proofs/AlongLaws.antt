@@ -1,37 +1,23 @@
 -- A finder and its shelf along calls, one after another.
-use Rattle.std.proofs.Common.{◌≡◌, ℕ, ◌∙◌, refl, ap, arith, length, Result, Ok, Err}
-use Rattle.parfield.specs.Added.{added_at}
+use Rattle.std.proofs.Common.{◌≡◌, ℕ, ◌∙◌, ap, arith, Result, Ok, Err}
 use Rattle.parshelf.specs.Shelf.{ShelfState}
-use Rattle.parshelf.specs.Reads.{ReadsOnly, FaultsIn, ReadsFile}
+use Rattle.parshelf.specs.Reads.{ReadsOnly, ReadsFile}
 use Rattle.parshelf.specs.declared.shelves.reading.ReadFault.{ReadFault}
-use Rattle.parshelf.specs.declared.shelves.reading.ReadFault.TheVariants.{Failed, Ended}
-use Rattle.parshelf.proofs.ReadLaws.{ReadsOnly_more}
+use Rattle.parshelf.proofs.ReadLaws.{ReadsOnly-refl, ReadsOnly_more, FaultsIn_more}
 use Rattle.parfind.specs.Finders.{FinderState, GoesAlong}
 use Rattle.parfind.proofs.FetchedLaws.{hands_none, hands_more}
 
--- what a fault leaves, after other calls that only read
-pub faults_before : (old mid new : ShelfState) (file : ℕ) (fault : ReadFault) → ReadsOnly old mid → FaultsIn mid new file fault
-    → FaultsIn old new file fault
-faults_before old mid new file Failed reads counts = (
-  rw (ap (λ (s : ShelfState). length s.lengths) reads) at counts.0,
-  counts.1 ∙ ap (λ (s : ShelfState). record s { failures = added_at s.failures file 1; handed = new.handed }) reads,
-)
-faults_before old mid new file Ended reads counts = (
-  rw (ap (λ (s : ShelfState). length s.lengths) reads) at counts.0,
-  counts.1 ∙ ap (λ (s : ShelfState). record s { early_ends = added_at s.early_ends file 1; handed = new.handed }) reads,
-  λ steady. counts.2 (ap (λ (s : ShelfState). s.is_steady) reads ∙ steady),
-)
-
+-- what a call leaves, after other calls that only read
 pub reads_before : {A : Type 0} (old mid new : ShelfState) (file : ℕ) (answer : Result A ReadFault) → ReadsOnly old mid
     → ReadsFile file mid new answer → ReadsFile file old new answer
 reads_before old mid new file (Ok x) reads more = ReadsOnly_more old mid new reads more
-reads_before old mid new file (Err fault) reads more = faults_before old mid new file fault reads more
+reads_before old mid new file (Err fault) reads more = FaultsIn_more old mid new file fault reads more
 
 -- nothing was read, and nothing hashed
 pub goes_still : {A : Type 0} (s : ShelfState) (f g : FinderState) (x : A) → g.fetched ≡ f.fetched → g.opening ≡ f.opening
     → g.mode ≡ f.mode → g.digests ≡ f.digests → GoesAlong s s f g (Ok x)
 goes_still s f g x fetched opening mode digests = record {
-  shelf = refl;
+  shelf = ReadsOnly-refl s;
   reads = rw fetched (hands_none s.lengths s.handed f.fetched);
   opening_is = opening;
   mode_is = mode;
@@ -44,7 +30,7 @@ pub goes_more : {A B : Type 0} (s mid t : ShelfState) (f g h : FinderState) (x :
 goes_more s mid t f g h x answer first next = record {
   shelf = reads_before s mid t h.cursor.file answer first.shelf next.shelf;
   reads = hands_more s.lengths s.handed mid.handed t.handed f.fetched g.fetched h.fetched first.reads
-      (rw (ap (λ (u : ShelfState). u.lengths) first.shelf) at next.reads);
+      (rw (ap (λ (u : ShelfState). u.lengths) first.shelf.counts) at next.reads);
   opening_is = next.opening_is ∙ first.opening_is;
   mode_is = next.mode_is ∙ first.mode_is;
   no_fewer = omega (arith, first.no_fewer, next.no_fewer);

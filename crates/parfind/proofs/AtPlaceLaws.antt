@@ -1,9 +1,10 @@
 -- What is tried at a place whose window is there: the first slice that is seen, or the way to the next match.
-use Rattle.std.proofs.Common.{◌≡◌, ◌≢◌, ℕ, ◌+◌, ◌<◌, ◌≤◌, List, length, map, replicate, slice_index, refl, sym, ap, ◌∙◌, subst, arith, IsTrue, Option, Some, None, Result, Ok, Err}
+use Rattle.std.proofs.Common.{◌≡◌, ◌≢◌, ℕ, ◌+◌, ◌<◌, ◌≤◌, List, length, replicate, slice_index, refl, sym, ap, ◌∙◌, subst, arith, Option, Some, None, Result, Ok, Err}
 use Rattle.std.specs.Option.{unwrap_or}
-use Rattle.parshelf.specs.Shelf.{ShelfState, IsShelf, file_of}
+use Rattle.parshelf.specs.Shelf.{ShelfState, ReadsAs, file_of}
 use Rattle.parshelf.specs.Reads.{ReadsOnly, FaultsIn}
 use Rattle.parshelf.specs.declared.shelves.reading.ReadFault.{ReadFault}
+use Rattle.parshelf.proofs.ReadLaws.{ReadsOnly-refl}
 use Rattle.parwindow.specs.Index.{SliceSet, slice_passes}
 use Rattle.parwindow.specs.Least.{IsLeastFrom}
 use Rattle.parwindow.specs.Window.{WindowState}
@@ -26,13 +27,14 @@ use Rattle.parfind.specs.Sightings.{is_slice_seen}
 use Rattle.parfind.specs.Tracks.{IsTied, HaveNoLookedCrc, Passes, SameTrack, cursor_of_track, fetched_of}
 use Rattle.parfind.proofs.AdvanceLaws.{fewer_after, fewer_past, no_more}
 use Rattle.parfind.proofs.AlongLaws.{goes_still}
-use Rattle.parfind.proofs.BelongsLaws.{with_window, moves_belongs, stays_belongs, fault_files, read_files, same_files}
+use Rattle.parfind.proofs.BelongsLaws.{with_window, moves_belongs, stays_belongs}
 use Rattle.parfind.proofs.KeptLaws.{tied_digest}
+use Rattle.parfind.proofs.LaterLaws.{Later, later_same, later_only, later_fault}
 use Rattle.parfind.proofs.LookLaws.{look_seen, none_there, within_left, one_within}
 use Rattle.parfind.proofs.OrderLaws.{From}
 use Rattle.parfind.proofs.PassLaws.{cursor_on, next_here, passes_some, many_unseen, From-on}
 use Rattle.parfind.proofs.TryLaws.{Tried}
-use Rattle.parfind.proofs.VisitLaws.{same_lengths, visit_hit, visit_stopped, visit_hits, visit_stays}
+use Rattle.parfind.proofs.VisitLaws.{visit_hit, visit_stopped, visit_hits, visit_stays}
 
 -- a finder at a place, whose window is there
 pub record IsThere (set : SliceSet) (s : ShelfState) (f : FinderState) : Type 0 where
@@ -50,7 +52,7 @@ pub record Looked
   pub looks : Looks f.window f.kept w kept
   pub keeps : Keeps (sought_for set f) w kept
 
-module _ (set : SliceSet) (s : ShelfState) (shelf : IsShelf s) (f : FinderState) (at : IsThere set s f) (left : Option ℕ) (some : left ≢ Some 0)
+module _ (set : SliceSet) (s : ShelfState) (f : FinderState) (at : IsThere set s f) (left : Option ℕ) (some : left ≢ Some 0)
     (rest : ℕ) (found : Option ℕ) (w : WindowState) (kept : List (Option Hash16)) (looked : Looked set s f rest found w kept) where
   abbrev sought : Sought
   sought = sought_for set f
@@ -58,9 +60,10 @@ module _ (set : SliceSet) (s : ShelfState) (shelf : IsShelf s) (f : FinderState)
   here : IsNextPlace s.lengths f.cursor f.cursor
   here = next_here s.lengths f.cursor at.counted at.there
 
-  seen : IsTrue s.is_steady → IsLeastFrom (is_slice_seen sought (file_of s f.cursor.file) f.cursor.offset) f.cursor.slice found
-  seen steady =
-      look_seen f set s at.belongs steady at.stands shelf at.full rest at.there (omega (arith, at.there, looked.rest_is)) found looked.first
+  seen : (files : List (List ℕ)) → ReadsAs s files
+      → IsLeastFrom (is_slice_seen sought (file_of files f.cursor.file) f.cursor.offset) f.cursor.slice found
+  seen files reads =
+      look_seen f set s at.belongs files reads at.stands at.full rest at.there (omega (arith, at.there, looked.rest_is)) found looked.first
 
   fetched : fetched_of f.track ≡ f.fetched
   fetched = sym at.belongs.fetched_is
@@ -83,16 +86,14 @@ module _ (set : SliceSet) (s : ShelfState) (shelf : IsShelf s) (f : FinderState)
       }
 
   -- the window is at a place of the files
-  place_there : IsTrue s.is_steady → IsAtPlace (map length s.files) (cursor_of_track f.track)
-  place_there steady =
-      let lengths : map length s.files ≡ s.lengths = same_lengths sought s shelf steady in
-      rw (lengths, at.stands.file_is, at.stands.offset_is) at.there
+  place_there : IsAtPlace s.lengths (cursor_of_track f.track)
+  place_there = rw (at.stands.file_is, at.stands.offset_is) at.there
 
   -- digests are taken, and the cursor stays at the place
   at_belongs : (slice : ℕ) → BelongsTo (with_window f (record f.cursor { slice = slice }) w f.track kept) set s
   at_belongs slice =
-      stays_belongs f set s s at.belongs (same_files s) (record f.cursor { slice = slice }) w f.track kept tied looked.keeps
-      looked.looks.window_is looked.looks.counted (record { file_is = refl; offset_is = refl }) (λ steady _. place_there steady)
+      stays_belongs f set s s at.belongs (later_same s) (record f.cursor { slice = slice }) w f.track kept tied looked.keeps
+      looked.looks.window_is looked.looks.counted (record { file_is = refl; offset_is = refl }) (λ _. place_there)
       (omega (arith, at.stands.file_is)) (λ _. at.stands.offset_is)
 
   module _ (n : ℕ) (is : found ≡ Some n) (few : n < length set.slices) where
@@ -104,12 +105,12 @@ module _ (set : SliceSet) (s : ShelfState) (shelf : IsShelf s) (f : FinderState)
 
     hit_tried : Tried sought left s s f (with_window f (cursor_after x) w f.track kept) (Ok (Hit x))
     hit_tried = record {
-      sees = λ steady. visit_hit sought s shelf steady f.cursor f.cursor here n (rw is at (seen steady));
+      sees = λ files reads. visit_hit sought files s.lengths reads.lengths f.cursor f.cursor here n (rw is at (seen files reads));
       moves = visit_hits s.lengths f.cursor f.cursor here n low;
       advances = (at.counted, few, fewer_after set s.lengths f.cursor f.cursor here n low few);
       within = one_within left some;
       along = record {
-        shelf = refl;
+        shelf = ReadsOnly-refl s;
         reads = let along = goes_still {A = Unit {0}} s f (record f { fetched = fetched_of f.track }) tt fetched refl refl refl in along.reads;
         opening_is = refl;
         mode_is = refl;
@@ -129,7 +130,10 @@ module _ (set : SliceSet) (s : ShelfState) (shelf : IsShelf s) (f : FinderState)
     module _ (fault : ReadFault) (faults : FaultsIn s t f.track.file fault) (same : SameTrack f.track a) (still : v ≡ w) where
       fault_tried : Tried sought left s t f (with_window f f.cursor v a kept) (Err fault)
       fault_tried = record {
-        sees = λ steady. visit_stopped sought s shelf steady f.cursor f.cursor here;
+        sees = λ files reads_as.
+            let later : Later s t = later_fault s t f.track.file fault faults in
+            let before : ReadsAs s files = later.older files reads_as in
+            visit_stopped sought files s.lengths before.lengths f.cursor f.cursor here;
         moves = visit_stays s.lengths f.cursor f.cursor here;
         advances = tt;
         within = one_within left some;
@@ -144,18 +148,20 @@ module _ (set : SliceSet) (s : ShelfState) (shelf : IsShelf s) (f : FinderState)
 
       fault_belongs : BelongsTo (with_window f f.cursor v a kept) set t
       fault_belongs =
-          stays_belongs f set s t at.belongs (fault_files s t f.track.file fault faults) f.cursor v a kept next_tied
-          (rw still looked.keeps) (rw still looked.looks.window_is) (rw still looked.looks.counted) same (λ steady _. place_there steady)
+          stays_belongs f set s t at.belongs (later_fault s t f.track.file fault faults) f.cursor v a kept next_tied
+          (rw still looked.keeps) (rw still looked.looks.window_is) (rw still looked.looks.counted) same (λ _. place_there)
           (omega (arith, same.file_is, at.stands.file_is)) (λ _. same.offset_is ∙ at.stands.offset_is)
 
     module _ (n most : ℕ) (none_kept : List (Option Hash16)) (none_is : none_kept ≡ replicate (length (looked_lengths sought)) None)
         (only : ReadsOnly s t) (same : a.file ≡ f.track.file) (passes : Passes (slice_index s.lengths f.track.file) f.track a most n) where
       pass_tried : found ≡ None → most ≤ unwrap_or left 18446744073709551615
-          → (IsTrue s.is_steady → HaveNoLookedCrc sought (file_of s f.track.file) f.track.window_offset n)
+          → ((files : List (List ℕ)) → ReadsAs t files → HaveNoLookedCrc sought (file_of files f.track.file) f.track.window_offset n)
           → Tried sought left s t f (with_window f (cursor_on f.cursor n) v a none_kept) (Ok (Passed n))
       pass_tried is budget none = record {
-        sees = λ steady. many_unseen sought s shelf steady f.cursor here n passes.some (rw is at (seen steady))
-            (none_there f set s at.belongs steady at.stands n (none steady));
+        sees = λ files reads_as.
+            let before : ReadsAs s files = only.older files reads_as in
+            many_unseen sought files s.lengths before.lengths f.cursor here n passes.some (rw is at (seen files before))
+            (none_there f set s at.belongs files before at.stands n (none files reads_as));
         moves = passes_some s.lengths f.cursor n passes.some at.counted
             (let inside = rw (at.stands.offset_is, at.stands.file_is) at passes.inside in inside);
         advances =
@@ -174,7 +180,7 @@ module _ (set : SliceSet) (s : ShelfState) (shelf : IsShelf s) (f : FinderState)
 
       pass_belongs : BelongsTo (with_window f (cursor_on f.cursor n) v a none_kept) set t
       pass_belongs =
-          moves_belongs (with_window f f.cursor w f.track kept) set s t (at_belongs f.cursor.slice) (read_files s t only) (cursor_on f.cursor n) v a
+          moves_belongs (with_window f f.cursor w f.track kept) set s t (at_belongs f.cursor.slice) (later_only s t only) (cursor_on f.cursor n) v a
           none_kept next_tied none_is window
           (pass_onward (cursor_of_track f.track) refl (omega arith) refl)
           (λ _. pass_onward (cursor_past (place_at (cursor_of_track f.track))) refl (omega arith) refl)
@@ -186,7 +192,7 @@ in_mode : (P : FinderState → Type 0) (g : FinderState) (mode : Mode) → mode 
 in_mode P g mode same h = subst (λ (m : Mode). P (record g { mode = m })) (sym same) h
 
 -- the same of the finder that a call was handed, which it sees from inside, and leaves in the same mode
-module _ (set : SliceSet) (s : ShelfState) (shelf : IsShelf s) (f handed : FinderState) (is : f ≡ handed) (there : IsThere set s handed)
+module _ (set : SliceSet) (s : ShelfState) (f handed : FinderState) (is : f ≡ handed) (there : IsThere set s handed)
     (left : Option ℕ) (some : left ≢ Some 0) (rest : ℕ) (found : Option ℕ) (w : WindowState) (kept : List (Option Hash16))
     (looked : Looked set s f rest found w kept) (mode : Mode) (in_same : mode ≡ f.mode) where
   at : IsThere set s f
@@ -208,8 +214,8 @@ module _ (set : SliceSet) (s : ShelfState) (shelf : IsShelf s) (f handed : Finde
   hit_inside n hit few =
       let x : Sighting = record { file = f.cursor.file; offset = f.cursor.offset; slice = n } in
       leaves_as s (Ok (Hit x)) (with_window f (cursor_after x) w f.track kept) refl
-      (at_belongs set s shelf f at left some rest found w kept looked (n + 1))
-      (hit_tried set s shelf f at left some rest found w kept looked n hit few)
+      (at_belongs set s f at left some rest found w kept looked (n + 1))
+      (hit_tried set s f at left some rest found w kept looked n hit few)
 
   module _ (t : ShelfState) (v : WindowState) (a : Track) (tied : IsTied t v a) (window : v ≡ record w { content = v.content })
       (reads : ReadsUpTo s t (fetched_of f.track) (fetched_of a)) where
@@ -217,19 +223,19 @@ module _ (set : SliceSet) (s : ShelfState) (shelf : IsShelf s) (f handed : Finde
         → TryLeaves t (Err fault) (record (with_window f f.cursor v a kept) { mode = mode })
     fault_inside fault faults same still =
         leaves_as t (Err fault) (with_window f f.cursor v a kept) refl
-        (fault_belongs set s shelf f at left some rest found w kept looked t v a tied window reads fault faults same still)
-        (fault_tried set s shelf f at left some rest found w kept looked t v a tied window reads fault faults same still)
+        (fault_belongs set s f at left some rest found w kept looked t v a tied window reads fault faults same still)
+        (fault_tried set s f at left some rest found w kept looked t v a tied window reads fault faults same still)
 
     pub pass_inside : (n most : ℕ) → (none_kept : List (Option Hash16)) → none_kept ≡ replicate (length kept) None → ReadsOnly s t
         → a.file ≡ f.track.file → Passes (slice_index s.lengths f.track.file) f.track a most n → found ≡ None
         → most ≤ unwrap_or left 18446744073709551615
-        → ((m : Mode) → IsWindowFor (sought_of set m) w → IsTrue s.is_steady
-        → HaveNoLookedCrc (sought_of set m) (file_of s f.track.file) f.track.window_offset n)
+        → ((m : Mode) → IsWindowFor (sought_of set m) w → (files : List (List ℕ)) → ReadsAs t files
+        → HaveNoLookedCrc (sought_of set m) (file_of files f.track.file) f.track.window_offset n)
         → TryLeaves t (Ok (Passed n)) (record (with_window f (cursor_on f.cursor n) v a none_kept) { mode = mode })
     pass_inside n most none_kept none_is only same passes miss budget none =
         let is_none : none_kept ≡ replicate (length (looked_lengths (sought_for set f))) None =
         none_is ∙ ap (λ (k : ℕ). replicate k None) looked.keeps.room in
         leaves_as t (Ok (Passed n)) (with_window f (cursor_on f.cursor n) v a none_kept) refl
-        (pass_belongs set s shelf f at left some rest found w kept looked t v a tied window reads n most none_kept is_none only same passes)
-        (pass_tried set s shelf f at left some rest found w kept looked t v a tied window reads n most none_kept is_none only same passes
-        miss budget (none f.mode (made set s shelf f at left some rest found w kept looked)))
+        (pass_belongs set s f at left some rest found w kept looked t v a tied window reads n most none_kept is_none only same passes)
+        (pass_tried set s f at left some rest found w kept looked t v a tied window reads n most none_kept is_none only same passes
+        miss budget (none f.mode (made set s f at left some rest found w kept looked)))

@@ -3,7 +3,7 @@ use Rattle.std.proofs.Common.{◌≡◌, ℕ, ◌+◌, ◌<◌, ◌≤◌, List,
 use Rattle.std.specs.List.{Contains}
 use Rattle.std.proofs.Math.Seq.{drop-cons}
 use Rattle.std.proofs.lemmas.Grind.{common_steps}
-use Rattle.parshelf.specs.Shelf.{ShelfState, IsShelf}
+use Rattle.parshelf.specs.Shelf.{ShelfState, IsShelf, ReadsAs}
 use Rattle.parshelf.specs.declared.shelves.reading.ReadFault.{ReadFault}
 use Rattle.parfind.specs.Sought.{Sought}
 use Rattle.parfind.specs.declared.cursors.cursor.Cursor.{Cursor}
@@ -14,7 +14,9 @@ use Rattle.parfind.specs.Finders.{FinderState, search_of}
 use Rattle.parfind.specs.OnePass.{CallReads, CallsRead, HandsWithin}
 use Rattle.parfind.specs.Places.{place_at}
 use Rattle.parfind.specs.Points.{SearchPoint, SearchState, search_at}
-use Rattle.parfind.specs.Steps.{StepGives}
+use Rattle.parfind.specs.Sightings.{Scan}
+use Rattle.parfind.specs.Steps.{StepGives, scan_of}
+use Rattle.parfind.proofs.LaterLaws.{later_read}
 use Rattle.parfind.proofs.MoveLaws.{moves_onward}
 use Rattle.parfind.proofs.TryLaws.{StepMade}
 use Rattle.parfind.proofs.ReachLaws.{reach_adds_up}
@@ -27,9 +29,9 @@ use Rattle.parfind.specs.AnswersToldOf.{TellsOf}
 use Rattle.parfind.proofs.ToldLaws.{tells_same, tells_step}
 
 -- whatever the later calls give, all calls give it after these answers
-abbrev pub GivesBefore : Sought → SearchPoint → List Call → SearchPoint → List Call → List Answer → Type 0
-GivesBefore sought old calls now later answers =
-    (tail : List Answer) (new : SearchPoint) → CallsGive sought now later tail new → CallsGive sought old calls (answers ++ tail) new
+abbrev pub GivesBefore : Scan → SearchPoint → List Call → SearchPoint → List Call → List Answer → Type 0
+GivesBefore scan old calls now later answers =
+    (tail : List Answer) (new : SearchPoint) → CallsGive scan now later tail new → CallsGive scan old calls (answers ++ tail) new
 
 abbrev pub EachBefore : List Call → List Call → List Answer → Type 0
 EachBefore calls later answers =
@@ -38,11 +40,11 @@ EachBefore calls later answers =
 joined : (xs ys tail : List Answer) (a : Answer) → ys ≡ xs ++ a ∷ [] → xs ++ a ∷ tail ≡ ys ++ tail
 joined xs ys tail a items = sym (ap (λ (zs : List Answer). zs ++ tail) items ∙ append_assoc xs (a ∷ []) tail)
 
-gives_more : (sought : Sought) (old now next : SearchPoint) (calls later : List Call) (k : Call) (a : Answer) (xs ys : List Answer)
-    → GivesBefore sought old calls now (k ∷ later) xs → CallGives sought now k a next → ys ≡ xs ++ a ∷ []
-    → GivesBefore sought old calls next (left_after a later) ys
-gives_more sought old now next calls later k a xs ys before one items tail new h =
-    subst (λ (zs : List Answer). CallsGive sought old calls zs new) (joined xs ys tail a items)
+gives_more : (scan : Scan) (old now next : SearchPoint) (calls later : List Call) (k : Call) (a : Answer) (xs ys : List Answer)
+    → GivesBefore scan old calls now (k ∷ later) xs → CallGives scan now k a next → ys ≡ xs ++ a ∷ []
+    → GivesBefore scan old calls next (left_after a later) ys
+gives_more scan old now next calls later k a xs ys before one items tail new h =
+    subst (λ (zs : List Answer). CallsGive scan old calls zs new) (joined xs ys tail a items)
     (before (a ∷ tail) new (next, (one, h)))
 
 each_more : (calls later : List Call) (k : Call) (a : Answer) (xs ys : List Answer) → EachBefore calls (k ∷ later) xs → MayAnswer k a
@@ -70,7 +72,8 @@ pub record DriveSoFar
     (sought : Sought) (old now : ShelfState) (start : Cursor) (finder : FinderState) (calls later : List Call) (answers : List Answer)
     : Type 0 where
   pub told : TellsOf old now answers
-  pub gives : IsTrue old.is_steady → GivesBefore sought (search_at old start) calls (search_at now finder.cursor) later answers
+  pub gives : (files : List (List ℕ)) → ReadsAs now files
+      → GivesBefore (scan_of sought files) (search_at old start) calls (search_at now finder.cursor) later answers
   pub each : EachBefore calls later answers
   pub onward : IsTrue (is_from start finder.cursor)
   pub mode_is : finder.mode ≡ sought.mode
@@ -78,15 +81,15 @@ pub record DriveSoFar
 
 -- the call of a step with this budget
 pub record Asks (k : Call) (budget : Option ℕ) : Type 0 where
-  pub gives : (sought : Sought) (old new : SearchPoint) (r : Result Step ReadFault) → StepGives sought budget old r new
-      → CallGives sought old k (answer.Step r) new
+  pub gives : (scan : Scan) (old new : SearchPoint) (r : Result Step ReadFault) → StepGives scan budget old r new
+      → CallGives scan old k (answer.Step r) new
   pub answers : (r : Result Step ReadFault) → MayAnswer k (answer.Step r)
 
 pub asks_step : (n : ℕ) → Asks (call.Step n) (Some n)
-asks_step n = record { gives = λ sought old new r h. h; answers = λ r. tt }
+asks_step n = record { gives = λ scan old new r h. h; answers = λ r. tt }
 
 pub asks_next : Asks call.Next None
-asks_next = record { gives = λ sought old new r h. h; answers = λ r. tt }
+asks_next = record { gives = λ scan old new r h. h; answers = λ r. tt }
 
 pub drive_steps : (sought : Sought) (old s t : ShelfState) (start : Cursor) (before after : FinderState) (calls later : List Call)
     (k : Call) (budget : Option ℕ) (r : Result Step ReadFault) (xs ys : List Answer) → Asks k budget → IsShelf s
@@ -95,9 +98,12 @@ pub drive_steps : (sought : Sought) (old s t : ShelfState) (start : Cursor) (bef
     → ys ≡ xs ++ answer.Step r ∷ [] → DriveSoFar sought old t start after calls later ys
 drive_steps sought old s t start before after calls later k budget r xs ys asks shelf so_far made reads items = record {
   told = rw items (tells_step old s t xs r after.cursor.file shelf so_far.told made.along.shelf);
-  gives = λ h. gives_more sought (search_at old start) (search_at s before.cursor) (search_at t after.cursor) calls later k (answer.Step r) xs ys
-      (so_far.gives h)
-      (asks.gives sought (search_at s before.cursor) (search_at t after.cursor) r (made.answer (so_far.told.steady_is ∙ h))) items;
+  gives = λ files reads_as.
+      let scan : Scan = scan_of sought files in
+      let later_shelf = later_read s t after.cursor.file r made.along.shelf in
+      gives_more scan (search_at old start) (search_at s before.cursor) (search_at t after.cursor) calls later k (answer.Step r) xs ys
+      (so_far.gives files (later_shelf.older files reads_as))
+      (asks.gives scan (search_at s before.cursor) (search_at t after.cursor) r (made.answer files reads_as)) items;
   each = each_more calls later k (answer.Step r) xs ys so_far.each (asks.answers r) items;
   onward =
       let on = moves_onward s.lengths budget before.cursor after.cursor r made.moves in
@@ -119,8 +125,9 @@ pub drive_reopens : (sought : Sought) (old s : ShelfState) (start : Cursor) (bef
     → ys ≡ xs ++ answer.Reopened ∷ [] → DriveSoFar sought old s start after calls later ys
 drive_reopens sought old s start before after calls later xs ys there so_far cursor mode items = record {
   told = rw items (tells_same old s xs answer.Reopened so_far.told refl refl);
-  gives = λ h. gives_more sought (search_at old start) (search_at s before.cursor) (search_at s after.cursor) calls later call.Reopen answer.Reopened
-      xs ys (so_far.gives h) (ap (search_at s) cursor) items;
+  gives = λ files reads_as.
+      gives_more (scan_of sought files) (search_at old start) (search_at s before.cursor) (search_at s after.cursor) calls later call.Reopen
+      answer.Reopened xs ys (so_far.gives files reads_as) (ap (search_at s) cursor) items;
   each = each_more calls later call.Reopen answer.Reopened xs ys so_far.each tt items;
   onward = rw cursor so_far.onward;
   mode_is = mode;
@@ -134,8 +141,9 @@ pub drive_stops : (sought : Sought) (old s : ShelfState) (start : Cursor) (befor
     → ys ≡ xs ++ answer.NoMemory ∷ [] → DriveSoFar sought old s start before calls [] ys
 drive_stops sought old s start before calls later xs ys there so_far items = record {
   told = rw items (tells_same old s xs answer.NoMemory so_far.told refl refl);
-  gives = λ h. gives_more sought (search_at old start) (search_at s before.cursor) (search_at s before.cursor) calls later call.Reopen answer.NoMemory
-      xs ys (so_far.gives h) refl items;
+  gives = λ files reads_as.
+      gives_more (scan_of sought files) (search_at old start) (search_at s before.cursor) (search_at s before.cursor) calls later call.Reopen
+      answer.NoMemory xs ys (so_far.gives files reads_as) refl items;
   each = each_more calls later call.Reopen answer.NoMemory xs ys so_far.each tt items;
   onward = so_far.onward;
   mode_is = so_far.mode_is;
@@ -145,7 +153,8 @@ drive_stops sought old s start before calls later xs ys there so_far items = rec
 -- what holds at last
 pub record DriveGave
     (sought : Sought) (old new : ShelfState) (start d : Cursor) (calls : List Call) (answers : List Answer) : Type 0 where
-  pub answer : IsTrue old.is_steady → CallsGive sought (search_at old start) calls answers (search_at new d)
+  pub answer : (files : List (List ℕ)) → ReadsAs new files
+      → CallsGive (scan_of sought files) (search_at old start) calls answers (search_at new d)
   pub each : AnswersEach calls answers
   pub onward : IsTrue (is_from start d)
   pub told : TellsOf old new answers
@@ -154,8 +163,9 @@ pub record DriveGave
 pub drive_ends : (sought : Sought) (old new : ShelfState) (start d : Cursor) (finder : FinderState) (calls : List Call) (answers : List Answer)
     → DriveSoFar sought old new start finder calls [] answers → d ≡ finder.cursor → DriveGave sought old new start d calls answers
 drive_ends sought old new start d finder calls answers so_far cursor = rw cursor (record {
-  answer = λ h. subst (λ (zs : List Answer). CallsGive sought (search_at old start) calls zs (search_at new finder.cursor))
-      (append-nil answers) (so_far.gives h [] (search_at new finder.cursor) refl);
+  answer = λ files reads_as.
+      subst (λ (zs : List Answer). CallsGive (scan_of sought files) (search_at old start) calls zs (search_at new finder.cursor))
+      (append-nil answers) (so_far.gives files reads_as [] (search_at new finder.cursor) refl);
   each = subst (AnswersEach calls) (append-nil answers) (so_far.each [] tt);
   onward = so_far.onward;
   told = so_far.told;

@@ -12,18 +12,19 @@ use Rattle.parfind.specs.Tracks.{IsTied, IsUnread, SameTrack, cursor_of_track, f
 use Rattle.parfind.specs.Sought.{looked_lengths}
 use Rattle.parfield.specs.declared.hash16.Hash16.{Hash16}
 use Rattle.parfind.specs.Places.{cursor_past, place_at}
-use Rattle.parfind.proofs.BelongsLaws.{SameFiles, same_files, with_window, moves_belongs, stays_belongs}
+use Rattle.parfind.proofs.BelongsLaws.{with_window, moves_belongs, stays_belongs}
 use Rattle.parfind.proofs.KeptLaws.{kept_full, same_cursor}
 use Rattle.parfind.proofs.FetchedLaws.{hands_none, hands_enter}
+use Rattle.parfind.proofs.LaterLaws.{Later, later_same}
 use Rattle.parfind.proofs.TrackLaws.{no_bytes}
 use Rattle.parfind.specs.Finders.{FinderState, BelongsTo, StandsAt, sought_for}
 use Rattle.parfind.specs.NextPlace.{HasFit, IsNextPlace}
 use Rattle.parfind.proofs.OrderLaws.{From, From-by_test, From-refl, is_from-true}
 
 -- a window without bytes goes along any file
-pub unread_follows : (s : ShelfState) (v w : WindowState) (file offset : ℕ) (t : Track) → offset < 2 ^ 63 → v.capacity ≤ slice_size_limit
+pub unread_tied : (s : ShelfState) (v w : WindowState) (file offset : ℕ) (t : Track) → offset < 2 ^ 63 → v.capacity ≤ slice_size_limit
     → IsUnread file offset t → w ≡ record v { content = [] } → IsTied s w t
-unread_follows s v w file offset t small few unread empty =
+unread_tied s v w file offset t small few unread empty =
     subst (λ (x : WindowState). IsTied s x t) (sym empty) (record {
       within = omega arith;
       few = few;
@@ -31,8 +32,8 @@ unread_follows s v w file offset t small few unread empty =
       small = omega (arith, unread.buffer_offset_is, unread.buffer_len_is);
       not_ahead = omega (arith, unread.buffer_offset_is, unread.offset_is);
       reached = λ _. omega (arith, unread.buffer_offset_is, unread.offset_is, unread.buffer_len_is);
-      content = λ _. no_bytes (file_of s t.file) t.window_offset;
-      ahead = λ _. rw unread.buffer_len_is (no_bytes (file_of s t.file) t.buffer_offset);
+      content = λ files _. no_bytes (file_of files t.file) t.window_offset;
+      ahead = λ files _. rw unread.buffer_len_is (no_bytes (file_of files t.file) t.buffer_offset);
     })
 
 module _ (f : FinderState) (set : SliceSet) (s : ShelfState) (shelf : IsShelf s) (belongs : BelongsTo f set s) (at : Cursor)
@@ -59,7 +60,7 @@ module _ (f : FinderState) (set : SliceSet) (s : ShelfState) (shelf : IsShelf s)
   pub stays_there : f.track.file ≡ at.file → BelongsTo (with_window f at f.window f.track f.kept) set s
   stays_there same =
       let stands : StandsAt f.track at = stands_there same in
-      stays_belongs f set s s belongs (same_files s) at f.window f.track f.kept belongs.tied belongs.keeps refl refl
+      stays_belongs f set s s belongs (later_same s) at f.window f.track f.kept belongs.tied belongs.keeps refl refl
       (record { file_is = refl; offset_is = refl }) belongs.kept_there (omega (arith, same)) (λ _. stands.offset_is)
 
   module _ (w : WindowState) (t : Track) (stays : f.track.file ≡ at.file → (t ≡ f.track) × (w ≡ f.window))
@@ -74,7 +75,7 @@ module _ (f : FinderState) (set : SliceSet) (s : ShelfState) (shelf : IsShelf s)
           subst (λ (x : WindowState). IsTied s x t) (sym here.1) (subst (λ (u : Track). IsTied s f.window u) (sym here.0) belongs.tied)
       | inr other ↦
           let there = enters other in
-          unread_follows s f.window w at.file at.offset t small_offset belongs.tied.few there.0 there.1
+          unread_tied s f.window w at.file at.offset t small_offset belongs.tied.few there.0 there.1
     ]
 
     pub enter_file : t.file ≡ at.file
@@ -139,13 +140,13 @@ module _ (f : FinderState) (set : SliceSet) (s : ShelfState) (shelf : IsShelf s)
     ]
 
     -- it is filled, and belongs there
-    pub enter_belongs : (f.track.file ≡ at.file → ¬ (length f.window.content ≡ f.window.capacity)) → (u : ShelfState) → SameFiles s u
+    pub enter_belongs : (f.track.file ≡ at.file → ¬ (length f.window.content ≡ f.window.capacity)) → (u : ShelfState) → Later s u
         → (kept : List (Option Hash16)) → kept ≡ replicate (length (looked_lengths (sought_for set f))) None
         → (v : WindowState) (a : Track) → IsTied u v a → v ≡ record w { content = v.content } → SameTrack t a
         → BelongsTo (with_window f at v a kept) set u
-    enter_belongs unfilled u files kept none v a tied filled same =
+    enter_belongs unfilled u later kept none v a tied filled same =
         let stands : cursor_of_track a ≡ cursor_of_track t = same_cursor t a same in
-        moves_belongs f set s u belongs files at v a kept tied none
+        moves_belongs f set s u belongs later at v a kept tied none
         (filled ∙ ap (λ (x : WindowState). record x { content = v.content }) enter_window)
         (rw stands enter_onward)
         (λ some. rw stands (elim (cases_eq f.track.file at.file) [

@@ -4,7 +4,7 @@ use Rattle.std.proofs.lemmas.Bool.{and_parts, cases_Bool, cases_eq, or_left, or_
 use Rattle.std.specs.List.{list_any}
 use Rattle.std.specs.Option.{option_map_or, unwrap_or}
 use Rattle.std.specs.Str.{bytes_eq}
-use Rattle.parshelf.specs.Shelf.{ShelfState, IsShelf, file_of}
+use Rattle.parshelf.specs.Shelf.{ShelfState, ReadsAs, file_of}
 use Rattle.parshelf.proofs.ShelfLaws.{length-file_of}
 use Rattle.parfield.specs.declared.hash16.Hash16.{Hash16}
 use Rattle.parwindow.specs.Index.{SliceSet, sums_of, has_sums, has_fit_of, set_has_fit}
@@ -110,13 +110,13 @@ module _ (lengths : List ℕ) (c d : Cursor) (next : IsNextPlace lengths c d) (n
   unfit_advances set =
       omega (arith, fewer_past set lengths c d next, no_more set lengths (cursor_on d 1) (cursor_on d n) (From-on d 1 n some))
 
-pub unfit_sees : (sought : Sought) (s : ShelfState) → IsShelf s → IsTrue s.is_steady → (c d : Cursor) → IsNextPlace s.lengths c d
-    → ¬ HasFit sought.set s.lengths d → (n : ℕ) → 0 < n → sightings_between (scan_of sought s) c (cursor_on d n) ≡ []
-unfit_sees sought s shelf steady c d next none n some =
-    let whole : length (file_of s d.file) ≡ slice_index s.lengths d.file = length-file_of s d.file shelf steady in
-    let unfit : ¬ IsTrue (set_has_fit sought.set (length (content_of (scan_of sought s) d.file) - d.offset)) = rw whole none in
+pub unfit_sees : (sought : Sought) (s : ShelfState) (files : List (List ℕ)) → ReadsAs s files → (c d : Cursor) → IsNextPlace s.lengths c d
+    → ¬ HasFit sought.set s.lengths d → (n : ℕ) → 0 < n → sightings_between (scan_of sought files) c (cursor_on d n) ≡ []
+unfit_sees sought s files reads c d next none n some =
+    let whole : length (file_of files d.file) ≡ slice_index s.lengths d.file = length-file_of s files d.file reads in
+    let unfit : ¬ IsTrue (set_has_fit sought.set (length (content_of (scan_of sought files) d.file) - d.offset)) = rw whole none in
     let on : From d (cursor_on d n) = record { by_file = omega arith; by_offset = λ _. omega arith; by_slice = λ _ e. absurd (omega arith) } in
-    next_place_sees s.lengths c d (cursor_on d n) next sought s refl shelf steady (Ok Spent) on (on_unfit (scan_of sought s) d n unfit)
+    next_place_sees s.lengths c d (cursor_on d n) next sought files reads.lengths (Ok Spent) on (on_unfit (scan_of sought files) d n unfit)
 
 -- of a budget of places as many as are ahead: some are
 some_within : (left : Option ℕ) (rest most : ℕ) → left ≢ Some 0 → 0 < rest → 0 < most → 0 < min rest (unwrap_or left most)

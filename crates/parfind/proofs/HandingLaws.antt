@@ -7,7 +7,7 @@ use Rattle.parfind.specs.declared.searches.finder.Step.TheVariants.{Hit, Spent, 
 use Rattle.parfind.specs.Order.{is_before, is_from, cursor_of}
 use Rattle.parfind.specs.Sightings.{Scan, sightings_of, sightings_from, sightings_between}
 use Rattle.parfind.specs.Moves.{StepMoves}
-use Rattle.parfind.specs.Steps.{scan_of, lengths_of, hit_of, StepSees, StepHandsOut}
+use Rattle.parfind.specs.Steps.{lengths_of, hit_of, StepSees, StepHandsOut}
 use Rattle.parfind.proofs.OrderLaws.{Before, is_before-true, is_before-false, From-by_test, is_from-true, Before-after}
 use Rattle.parfind.proofs.ListLaws.{Each-weaker, Each-passes, filter_none}
 use Rattle.parfind.proofs.MoveLaws.{moves_onward}
@@ -31,8 +31,7 @@ handed scan budget c d (Ok Done) moves sees = ap (λ xs. filter (λ y. is_before
 handed scan budget c d (Err fault) moves sees = sees
 
 pub step_hands_out : StepHandsOut
-step_hands_out sought budget old new answer gives = (
-  is_from-true old.cursor new.cursor
-      (moves_onward (lengths_of (scan_of sought old.shelf)) budget old.cursor new.cursor answer gives.moves),
-  handed (scan_of sought old.shelf) budget old.cursor new.cursor answer gives.moves gives.sees,
+step_hands_out scan budget old new answer gives = (
+  is_from-true old.cursor new.cursor (moves_onward (lengths_of scan) budget old.cursor new.cursor answer gives.moves),
+  handed scan budget old.cursor new.cursor answer gives.moves gives.sees,
 )

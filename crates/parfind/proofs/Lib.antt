@@ -1,4 +1,6 @@
 pub mod FetchedLaws
+pub mod LaterLaws
+pub mod RefillLaws
 pub mod LookedLaws
 pub mod EachLengthLaws
 pub mod DigestLaws

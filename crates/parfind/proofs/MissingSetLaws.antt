@@ -129,12 +129,12 @@ module _ (set : SliceSet) (found : List Bool) (each : length found ≡ length se
       ap (λ (k : ℕ). flat_map (λ (p : Place). map (λ (n : ℕ). record { file = p.file; offset = p.offset; slice = n }) (range_with_len 0 k)) (places_of lengths))
       (as_many set.slices found each)
 
-  module _ (mode : Mode) (shelf : ShelfState) where
+  module _ (mode : Mode) (files : List (List ℕ)) where
     abbrev all : Scan
-    all = scan_of (sought_of set mode) shelf
+    all = scan_of (sought_of set mode) files
 
     abbrev part : Scan
-    part = scan_of (sought_of (missing_set set found) mode) shelf
+    part = scan_of (sought_of (missing_set set found) mode) files
 
     -- a slice without a mark is seen alike
     seen_alike : (x : Sighting) → mark_of found x.slice ≡ false → is_sighting part x ≡ is_sighting all x
@@ -147,8 +147,8 @@ module _ (set : SliceSet) (found : List Bool) (each : length found ≡ length se
     unfolding sightings_of
     found_alike n none test one =
         any_filtered test (is_sighting part) (is_sighting all) (λ x h. seen_alike x (ap (mark_of found) (one x h) ∙ none))
-        (triples_of (missing_set set found) (map length shelf.files))
-        ∙ ap (λ (xs : List Sighting). list_any test (filter (is_sighting all) xs)) (same_triples (map length shelf.files))
+        (triples_of (missing_set set found) (map length files))
+        ∙ ap (λ (xs : List Sighting). list_any test (filter (is_sighting all) xs)) (same_triples (map length files))
 
     unless_found : (n : ℕ) (a b : Bool) → (mark_of found n ≡ false → a ≡ b) → (mark_of found n || a) ≡ (mark_of found n || b)
     unless_found n a b same = elim (cases_Bool (mark_of found n)) [
@@ -169,6 +169,5 @@ module _ (set : SliceSet) (found : List Bool) (each : length found ≡ length se
     marks_all now (Ok answer) marks = λ n there. marks n there ∙ sighted_alike n
     marks_all now (Err fault) marks = λ n there marked. sym (sighted_alike n) ∙ marks n there marked
 
-    pub stops_all : (new : ShelfState) → StopsOnceFound (sought_of (missing_set set found) mode) shelf new found
-        → StopsOnceFound (sought_of set mode) shelf new found
-    stops_all new stops p sighted = stops p (λ n there. before_alike (cursor_past p) n ∙ sighted n there)
+    pub stops_all : (old new : ShelfState) → StopsOnceFound part old new found → StopsOnceFound all old new found
+    stops_all old new stops p sighted = stops p (λ n there. before_alike (cursor_past p) n ∙ sighted n there)

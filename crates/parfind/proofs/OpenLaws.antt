@@ -38,7 +38,7 @@ opens_belongs set s at mode t kept small few tails unread none =
     record {
       made = record { sized = refl; tails_are = λ is. ap (λ (m : Mode). shorter_lengths m set) is; few = tails };
       keeps = rw none (keeps_none (sought_of set mode) w);
-      kept_there = λ _ some. absurd (omega (arith, some, zero));
+      kept_there = λ some. absurd (omega (arith, some, zero));
       tied = record {
         within = omega arith;
         few = few;
@@ -46,8 +46,8 @@ opens_belongs set s at mode t kept small few tails unread none =
         small = omega (arith, small, unread.buffer_offset_is, unread.buffer_len_is);
         not_ahead = omega (arith, unread.buffer_offset_is, unread.offset_is);
         reached = λ _. omega (arith, unread.buffer_offset_is, unread.offset_is, unread.buffer_len_is);
-        content = λ _. no_bytes (file_of s t.file) t.window_offset;
-        ahead = λ _. rw unread.buffer_len_is (no_bytes (file_of s t.file) t.buffer_offset);
+        content = λ files _. no_bytes (file_of files t.file) t.window_offset;
+        ahead = λ files _. rw unread.buffer_len_is (no_bytes (file_of files t.file) t.buffer_offset);
       };
       not_ahead = omega (arith, unread.file_is);
       not_past = λ _. omega (arith, unread.offset_is);
@@ -59,5 +59,5 @@ opens_belongs set s at mode t kept small few tails unread none =
         by_offset = λ _. omega (arith, unread.offset_is);
         by_slice = λ _ _. omega arith;
       });
-      counted = λ _. omega arith;
+      counted = λ _ _. omega arith;
     }

@@ -1,7 +1,7 @@
 -- Many places that are passed at once, and steps that begin at the next place.
-use Rattle.std.proofs.Common.{◌≡◌, ℕ, zero, suc, ◌+◌, ◌-◌, ◌<◌, ◌≤◌, List, [], length, sym, ap, ◌∙◌, subst, arith, slice_index, IsTrue, Some, None, Result, Ok, Err, inl, inr}
+use Rattle.std.proofs.Common.{◌≡◌, ℕ, zero, suc, ◌+◌, ◌-◌, ◌<◌, ◌≤◌, List, [], length, map, sym, ap, ◌∙◌, subst, arith, slice_index, Some, None, Result, Ok, Err, inl, inr}
 use Rattle.std.proofs.lemmas.Bool.{cases_eq, cases_lt}
-use Rattle.parshelf.specs.Shelf.{ShelfState, IsShelf, file_of}
+use Rattle.parshelf.specs.Shelf.{file_of}
 use Rattle.parshelf.specs.declared.shelves.reading.ReadFault.{ReadFault}
 use Rattle.parfind.specs.Sought.{Sought}
 use Rattle.parwindow.specs.Least.{IsLeastFrom}
@@ -80,15 +80,16 @@ on_unseen scan d n some none =
       | inr other ↦ record { by_file = after.by_file; by_offset = λ e. absurd (other e); by_slice = λ _ _. omega arith }
     ])
 
-module _ (sought : Sought) (s : ShelfState) (shelf : IsShelf s) (steady : IsTrue s.is_steady) (d : Cursor) (next : IsNextPlace s.lengths d d) where
+module _ (sought : Sought) (files : List (List ℕ)) (lengths : List ℕ) (same : map length files ≡ lengths) (d : Cursor)
+    (next : IsNextPlace lengths d d) where
   -- after n places of which no window but the first may have the CRC-32 of a slice, and there no slice is seen
-  pub many_unseen : (n : ℕ) → 0 < n → IsLeastFrom (is_slice_seen sought (file_of s d.file) d.offset) d.slice None
-      → HaveNoLookedCrc sought (file_of s d.file) d.offset n → sightings_between (scan_of sought s) d (cursor_on d n) ≡ []
+  pub many_unseen : (n : ℕ) → 0 < n → IsLeastFrom (is_slice_seen sought (file_of files d.file) d.offset) d.slice None
+      → HaveNoLookedCrc sought (file_of files d.file) d.offset n → sightings_between (scan_of sought files) d (cursor_on d n) ≡ []
   many_unseen n some unseen none =
-      let here : sightings_between (scan_of sought s) d (cursor_on d 1) ≡ [] = visit_past sought s shelf steady d d next unseen in
+      let here : sightings_between (scan_of sought files) d (cursor_on d 1) ≡ [] = visit_past sought files lengths same d d next unseen in
       let to : From d (cursor_on d 1) = record { by_file = omega arith; by_offset = λ _. omega arith; by_slice = λ _ e. absurd (omega arith) } in
-      sym (between_and_between cursor_of d (cursor_on d 1) (cursor_on d n) to (From-on d 1 n (omega arith)) (sightings_of (scan_of sought s)) (Rises-sightings_of (scan_of sought s)))
-      ∙ (rw here (on_unseen (scan_of sought s) d n some none))
+      sym (between_and_between cursor_of d (cursor_on d 1) (cursor_on d n) to (From-on d 1 n (omega arith)) (sightings_of (scan_of sought files)) (Rises-sightings_of (scan_of sought files)))
+      ∙ (rw here (on_unseen (scan_of sought files) d n some none))
 
 -- a step from the next place is a step from before it
 module _ (lengths : List ℕ) (c d e : Cursor) (next : IsNextPlace lengths c d) where
@@ -109,8 +110,7 @@ module _ (lengths : List ℕ) (c d e : Cursor) (next : IsNextPlace lengths c d) 
       → StepMoves lengths (Some (count_of tried)) c (answer_of tried) e
   next_place_moves tried moves = moves_next (answer_of tried) (count_of tried) moves
 
-  pub next_place_sees : (sought : Sought) (s : ShelfState) → s.lengths ≡ lengths → IsShelf s → IsTrue s.is_steady
-      → (answer : Result Step ReadFault) → From d e → StepSees (scan_of sought s) d answer e → StepSees (scan_of sought s) c answer e
-  next_place_sees sought s same shelf steady answer on sees =
-      more_sees (scan_of sought s) c d (From-by_test c d next.onward)
-      (visit_stopped sought s shelf steady c d (subst (λ (ns : List ℕ). IsNextPlace ns c d) (sym same) next)) answer e on sees
+  pub next_place_sees : (sought : Sought) (files : List (List ℕ)) → map length files ≡ lengths
+      → (answer : Result Step ReadFault) → From d e → StepSees (scan_of sought files) d answer e → StepSees (scan_of sought files) c answer e
+  next_place_sees sought files same answer on sees =
+      more_sees (scan_of sought files) c d (From-by_test c d next.onward) (visit_stopped sought files lengths same c d next) answer e on sees

@@ -1,10 +1,12 @@
 -- A window that goes along a file: more bytes come into it, and a full one moves on.
-use Rattle.std.proofs.Common.{◌≡◌, ℕ, ◌+◌, ◌<◌, ◌≤◌, ◌==◌, Bool, true, eqb, eq-eqb, List, ◌++◌, length, get_or, slice_get, refl, ap, ◌∙◌, arith, inl, inr, IsTrue, Some, length-append}
+use Rattle.std.proofs.Common.{◌≡◌, ℕ, ◌+◌, ◌<◌, ◌≤◌, ◌==◌, true, eqb, eq-eqb, List, ◌++◌, length, get_or, slice_get, slice_index, refl, ap, ◌∙◌, arith, inl, inr, Some, length-append}
 use Rattle.std.specs.Prelude.{Contains}
 use Rattle.std.proofs.lemmas.Bool.{and_from, cases_lt, or_left, or_right}
 use Rattle.std.proofs.lemmas.List.Folds.{list_any-from_Any}
 use Rattle.std.proofs.lemmas.Option.{slice_get-get_or}
 use Rattle.parset.specs.declared.recovery_set.SetSlice.{SetSlice}
+use Rattle.parshelf.specs.Shelf.{ShelfState, ReadsAs, file_of}
+use Rattle.parshelf.proofs.ShelfLaws.{length-file_of}
 use Rattle.parwindow.specs.Crc32.{crc_of}
 use Rattle.parwindow.specs.Index.{SliceSet, IsSliceSet, has_own, has_known_crc, has_known_sums, set_has_crc, set_has_own_crc, tails_of}
 use Rattle.parwindow.specs.Until.{slid_content, slid_window, has_tail_slice, is_at_slice, PushesUntil}
@@ -14,7 +16,7 @@ use Rattle.parfind.specs.Sought.{sought_of, looked_window, HasNoLookedCrc, IsWin
 use Rattle.parfind.specs.declared.tracks.mode.Mode.{Mode}
 use Rattle.parfind.specs.declared.tracks.mode.Mode.TheVariants.{Plain, Tails}
 use Rattle.parfind.specs.declared.tracks.track.Track.{Track}
-use Rattle.parfind.specs.Tracks.{HasBytes, Follows, HaveNoLookedCrc, IsPieceOf, next_offset}
+use Rattle.parfind.specs.Tracks.{HasBytes, IsTied, HaveNoLookedCrc, IsPieceOf, next_offset}
 use Rattle.parfind.proofs.EachLengthLaws.{known_some, own_within, tail_there}
 use Rattle.parfind.proofs.FittingLaws.{passing_has}
 use Rattle.parfind.proofs.TrackLaws.{more_bytes, slid_bytes, length-slid_content, whole_window}
@@ -71,57 +73,59 @@ no_looked : (set : SliceSet) (mode : Mode) (w : WindowState) → IsSliceSet set 
 no_looked set mode w good made full never n default below =
     no_looked_at set mode w good made full never n (get_or set.slices n default) (slice_get-get_or set.slices n default below)
 
-module _ (size : ℕ) (steady : Bool) (file : List ℕ) (w : WindowState) (t : Track) (follows : Follows size steady file w t)
-    (ends : IsTrue steady → length file ≡ size) (piece : List ℕ) (is_piece : IsPieceOf w t size piece)
-    (hand : next_offset w t < size → next_offset w t + length piece ≤ t.buffer_offset + t.buffer_len) where
-  comes_next : IsTrue steady → HasBytes file (next_offset w t) piece
-  comes_next is_steady = is_piece file (ends is_steady) (follows.ahead is_steady)
+module _ (s : ShelfState) (w : WindowState) (t : Track) (tied : IsTied s w t) (piece : List ℕ)
+    (is_piece : IsPieceOf w t (slice_index s.lengths t.file) piece)
+    (hand : next_offset w t < slice_index s.lengths t.file → next_offset w t + length piece ≤ t.buffer_offset + t.buffer_len) where
+  comes_next : (files : List (List ℕ)) → ReadsAs s files → HasBytes (file_of files t.file) (next_offset w t) piece
+  comes_next files reads = is_piece (file_of files t.file) (length-file_of s files t.file reads) (tied.ahead files reads)
 
   -- bytes come into a window that is being filled
-  pub follows_more : 0 < length piece → length w.content + length piece ≤ w.capacity
-      → Follows size steady file (record w { content = w.content ++ piece }) t
-  follows_more some room =
+  pub tied_more : 0 < length piece → length w.content + length piece ≤ w.capacity → IsTied s (record w { content = w.content ++ piece }) t
+  tied_more some room =
       let longer : length (w.content ++ piece) ≡ length w.content + length piece = length-append w.content piece in
       record {
         within = omega arith;
-        few = follows.few;
-        buffer_fits = follows.buffer_fits;
-        small = follows.small;
-        not_ahead = omega (arith, follows.not_ahead);
+        few = tied.few;
+        buffer_fits = tied.buffer_fits;
+        small = tied.small;
+        not_ahead = omega (arith, tied.not_ahead);
         reached = λ before. omega (arith, hand (omega arith));
-        content = λ is_steady. more_bytes file t.window_offset w.content piece (follows.content is_steady) (comes_next is_steady);
-        ahead = follows.ahead;
+        content = λ files reads.
+            more_bytes (file_of files t.file) t.window_offset w.content piece (tied.content files reads) (comes_next files reads);
+        ahead = tied.ahead;
       }
 
   -- a full window moves on by k bytes
   module _ (k : ℕ) (fits : k ≤ length piece) where
-    pub slid_has : IsTrue steady → HasBytes file (t.window_offset + k) (slid_content w.content piece k)
-    slid_has is_steady = slid_bytes file t.window_offset k w.content piece fits (follows.content is_steady) (comes_next is_steady)
+    slid_has : (files : List (List ℕ)) → ReadsAs s files → HasBytes (file_of files t.file) (t.window_offset + k) (slid_content w.content piece k)
+    slid_has files reads =
+        slid_bytes (file_of files t.file) t.window_offset k w.content piece fits (tied.content files reads) (comes_next files reads)
 
-    pub follows_on : Follows size steady file (record w { content = slid_content w.content piece k })
-        (record t { window_offset = t.window_offset + k })
-    follows_on =
+    pub tied_on : IsTied s (record w { content = slid_content w.content piece k }) (record t { window_offset = t.window_offset + k })
+    tied_on =
         let same : length (slid_content w.content piece k) ≡ length w.content = length-slid_content w.content piece k fits in
         record {
-          within = omega (arith, follows.within);
-          few = follows.few;
-          buffer_fits = follows.buffer_fits;
-          small = follows.small;
-          not_ahead = omega (arith, follows.not_ahead);
+          within = omega (arith, tied.within);
+          few = tied.few;
+          buffer_fits = tied.buffer_fits;
+          small = tied.small;
+          not_ahead = omega (arith, tied.not_ahead);
           reached = λ before. omega (arith, hand (omega arith));
           content = slid_has;
-          ahead = follows.ahead;
+          ahead = tied.ahead;
         }
 
   -- the windows on the way
   pub none_on : (set : SliceSet) (mode : Mode) (n : ℕ) → IsSliceSet set → IsWindowFor (sought_of set mode) w → length w.content ≡ w.capacity
-      → PushesUntil set w piece n → IsTrue steady → HaveNoLookedCrc (sought_of set mode) file t.window_offset n
-  none_on set mode n good made full until is_steady k some less =
+      → PushesUntil set w piece n → (files : List (List ℕ)) → ReadsAs s files
+      → HaveNoLookedCrc (sought_of set mode) (file_of files t.file) t.window_offset n
+  none_on set mode n good made full until files reads k some less =
+      let file : List ℕ = file_of files t.file in
       let fits : k ≤ length piece = omega (arith, until.within) in
       let same : length (slid_content w.content piece k) ≡ length w.content = length-slid_content w.content piece k fits in
       let whole : slid_content w.content piece k ≡ window_at set.slice_size file (t.window_offset + k) =
       whole_window file set.slice_size (t.window_offset + k) (slid_content w.content piece k)
-      (same ∙ full ∙ made.sized) (slid_has k fits is_steady) in
+      (same ∙ full ∙ made.sized) (slid_has k fits files reads) in
       let none : HasNoLookedCrc (sought_of set mode) (slid_content w.content piece k) =
       no_looked set mode (slid_window w piece k) good (record { sized = made.sized; tails_are = made.tails_are; few = made.few }) (same ∙ full)
       (until.before k some less) in

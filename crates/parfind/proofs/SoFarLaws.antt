@@ -1,6 +1,7 @@
 -- What a survey has come to on its way over the files, at its beginning and at its end.
 use Rattle.std.proofs.Common.{◌≡◌, ℕ, ◌<◌, ◌≤◌, ◌⊎◌, Bool, true, false, List, [], length, replicate, refl, ap, arith, Option, None, Ok, inl, inr, slice_index}
 use Rattle.parshelf.specs.Reads.{ReadsOnly}
+use Rattle.parshelf.proofs.ReadLaws.{ReadsOnly-refl}
 use Rattle.parset.specs.Limits.{slice_size_limit}
 use Rattle.parfind.specs.Sought.{Sought}
 use Rattle.parfind.specs.Marking.{AreExhausted}
@@ -9,7 +10,7 @@ use Rattle.parfind.specs.Surveying.{SurveyState, Surveyed, SurveyEnds}
 use Rattle.parfind.specs.Surveys.{IsAllMarked}
 use Rattle.parwindow.specs.Missing.{mark_of}
 use Rattle.parfind.specs.Tracks.{IsTied, IsUnread, cursor_of_track}
-use Rattle.parfind.proofs.EnterLaws.{unread_follows}
+use Rattle.parfind.proofs.EnterLaws.{unread_tied}
 use Rattle.parfind.proofs.ExhaustedLaws.{exhausted_none}
 use Rattle.parfind.proofs.SurveyLaws.{surveyed_none, not_all}
 
@@ -35,8 +36,8 @@ pub record IsNextMissing (marks : List Bool) (from missing : ℕ) : Type 0 where
 pub begins : (sought : Sought) (old : SurveyState) (missing : ℕ) → old.window.capacity ≤ slice_size_limit → old.window.content ≡ [] → IsUnread 0 0 old.track
     → IsNextMissing old.found 0 missing → SurveySoFar sought old old missing (replicate 257 None)
 begins sought old missing few empty unread next = record {
-  reads = refl;
-  tied = unread_follows old.shelf old.window old.window 0 0 old.track (omega arith) few unread
+  reads = ReadsOnly-refl old.shelf;
+  tied = unread_tied old.shelf old.window old.window 0 0 old.track (omega arith) few unread
       (ap (λ (xs : List ℕ). record old.window { content = xs }) empty);
   inside = λ _. omega (arith, unread.offset_is);
   within = next.within;

@@ -1,14 +1,13 @@
--- What a step gives over a steady shelf, by where it goes, what it sees and what was counted.
-use Rattle.std.proofs.Common.{◌≡◌, ◌≢◌, ℕ, zero, suc, ◌+◌, ◌-◌, ◌<◌, ◌≤◌, true, nat_eq, List, [], length, take, refl, sym, ap, ◌∙◌, subst, arith, IsTrue, Option, Some, None, Result, Ok, Err, option_map}
+-- What a step gives, by where it goes, what it sees and what was counted.
+use Rattle.std.proofs.Common.{◌≡◌, ◌≢◌, ℕ, zero, suc, ◌+◌, ◌-◌, ◌<◌, ◌≤◌, true, nat_eq, List, [], length, take, refl, sym, ap, ◌∙◌, subst, arith, Option, Some, None, Result, Ok, Err, option_map}
 use Rattle.std.specs.List.{All, Contains}
 use Rattle.std.specs.Option.{option_eq}
 use Rattle.std.proofs.lemmas.Bool.{eqb-true}
 use Rattle.std.proofs.lemmas.List.Elements.{All-contains}
-use Rattle.parshelf.specs.Shelf.{ShelfState, IsShelf}
+use Rattle.parshelf.specs.Shelf.{ShelfState, ReadsAs}
 use Rattle.parshelf.specs.Reads.{ReadsOnly, ReadsFile}
 use Rattle.parshelf.specs.declared.shelves.reading.ReadFault.{ReadFault}
 use Rattle.parshelf.specs.declared.shelves.reading.ReadFault.TheVariants.{Failed, Ended}
-use Rattle.parshelf.proofs.ReadLaws.{ReadsOnly_more}
 use Rattle.parfind.specs.Sought.{Sought}
 use Rattle.parfind.specs.declared.cursors.cursor.Cursor.{Cursor}
 use Rattle.parfind.specs.declared.cursors.sighting.Sighting.{Sighting}
@@ -17,24 +16,22 @@ use Rattle.parfind.specs.declared.searches.finder.Step.{Step}
 use Rattle.parfind.specs.declared.searches.finder.Step.TheVariants.{Hit, Spent, Done}
 use Rattle.parfind.specs.Order.{is_before, is_from, cursor_of}
 use Rattle.parfind.specs.Places.{cursor_at, place_of, start_of, places_ahead, places_between}
-use Rattle.parfind.specs.Sightings.{Scan, sightings_of, sightings_from, sightings_between}
+use Rattle.parfind.specs.Sightings.{sightings_of, sightings_from, sightings_between}
 use Rattle.parfind.specs.Moves.{IsWithin, StepMoves, steps_left, Advances}
 use Rattle.parfind.specs.Points.{SearchPoint, search_at}
 use Rattle.parfind.specs.Steps.{scan_of, lengths_of, StepGives, StepSees, StepCounts, SpentSeesNone}
-use Rattle.parfind.proofs.AlongLaws.{faults_before}
+use Rattle.parfind.proofs.LaterLaws.{later_read}
 use Rattle.parfind.proofs.OrderLaws.{From, Before-by_test, From-by_test, not_both}
 use Rattle.parfind.proofs.ListLaws.{Each-weaker, Each-passes, All-from}
 use Rattle.parfind.proofs.MoveLaws.{PassedTo, passes_onward, passes_front, moves_onward, passed_by, passed_more, more_moves, more_spent}
 use Rattle.parfind.proofs.WalkLaws.{same_left, more_sees}
-use Rattle.parfind.proofs.VisitLaws.{same_lengths}
 
 From-start_at : (e : Cursor) (x : Sighting) → From e (cursor_of x) → From (start_of e) (cursor_at (place_of x))
 From-start_at e x on = record { by_file = on.by_file; by_offset = on.by_offset; by_slice = λ _ _. omega arith }
 
 -- a budget that is spent over no sighting
 pub spent_sees_none : SpentSeesNone
-spent_sees_none sought n old new gives =
-    let scan : Scan = scan_of sought old.shelf in
+spent_sees_none scan n old new gives =
     let c : Cursor = old.cursor in
     let d : Cursor = new.cursor in
     let front : List Place = take n (places_ahead (lengths_of scan) c) in
@@ -53,53 +50,45 @@ spent_sees_none sought n old new gives =
     (All-from Elsewhere (sightings_from scan d)
     (Each-weaker Late Elsewhere late (sightings_from scan d) (Each-passes (λ x. is_from d (cursor_of x)) (sightings_of scan))))
 
--- what is counted, by what is read
-counts_of : (old new : SearchPoint) → IsTrue old.shelf.is_steady → (answer : Result Step ReadFault)
+-- what is counted, by what is read; an early end is a reading of no files
+counts_of : (old new : SearchPoint) (files : List (List ℕ)) → ReadsAs new.shelf files → (answer : Result Step ReadFault)
     → ReadsFile new.cursor.file old.shelf new.shelf answer → StepCounts old answer new
-counts_of old new steady (Ok step) reads = reads
-counts_of old new steady (Err Failed) reads = reads
-counts_of old new steady (Err Ended) reads = reads.2 steady
+counts_of old new files reads (Ok step) leaves = leaves
+counts_of old new files reads (Err Failed) leaves = leaves
+counts_of old new files reads (Err Ended) leaves = leaves.1.none files reads
 
 -- where it goes is said by the shelf's lengths, which are those of its files
-pub gives_by : (sought : Sought) (budget : Option ℕ) (old new : SearchPoint) → IsShelf old.shelf → IsTrue old.shelf.is_steady
+pub gives_by : (sought : Sought) (files : List (List ℕ)) (budget : Option ℕ) (old new : SearchPoint) → ReadsAs new.shelf files
     → (answer : Result Step ReadFault) → StepMoves old.shelf.lengths budget old.cursor answer new.cursor
-    → StepSees (scan_of sought old.shelf) old.cursor answer new.cursor
-    → ReadsFile new.cursor.file old.shelf new.shelf answer → StepGives sought budget old answer new
-gives_by sought budget old new shelf steady answer moves sees reads = record {
-  moves = subst (λ (ns : List ℕ). StepMoves ns budget old.cursor answer new.cursor) (sym (same_lengths sought old.shelf shelf steady)) moves;
-  sees = sees;
-  counts = counts_of old new steady answer reads;
-}
+    → StepSees (scan_of sought files) old.cursor answer new.cursor
+    → ReadsFile new.cursor.file old.shelf new.shelf answer → StepGives (scan_of sought files) budget old answer new
+gives_by sought files budget old new reads answer moves sees leaves =
+    let later = later_read old.shelf new.shelf new.cursor.file answer leaves in record {
+      moves = subst (λ (ns : List ℕ). StepMoves ns budget old.cursor answer new.cursor) (sym (reads.lengths ∙ later.lengths)) moves;
+      sees = sees;
+      counts = counts_of old new files reads answer leaves;
+    }
 
--- over a shelf of which nothing changed meanwhile but how much was handed over
+-- over a shelf that was only read meanwhile
 
 module _ (sought : Sought) (old mid : ShelfState) (reads : ReadsOnly old mid) where
-  same_scan : scan_of sought mid ≡ scan_of sought old
-  same_scan = ap (scan_of sought) reads
-
-  pub still_steady : IsTrue old.is_steady → IsTrue mid.is_steady
-  still_steady steady = ap (λ (s : ShelfState). s.is_steady) reads ∙ steady
-
   pub moves_before : (budget : Option ℕ) (c d : Cursor) (answer : Result Step ReadFault) → StepMoves mid.lengths budget c answer d
       → StepMoves old.lengths budget c answer d
   moves_before budget c d answer moves =
-      subst (λ (ns : List ℕ). StepMoves ns budget c answer d) (ap (λ (s : ShelfState). s.lengths) reads) moves
-
-  pub sees_before : (c d : Cursor) (answer : Result Step ReadFault) → StepSees (scan_of sought mid) c answer d → StepSees (scan_of sought old) c answer d
-  sees_before c d answer sees = subst (λ scan. StepSees scan c answer d) same_scan sees
+      subst (λ (ns : List ℕ). StepMoves ns budget c answer d) (ap (λ (s : ShelfState). s.lengths) reads.counts) moves
 
   -- the search comes nearer to its end
   module _ (c d e : Cursor) (near : steps_left sought.set old.lengths d ≤ steps_left sought.set old.lengths c) where
     pub nearer : Advances sought.set (Some 1) (search_at mid d) Spent e → steps_left sought.set old.lengths e < steps_left sought.set old.lengths c
     nearer next =
-        let same : mid.lengths ≡ old.lengths = ap (λ (s : ShelfState). s.lengths) reads in
+        let same : mid.lengths ≡ old.lengths = ap (λ (s : ShelfState). s.lengths) reads.counts in
         let now : steps_left sought.set old.lengths e < steps_left sought.set old.lengths d = rw same at next in
         omega arith
 
     pub advances : (budget : Option ℕ) (step : Step) → (step ≡ Spent → ⊥) → Advances sought.set (Some 1) (search_at mid d) step e
         → Advances sought.set budget (search_at old c) step e
     advances budget (Hit x) other next =
-        (rw (ap (λ (s : ShelfState). length s.lengths) reads) at next.0, next.1, nearer next.2)
+        (rw (ap (λ (s : ShelfState). length s.lengths) reads.counts) at next.0, next.1, nearer next.2)
     advances budget Spent other next = absurd (other refl)
     advances budget Done other next = tt
 
@@ -156,22 +145,6 @@ leaves_none (Some n) (Some left) k m leaves within none =
     let last : left - m ≡ 0 = cc in
     ap (λ (j : ℕ). Some j) (omega (arith, leaves.0))
 
--- what was counted in a step, after other calls that only read
-counts_before : (old mid : ShelfState) (c : Cursor) (new : SearchPoint) (answer : Result Step ReadFault) → ReadsOnly old mid
-    → StepCounts (search_at mid c) answer new → StepCounts (search_at old c) answer new
-counts_before old mid c new (Ok step) reads counts = ReadsOnly_more old mid new.shelf reads counts
-counts_before old mid c new (Err Failed) reads counts = faults_before old mid new.shelf new.cursor.file Failed reads counts
-counts_before old mid c new (Err Ended) reads counts = counts
-
--- a step over a shelf of which only bytes had been handed over before
-pub gives_before : (sought : Sought) (budget : Option ℕ) (old mid : ShelfState) → ReadsOnly old mid → (c : Cursor) (new : SearchPoint)
-    (answer : Result Step ReadFault) → StepGives sought budget (search_at mid c) answer new → StepGives sought budget (search_at old c) answer new
-gives_before sought budget old mid reads c new answer gives = record {
-  moves = subst (λ scan. StepMoves (lengths_of scan) budget c answer new.cursor) (same_scan sought old mid reads) gives.moves;
-  sees = sees_before sought old mid reads c new.cursor answer gives.sees;
-  counts = counts_before old mid c new answer reads gives.counts;
-}
-
 -- a step of m places, once k places were passed of a budget
 module _ (sought : Sought) (old mid : ShelfState) (reads : ReadsOnly old mid) (budget left : Option ℕ) (c d : Cursor) (k : ℕ)
     (leaves : Leaves budget left k) (w : PassedTo old.lengths c d k) (e : Cursor) (m : ℕ) (within : IsWithin m left) where
@@ -195,14 +168,14 @@ module _ (sought : Sought) (old mid : ShelfState) (reads : ReadsOnly old mid) (b
       passed_more old.lengths c d e k m w
       (passed_by old.lengths m d e (moves_before sought old mid reads (Some m) d e (Ok Spent) moves))
 
-  module _ (unseen : sightings_between (scan_of sought old) c d ≡ []) (answer : Result Step ReadFault)
-      (moves : StepMoves mid.lengths (Some m) d answer e) (sees : StepSees (scan_of sought mid) d answer e) where
-    pub then_sees : StepSees (scan_of sought old) c answer e
+  module _ (files : List (List ℕ)) (unseen : sightings_between (scan_of sought files) c d ≡ []) (answer : Result Step ReadFault)
+      (moves : StepMoves mid.lengths (Some m) d answer e) (sees : StepSees (scan_of sought files) d answer e) where
+    pub then_sees : StepSees (scan_of sought files) c answer e
     then_sees =
         let on : From d e = moves_onward old.lengths (Some m) d e answer (moves_before sought old mid reads (Some m) d e answer moves) in
-        more_sees (scan_of sought old) c d w.onward unseen answer e on (sees_before sought old mid reads d e answer sees)
+        more_sees (scan_of sought files) c d w.onward unseen answer e on sees
 
-    pub then_gives : (new : ShelfState) → IsShelf old → IsTrue old.is_steady → StepMoves old.lengths budget c answer e
-        → ReadsFile e.file old new answer → StepGives sought budget (search_at old c) answer (search_at new e)
-    then_gives new shelf steady all more =
-        gives_by sought budget (search_at old c) (search_at new e) shelf steady answer all then_sees more
+    pub then_gives : (new : ShelfState) → ReadsAs new files → StepMoves old.lengths budget c answer e
+        → ReadsFile e.file old new answer → StepGives (scan_of sought files) budget (search_at old c) answer (search_at new e)
+    then_gives new reads_as all more =
+        gives_by sought files budget (search_at old c) (search_at new e) reads_as answer all then_sees more

@@ -1,7 +1,7 @@
 -- A survey on its way over the files: it enters the next one, fills its window, marks what is seen there, and slides on.
-use Rattle.std.proofs.Common.{◌≡◌, ℕ, ◌+◌, ◌<◌, ◌≤◌, ◌⊎◌, Bool, true, false, List, [], length, replicate, refl, sym, ap, ◌∙◌, arith, IsTrue, Option, None, Ok, Err, inl, inr, slice_index}
+use Rattle.std.proofs.Common.{◌≡◌, ℕ, ◌+◌, ◌<◌, ◌≤◌, ◌⊎◌, Bool, true, false, List, [], length, replicate, refl, sym, ap, ◌∙◌, arith, Option, None, Ok, Err, inl, inr, slice_index}
 use Rattle.std.proofs.lemmas.Bool.{cases_lt, or_left}
-use Rattle.parshelf.specs.Shelf.{ShelfState, IsShelf, file_of}
+use Rattle.parshelf.specs.Shelf.{ShelfState, ReadsAs, Older, file_of}
 use Rattle.parshelf.specs.Reads.{ReadsOnly}
 use Rattle.parshelf.specs.declared.shelves.reading.ReadFault.{ReadFault}
 use Rattle.parshelf.proofs.ReadLaws.{ReadsOnly_more}
@@ -18,7 +18,7 @@ use Rattle.parfind.specs.Surveying.{SurveyState, Surveyed, SurveyEnds, survey_at
 use Rattle.parfind.specs.declared.tracks.track.Track.{Track}
 use Rattle.parfind.specs.Surveys.{IsAllMarked}
 use Rattle.parfind.specs.Tracks.{IsTied, IsUnread, HaveNoLookedCrc, Passes, SameTrack, cursor_of_track, fetched_of}
-use Rattle.parfind.proofs.EnterLaws.{unread_follows}
+use Rattle.parfind.proofs.EnterLaws.{unread_tied}
 use Rattle.parfind.proofs.ExhaustedLaws.{exhausted_none, exhausted_on}
 use Rattle.parfind.proofs.PassLaws.{cursor_on}
 use Rattle.parfind.proofs.SoFarLaws.{SurveySoFar, IsNextMissing, never_all}
@@ -43,6 +43,7 @@ missing_left sought old now missing exhausted left so_far open_ each capacity co
 -- the window was read on
 pub record ReadOn (now filled : SurveyState) : Type 0 where
   pub found_is : filled.found ≡ now.found
+  pub older : Older now.shelf filled.shelf
   pub tied : IsTied filled.shelf filled.window filled.track
   pub window_is : filled.window ≡ record now.window { content = filled.window.content }
   pub same : SameTrack now.track filled.track
@@ -60,12 +61,13 @@ pub record LookedAt
 
 -- the window slid on, or a read failed
 pub record SlidOn (filled : SurveyState) (w : WindowState) (t : ShelfState) (v : WindowState) (a : Track) : Type 0 where
+  pub older : Older filled.shelf t
   pub tied : IsTied t v a
   pub window_is : v ≡ record w { content = v.content }
   pub file_is : a.file ≡ filled.track.file
   pub hands : ReadsUpTo filled.shelf t (fetched_of filled.track) (fetched_of a)
 
-module _ (sought : Sought) (old now : SurveyState) (shelf : IsShelf old.shelf) (missing : ℕ) (exhausted : List (Option ℕ)) (left : ℕ)
+module _ (sought : Sought) (old now : SurveyState) (missing : ℕ) (exhausted : List (Option ℕ)) (left : ℕ)
     (at : Missing sought old now missing exhausted left) where
   there : missing < length old.found
   there = omega (arith, at.open_is, at.each)
@@ -76,7 +78,7 @@ module _ (sought : Sought) (old now : SurveyState) (shelf : IsShelf old.shelf) (
   room : now.track.window_offset + left ≡ slice_index old.shelf.lengths now.track.file
   room =
       let so_far = at.so_far in
-      omega (arith, at.left_is, so_far.inside at.counted, ap (λ (u : ShelfState). slice_index u.lengths now.track.file) so_far.reads)
+      omega (arith, at.left_is, so_far.inside at.counted, ap (λ (u : ShelfState). slice_index u.lengths now.track.file) so_far.reads.counts)
 
   sized : now.window.capacity ≡ sought.set.slice_size
   sized = let so_far = at.so_far in so_far.surveyed.capacity ∙ at.capacity_is
@@ -92,7 +94,7 @@ module _ (sought : Sought) (old now : SurveyState) (shelf : IsShelf old.shelf) (
       let so_far = at.so_far in
       record {
         reads = so_far.reads;
-        tied = unread_follows now.shelf now.window w (now.track.file + 1) 0 t (omega arith) so_far.tied.few unread window;
+        tied = unread_tied now.shelf now.window w (now.track.file + 1) 0 t (omega arith) so_far.tied.few unread window;
         inside = λ _. omega (arith, unread.offset_is);
         within = so_far.within;
         first = so_far.first;
@@ -101,7 +103,7 @@ module _ (sought : Sought) (old now : SurveyState) (shelf : IsShelf old.shelf) (
         none = so_far.none;
         window_is = kept_capacity old.window now.window w so_far.window_is (ap (λ (x : WindowState). x.capacity) window)
             (ap (λ (x : WindowState). x.tails) window);
-        surveyed = swept_enter sought old now shelf so_far.reads missing there unmarked left room full so_far.surveyed
+        surveyed = swept_enter sought old now so_far.reads missing there unmarked left room full so_far.surveyed
             (survey_at now.shelf w now.found t) refl refl unread window;
       }
 
@@ -112,8 +114,8 @@ module _ (sought : Sought) (old now : SurveyState) (shelf : IsShelf old.shelf) (
         let so_far = at.so_far in
         record {
           cursor = cursor_of_track filled.track;
-          surveyed = swept_fill sought old now shelf so_far.reads missing there unmarked left fits room sized so_far.surveyed filled fill.found_is
-              fill.tied fill.window_is fill.same fill.hands;
+          surveyed = swept_fill sought old now so_far.reads missing there unmarked left fits room sized so_far.surveyed filled fill.found_is
+              fill.older fill.tied fill.window_is fill.same fill.hands;
           first = refl;
           file_is = refl;
           all = tt;
@@ -128,9 +130,9 @@ module _ (sought : Sought) (old now : SurveyState) (shelf : IsShelf old.shelf) (
       looked : Surveyed sought old seen (cursor_on (cursor_of_track filled.track) 1)
       looked =
           let so_far = at.so_far in
-          swept_look sought old now shelf so_far.reads missing there unmarked left fits room sized so_far.surveyed filled fill.found_is
-          fill.tied fill.window_is fill.same fill.hands only look.full
-          (omega (arith, at.counted, ap (λ (u : ShelfState). length u.lengths) so_far.reads)) look.some seen refl refl look.marks look.takes
+          swept_look sought old now so_far.reads missing there unmarked left fits room sized so_far.surveyed filled fill.found_is
+          fill.older fill.tied fill.window_is fill.same fill.hands only look.full
+          (omega (arith, at.counted, ap (λ (u : ShelfState). length u.lengths) so_far.reads.counts)) look.some seen refl refl look.marks look.takes
 
       all_read : ReadsOnly old.shelf filled.shelf
       all_read = let so_far = at.so_far in ReadsOnly_more old.shelf now.shelf filled.shelf so_far.reads only
@@ -175,8 +177,8 @@ module _ (sought : Sought) (old now : SurveyState) (shelf : IsShelf old.shelf) (
         pub slide_fails : (fault : ReadFault) → a.window_offset ≡ filled.track.window_offset → SurveyEnds sought old on (Err fault)
         slide_fails fault stays = record {
           cursor = cursor_on (cursor_of_track filled.track) 1;
-          surveyed = swept_read sought old seen shelf all_read last still_there still_unmarked left
-              (cursor_on (cursor_of_track filled.track) 1) looked on refl slid.tied slid.window_is (capacity ∙ sized) slid.file_is
+          surveyed = swept_read sought old seen all_read last still_there still_unmarked left
+              (cursor_on (cursor_of_track filled.track) 1) looked on refl slid.older slid.tied slid.window_is (capacity ∙ sized) slid.file_is
               (omega (arith, stays)) slid.file_is slid.hands fits within_file;
           first = refl;
           file_is = sym slid.file_is;
@@ -192,13 +194,13 @@ module _ (sought : Sought) (old now : SurveyState) (shelf : IsShelf old.shelf) (
             passes.offset_is,
             same.offset_is,
             ap (λ (f : ℕ). slice_index t.lengths f) slid.file_is,
-            ap (λ (u : ShelfState). slice_index u.lengths filled.track.file) only_on,
-            ap (λ (u : ShelfState). slice_index u.lengths filled.track.file) all_read,
+            ap (λ (u : ShelfState). slice_index u.lengths filled.track.file) only_on.counts,
+            ap (λ (u : ShelfState). slice_index u.lengths filled.track.file) all_read.counts,
             ap (λ (f : ℕ). slice_index old.shelf.lengths f) same.file_is,
           )
 
           pub slides : (crcs : List (Option ℕ)) → AreExhausted sought more left crcs
-              → (IsTrue filled.shelf.is_steady → HaveNoLookedCrc sought (file_of filled.shelf filled.track.file) filled.track.window_offset n)
+              → ((files : List (List ℕ)) → ReadsAs t files → HaveNoLookedCrc sought (file_of files filled.track.file) filled.track.window_offset n)
               → SurveySoFar sought old on last crcs
           slides crcs exhausted_is none =
               let so_far = at.so_far in
@@ -210,7 +212,7 @@ module _ (sought : Sought) (old now : SurveyState) (shelf : IsShelf old.shelf) (
                   arith,
                   passes.inside,
                   passes.offset_is,
-                  ap (λ (u : ShelfState). slice_index u.lengths filled.track.file) only_on,
+                  ap (λ (u : ShelfState). slice_index u.lengths filled.track.file) only_on.counts,
                   ap (λ (f : ℕ). slice_index t.lengths f) slid.file_is,
                 );
                 within = next.within;
@@ -221,6 +223,6 @@ module _ (sought : Sought) (old now : SurveyState) (shelf : IsShelf old.shelf) (
                 window_is = kept_capacity old.window now.window v so_far.window_is
                     (ap (λ (x : WindowState). x.capacity) slid.window_is ∙ capacity)
                     (ap (λ (x : WindowState). x.tails) slid.window_is ∙ tails);
-                surveyed = swept_pass sought old seen shelf all_read last still_there still_unmarked left n passes.some looked on refl
-                    slid.tied slid.window_is (capacity ∙ sized) slid.file_is passes.offset_is slid.hands none fits within_file;
+                surveyed = swept_pass sought old seen all_read last still_there still_unmarked left n passes.some looked on refl
+                    slid.older slid.tied slid.window_is (capacity ∙ sized) slid.file_is passes.offset_is slid.hands none fits within_file;
               }

@@ -1,9 +1,9 @@
 -- What a survey has done once it is at a cursor, and how it goes on.
-use Rattle.std.proofs.Common.{◌≡◌, ℕ, ◌+◌, ◌<◌, ◌≤◌, Bool, true, false, ◌||◌, List, [], length, refl, sym, ap, ◌∙◌, subst, arith, IsTrue, inl, inr, slice_index}
+use Rattle.std.proofs.Common.{◌≡◌, ℕ, ◌+◌, ◌<◌, ◌≤◌, Bool, true, false, ◌||◌, List, [], length, refl, sym, ap, ◌∙◌, subst, arith, inl, inr, slice_index}
 use Rattle.std.proofs.lemmas.Bool.{cases_eq, cases_lt, or_cases, or_left, or_right}
 use Rattle.std.proofs.lemmas.List.{length-map}
 use Rattle.std.proofs.Math.Bool.{or-false, or_assoc}
-use Rattle.parshelf.specs.Shelf.{ShelfState, IsShelf, file_of}
+use Rattle.parshelf.specs.Shelf.{ShelfState, ReadsAs, Older, file_of}
 use Rattle.parwindow.specs.Index.{SliceSet, set_has_fit}
 use Rattle.parwindow.specs.Window.{WindowState}
 use Rattle.parfind.specs.declared.cursors.cursor.Cursor.{Cursor}
@@ -29,7 +29,6 @@ use Rattle.parfind.proofs.FitLaws.{fits_more}
 use Rattle.parfind.proofs.MarkLaws.{counted_rises, counted_more, counted_most}
 use Rattle.parfind.proofs.OrderLaws.{From}
 use Rattle.parfind.proofs.SightedLaws.{none_more, here_more, none_first, before_sighted, all_before, still_missing}
-use Rattle.parfind.proofs.VisitLaws.{same_lengths}
 
 -- where a survey begins
 abbrev pub start : Place
@@ -75,13 +74,13 @@ near_first size q c first = record {
 
 surveyed_first : (sought : Sought) (now : SurveyState) → fetched_of now.track ≡ start → Surveyed sought now now origin
 surveyed_first sought now fetched = record {
-  marks = λ _ n. sym (ap (λ b. mark_of now.found n || b) (none_first (scan_of sought now.shelf) n) ∙ or-false (mark_of now.found n));
+  marks = λ files _ n. sym (ap (λ b. mark_of now.found n || b) (none_first (scan_of sought files) n) ∙ or-false (mark_of now.found n));
   kept = λ n marked. marked;
   hands = subst (HandsUpTo now.shelf.lengths now.shelf.handed now.shelf.handed start) (sym fetched) (hands_none now.shelf.lengths now.shelf.handed start);
   unfit = λ f none. omega arith;
   near = near_first sought.set.slice_size (fetched_of now.track) origin fetched;
-  stops = λ _ p _. near_first sought.set.slice_size (fetched_of now.track) (cursor_at p) fetched;
-  digests = λ _. omega arith;
+  stops = λ _ _ p _. near_first sought.set.slice_size (fetched_of now.track) (cursor_at p) fetched;
+  digests = λ _ _. omega arith;
   capacity = refl;
 }
 
@@ -99,21 +98,18 @@ from_origin : (c : Cursor) → From origin c
 from_origin c = record { by_file = omega arith; by_offset = λ _. omega arith; by_slice = λ _ _. omega arith }
 
 module _ (sought : Sought) (old now : SurveyState) (c : Cursor) (so_far : Surveyed sought old now c) where
-  scan : Scan
-  scan = scan_of sought old.shelf
-
   -- a slice without a mark had none at the beginning
   pub not_all : (m : ℕ) → m < length old.found → mark_of now.found m ≡ false → IsAllMarked old.found → ⊥
   not_all m there none all = let both : true ≡ false = sym (so_far.kept m (all m there)) ∙ none in cc
 
   -- to a cursor before which no other slice has a sighting, while a slice has no mark
-  module _ (next : SurveyState) (d : Cursor) (same : next.found ≡ now.found) (on : From c d)
-      (none : IsTrue old.shelf.is_steady → sightings_between (scan_of sought old.shelf) c d ≡ []) where
-    moved_marks : IsTrue old.shelf.is_steady → (n : ℕ)
-        → mark_of next.found n ≡ (mark_of old.found n || is_sighted_before (scan_of sought old.shelf) d n)
-    moved_marks steady n =
-        ap (λ marks. mark_of marks n) same ∙ so_far.marks steady n
-        ∙ ap (λ b. mark_of old.found n || b) (none_more (scan_of sought old.shelf) c d on (none steady) n)
+  module _ (next : SurveyState) (d : Cursor) (same : next.found ≡ now.found) (on : From c d) (older : Older now.shelf next.shelf)
+      (none : (files : List (List ℕ)) → ReadsAs next.shelf files → sightings_between (scan_of sought files) c d ≡ []) where
+    moved_marks : (files : List (List ℕ)) → ReadsAs next.shelf files → (n : ℕ)
+        → mark_of next.found n ≡ (mark_of old.found n || is_sighted_before (scan_of sought files) d n)
+    moved_marks files reads n =
+        ap (λ marks. mark_of marks n) same ∙ so_far.marks files (older files reads) n
+        ∙ ap (λ b. mark_of old.found n || b) (none_more (scan_of sought files) c d on (none files reads) n)
 
     pub surveyed_on : (m : ℕ) → m < length old.found → mark_of now.found m ≡ false
         → HandsUpTo old.shelf.lengths now.shelf.handed next.shelf.handed (fetched_of now.track) (fetched_of next.track)
@@ -127,50 +123,56 @@ module _ (sought : Sought) (old now : SurveyState) (c : Cursor) (so_far : Survey
           so_far.hands hands;
       unfit = λ f none. omega (arith, so_far.unfit f none, unfit f none);
       near = near;
-      stops = λ steady p all.
-          let open_ = sym (moved_marks steady m) ∙ (ap (λ marks. mark_of marks m) same ∙ unmarked) in
-          let before = still_missing (scan_of sought old.shelf) old.found d m p there open_ all in
+      stops = λ files reads p all.
+          let open_ = sym (moved_marks files reads m) ∙ (ap (λ marks. mark_of marks m) same ∙ unmarked) in
+          let before = still_missing (scan_of sought files) old.found d m p there open_ all in
           near_further sought.set.slice_size (fetched_of next.track) d (cursor_at p) before.0 before.1 near;
-      digests = λ steady. omega (
+      digests = λ files reads. omega (
         arith,
-        so_far.digests steady,
-        counted_rises (missing_at (scan_of sought old.shelf) old.found) (lengths_of (scan_of sought old.shelf)) origin c d (from_origin c) on,
+        so_far.digests files (older files reads),
+        counted_rises (missing_at (scan_of sought files) old.found) (lengths_of (scan_of sought files)) origin c d (from_origin c) on,
       );
       capacity = capacity ∙ so_far.capacity;
     }
 
   -- past its place, once the slices that are seen there are marked
-  module _ (first : c.slice ≡ 0) (shelf : IsShelf old.shelf) (counted : c.file < length old.shelf.lengths) (there : IsAtPlace old.shelf.lengths c)
+  module _ (first : c.slice ≡ 0) (lengths : now.shelf.lengths ≡ old.shelf.lengths) (counted : c.file < length old.shelf.lengths) (there : IsAtPlace old.shelf.lengths c)
       (next : SurveyState) (same : next.shelf ≡ now.shelf) (track : next.track ≡ now.track) (test : ℕ → Bool) (count : ℕ)
-      (seen : IsTrue old.shelf.is_steady → (n : ℕ) → test n ≡ is_slice_seen sought (file_of old.shelf c.file) c.offset n)
-      (most : IsTrue old.shelf.is_steady → count ≤ missing_at (scan_of sought old.shelf) old.found (place_at c))
+      (seen : (files : List (List ℕ)) → ReadsAs now.shelf files → (n : ℕ) → test n ≡ is_slice_seen sought (file_of files c.file) c.offset n)
+      (most : (files : List (List ℕ)) → ReadsAs now.shelf files → count ≤ missing_at (scan_of sought files) old.found (place_at c))
       (marks : MarksMore test now.found next.found) (takes : TakesDigests count now.window next.window) where
-    digests_more : IsTrue old.shelf.is_steady
-        → next.window.digests ≤ old.window.digests + missing_between (scan_of sought old.shelf) old.found origin (cursor_past (place_at c))
-    digests_more steady =
-        let lengths : lengths_of (scan_of sought old.shelf) ≡ old.shelf.lengths = same_lengths sought old.shelf shelf steady in
-        let counts = counted_more (missing_at (scan_of sought old.shelf) old.found) (lengths_of (scan_of sought old.shelf)) origin c (from_origin c)
-        (rw lengths counted) (rw lengths there) in
+    still : (files : List (List ℕ)) → ReadsAs next.shelf files → ReadsAs now.shelf files
+    still files reads = subst (λ (u : ShelfState). ReadsAs u files) same reads
+
+    length_each : (files : List (List ℕ)) → ReadsAs now.shelf files → lengths_of (scan_of sought files) ≡ old.shelf.lengths
+    length_each files reads = reads.lengths ∙ lengths
+
+    digests_more : (files : List (List ℕ)) → ReadsAs now.shelf files
+        → next.window.digests ≤ old.window.digests + missing_between (scan_of sought files) old.found origin (cursor_past (place_at c))
+    digests_more files reads =
+        let each = length_each files reads in
+        let counts = counted_more (missing_at (scan_of sought files) old.found) (lengths_of (scan_of sought files)) origin c (from_origin c)
+        (rw each counted) (rw each there) in
         let all : next.window.digests ≡ now.window.digests + count = ap (λ (x : WindowState). x.digests) takes in
-        omega (arith, so_far.digests steady, counts, most steady)
+        omega (arith, so_far.digests files reads, counts, most files reads)
 
     pub surveyed_here : Surveyed sought old next (cursor_past (place_at c))
     surveyed_here = record {
-      marks = λ steady n.
-          let s : Scan = scan_of sought old.shelf in
-          let lengths : lengths_of s ≡ old.shelf.lengths = same_lengths sought old.shelf shelf steady in
+      marks = λ files reads_as n.
+          let reads = still files reads_as in
+          let s : Scan = scan_of sought files in
           let few : length (lengths_of s) ≡ length s.contents = length-map s.contents length in
-          let counted' : c.file < length s.contents = omega (arith, counted, few, ap length lengths) in
-          marks n ∙ ap (λ b. b || test n) (so_far.marks steady n)
+          let counted' : c.file < length s.contents = omega (arith, counted, few, ap length (length_each files reads)) in
+          marks n ∙ ap (λ b. b || test n) (so_far.marks files reads n)
           ∙ or_assoc (mark_of old.found n) (is_sighted_before s c n) (test n)
-          ∙ ap (λ b. mark_of old.found n || (is_sighted_before s c n || b)) (seen steady n)
+          ∙ ap (λ b. mark_of old.found n || (is_sighted_before s c n || b)) (seen files reads n)
           ∙ ap (λ b. mark_of old.found n || b) (here_more s c first counted' n);
       kept = λ n had. marks n ∙ or_left (mark_of now.found n) (test n) (so_far.kept n had);
       hands = rw (same, track) so_far.hands;
       unfit = rw same so_far.unfit;
       near = rw track (near_further sought.set.slice_size (fetched_of now.track) c (cursor_past (place_at c)) (omega arith) (λ _. omega arith) so_far.near);
-      stops = rw track so_far.stops;
-      digests = digests_more;
+      stops = λ files reads. rw track (so_far.stops files (still files reads));
+      digests = λ files reads. digests_more files (still files reads);
       capacity = ap (λ (x : WindowState). x.capacity) takes ∙ so_far.capacity;
     }
 
@@ -179,24 +181,26 @@ module _ (sought : Sought) (old now : SurveyState) (c : Cursor) (so_far : Survey
   pub surveyed_kept : KeepsMarks old.found now.found
   surveyed_kept n there marked = so_far.kept n marked
 
-  pub surveyed_no_other : IsTrue old.shelf.is_steady → MarksNoOther (scan_of sought old.shelf) old.found now.found
-  surveyed_no_other steady n there marked =
-      elim (or_cases (mark_of old.found n) (is_sighted_before (scan_of sought old.shelf) c n) (sym (so_far.marks steady n) ∙ marked)) [
-        | inl before ↦ or_left (mark_of old.found n) (is_sighted (scan_of sought old.shelf) n) before
-        | inr h ↦ or_right (mark_of old.found n) (is_sighted (scan_of sought old.shelf) n) (before_sighted (scan_of sought old.shelf) c n h)
-      ]
+  module _ (files : List (List ℕ)) (reads : ReadsAs now.shelf files) where
+    abbrev scan : Scan
+    scan = scan_of sought files
 
-  pub surveyed_full : IsTrue old.shelf.is_steady → ((n : ℕ) → n < length now.found → mark_of now.found n ≡ true) → MarksSighted (scan_of sought old.shelf) old.found now.found
-  surveyed_full steady all n there = all n there ∙ sym (surveyed_no_other steady n there (all n there))
+    pub surveyed_no_other : MarksNoOther scan old.found now.found
+    surveyed_no_other n there marked =
+        elim (or_cases (mark_of old.found n) (is_sighted_before scan c n) (sym (so_far.marks files reads n) ∙ marked)) [
+          | inl before ↦ or_left (mark_of old.found n) (is_sighted scan n) before
+          | inr h ↦ or_right (mark_of old.found n) (is_sighted scan n) (before_sighted scan c n h)
+        ]
 
-  pub surveyed_end : IsShelf old.shelf → IsTrue old.shelf.is_steady → length old.shelf.lengths ≤ c.file → MarksSighted (scan_of sought old.shelf) old.found now.found
-  surveyed_end shelf steady past n there =
-      so_far.marks steady n ∙ ap (λ b. mark_of old.found n || b)
-      (all_before (scan_of sought old.shelf) c (rw (same_lengths sought old.shelf shelf steady) past) n)
+    pub surveyed_full : ((n : ℕ) → n < length now.found → mark_of now.found n ≡ true) → MarksSighted scan old.found now.found
+    surveyed_full all n there = all n there ∙ sym (surveyed_no_other n there (all n there))
 
-  pub surveyed_digests : IsTrue old.shelf.is_steady → now.window.digests ≤ old.window.digests + missing_count (scan_of sought old.shelf) old.found
-  surveyed_digests steady =
-      omega (arith, so_far.digests steady, counted_most (missing_at (scan_of sought old.shelf) old.found) (lengths_of (scan_of sought old.shelf)) origin c)
+    pub surveyed_end : now.shelf.lengths ≡ old.shelf.lengths → length old.shelf.lengths ≤ c.file → MarksSighted scan old.found now.found
+    surveyed_end lengths past n there =
+        so_far.marks files reads n ∙ ap (λ b. mark_of old.found n || b) (all_before scan c (rw (reads.lengths ∙ lengths) past) n)
+
+    pub surveyed_digests : now.window.digests ≤ old.window.digests + missing_count scan old.found
+    surveyed_digests = omega (arith, so_far.digests files reads, counted_most (missing_at scan old.found) (lengths_of scan) origin c)
 
   pub surveyed_once : HandsEachOnce old.shelf now.shelf
   surveyed_once f = omega (arith, so_far.hands.handed f, upto-most old.shelf.lengths (fetched_of now.track) f)
@@ -217,13 +221,15 @@ module _ (sought : Sought) (old now : SurveyState) (c : Cursor) (so_far : Survey
       ] in
       omega (arith, so_far.hands.handed f, less)
 
-  pub surveyed_stops : IsTrue old.shelf.is_steady → StopsOnceFound sought old.shelf now.shelf old.found
-  surveyed_stops steady p all = around p (so_far.stops steady p all)
+  pub surveyed_stops : (files : List (List ℕ)) → ReadsAs now.shelf files
+      → StopsOnceFound (scan_of sought files) old.shelf now.shelf old.found
+  surveyed_stops files reads p all = around p (so_far.stops files reads p all)
 
-  pub surveyed_fault : IsTrue old.shelf.is_steady → c.slice ≡ 0 → (file : ℕ) → c.file ≡ file → MarksUpToFault sought (marked_at old.shelf old.found) (marked_at now.shelf now.found) file
-  surveyed_fault steady first file is = record {
+  pub surveyed_fault : c.slice ≡ 0 → (file : ℕ) → c.file ≡ file → MarksUpToFault sought (marked_at old.shelf old.found) (marked_at now.shelf now.found) file
+  surveyed_fault first file is = record {
     place = place_at c;
     file_is = is;
-    sighted = λ n there. so_far.marks steady n ∙ ap (λ (k : ℕ). mark_of old.found n || is_sighted_before (scan_of sought old.shelf) (record { file = c.file; offset = c.offset; slice = k }) n) first;
+    sighted = λ files reads n there. so_far.marks files reads n
+        ∙ ap (λ (k : ℕ). mark_of old.found n || is_sighted_before (scan_of sought files) (record { file = c.file; offset = c.offset; slice = k }) n) first;
     around = around (place_at c) (record { file_is = so_far.near.file_is; offset_is = so_far.near.offset_is });
   }

@@ -1,7 +1,7 @@
 -- A survey that goes on: to the next file, to the next place with the CRC-32 of a slice, over reads, and past a place that it looked at.
-use Rattle.std.proofs.Common.{◌≡◌, ℕ, ◌+◌, ◌-◌, ◌*◌, ◌<◌, ◌≤◌, ◌⊎◌, true, false, List, [], length, refl, sym, ap, ◌∙◌, subst, arith, IsTrue, inl, inr, slice_index}
+use Rattle.std.proofs.Common.{◌≡◌, ℕ, ◌+◌, ◌-◌, ◌*◌, ◌<◌, ◌≤◌, ◌⊎◌, true, false, List, [], length, refl, sym, ap, ◌∙◌, subst, arith, inl, inr, slice_index}
 use Rattle.std.proofs.lemmas.Bool.{cases_eq}
-use Rattle.parshelf.specs.Shelf.{ShelfState, IsShelf, file_of}
+use Rattle.parshelf.specs.Shelf.{ShelfState, ReadsAs, Older, file_of}
 use Rattle.parshelf.specs.Reads.{ReadsOnly}
 use Rattle.parshelf.proofs.ReadLaws.{ReadsOnly_more}
 use Rattle.parshelf.proofs.ShelfLaws.{length-file_of}
@@ -32,41 +32,38 @@ use Rattle.parfind.proofs.SeenLaws.{fit_seen, seen_inside}
 use Rattle.parfind.proofs.SurveyLaws.{surveyed_on, surveyed_here, others_unread, tied_near}
 
 -- no sighting lies between a cursor and itself
-none_here : (sought : Sought) (s : ShelfState) (c : Cursor) → sightings_between (scan_of sought s) c c ≡ []
-none_here sought s c = none_between cursor_of c c (sightings_of (scan_of sought s)) (λ y has from. from)
+none_here : (sought : Sought) (files : List (List ℕ)) (c : Cursor) → sightings_between (scan_of sought files) c c ≡ []
+none_here sought files c = none_between cursor_of c c (sightings_of (scan_of sought files)) (λ y has from. from)
 
-module _ (sought : Sought) (old now : SurveyState) (shelf : IsShelf old.shelf) (reads : ReadsOnly old.shelf now.shelf) where
-  same_file : (f : ℕ) → file_of now.shelf f ≡ file_of old.shelf f
-  same_file f = ap (λ (s : ShelfState). file_of s f) reads
+module _ (sought : Sought) (old now : SurveyState) (reads : ReadsOnly old.shelf now.shelf) where
+  same_lengths : now.shelf.lengths ≡ old.shelf.lengths
+  same_lengths = ap (λ (s : ShelfState). s.lengths) reads.counts
 
   -- while a slice has no mark
   module _ (m : ℕ) (there : m < length old.found) (unmarked : mark_of now.found m ≡ false) (left : ℕ) where
     -- over a read of the file in which the window is
-    pub swept_read : (c : Cursor) → Surveyed sought old now c → (next : SurveyState) → next.found ≡ now.found → IsTied next.shelf next.window next.track
+    pub swept_read : (c : Cursor) → Surveyed sought old now c → (next : SurveyState) → next.found ≡ now.found → Older now.shelf next.shelf → IsTied next.shelf next.window next.track
         → next.window ≡ record now.window { content = next.window.content } → now.window.capacity ≡ sought.set.slice_size
         → next.track.file ≡ c.file → next.track.window_offset ≤ c.offset → next.track.file ≡ now.track.file
         → ReadsUpTo now.shelf next.shelf (fetched_of now.track) (fetched_of next.track)
         → set_has_fit sought.set left ≡ true → left ≤ slice_index old.shelf.lengths now.track.file → Surveyed sought old next c
-    swept_read c so_far next same tied window sized file held stays hands fits room =
-        let lengths : now.shelf.lengths ≡ old.shelf.lengths = ap (λ (s : ShelfState). s.lengths) reads in
-        let hands' = rw lengths at hands in
+    swept_read c so_far next same older tied window sized file held stays hands fits room =
+        let hands' = rw same_lengths at hands in
         let capacity : next.window.capacity ≡ now.window.capacity = ap (λ (w : WindowState). w.capacity) window in
-        surveyed_on sought old now c so_far next c same (From-refl c) (λ _. none_here sought old.shelf c) m there unmarked hands'
+        surveyed_on sought old now c so_far next c same (From-refl c) older (λ files _. none_here sought files c) m there unmarked hands'
         (others_unread sought.set old.shelf.lengths now.shelf.handed next.shelf.handed (fetched_of now.track) (fetched_of next.track) left (sym stays) hands' fits room)
         (tied_near next.shelf next.window next.track sought.set.slice_size c tied (capacity ∙ sized) file held)
         (ap (λ (w : WindowState). w.digests) window) capacity
 
     -- past places whose windows have no CRC-32 of a slice
     pub swept_pass : (n : ℕ) → 0 < n → Surveyed sought old now (cursor_on (cursor_of_track now.track) 1) → (next : SurveyState) → next.found ≡ now.found
-        → IsTied next.shelf next.window next.track → next.window ≡ record now.window { content = next.window.content }
+        → Older now.shelf next.shelf → IsTied next.shelf next.window next.track → next.window ≡ record now.window { content = next.window.content }
         → now.window.capacity ≡ sought.set.slice_size → next.track.file ≡ now.track.file → next.track.window_offset ≡ now.track.window_offset + n
         → ReadsUpTo now.shelf next.shelf (fetched_of now.track) (fetched_of next.track)
-        → (IsTrue now.shelf.is_steady → HaveNoLookedCrc sought (file_of now.shelf now.track.file) now.track.window_offset n)
+        → ((files : List (List ℕ)) → ReadsAs next.shelf files → HaveNoLookedCrc sought (file_of files now.track.file) now.track.window_offset n)
         → set_has_fit sought.set left ≡ true → left ≤ slice_index old.shelf.lengths now.track.file → Surveyed sought old next (cursor_of_track next.track)
-    swept_pass n some so_far next same tied window sized stays held hands none fits room =
-        let lengths : now.shelf.lengths ≡ old.shelf.lengths = ap (λ (s : ShelfState). s.lengths) reads in
-        let steady : now.shelf.is_steady ≡ old.shelf.is_steady = ap (λ (s : ShelfState). s.is_steady) reads in
-        let hands' = rw lengths at hands in
+    swept_pass n some so_far next same older tied window sized stays held hands none fits room =
+        let hands' = rw same_lengths at hands in
         let capacity : next.window.capacity ≡ now.window.capacity = ap (λ (w : WindowState). w.capacity) window in
         let c : Cursor = cursor_of_track now.track in
         let d : Cursor = cursor_on c n in
@@ -74,9 +71,8 @@ module _ (sought : Sought) (old now : SurveyState) (shelf : IsShelf old.shelf) (
         ap (λ (f : ℕ). record { file = f; offset = c.offset + n; slice = 0 }) (sym stays)
         ∙ ap (λ (o : ℕ). record { file = next.track.file; offset = o; slice = 0 }) (sym held) in
         subst (Surveyed sought old next) at
-        (surveyed_on sought old now (cursor_on c 1) so_far next d same (From-on c 1 n some)
-        (λ is_steady. on_unseen (scan_of sought old.shelf) c n some
-        (subst (λ (file : List ℕ). HaveNoLookedCrc sought file now.track.window_offset n) (same_file now.track.file) (none (steady ∙ is_steady))))
+        (surveyed_on sought old now (cursor_on c 1) so_far next d same (From-on c 1 n some) older
+        (λ files reads_as. on_unseen (scan_of sought files) c n some (none files reads_as))
         m there unmarked hands'
         (others_unread sought.set old.shelf.lengths now.shelf.handed next.shelf.handed (fetched_of now.track) (fetched_of next.track) left (sym stays) hands' fits room)
         (tied_near next.shelf next.window next.track sought.set.slice_size d tied (capacity ∙ sized) stays (omega (arith, held)))
@@ -85,11 +81,12 @@ module _ (sought : Sought) (old now : SurveyState) (shelf : IsShelf old.shelf) (
     -- to the next file, where no slice fits into what is left of this one
     module _ (room : now.track.window_offset + left ≡ slice_index old.shelf.lengths now.track.file)
         (full : (left ≡ 0) ⊎ (set_has_fit sought.set left ≡ false)) where
-      unfit_here : IsTrue old.shelf.is_steady → (o n : ℕ) → now.track.window_offset ≤ o
-          → is_slice_seen sought (file_of old.shelf now.track.file) o n ≡ true → ⊥
-      unfit_here steady o n later seen =
-          let file : List ℕ = file_of old.shelf now.track.file in
-          let whole : length file ≡ slice_index old.shelf.lengths now.track.file = length-file_of old.shelf now.track.file shelf steady in
+      unfit_here : (files : List (List ℕ)) → ReadsAs now.shelf files → (o n : ℕ) → now.track.window_offset ≤ o
+          → is_slice_seen sought (file_of files now.track.file) o n ≡ true → ⊥
+      unfit_here files reads_as o n later seen =
+          let file : List ℕ = file_of files now.track.file in
+          let whole : length file ≡ slice_index old.shelf.lengths now.track.file =
+          length-file_of old.shelf files now.track.file (reads.older files reads_as) in
           let inside : o < length file = seen_inside sought file o n seen in
           elim full [
             | inl none ↦ omega arith
@@ -104,17 +101,19 @@ module _ (sought : Sought) (old now : SurveyState) (shelf : IsShelf old.shelf) (
           let c : Cursor = cursor_of_track now.track in
           let d : Cursor = cursor_of_track next.track in
           let handed : next.shelf.handed ≡ now.shelf.handed = ap (λ (s : ShelfState). s.handed) still in
+          let still_reads : Older now.shelf next.shelf = λ files reads_as. subst (λ (s : ShelfState). ReadsAs s files) still reads_as in
           surveyed_on sought old now c so_far next d same
           (record {
             by_file = omega (arith, unread.file_is);
             by_offset = λ e. absurd (omega (arith, unread.file_is));
             by_slice = λ e _. absurd (omega (arith, unread.file_is));
           })
-          (λ steady. none_between cursor_of c d (sightings_of (scan_of sought old.shelf)) (λ y has from. elim (cases_eq now.track.file y.file) [
+          still_reads
+          (λ files reads_as. none_between cursor_of c d (sightings_of (scan_of sought files)) (λ y has from. elim (cases_eq now.track.file y.file) [
             | inl e ↦
-                let seen : is_slice_seen sought (file_of old.shelf y.file) y.offset y.slice ≡ true = sighting_seen (scan_of sought old.shelf) y has in
-                absurd (unfit_here steady y.offset y.slice (from.by_offset e)
-                (subst (λ (f : ℕ). is_slice_seen sought (file_of old.shelf f) y.offset y.slice ≡ true) (sym e) seen))
+                let seen : is_slice_seen sought (file_of files y.file) y.offset y.slice ≡ true = sighting_seen (scan_of sought files) y has in
+                absurd (unfit_here files (still_reads files reads_as) y.offset y.slice (from.by_offset e)
+                (subst (λ (f : ℕ). is_slice_seen sought (file_of files f) y.offset y.slice ≡ true) (sym e) seen))
             | inr other ↦ record {
               by_file = omega (arith, unread.file_is, from.by_file);
               by_offset = λ _. omega (arith, unread.offset_is);
@@ -135,34 +134,36 @@ module _ (sought : Sought) (old now : SurveyState) (shelf : IsShelf old.shelf) (
       (full : length now.window.content ≡ now.window.capacity) (so_far : Surveyed sought old now (cursor_of_track now.track))
       (counted : now.track.file < length old.shelf.lengths) (left : ℕ) (some : 0 < left)
       (room : now.track.window_offset + left ≡ slice_index old.shelf.lengths now.track.file) where
-    whole_there : IsTrue old.shelf.is_steady
-        → now.window.content ≡ window_at sought.set.slice_size (file_of old.shelf now.track.file) now.track.window_offset
-    whole_there steady =
-        let was_steady : IsTrue now.shelf.is_steady = ap (λ (s : ShelfState). s.is_steady) reads ∙ steady in
-        let there : now.window.content ≡ window_at sought.set.slice_size (file_of now.shelf now.track.file) now.track.window_offset =
-        whole_window (file_of now.shelf now.track.file) sought.set.slice_size now.track.window_offset now.window.content (full ∙ sized) (tied.content was_steady) in
-        there ∙ ap (λ (file : List ℕ). window_at sought.set.slice_size file now.track.window_offset) (same_file now.track.file)
+    whole_there : (files : List (List ℕ)) → ReadsAs now.shelf files
+        → now.window.content ≡ window_at sought.set.slice_size (file_of files now.track.file) now.track.window_offset
+    whole_there files reads_as =
+        whole_window (file_of files now.track.file) sought.set.slice_size now.track.window_offset now.window.content (full ∙ sized)
+        (tied.content files reads_as)
+
+    whole_length : (files : List (List ℕ)) → ReadsAs now.shelf files
+        → length (file_of files now.track.file) ≡ slice_index old.shelf.lengths now.track.file
+    whole_length files reads_as = length-file_of old.shelf files now.track.file (reads.older files reads_as)
 
     pub swept_here : (next : SurveyState) → next.shelf ≡ now.shelf → next.track ≡ now.track
         → MarksMore (slice_passes sought.set.slices (is_fitting_look sought.mode now.window.content left)) now.found next.found
         → TakesDigests (count_missing sought now.found now.window.content left) now.window next.window
         → Surveyed sought old next (cursor_on (cursor_of_track now.track) 1)
     swept_here next still track marks takes =
-        surveyed_here sought old now (cursor_of_track now.track) so_far refl shelf counted (omega arith) next still track
+        surveyed_here sought old now (cursor_of_track now.track) so_far refl same_lengths counted (omega arith) next still track
         (slice_passes sought.set.slices (is_fitting_look sought.mode now.window.content left)) (count_missing sought now.found now.window.content left)
-        (λ steady n.
-        let file : List ℕ = file_of old.shelf now.track.file in
-        let whole : length file ≡ slice_index old.shelf.lengths now.track.file = length-file_of old.shelf now.track.file shelf steady in
-        fit_seen sought file now.track.window_offset left now.window.content (omega arith) (omega arith) (whole_there steady) n)
-        (λ steady.
-        let file : List ℕ = file_of old.shelf now.track.file in
-        let whole : length file ≡ slice_index old.shelf.lengths now.track.file = length-file_of old.shelf now.track.file shelf steady in
+        (λ files reads_as n.
+        let file : List ℕ = file_of files now.track.file in
+        let whole = whole_length files reads_as in
+        fit_seen sought file now.track.window_offset left now.window.content (omega arith) (omega arith) (whole_there files reads_as) n)
+        (λ files reads_as.
+        let file : List ℕ = file_of files now.track.file in
+        let whole = whole_length files reads_as in
         let rest : left ≡ length file - now.track.window_offset = omega (arith, room) in
         let fewer = count_was sought old.found now.found now.window.content left so_far.kept in
         let there : count_missing sought now.found now.window.content left
         ≤ count_missing sought old.found (window_at sought.set.slice_size file now.track.window_offset) left =
         subst (λ (content : List ℕ). count_missing sought now.found now.window.content left ≤ count_missing sought old.found content left)
-        (whole_there steady) fewer in
+        (whole_there files reads_as) fewer in
         subst (λ (n : ℕ). count_missing sought now.found now.window.content left
         ≤ count_missing sought old.found (window_at sought.set.slice_size file now.track.window_offset) n) rest there)
         marks takes
@@ -189,11 +190,11 @@ pub made_same : (sought : Sought) (u v : WindowState) → v.capacity ≡ u.capac
 made_same sought u v capacity tails made =
     record { sized = capacity ∙ made.sized; tails_are = λ mode. tails ∙ made.tails_are mode; few = made.few }
 
-module _ (sought : Sought) (old now : SurveyState) (shelf : IsShelf old.shelf) (reads : ReadsOnly old.shelf now.shelf)
+module _ (sought : Sought) (old now : SurveyState) (reads : ReadsOnly old.shelf now.shelf)
     (m : ℕ) (there : m < length old.found) (unmarked : mark_of now.found m ≡ false) (left : ℕ) (fits : set_has_fit sought.set left ≡ true)
     (room : now.track.window_offset + left ≡ slice_index old.shelf.lengths now.track.file) (sized : now.window.capacity ≡ sought.set.slice_size)
     (so_far : Surveyed sought old now (cursor_of_track now.track)) (next : SurveyState) (found : next.found ≡ now.found)
-    (tied : IsTied next.shelf next.window next.track) (window : next.window ≡ record now.window { content = next.window.content })
+    (older : Older now.shelf next.shelf) (tied : IsTied next.shelf next.window next.track) (window : next.window ≡ record now.window { content = next.window.content })
     (same : SameTrack now.track next.track)
     (hands : ReadsUpTo now.shelf next.shelf (fetched_of now.track) (fetched_of next.track)) where
   -- the window is filled
@@ -203,7 +204,7 @@ module _ (sought : Sought) (old now : SurveyState) (shelf : IsShelf old.shelf) (
       ap (λ (f : ℕ). record { file = f; offset = now.track.window_offset; slice = 0 }) (sym same.file_is)
       ∙ ap (λ (o : ℕ). record { file = next.track.file; offset = o; slice = 0 }) (sym same.offset_is) in
       subst (Surveyed sought old next) at
-      (swept_read sought old now shelf reads m there unmarked left (cursor_of_track now.track) so_far next found tied window sized
+      (swept_read sought old now reads m there unmarked left (cursor_of_track now.track) so_far next found older tied window sized
       same.file_is (omega (arith, same.offset_is)) same.file_is hands fits (omega arith))
 
   -- and the slices that are seen in it are marked
@@ -213,6 +214,6 @@ module _ (sought : Sought) (old now : SurveyState) (shelf : IsShelf old.shelf) (
       → TakesDigests (count_missing sought next.found next.window.content left) next.window last.window
       → Surveyed sought old last (cursor_on (cursor_of_track next.track) 1)
   swept_look only full counted some last still track marks takes =
-      swept_here sought old next shelf (ReadsOnly_more old.shelf now.shelf next.shelf reads only) tied
+      swept_here sought old next (ReadsOnly_more old.shelf now.shelf next.shelf reads only) tied
       (ap (λ (w : WindowState). w.capacity) window ∙ sized) full swept_fill (omega (arith, same.file_is)) left some
       (rw (same.file_is, same.offset_is) room) last still track marks takes

@@ -1,6 +1,6 @@
 -- Places that are tried one after another come to a step.
-use Rattle.std.proofs.Common.{◌≡◌, ◌≢◌, ℕ, ◌+◌, ◌≤◌, [], refl, subst, arith, IsTrue, Option, Some, Result, Ok, Err, IfOk}
-use Rattle.parshelf.specs.Shelf.{ShelfState, IsShelf}
+use Rattle.std.proofs.Common.{◌≡◌, ◌≢◌, ℕ, ◌+◌, ◌≤◌, List, [], refl, subst, arith, Option, Some, Result, Ok, Err, IfOk}
+use Rattle.parshelf.specs.Shelf.{ShelfState, ReadsAs}
 use Rattle.parshelf.specs.declared.shelves.reading.ReadFault.{ReadFault}
 use Rattle.parfind.specs.Sought.{Sought}
 use Rattle.parfind.specs.declared.searches.finder.Step.{Step}
@@ -16,16 +16,18 @@ use Rattle.parfind.specs.Sightings.{sightings_between}
 use Rattle.parfind.specs.Steps.{scan_of, StepGives, StepSees}
 use Rattle.parfind.proofs.AdvanceLaws.{no_more}
 use Rattle.parfind.proofs.AlongLaws.{goes_still, goes_more, goes_as}
+use Rattle.parfind.proofs.LaterLaws.{Later, later_only, later_read}
 use Rattle.parfind.proofs.MoveLaws.{PassedTo, passed_none, moves_onward}
 use Rattle.parfind.proofs.OrderLaws.{From, From-by_test}
 use Rattle.parfind.proofs.PassLaws.{next_place_moves, next_place_sees}
-use Rattle.parfind.proofs.StepLaws.{Leaves, budget_left, leaves_all, leaves_more, still_steady, moves_before, sees_before, nearer, advances, then_moves, then_spent, then_advances, then_passed, then_sees, then_gives}
+use Rattle.parfind.proofs.StepLaws.{Leaves, budget_left, leaves_all, leaves_more, moves_before, nearer, advances, then_moves, then_spent, then_advances, then_passed, then_sees, then_gives}
 use Rattle.parfind.proofs.WalkLaws.{none_seen}
 
 -- what is said of a step that was made, with its budget
 pub record StepMade
     (sought : Sought) (budget : Option ℕ) (old new : ShelfState) (f g : FinderState) (r : Result Step ReadFault) : Type 0 where
-  pub answer : IsTrue old.is_steady → StepGives sought budget (search_at old f.cursor) r (search_at new g.cursor)
+  pub answer : (files : List (List ℕ)) → ReadsAs new files
+      → StepGives (scan_of sought files) budget (search_at old f.cursor) r (search_at new g.cursor)
   pub moves : StepMoves old.lengths budget f.cursor r g.cursor
   pub advances : IfOk r (λ step. Advances sought.set budget (search_at old f.cursor) step g.cursor)
   pub along : GoesAlong old new f g r
@@ -33,7 +35,7 @@ pub record StepMade
 -- what is said of a place that was tried, with what is left of a budget
 pub record Tried
     (sought : Sought) (left : Option ℕ) (old new : ShelfState) (f g : FinderState) (r : Result Visit ReadFault) : Type 0 where
-  pub sees : IsTrue old.is_steady → StepSees (scan_of sought old) f.cursor (answer_of r) g.cursor
+  pub sees : (files : List (List ℕ)) → ReadsAs new files → StepSees (scan_of sought files) f.cursor (answer_of r) g.cursor
   pub moves : StepMoves old.lengths (Some (count_of r)) f.cursor (answer_of r) g.cursor
   pub advances : IfOk r (λ visit. Advances sought.set (Some 1) (search_at old f.cursor) (step_of visit) g.cursor)
   pub within : IsWithin (count_of r) left
@@ -53,7 +55,7 @@ pub record PassedSoFar (sought : Sought) (budget left : Option ℕ) (old mid : S
   pub leaves : Leaves budget left count
   pub passed : PassedTo old.lengths f.cursor g.cursor count
   pub nearer_is : steps_left sought.set old.lengths g.cursor ≤ steps_left sought.set old.lengths f.cursor
-  pub unseen : IsTrue old.is_steady → sightings_between (scan_of sought old) f.cursor g.cursor ≡ []
+  pub unseen : (files : List (List ℕ)) → ReadsAs mid files → sightings_between (scan_of sought files) f.cursor g.cursor ≡ []
   pub along : GoesAlong old mid f g answered
 
 pub none_so_far : (sought : Sought) (budget : Option ℕ) → budget ≢ Some 0 → (s : ShelfState) (f : FinderState)
@@ -63,7 +65,7 @@ none_so_far sought budget some s f = record {
   leaves = leaves_all budget some;
   passed = passed_none s.lengths f.cursor;
   nearer_is = omega arith;
-  unseen = λ _. none_seen (scan_of sought s) f.cursor;
+  unseen = λ files _. none_seen (scan_of sought files) f.cursor;
   along = goes_still {A = Unit {0}} s f f tt refl refl refl refl;
 }
 
@@ -87,36 +89,38 @@ module _ (sought : Sought) (budget left : Option ℕ) (old mid new : ShelfState)
       record { shelf = all.shelf; reads = all.reads; opening_is = all.opening_is; mode_is = all.mode_is; no_fewer = all.no_fewer }
 
   -- any answer but that places were passed ends the step
-  pub tried_ends : IsShelf old → (r : Result Visit ReadFault) → (answer_of r ≡ Ok Spent → ⊥) → Tried sought left mid new g h r
+  pub tried_ends : (r : Result Visit ReadFault) → (answer_of r ≡ Ok Spent → ⊥) → Tried sought left mid new g h r
       → StepMade sought budget old new f h (answer_of r)
-  tried_ends shelf r other tried =
+  tried_ends r other tried =
       let reads = so_far.along.shelf in
       let all = then_moves sought old mid reads budget left f.cursor g.cursor so_far.count so_far.leaves so_far.passed h.cursor (count_of r)
       tried.within (answer_of r) other tried.moves in
       let along = goes_with r tried.along in
       record {
-        answer = λ steady.
+        answer = λ files reads_as.
+            let later = later_read mid new h.cursor.file r tried.along.shelf in
             then_gives sought old mid reads budget left f.cursor g.cursor so_far.count so_far.leaves so_far.passed h.cursor (count_of r)
-            tried.within (so_far.unseen steady) (answer_of r) tried.moves (tried.sees (still_steady sought old mid reads steady))
-            new shelf steady all along.shelf;
+            tried.within files (so_far.unseen files (later.older files reads_as)) (answer_of r) tried.moves (tried.sees files reads_as)
+            new reads_as all along.shelf;
         moves = all;
         advances = ends_advances r other tried.advances;
         along = along;
       }
 
   -- the places that were passed use the budget up
-  pub tried_spends : IsShelf old → (m : ℕ) → budget_left left m ≡ Some 0 → Tried sought left mid new g h (Ok (Passed m))
+  pub tried_spends : (m : ℕ) → budget_left left m ≡ Some 0 → Tried sought left mid new g h (Ok (Passed m))
       → StepMade sought budget old new f h (Ok Spent)
-  tried_spends shelf m none tried =
+  tried_spends m none tried =
       let reads = so_far.along.shelf in
       let all = then_spent sought old mid reads budget left f.cursor g.cursor so_far.count so_far.leaves so_far.passed h.cursor m
       tried.within none tried.moves in
       let along = goes_with (Ok (Passed m)) tried.along in
       record {
-        answer = λ steady.
+        answer = λ files reads_as.
+            let later : Later mid new = later_only mid new tried.along.shelf in
             then_gives sought old mid reads budget left f.cursor g.cursor so_far.count so_far.leaves so_far.passed h.cursor m
-            tried.within (so_far.unseen steady) (Ok Spent) tried.moves (tried.sees (still_steady sought old mid reads steady))
-            new shelf steady all along.shelf;
+            tried.within files (so_far.unseen files (later.older files reads_as)) (Ok Spent) tried.moves (tried.sees files reads_as)
+            new reads_as all along.shelf;
         moves = all;
         advances = then_advances sought old mid reads budget left f.cursor g.cursor so_far.count so_far.leaves so_far.passed h.cursor m
             tried.within none so_far.nearer_is tried.advances;
@@ -136,9 +140,10 @@ module _ (sought : Sought) (budget left : Option ℕ) (old mid new : ShelfState)
         nearer_is =
             let less = nearer sought old mid reads f.cursor g.cursor h.cursor so_far.nearer_is tried.advances in
             omega (arith, less);
-        unseen = λ steady.
+        unseen = λ files reads_as.
+            let later : Later mid new = later_only mid new tried.along.shelf in
             then_sees sought old mid reads budget left f.cursor g.cursor so_far.count so_far.leaves so_far.passed h.cursor m
-            tried.within (so_far.unseen steady) (Ok Spent) tried.moves (tried.sees (still_steady sought old mid reads steady));
+            tried.within files (so_far.unseen files (later.older files reads_as)) (Ok Spent) tried.moves (tried.sees files reads_as);
         along = goes_as {B = Unit {0}} old new f h (Passed m) tt
             (goes_more {A = Unit {0}} old mid new f g h tt (Ok (Passed m)) so_far.along tried.along);
       }
@@ -164,12 +169,14 @@ module _ {A : Type 0} (sought : Sought) (left : Option ℕ) (old mid new : Shelf
   next_advances (Ok End) less = tt
   next_advances (Err fault) less = tt
 
-  pub tried_next : IsShelf old → (r : Result Visit ReadFault) → Tried sought left mid new g h r → Tried sought left old new f h r
-  tried_next shelf r tried = record {
-    sees = λ steady.
+  pub tried_next : (r : Result Visit ReadFault) → Tried sought left mid new g h r → Tried sought left old new f h r
+  tried_next r tried = record {
+    sees = λ files reads_as.
+        let later = later_read mid new h.cursor.file r tried.along.shelf in
+        let before : ReadsAs old files = along.shelf.older files (later.older files reads_as) in
         let on : From g.cursor h.cursor = moves_onward mid.lengths (Some (count_of r)) g.cursor h.cursor (answer_of r) tried.moves in
-        next_place_sees old.lengths f.cursor g.cursor h.cursor next sought old refl shelf steady (answer_of r) on
-        (sees_before sought old mid along.shelf g.cursor h.cursor (answer_of r) (tried.sees (still_steady sought old mid along.shelf steady)));
+        next_place_sees old.lengths f.cursor g.cursor h.cursor next sought files before.lengths (answer_of r) on
+        (tried.sees files reads_as);
     moves = next_moves r tried.moves;
     advances = next_advances r tried.advances;
     within = tried.within;

@@ -1,6 +1,6 @@
--- A visit of the next place is a step with a budget of one place: where it goes, and what it sees on a steady shelf.
-use Rattle.std.proofs.Common.{◌≤◌, refl, arith, false, ◌≡◌, ℕ, List, [], ◌∷◌, sym, subst, IsTrue, Some, None}
-use Rattle.parshelf.specs.Shelf.{ShelfState, IsShelf, file_of}
+-- A visit of the next place is a step with a budget of one place: where it goes, and what it sees.
+use Rattle.std.proofs.Common.{◌≤◌, refl, arith, false, ◌≡◌, ℕ, List, [], ◌∷◌, length, map, sym, subst, Some, None}
+use Rattle.parshelf.specs.Shelf.{file_of}
 use Rattle.parfind.specs.Sought.{Sought}
 use Rattle.parwindow.specs.Least.{IsLeastFrom}
 use Rattle.parfind.specs.declared.cursors.cursor.Cursor.{Cursor}
@@ -17,31 +17,28 @@ use Rattle.parfind.proofs.ListLaws.{Each-from_has, filter_none}
 use Rattle.parfind.proofs.PlaceLaws.{place_at_place, ahead_of_start, next_over, next_ahead}
 use Rattle.parfind.proofs.WalkLaws.{next_unseen, end_unseen, past_unseen, hit_seen}
 
--- what it sees on a steady shelf
+-- what it sees in files of these lengths
 
-module _ (sought : Sought) (s : ShelfState) (shelf : IsShelf s) (steady : IsTrue s.is_steady) where
-  pub same_lengths : lengths_of (scan_of sought s) ≡ s.lengths
-  same_lengths = shelf.files_each steady
-
+module _ (sought : Sought) (files : List (List ℕ)) (lengths : List ℕ) (same : map length files ≡ lengths) where
   module _ (c : Cursor) where
-    pub visit_ended : NoPlaceFrom s.lengths c → sightings_from (scan_of sought s) c ≡ []
-    visit_ended none = end_unseen (scan_of sought s) c (subst (λ (ns : List ℕ). NoPlaceFrom ns c) (sym same_lengths) none)
+    pub visit_ended : NoPlaceFrom lengths c → sightings_from (scan_of sought files) c ≡ []
+    visit_ended none = end_unseen (scan_of sought files) c (subst (λ (ns : List ℕ). NoPlaceFrom ns c) (sym same) none)
 
-    module _ (d : Cursor) (next : IsNextPlace s.lengths c d) where
-      next_of_scan : IsNextPlace (lengths_of (scan_of sought s)) c d
-      next_of_scan = subst (λ (ns : List ℕ). IsNextPlace ns c d) (sym same_lengths) next
+    module _ (d : Cursor) (next : IsNextPlace lengths c d) where
+      next_of_scan : IsNextPlace (lengths_of (scan_of sought files)) c d
+      next_of_scan = subst (λ (ns : List ℕ). IsNextPlace ns c d) (sym same) next
 
-      pub visit_hit : (n : ℕ) → IsLeastFrom (is_slice_seen sought (file_of s d.file) d.offset) d.slice (Some n)
+      pub visit_hit : (n : ℕ) → IsLeastFrom (is_slice_seen sought (file_of files d.file) d.offset) d.slice (Some n)
           → let x : Sighting = record { file = d.file; offset = d.offset; slice = n } in
-          sightings_from (scan_of sought s) c ≡ x ∷ sightings_from (scan_of sought s) (cursor_after x)
-      visit_hit n first = hit_seen (scan_of sought s) c d n next_of_scan first
+          sightings_from (scan_of sought files) c ≡ x ∷ sightings_from (scan_of sought files) (cursor_after x)
+      visit_hit n first = hit_seen (scan_of sought files) c d n next_of_scan first
 
-      pub visit_past : IsLeastFrom (is_slice_seen sought (file_of s d.file) d.offset) d.slice None
-          → sightings_between (scan_of sought s) c (cursor_past (place_at d)) ≡ []
-      visit_past none = past_unseen (scan_of sought s) c d next_of_scan none
+      pub visit_past : IsLeastFrom (is_slice_seen sought (file_of files d.file) d.offset) d.slice None
+          → sightings_between (scan_of sought files) c (cursor_past (place_at d)) ≡ []
+      visit_past none = past_unseen (scan_of sought files) c d next_of_scan none
 
-      pub visit_stopped : sightings_between (scan_of sought s) c d ≡ []
-      visit_stopped = next_unseen (scan_of sought s) c d next_of_scan
+      pub visit_stopped : sightings_between (scan_of sought files) c d ≡ []
+      visit_stopped = next_unseen (scan_of sought files) c d next_of_scan
 
 -- where it goes on any shelf
 

@@ -1,6 +1,6 @@
--- What the answers of calls tell of a shelf, whether it is steady or not.
+-- What the answers of calls tell of a shelf, whatever was read of it.
 use Rattle.std.specs.Prelude.{◌≡◌, ℕ, ◌+◌, List, Ok, Err, map, sum}
-use Rattle.parshelf.specs.Shelf.{ShelfState, failure_count, early_end_count}
+use Rattle.parshelf.specs.Shelf.{ShelfState, Older, failure_count, early_end_count}
 use Rattle.parshelf.specs.declared.shelves.reading.ReadFault.TheVariants.{Failed, Ended}
 use Rattle.parfind.specs.declared.drives.calls.Answer.{Answer}
 use Rattle.parfind.specs.declared.drives.calls.Answer.TheVariants as answer
@@ -14,11 +14,11 @@ told_early_ends (answer.Step (Err Ended)) = 1
 told_early_ends answer.Reopened = 0
 told_early_ends answer.NoMemory = 0
 
--- a shelf is the same but for its counts: as many reads failed as answers tell of, and as many
--- ended a file early
+-- a shelf is the same but for what was read of it and for its counts: as many reads failed as
+-- answers tell of, and as many ended a file early
 pub record TellsOf (old new : ShelfState) (answers : List Answer) : Type 0 where
   pub lengths_are : new.lengths ≡ old.lengths
-  pub steady_is : new.is_steady ≡ old.is_steady
-  pub files_are : new.files ≡ old.files
+  pub fixed_is : new.fixed ≡ old.fixed
   pub failed : failure_count new ≡ failure_count old + sum (map told_failures answers)
   pub ended : early_end_count new ≡ early_end_count old + sum (map told_early_ends answers)
+  pub older : Older old new

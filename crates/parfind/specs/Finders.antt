@@ -1,6 +1,6 @@
 -- A search that stands at a cursor.
-use Rattle.std.specs.Prelude.{◌≡◌, ◌≤◌, ◌<◌, ◌+◌, ℕ, List, length, map, Option, Result, IsTrue}
-use Rattle.parshelf.specs.Shelf.{ShelfState}
+use Rattle.std.specs.Prelude.{◌≡◌, ◌≤◌, ◌<◌, ◌+◌, ℕ, List, Option, Result, IsTrue}
+use Rattle.parshelf.specs.Shelf.{ShelfState, ReadsAs, Older}
 use Rattle.parshelf.specs.declared.shelves.reading.ReadFault.{ReadFault}
 use Rattle.parwindow.specs.Index.{SliceSet}
 use Rattle.parwindow.specs.Window.{WindowState}
@@ -51,13 +51,14 @@ abbrev pub sought_for : SliceSet → FinderState → Sought
 sought_for set finder = sought_of set finder.mode
 
 -- the finder searches for these slices in these files: its window is made for them and goes along a
--- file, not past the cursor, and at it where a slice fits into what is left of that file; on a
--- steady shelf it was hashed no more often than there are marks before it, and for what is kept
+-- file, not past the cursor, and at it where a slice fits into what is left of that file; it was
+-- hashed no more often than there are marks before it in any files that the shelf reads as so far, and
+-- for what is kept
 pub record BelongsTo (finder : FinderState) (set : SliceSet) (shelf : ShelfState) : Type 0 where
   pub made : IsWindowFor (sought_for set finder) finder.window
   pub keeps : Keeps (sought_for set finder) finder.window finder.kept
-  pub kept_there : IsTrue shelf.is_steady → 0 < kept_count finder.kept
-      → IsAtPlace (map length shelf.files) (cursor_of_track finder.track)
+  pub kept_there : 0 < kept_count finder.kept
+      → IsAtPlace shelf.lengths (cursor_of_track finder.track)
   pub tied : IsTied shelf finder.window finder.track
   pub not_ahead : finder.track.file ≤ finder.cursor.file
   pub not_past :
@@ -67,9 +68,8 @@ pub record BelongsTo (finder : FinderState) (set : SliceSet) (shelf : ShelfState
   pub fetched_is : finder.fetched ≡ fetched_of finder.track
   pub digests_are : finder.digests ≡ finder.window.digests
   pub onward : IsTrue (is_from (start_of finder.opening) (cursor_of_track finder.track))
-  pub counted : IsTrue shelf.is_steady
-      → finder.window.digests
-      ≤ marked_between (scan_of (sought_for set finder) shelf) finder.opening
+  pub counted : (files : List (List ℕ)) → ReadsAs shelf files → finder.window.digests
+      ≤ marked_between (scan_of (sought_for set finder) files) finder.opening
       (cursor_of_track finder.track) + kept_count finder.kept
 
 -- what a call leaves of a finder and its shelf, whatever it answers: it only reads, or a fault is
@@ -82,3 +82,9 @@ pub record GoesAlong {A : Type 0}
   pub opening_is : new.opening ≡ old.opening
   pub mode_is : new.mode ≡ old.mode
   pub no_fewer : old.digests ≤ new.digests
+
+-- a finder still belongs to its shelf once others have read on in it
+abbrev pub BelongsLater : Type 0
+BelongsLater =
+    (f : FinderState) (set : SliceSet) (old new : ShelfState) → BelongsTo f set old
+    → new.lengths ≡ old.lengths → Older old new → BelongsTo f set new

@@ -3,12 +3,11 @@ use Rattle.std.specs.Prelude.{◌≡◌, ℕ, ◌+◌, ◌<◌, List, [], ◌∷
 use Rattle.std.specs.List.{flat_map}
 use Rattle.parshelf.specs.Shelf.{IsShelf, failure_count}
 use Rattle.parshelf.specs.declared.shelves.reading.ReadFault.TheVariants.{Failed, Ended}
-use Rattle.parfind.specs.Sought.{Sought}
 use Rattle.parfind.specs.declared.cursors.sighting.Sighting.{Sighting}
 use Rattle.parfind.specs.Order.{is_from}
 use Rattle.parfind.specs.Points.{SearchPoint}
-use Rattle.parfind.specs.Sightings.{sightings_between}
-use Rattle.parfind.specs.Steps.{StepGives, scan_of, hit_of}
+use Rattle.parfind.specs.Sightings.{Scan, sightings_between}
+use Rattle.parfind.specs.Steps.{StepGives, hit_of}
 use Rattle.parfind.specs.declared.drives.calls.Call.{Call}
 use Rattle.parfind.specs.declared.drives.calls.Call.TheVariants as call
 use Rattle.parfind.specs.declared.drives.calls.Answer.{Answer}
@@ -26,22 +25,22 @@ left_after (answer.Step r) calls = calls
 left_after answer.Reopened calls = calls
 left_after answer.NoMemory calls = []
 
--- a call over a steady shelf, its answer, and what it leaves
-abbrev pub CallGives : Sought → SearchPoint → Call → Answer → SearchPoint → Type 0
-CallGives sought old (call.Step n) (answer.Step r) new = StepGives sought (Some n) old r new
-CallGives sought old call.Next (answer.Step r) new = StepGives sought None old r new
-CallGives sought old call.Reopen answer.Reopened new = new ≡ old
-CallGives sought old call.Reopen answer.NoMemory new = new ≡ old
-CallGives sought old _ _ new = ⊥
+-- a call of a search in these files, its answer, and what it leaves
+abbrev pub CallGives : Scan → SearchPoint → Call → Answer → SearchPoint → Type 0
+CallGives scan old (call.Step n) (answer.Step r) new = StepGives scan (Some n) old r new
+CallGives scan old call.Next (answer.Step r) new = StepGives scan None old r new
+CallGives scan old call.Reopen answer.Reopened new = new ≡ old
+CallGives scan old call.Reopen answer.NoMemory new = new ≡ old
+CallGives scan old _ _ new = ⊥
 
--- these calls give these answers, each from where the one before it left the shelf and the cursor;
--- both lists end together, or at a reopening that was refused
-abbrev pub CallsGive : Sought → SearchPoint → List Call → List Answer → SearchPoint → Type 0
-CallsGive sought old [] [] new = new ≡ old
-CallsGive sought old (call ∷ calls) (a ∷ answers) new =
+-- these calls give these answers, all of the same files, each from where the one before it left the
+-- shelf and the cursor; both lists end together, or at a reopening that was refused
+abbrev pub CallsGive : Scan → SearchPoint → List Call → List Answer → SearchPoint → Type 0
+CallsGive scan old [] [] new = new ≡ old
+CallsGive scan old (call ∷ calls) (a ∷ answers) new =
     (mid : SearchPoint)
-    × (CallGives sought old call a mid × CallsGive sought mid (left_after a calls) answers new)
-CallsGive sought old _ _ new = ⊥
+    × (CallGives scan old call a mid × CallsGive scan mid (left_after a calls) answers new)
+CallsGive scan old _ _ new = ⊥
 
 -- an answer that a call may have
 abbrev pub MayAnswer : Call → Answer → Type 0
@@ -79,13 +78,13 @@ told_failures answer.NoMemory = 0
 -- calls go on, and hand out exactly the sightings that they pass
 abbrev pub CallsHandOut : Type 0
 CallsHandOut =
-    (sought : Sought) (old new : SearchPoint) (calls : List Call) (answers : List Answer)
-    → CallsGive sought old calls answers new → IsTrue (is_from old.cursor new.cursor)
-    × (sightings_between (scan_of sought old.shelf) old.cursor new.cursor ≡ hits_of answers)
+    (scan : Scan) (old new : SearchPoint) (calls : List Call) (answers : List Answer)
+    → CallsGive scan old calls answers new → IsTrue (is_from old.cursor new.cursor)
+    × (sightings_between scan old.cursor new.cursor ≡ hits_of answers)
 
--- in calls over a steady shelf as many reads failed as answers tell of
+-- in calls with these answers as many reads failed as the answers tell of
 abbrev pub CallsTellFailures : Type 0
 CallsTellFailures =
-    (sought : Sought) (old new : SearchPoint) (calls : List Call) (answers : List Answer)
-    → IsShelf old.shelf → CallsGive sought old calls answers new
+    (scan : Scan) (old new : SearchPoint) (calls : List Call) (answers : List Answer)
+    → IsShelf old.shelf → CallsGive scan old calls answers new
     → failure_count new.shelf ≡ failure_count old.shelf + sum (map told_failures answers)

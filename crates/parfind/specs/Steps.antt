@@ -1,6 +1,5 @@
--- What a step of a search over a steady shelf gives: where it goes, what it sees, what it counts.
+-- What a step of a search gives: where it goes, what it sees, what it counts.
 use Rattle.std.specs.Prelude.{◌≡◌, ℕ, List, [], ◌∷◌, length, map, take, All, Contains, IsTrue, Option, Some, Result, Ok, Err}
-use Rattle.parshelf.specs.Shelf.{ShelfState}
 use Rattle.parshelf.specs.Reads.{ReadsOnly, FaultsIn}
 use Rattle.parshelf.specs.declared.shelves.reading.ReadFault.{ReadFault}
 use Rattle.parshelf.specs.declared.shelves.reading.ReadFault.TheVariants.{Failed, Ended}
@@ -15,9 +14,9 @@ use Rattle.parfind.specs.Points.{SearchPoint}
 use Rattle.parfind.specs.Sightings.{Scan, sightings_from, sightings_between}
 use Rattle.parfind.specs.Moves.{StepMoves}
 
--- a search in the files of a steady shelf
-abbrev pub scan_of : Sought → ShelfState → Scan
-scan_of sought shelf = record { sought = sought; contents = shelf.files }
+-- a search in files of these contents
+abbrev pub scan_of : Sought → List (List ℕ) → Scan
+scan_of sought files = record { sought = sought; contents = files }
 
 -- the lengths of the scanned files
 abbrev pub lengths_of : Scan → List ℕ
@@ -38,12 +37,12 @@ StepCounts old (Ok step) new = ReadsOnly old.shelf new.shelf
 StepCounts old (Err Failed) new = FaultsIn old.shelf new.shelf new.cursor.file Failed
 StepCounts old (Err Ended) new = ⊥
 
--- a step over a steady shelf, with a budget of places or with none
+-- a step of a search in these files, with a budget of places or with none
 pub record StepGives
-    (sought : Sought) (budget : Option ℕ) (old : SearchPoint) (answer : Result Step ReadFault)
+    (scan : Scan) (budget : Option ℕ) (old : SearchPoint) (answer : Result Step ReadFault)
     (new : SearchPoint) : Type 0 where
-  pub moves : StepMoves (lengths_of (scan_of sought old.shelf)) budget old.cursor answer new.cursor
-  pub sees : StepSees (scan_of sought old.shelf) old.cursor answer new.cursor
+  pub moves : StepMoves (lengths_of scan) budget old.cursor answer new.cursor
+  pub sees : StepSees scan old.cursor answer new.cursor
   pub counts : StepCounts old answer new
 
 -- the sighting of an answer, where it is a hit
@@ -56,14 +55,13 @@ hit_of (Err fault) = []
 -- a step goes on, and hands out exactly the sightings that it passes
 abbrev pub StepHandsOut : Type 0
 StepHandsOut =
-    (sought : Sought) (budget : Option ℕ) (old new : SearchPoint) (answer : Result Step ReadFault)
-    → StepGives sought budget old answer new → IsTrue (is_from old.cursor new.cursor)
-    × (sightings_between (scan_of sought old.shelf) old.cursor new.cursor ≡ hit_of answer)
+    (scan : Scan) (budget : Option ℕ) (old new : SearchPoint) (answer : Result Step ReadFault)
+    → StepGives scan budget old answer new → IsTrue (is_from old.cursor new.cursor)
+    × (sightings_between scan old.cursor new.cursor ≡ hit_of answer)
 
 -- where a budget of n places is spent, no sighting from the cursor on is at one of them
 abbrev pub SpentSeesNone : Type 0
 SpentSeesNone =
-    (sought : Sought) (n : ℕ) (old new : SearchPoint) → StepGives sought (Some n) old (Ok Spent) new
-    → let scan : Scan = scan_of sought old.shelf in
-    All (λ x. ¬ Contains (take n (places_ahead (lengths_of scan) old.cursor)) (place_of x))
+    (scan : Scan) (n : ℕ) (old new : SearchPoint) → StepGives scan (Some n) old (Ok Spent) new
+    → All (λ x. ¬ Contains (take n (places_ahead (lengths_of scan) old.cursor)) (place_of x))
     (sightings_from scan old.cursor)

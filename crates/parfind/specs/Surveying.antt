@@ -1,7 +1,7 @@
 -- A survey on its way: what it has marked, read and hashed once it is at a cursor.
-use Rattle.std.specs.Prelude.{◌≡◌, ℕ, ◌+◌, ◌≤◌, ◌||◌, ◌⊎◌, Bool, true, List, length, map, IsTrue, Result, OnOk}
+use Rattle.std.specs.Prelude.{◌≡◌, ℕ, ◌+◌, ◌≤◌, ◌||◌, ◌⊎◌, Bool, true, List, length, map, Result, OnOk}
 use Rattle.std.specs.List.{sum_by}
-use Rattle.parshelf.specs.Shelf.{ShelfState}
+use Rattle.parshelf.specs.Shelf.{ShelfState, ReadsAs}
 use Rattle.parshelf.specs.declared.shelves.reading.ReadFault.{ReadFault}
 use Rattle.parfind.specs.Sought.{Sought}
 use Rattle.parwindow.specs.Window.{WindowState}
@@ -36,20 +36,21 @@ abbrev pub missing_between : Scan → List Bool → Cursor → Cursor → ℕ
 missing_between scan found c d =
     sum_by (missing_at scan found) (places_between (map length scan.contents) c d)
 
--- from the beginning of all files it has come to a cursor
+-- from the beginning of all files it has come to a cursor; marks, stops and digests are those of any
+-- files that the shelf reads as so far
 pub record Surveyed (sought : Sought) (old now : SurveyState) (c : Cursor) : Type 0 where
-  pub marks : IsTrue old.shelf.is_steady → (n : ℕ)
-      → mark_of now.found n ≡ (mark_of old.found n || is_sighted_before (scan_of sought old.shelf) c n)
+  pub marks : (files : List (List ℕ)) → ReadsAs now.shelf files → (n : ℕ)
+      → mark_of now.found n ≡ (mark_of old.found n || is_sighted_before (scan_of sought files) c n)
   pub kept : (n : ℕ) → mark_of old.found n ≡ true → mark_of now.found n ≡ true
   pub hands :
       ReadsUpTo old.shelf now.shelf (record { file = 0; offset = 0 }) (fetched_of now.track)
   pub unfit : SkipsUnfit sought.set old.shelf now.shelf
   pub near : IsNear sought.set.slice_size (fetched_of now.track) c
-  pub stops : IsTrue old.shelf.is_steady → (p : Place)
-      → AllSightedBy (scan_of sought old.shelf) old.found p
+  pub stops : (files : List (List ℕ)) → ReadsAs now.shelf files → (p : Place)
+      → AllSightedBy (scan_of sought files) old.found p
       → IsNear sought.set.slice_size (fetched_of now.track) (cursor_at p)
-  pub digests : IsTrue old.shelf.is_steady → now.window.digests
-      ≤ old.window.digests + missing_between (scan_of sought old.shelf) old.found origin c
+  pub digests : (files : List (List ℕ)) → ReadsAs now.shelf files → now.window.digests
+      ≤ old.window.digests + missing_between (scan_of sought files) old.found origin c
   pub capacity : now.window.capacity ≡ old.window.capacity
 
 -- it ends at a cursor: each slice has its mark there, or all files are before it, or a file could

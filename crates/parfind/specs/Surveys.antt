@@ -1,7 +1,7 @@
 -- Which slices of a set have a sighting, as marks by slice number.
 use Rattle.std.specs.Prelude.{◌≡◌, ℕ, ◌==◌, ◌&&◌, ◌||◌, Bool, List, Result, Ok, Err, EachIndex, IsTrue}
 use Rattle.std.specs.List.{list_any}
-use Rattle.parshelf.specs.Shelf.{ShelfState}
+use Rattle.parshelf.specs.Shelf.{ShelfState, ReadsAs}
 use Rattle.parshelf.specs.Reads.{ReadsOnly, FaultsIn}
 use Rattle.parshelf.specs.declared.shelves.reading.ReadFault.{ReadFault}
 use Rattle.parfind.specs.Sought.{Sought, HasFewTails}
@@ -59,9 +59,9 @@ AllSightedBy scan marks p =
     EachIndex marks (λ n. IsTrue (mark_of marks n || is_sighted_before scan (cursor_past p) n))
 
 -- from the place on by which each slice is found, no more is handed over than around it
-abbrev pub StopsOnceFound : Sought → ShelfState → ShelfState → List Bool → Type 0
-StopsOnceFound sought old new was =
-    (p : Place) → AllSightedBy (scan_of sought old) was p → HandsAround sought.set.slice_size old new p
+abbrev pub StopsOnceFound : Scan → ShelfState → ShelfState → List Bool → Type 0
+StopsOnceFound scan old new was =
+    (p : Place) → AllSightedBy scan was p → HandsAround scan.sought.set.slice_size old new p
 
 -- a shelf, and the marks of a survey of its files
 pub record SurveyPoint : Type 0 where
@@ -71,12 +71,13 @@ pub record SurveyPoint : Type 0 where
 abbrev pub marked_at : ShelfState → List Bool → SurveyPoint
 marked_at shelf marks = record { shelf = shelf; marks = marks }
 
--- what a fault of a file leaves: the marks of all sightings before a place of that file, and no
--- more was handed over than around it
+-- what a fault of a file leaves: a place of that file, such that in any files that the shelf reads as
+-- the marks are those of all sightings before it, and no more was handed over than around it
 pub record MarksUpToFault (sought : Sought) (old new : SurveyPoint) (file : ℕ) : Type 0 where
   pub place : Place
   pub file_is : place.file ≡ file
-  pub sighted : MarksBefore (scan_of sought old.shelf) (cursor_at place) old.marks new.marks
+  pub sighted : (files : List (List ℕ)) → ReadsAs new.shelf files
+      → MarksBefore (scan_of sought files) (cursor_at place) old.marks new.marks
   pub around : HandsAround sought.set.slice_size old.shelf new.shelf place
 
 -- an answer only reads, and a fault is one of the file that it names

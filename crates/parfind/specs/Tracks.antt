@@ -1,6 +1,6 @@
 -- A window that goes along a file, and the bytes that were read ahead of it.
-use Rattle.std.specs.Prelude.{◌≡◌, ℕ, ◌+◌, ◌<◌, ◌≤◌, ◌^◌, Bool, List, length, take, slice_index, IsTrue}
-use Rattle.parshelf.specs.Shelf.{ShelfState, file_of}
+use Rattle.std.specs.Prelude.{◌≡◌, ℕ, ◌+◌, ◌<◌, ◌≤◌, ◌^◌, List, length, take, slice_index}
+use Rattle.parshelf.specs.Shelf.{ShelfState, ReadsAs, file_of}
 use Rattle.parset.specs.Limits.{slice_size_limit}
 use Rattle.parwindow.specs.Window.{WindowState, window_at}
 use Rattle.parfind.specs.declared.cursors.cursor.Cursor.{Cursor}
@@ -24,24 +24,21 @@ fetched_of t = record { file = t.file; offset = t.buffer_offset + t.buffer_len }
 abbrev pub cursor_of_track : Track → Cursor
 cursor_of_track t = record { file = t.file; offset = t.window_offset; slice = 0 }
 
--- the window goes along a file of this length, and its next byte was read, or is the next to be
--- read; on a steady shelf the bytes are the file's
-pub record Follows
-    (size : ℕ) (steady : Bool) (file : List ℕ) (w : WindowState) (t : Track) : Type 0 where
+-- the window goes along a file of a shelf, and its next byte was read, or is the next to be read; the
+-- bytes are the file's, in any files that the shelf reads as so far
+pub record IsTied (s : ShelfState) (w : WindowState) (t : Track) : Type 0 where
   pub within : length w.content ≤ w.capacity
   pub few : w.capacity ≤ slice_size_limit
   pub buffer_fits : t.buffer_len ≤ ahead_limit
   pub small : t.buffer_offset + t.buffer_len < 2 ^ 64
   pub not_ahead : t.buffer_offset ≤ t.window_offset + length w.content
   pub reached :
-      t.window_offset + length w.content < size
+      t.window_offset + length w.content < slice_index s.lengths t.file
       → t.window_offset + length w.content ≤ t.buffer_offset + t.buffer_len
-  pub content : IsTrue steady → HasBytes file t.window_offset w.content
-  pub ahead : IsTrue steady → HasBytes file t.buffer_offset (take t.buffer_len t.bytes)
-
--- the window goes along a file of a shelf
-abbrev pub IsTied : ShelfState → WindowState → Track → Type 0
-IsTied s w t = Follows (slice_index s.lengths t.file) s.is_steady (file_of s t.file) w t
+  pub content : (files : List (List ℕ)) → ReadsAs s files
+      → HasBytes (file_of files t.file) t.window_offset w.content
+  pub ahead : (files : List (List ℕ)) → ReadsAs s files
+      → HasBytes (file_of files t.file) t.buffer_offset (take t.buffer_len t.bytes)
 
 -- nothing is read yet of the window of an offset
 pub record IsUnread (file offset : ℕ) (t : Track) : Type 0 where

@@ -21,6 +21,6 @@ pub use crate::cursors::{
     read_cursor, sighting_laws, split_cursor,
 };
 pub use crate::drives::{Answer, Call, Drive, calls_law, drive};
-pub use crate::searches::{Finder, StartFault, Step, mode_law, reach_law, step_law};
+pub use crate::searches::{Finder, StartFault, Step, finder_law, mode_law, reach_law, step_law};
 pub use crate::surveys::{SurveyFault, survey, survey_in};
 pub use crate::tracks::{MOST_TAILS, Mode};

@@ -1,14 +1,20 @@
 -- How much is handed over while those files are read whole, one after another, that are asked for.
-use Rattle.std.proofs.Common.{◌≡◌, ◌≢◌, ◌<◌, ◌≤◌, ◌+◌, ℕ, List, true, cond, length, slice_index, ap, arith, ◌∙◌, inl, inr}
+use Rattle.std.proofs.Common.{◌≡◌, ◌≢◌, ◌<◌, ◌≤◌, ◌+◌, ℕ, List, [], ◌∷◌, ◌++◌, Option, None, Some, true, false, cond, length, map, take, slice_index, ap, sym, arith, ◌∙◌, inl, inr}
 use Rattle.std.proofs.lemmas.Bool.{cases_lt}
+use Rattle.std.proofs.lemmas.List.{take_more, take_all, map-append}
+use Rattle.parfield.specs.Md5.{md5}
+use Rattle.parfield.specs.declared.hash16.Hash16.{Hash16}
 use Rattle.parfield.specs.Added.{added_at, slice_index-added_at_same, slice_index-added_at_other}
 use Rattle.parset.specs.declared.recovery_set.SetFile.{SetFile}
-use Rattle.parshelf.specs.Shelf.{ShelfState, IsShelf}
+use Rattle.parshelf.specs.Shelf.{ShelfState, IsShelf, ReadsAs, file_of}
 use Rattle.parshelf.specs.Reads.{FaultsWithin, ReadsOnly}
 use Rattle.parshelf.specs.declared.shelves.reading.ReadFault.{ReadFault}
 use Rattle.parshelf.specs.declared.shelves.reading.ReadFault.TheVariants.{Failed, Ended}
 use Rattle.parreport.specs.Contents.{HandsOnce, ReadsCandidates, checked_length_of}
-use Rattle.parreport.specs.States.{has_length}
+use Rattle.parreport.specs.States.{has_length, checked_of, length_and_md5}
+use Rattle.parreport.specs.declared.states.contents.LengthAndMd5.{LengthAndMd5}
+use Rattle.parshelf.proofs.ShelfLaws.{length-file_of}
+use Rattle.parreport.proofs.SalvageLaws.{files_sized}
 
 -- of a file whose length some file of the set has, all bytes are asked for
 pub asked_whole : (files : List SetFile) (n : ℕ) → has_length files n ≡ true → checked_length_of files n ≡ n
@@ -32,10 +38,10 @@ pub HandsOnce-fault : (files : List SetFile) (old new : ShelfState) (file : ℕ)
     → HandsOnce files old new file
 HandsOnce-fault files old new file Failed shelf there asked h =
     let whole = asked_whole files (slice_index old.lengths file) asked in
-    HandsOnce-added files old new file h.count shelf there (omega (arith, h.within, whole)) (ap (λ (s : ShelfState). s.handed) h.after)
+    HandsOnce-added files old new file h.count shelf there (omega (arith, h.within, whole)) (ap (λ (s : ShelfState). s.handed) h.counts)
 HandsOnce-fault files old new file Ended shelf there asked h =
     let whole = asked_whole files (slice_index old.lengths file) asked in
-    HandsOnce-added files old new file h.0.count shelf there (omega (arith, h.0.within, whole)) (ap (λ (s : ShelfState). s.handed) h.0.after)
+    HandsOnce-added files old new file h.count shelf there (omega (arith, h.within, whole)) (ap (λ (s : ShelfState). s.handed) h.counts)
 
 -- nothing of a file
 pub HandsOnce-none : (files : List SetFile) (old new : ShelfState) (file : ℕ) → new ≡ old → HandsOnce files old new file
@@ -61,7 +67,7 @@ ReadsCandidates-before files old new file before = λ k. elim (cases_lt k file) 
 pub HandsBefore-suc : (files : List SetFile) (old now new : ShelfState) (file : ℕ) → ReadsOnly old now → HandsBefore files old now file
     → HandsOnce files now new file → HandsBefore files old new (file + 1)
 HandsBefore-suc files old now new file reads before one =
-    let same : now.lengths ≡ old.lengths = ap (λ (s : ShelfState). s.lengths) reads in
+    let same : now.lengths ≡ old.lengths = ap (λ (s : ShelfState). s.lengths) reads.counts in
     let size : checked_length_of files (slice_index now.lengths file) ≡ checked_length_of files (slice_index old.lengths file)
     = ap (λ xs. checked_length_of files (slice_index xs file)) same in record {
       read = λ k less. elim (cases_lt k file) [
@@ -83,3 +89,44 @@ pub ReadsCandidates-more : (files : List SetFile) (old now new : ShelfState) (fi
     → HandsOnce files now new file → ReadsCandidates files old new
 ReadsCandidates-more files old now new file reads before one =
     ReadsCandidates-before files old new (file + 1) (HandsBefore-suc files old now new file reads before one)
+
+-- ---- what the files are checked by
+
+-- a file that is read whole is checked by its length and its MD5
+pub checked_some : (files : List SetFile) (s : ShelfState) (scanned : List (List ℕ)) (file n : ℕ) (whole : Hash16) → ReadsAs s scanned
+    → n ≡ slice_index s.lengths file → has_length files n ≡ true → whole.0 ≡ md5 (file_of scanned file)
+    → Some (record { length = n; whole = whole }) ≡ checked_of files (file_of scanned file)
+checked_some files s scanned file n whole reads is asked hashed =
+    let sized : n ≡ length (file_of scanned file) = is ∙ sym (length-file_of s scanned file reads) in
+    let there : has_length files (length (file_of scanned file)) ≡ true = ap (has_length files) (sym sized) ∙ asked in
+    ap (λ k. let one : LengthAndMd5 = record { length = k; whole = whole } in Some one) sized
+    ∙ (ap (λ bytes. let one : LengthAndMd5 = record { length = length (file_of scanned file); whole = record { 0 = bytes } } in Some one) hashed
+    ∙ ap (λ b. cond b (Some (length_and_md5 (file_of scanned file))) None) (sym there))
+
+-- another one by nothing
+pub checked_none : (files : List SetFile) (s : ShelfState) (scanned : List (List ℕ)) (file n : ℕ) → ReadsAs s scanned
+    → n ≡ slice_index s.lengths file → has_length files n ≡ false → None ≡ checked_of files (file_of scanned file)
+checked_none files s scanned file n reads is other =
+    let sized : n ≡ length (file_of scanned file) = is ∙ sym (length-file_of s scanned file reads) in
+    let absent : has_length files (length (file_of scanned file)) ≡ false = ap (has_length files) (sym sized) ∙ other in
+    ap (λ b. cond b (Some (length_and_md5 (file_of scanned file))) None) (sym absent)
+
+-- what the files before this one are checked by, and what this one is
+pub checked-more : (files : List SetFile) (old now new : ShelfState) (file : ℕ) (before : List (Option LengthAndMd5)) (one : Option LengthAndMd5)
+    → file < length old.lengths → ReadsOnly old now → ReadsOnly now new
+    → ((scanned : List (List ℕ)) → ReadsAs now scanned → before ≡ map (checked_of files) (take file scanned))
+    → ((scanned : List (List ℕ)) → ReadsAs new scanned → one ≡ checked_of files (file_of scanned file))
+    → (scanned : List (List ℕ)) → ReadsAs new scanned → before ++ one ∷ [] ≡ map (checked_of files) (take (file + 1) scanned)
+checked-more files old now new file before one there first next so_far this scanned reads =
+    let has : file < length scanned = omega (arith, there, files_sized old scanned (first.older scanned (next.older scanned reads))) in
+    let front = take file scanned in
+    ap (λ (xs : List (Option LengthAndMd5)). xs ++ one ∷ []) (so_far scanned (next.older scanned reads))
+    ∙ (ap (λ (x : Option LengthAndMd5). map (checked_of files) front ++ x ∷ []) (this scanned reads)
+    ∙ (sym (map-append (checked_of files) front (file_of scanned file ∷ [])) ∙ ap (map (checked_of files)) (sym (take_more scanned file [] has))))
+
+pub checked-all : (files : List SetFile) (old now : ShelfState) (n : ℕ) (before : List (Option LengthAndMd5)) → n ≡ length old.lengths → ReadsOnly old now
+    → ((scanned : List (List ℕ)) → ReadsAs now scanned → before ≡ map (checked_of files) (take n scanned))
+    → (scanned : List (List ℕ)) → ReadsAs now scanned → before ≡ map (checked_of files) scanned
+checked-all files old now n before all first so_far scanned reads =
+    let sized = files_sized old scanned (first.older scanned reads) in
+    so_far scanned reads ∙ ap (map (checked_of files)) (take_all n scanned (omega arith))

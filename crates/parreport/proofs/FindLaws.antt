@@ -6,17 +6,14 @@ use Rattle.std.proofs.lemmas.Option.{slice_get_past, none-some, same_Some}
 use Rattle.parset.specs.RecoverySet.{SetView}
 use Rattle.parreport.proofs.BlockLaws.{appended_twice}
 use Rattle.parshelf.specs.Shelf.{ShelfState}
-use Rattle.parshelf.specs.Reads.{ReadsOnly}
 use Rattle.parshelf.specs.declared.shelves.reading.ReadFault.{ReadFault}
 use Rattle.parshelf.specs.declared.shelves.reading.ReadFault.TheVariants.{Failed, Ended}
 use Rattle.parwindow.specs.Index.{SliceSet, slice_set_of}
 use Rattle.parfind.specs.Points.{SearchPoint, search_at}
-use Rattle.parfind.specs.Steps.{StepGives}
+use Rattle.parfind.specs.Steps.{StepGives, scan_of}
 use Rattle.parfind.specs.Sought.{sought_of}
 use Rattle.parfind.specs.declared.tracks.mode.Mode.{Mode}
-use Rattle.parreport.specs.SetSearch.{set_sought_of}
 use Rattle.parfind.specs.declared.searches.finder.Step.{Step}
-use Rattle.parfind.proofs.StepLaws.{gives_before, still_steady}
 use Rattle.parfind.specs.declared.cursors.cursor.Cursor.{Cursor}
 use Rattle.parfind.specs.declared.cursors.sighting.Sighting.{Sighting}
 use Rattle.parfind.specs.Order.{is_from, cursor_of, cursor_after}
@@ -158,22 +155,19 @@ module _ (s : Search) where
         RefusesFront_later old mid new (flat_map line h.handed) (line_of_cursor s now) [] (find_text s) h.after
         (text_stops ∙ ap (λ (ys : List ℕ). flat_map line h.handed ++ ys) (sym (append-nil (line_of_cursor s now)))) refuses
 
--- on a steady shelf the answer to a step from where a search stands, as that of the shelf at its beginning
-pub gives_from : (set : SetView) (mode own : Mode) (index : SliceSet) (old mid : ShelfState) (c : Cursor) (new : SearchPoint) (answer : Result Step ReadFault)
-    → index ≡ slice_set_of set.size set.slices → own ≡ mode → ReadsOnly old mid → IsTrue old.is_steady
-    → (IsTrue mid.is_steady → StepGives (sought_of index own) None (search_at mid c) answer new)
-    → StepGives (set_sought_of set mode) None (search_at old c) answer new
-gives_from set mode own index old mid c new answer is same reads steady gives =
-    subst (λ (slices : SliceSet). StepGives (sought_of slices mode) None (search_at old c) answer new) is
-    (subst (λ (m : Mode). StepGives (sought_of index m) None (search_at old c) answer new) same
-    (gives_before (sought_of index own) None old mid reads c new answer (gives (still_steady (sought_of index own) old mid reads steady))))
+-- the answer to a step, as one of the search for a set
+pub gives_of_set : (set : SetView) (mode own : Mode) (index : SliceSet) (files : List (List ℕ)) (old new : SearchPoint) (answer : Result Step ReadFault)
+    → index ≡ slice_set_of set.size set.slices → own ≡ mode
+    → StepGives (scan_of (sought_of index own) files) None old answer new
+    → StepGives (set_scan_of set mode files) None old answer new
+gives_of_set set mode own index files old new answer is same gives =
+    subst (λ (slices : SliceSet). StepGives (scan_of (sought_of slices mode) files) None old answer new) is
+    (subst (λ (m : Mode). StepGives (scan_of (sought_of index m) files) None old answer new) same gives)
 
 -- a failed read leaves the lines of all sightings in files before the one where the search stands then
 pub keeps_after_fault : (s : Search) (shelf after : ShelfState) (left : Option ℕ) (now d : Cursor) (old mid : SinkState) (why : ReadFault)
-    → s.contents ≡ shelf.files → HandsOut s left now old mid → left ≢ Some 0
-    → StepGives (set_sought_of s.set s.mode) None (search_at shelf now) (Err why) (search_at after d)
+    → HandsOut s left now old mid → left ≢ Some 0
+    → StepGives (set_scan_of s.set s.mode s.contents) None (search_at shelf now) (Err why) (search_at after d)
     → WritesLinesBefore s d.file old mid
-keeps_after_fault s shelf after left now d old mid Failed same h some gives =
-    keeps_lines s left now old mid h some d gives.moves.onward
-    (ap (λ (contents : List (List ℕ)). sightings_between (set_scan_of s.set s.mode contents) now d) same ∙ gives.sees)
-keeps_after_fault s shelf after left now d old mid Ended same h some gives = absurd gives.counts
+keeps_after_fault s shelf after left now d old mid Failed h some gives = keeps_lines s left now old mid h some d gives.moves.onward gives.sees
+keeps_after_fault s shelf after left now d old mid Ended h some gives = absurd gives.counts

@@ -1,6 +1,6 @@
 -- What is left of a run's text where scanned files were not all read, or not searched at all; and the
 -- mark of their list.
-use Rattle.std.proofs.Common.{◌≡◌, ◌∙◌, ℕ, Bool, IsTrue, map, List, [], Err, true, false, ap, refl, subst, sym, append-nil, length, inl, inr}
+use Rattle.std.proofs.Common.{◌≡◌, ◌∙◌, ℕ, Bool, List, [], Err, true, false, ap, refl, subst, sym, append-nil, length, inl, inr}
 use Rattle.std.proofs.lemmas.Bool.{cases_lt, lt-ltb, le-ltb, ltb-false}
 use Rattle.parreport.specs.Outcomes.{Answers, LeavesScanned}
 use Rattle.parreport.specs.Report.{Report, report_after}
@@ -11,8 +11,8 @@ use Rattle.parreport.specs.Faults.{scanned_fault_of, start_fault_of}
 use Rattle.parreport.specs.Files.{FilesLeave}
 use Rattle.parreport.specs.Names.{list_of}
 use Rattle.parshelf.specs.FileList.{mark_of_list}
-use Rattle.parshelf.specs.Reads.{ReadsOnly}
-use Rattle.parshelf.specs.Shelf.{IsShelf, ShelfState}
+use Rattle.parshelf.specs.Shelf.{ShelfState}
+use Rattle.parshelf.proofs.ReadLaws.{ReadsOnly-refl}
 use Rattle.parwindow.specs.Window.{tail_limit}
 use Rattle.parfind.specs.Sought.{Sought, HasFewTails, sought_of, shorter_lengths}
 use Rattle.parfind.specs.declared.tracks.mode.Mode.{Mode}
@@ -87,15 +87,9 @@ module _ (set : SetView) (mode own : Mode) (index : SliceSet) (is : index ≡ sl
 -- where a search could not be started, nothing is read either
 pub unstarted_scanned : (why : StartFault) (s : ShelfState) → LeavesScanned (Err (start_fault_of why)) s s
 unstarted_scanned start_fault.TooManyTails s = refl
-unstarted_scanned start_fault.Memory s = refl
+unstarted_scanned start_fault.Memory s = ReadsOnly-refl s
 
 -- ---- the mark of the files that are scanned
-
--- reads change no length
-pub lengths_kept : (old now : ShelfState) → IsShelf old → IsTrue old.is_steady → ReadsOnly old now
-    → now.lengths ≡ map length old.files
-lengths_kept old now shelf steady reads =
-    ap (λ (s : ShelfState). s.lengths) reads ∙ sym (shelf.files_each steady)
 
 pub list_same : (list : Hash16) (names : List (List ℕ)) (lengths wanted : List ℕ)
     → list.0 ≡ mark_of_list names lengths → lengths ≡ wanted → list ≡ list_of names wanted

@@ -1,7 +1,7 @@
 -- The packets of one file after another.
-use Rattle.std.proofs.Common.{◌≡◌, ◌<◌, ◌+◌, ◌∙◌, ℕ, List, [], ◌∷◌, ◌++◌, length, take, ap, sym, arith, append_assoc, append-nil, IsTrue}
+use Rattle.std.proofs.Common.{◌≡◌, ◌<◌, ◌+◌, ◌∙◌, ℕ, List, [], ◌∷◌, ◌++◌, length, take, ap, sym, arith, append_assoc, append-nil}
 use Rattle.std.proofs.lemmas.List.{length-map, take_more, take_all, length-take-le}
-use Rattle.parshelf.specs.Shelf.{ShelfState, IsShelf, file_of}
+use Rattle.parshelf.specs.Shelf.{ShelfState, ReadsAs, file_of}
 use Rattle.parshelf.specs.Reads.{ReadsOnly}
 use Rattle.parsalvage.specs.Kept.{kept_of_file, kept_from, kept_of_files}
 use Rattle.parsalvage.specs.declared.kept.Kept.{Kept}
@@ -17,28 +17,29 @@ kept_from-append first (file ∷ files) bytes =
     ∙ (ap (λ n. kept_of_file first file ++ (kept_from (first + 1) files ++ kept_of_file n bytes)) same
     ∙ sym (append_assoc (kept_of_file first file) (kept_from (first + 1) files) (kept_of_file (first + length (file ∷ files)) bytes)))
 
--- a steady shelf has a content for each length
-files_sized : (s : ShelfState) → IsShelf s → IsTrue s.is_steady → length s.files ≡ length s.lengths
-files_sized s shelf steady = sym (length-map s.files length) ∙ ap length (shelf.files_each steady)
+-- there is a file for each length
+pub files_sized : (s : ShelfState) (files : List (List ℕ)) → ReadsAs s files → length files ≡ length s.lengths
+files_sized s files reads = sym (length-map files length) ∙ ap length reads.lengths
 
 -- the packets of the files before this one, and those of this one, as they were read after those
-pub kept_of_files-more : (s now : ShelfState) (file : ℕ) (kept more : List Kept) → IsShelf s → file < length s.lengths → ReadsOnly s now
-    → (IsTrue s.is_steady → kept ≡ kept_of_files (take file s.files)) → (IsTrue now.is_steady → more ≡ kept_of_file file (file_of now file))
-    → IsTrue s.is_steady → kept ++ more ≡ kept_of_files (take (file + 1) s.files)
-kept_of_files-more s now file kept more shelf there reads before one steady =
-    let sized = files_sized s shelf steady in
-    let has : file < length s.files = omega arith in
-    let still : IsTrue now.is_steady = ap (λ (v : ShelfState). v.is_steady) reads ∙ steady in
-    let front = take file s.files in
-    let counted : length front ≡ file = length-take-le file s.files (omega arith) in
+pub kept_of_files-more : (s now new : ShelfState) (file : ℕ) (kept more : List Kept) → file < length s.lengths → ReadsOnly s now → ReadsOnly now new
+    → ((files : List (List ℕ)) → ReadsAs now files → kept ≡ kept_of_files (take file files))
+    → ((files : List (List ℕ)) → ReadsAs new files → more ≡ kept_of_file file (file_of files file))
+    → (files : List (List ℕ)) → ReadsAs new files → kept ++ more ≡ kept_of_files (take (file + 1) files)
+kept_of_files-more s now new file kept more there before next so_far one files reads =
+    let sized = files_sized s files (before.older files (next.older files reads)) in
+    let has : file < length files = omega arith in
+    let front = take file files in
+    let counted : length front ≡ file = length-take-le file files (omega arith) in
     let number : file ≡ 0 + length front = omega arith in
-    let bytes = file_of s file in
-    ap (λ (xs : List Kept). xs ++ more) (before steady)
-    ∙ (ap (λ (xs : List Kept). kept_of_files front ++ xs)
-    (one still ∙ (ap (λ (v : ShelfState). kept_of_file file (file_of v file)) reads ∙ ap (λ n. kept_of_file n bytes) number))
-    ∙ (sym (kept_from-append 0 front bytes) ∙ ap kept_of_files (sym (take_more s.files file [] has))))
+    let bytes = file_of files file in
+    ap (λ (xs : List Kept). xs ++ more) (so_far files (next.older files reads))
+    ∙ (ap (λ (xs : List Kept). kept_of_files front ++ xs) (one files reads ∙ ap (λ n. kept_of_file n bytes) number)
+    ∙ (sym (kept_from-append 0 front bytes) ∙ ap kept_of_files (sym (take_more files file [] has))))
 
-pub kept_of_files-all : (s : ShelfState) (n : ℕ) (kept : List Kept) → IsShelf s → n ≡ length s.lengths
-    → (IsTrue s.is_steady → kept ≡ kept_of_files (take n s.files)) → IsTrue s.is_steady → kept ≡ kept_of_files s.files
-kept_of_files-all s n kept shelf all before steady =
-    let sized = files_sized s shelf steady in before steady ∙ ap kept_of_files (take_all n s.files (omega arith))
+pub kept_of_files-all : (s now : ShelfState) (n : ℕ) (kept : List Kept) → n ≡ length s.lengths → ReadsOnly s now
+    → ((files : List (List ℕ)) → ReadsAs now files → kept ≡ kept_of_files (take n files))
+    → (files : List (List ℕ)) → ReadsAs now files → kept ≡ kept_of_files files
+kept_of_files-all s now n kept all before so_far files reads =
+    let sized = files_sized s files (before.older files reads) in
+    so_far files reads ∙ ap kept_of_files (take_all n files (omega arith))

@@ -1,23 +1,19 @@
 -- What the scanned files show, by their names, lengths and MD5s, and by the marks of a survey.
-use Rattle.std.proofs.Common.{◌≡◌, ℕ, ◌+◌, ◌<◌, ◌∙◌, ◌&&◌, ◌||◌, not, Bool, false, List, [], ◌∷◌, ◌++◌, Option, None, length, map, drop, take, get_or, position, ap, sym, refl, cond, append-nil, arith, nat_lt, Some, IsTrue}
+use Rattle.std.proofs.Common.{◌≡◌, ℕ, ◌+◌, ◌<◌, ◌∙◌, ◌&&◌, ◌||◌, not, Bool, false, List, [], ◌∷◌, ◌++◌, Option, None, length, map, drop, take, get_or, position, ap, sym, refl, cond, append-nil, arith, nat_lt, Some}
 use Rattle.std.specs.BTreeSet.{BTreeSet, contains}
 use Rattle.std.specs.List.{list_any, zip, enumerate_from, prefix_len}
 use Rattle.std.proofs.lemmas.List.{ext_get_or, get_or-map, drop_all, length-map, take_all}
 use Rattle.parfield.specs.HashOrder.{id_cmp}
 use Rattle.parfield.specs.declared.hash16.Hash16.{Hash16}
-use Rattle.parshelf.specs.Shelf.{ShelfState, IsShelf}
-use Rattle.parshelf.specs.Reads.{ReadsOnly}
+use Rattle.parshelf.specs.Shelf.{ShelfState, ReadsAs}
 use Rattle.parset.specs.RecoverySet.{SetView}
 use Rattle.parset.specs.declared.recovery_set.SetFile.{SetFile}
 use Rattle.parset.specs.declared.recovery_set.SetSlice.{SetSlice}
-use Rattle.parfind.specs.Sightings.{Scan}
-use Rattle.parfind.specs.Steps.{scan_of}
 use Rattle.parfind.specs.Surveys.{is_sighted}
 use Rattle.parfind.specs.declared.tracks.mode.Mode.{Mode}
-use Rattle.parreport.specs.SetSearch.{set_sought_of}
 use Rattle.parreport.specs.Names.{names_of}
 use Rattle.parreport.specs.States.{named_files, length_and_md5, checked_of, has_content_of, shows_content_of, shows_both, is_content_of, is_name_of, checked_state_of, state_of}
-use Rattle.parreport.specs.Findings.{is_in_intact_file, findings_of}
+use Rattle.parreport.specs.Findings.{is_in_intact_file, findings_of, set_scan_of}
 use Rattle.parplan.specs.declared.command.Scanned.{Scanned}
 use Rattle.parreport.specs.declared.states.contents.LengthAndMd5.{LengthAndMd5}
 use Rattle.parreport.specs.declared.states.findings.Findings.{Findings}
@@ -26,10 +22,10 @@ use Rattle.parreport.specs.declared.states.state.State.TheVariants.{Missing}
 use Rattle.parreport.proofs.LengthLaws.{shown_asked}
 
 -- ---- names and contents
--- a steady shelf has a content for each name
-pub contents_sized : (s : ShelfState) (files : List Scanned) → IsShelf s → length s.lengths ≡ length files → IsTrue s.is_steady
-    → length s.files ≡ length files
-contents_sized s files shelf names steady = sym (length-map s.files length) ∙ (ap length (shelf.files_each steady) ∙ names)
+-- there is a content for each name
+pub contents_sized : (s : ShelfState) (files : List Scanned) (contents : List (List ℕ)) → length s.lengths ≡ length files → ReadsAs s contents
+    → length contents ≡ length files
+contents_sized s files contents names reads = sym (length-map contents length) ∙ (ap length reads.lengths ∙ names)
 
 pub map-content : (files : List Scanned) (contents : List (List ℕ)) → length contents ≡ length files
     → map (λ one. one.content) (named_files files contents) ≡ contents
@@ -123,26 +119,18 @@ take-all_back n now was same all =
     let none : drop (length now) was ≡ [] = drop_all (length now) was (omega arith) in
     ap (λ rest. take n (now ++ rest)) none ∙ (ap (take n) (append-nil now) ∙ take_all n now (omega arith))
 
--- reads change no mark
-pub found_read : (set : SetView) (mode : Mode) (old now : ShelfState) (whole : SetSlice → Bool) (found : List Bool) → ReadsOnly old now
-    → found ≡ map (λ slice. whole slice.1 || is_sighted (scan_of (set_sought_of set mode) now) slice.0) (enumerate_from 0 set.slices)
-    → found ≡ map (λ slice. whole slice.1 || is_sighted (scan_of (set_sought_of set mode) old) slice.0) (enumerate_from 0 set.slices)
-found_read set mode old now whole found reads e =
-    e ∙ ap (λ (s : ShelfState). map (λ (slice : ℕ × SetSlice). whole slice.1 || is_sighted (scan_of (set_sought_of set mode) s) slice.0)
-    (enumerate_from 0 set.slices)) reads
-
 -- ---- all findings
-pub findings_made : (set : SetView) (mode : Mode) (files : List Scanned) (s : ShelfState) (states : List State) (found : List Bool) (whole : BTreeSet Hash16)
-    → length s.files ≡ length files
-    → states ≡ map (state_of (named_files files s.files)) set.files
-    → ((id : Hash16) → contains id_cmp whole id ≡ is_in_intact_file set (named_files files s.files) id)
-    → found ≡ map (λ slice. contains id_cmp whole slice.1.id || is_sighted (scan_of (set_sought_of set mode) s) slice.0) (enumerate_from 0 set.slices)
-    → record { states = states; found = found } ≡ findings_of set mode (named_files files s.files)
-findings_made set mode files s states found whole sized by_state by_id by_mark =
-    let scanned = named_files files s.files in
-    let scan = λ (contents : List (List ℕ)). let one : Scan = record { sought = set_sought_of set mode; contents = contents } in one in
+pub findings_made : (set : SetView) (mode : Mode) (files : List Scanned) (contents : List (List ℕ)) (states : List State) (found : List Bool) (whole : BTreeSet Hash16)
+    → length contents ≡ length files
+    → states ≡ map (state_of (named_files files contents)) set.files
+    → ((id : Hash16) → contains id_cmp whole id ≡ is_in_intact_file set (named_files files contents) id)
+    → found ≡ map (λ slice. contains id_cmp whole slice.1.id || is_sighted (set_scan_of set mode contents) slice.0) (enumerate_from 0 set.slices)
+    → record { states = states; found = found } ≡ findings_of set mode (named_files files contents)
+findings_made set mode files contents states found whole sized by_state by_id by_mark =
+    let scanned = named_files files contents in
+    let scan = set_scan_of set mode in
     let found_are : found ≡ (findings_of set mode scanned).found
-    = by_mark ∙ map-same _ _ (λ (slice : ℕ × SetSlice). ap (λ b. b || is_sighted (scan s.files) slice.0) (by_id slice.1.id)
-    ∙ ap (λ cs. is_in_intact_file set scanned slice.1.id || is_sighted (scan cs) slice.0) (sym (map-content files s.files sized))) (enumerate_from 0 set.slices) in
+    = by_mark ∙ map-same _ _ (λ (slice : ℕ × SetSlice). ap (λ b. b || is_sighted (scan contents) slice.0) (by_id slice.1.id)
+    ∙ ap (λ cs. is_in_intact_file set scanned slice.1.id || is_sighted (scan cs) slice.0) (sym (map-content files contents sized))) (enumerate_from 0 set.slices) in
     ap (λ (xs : List State). let r : Findings = record { states = xs; found = found } in r) by_state
     ∙ ap (λ (xs : List Bool). let r : Findings = record { states = map (state_of scanned) set.files; found = xs } in r) found_are

@@ -16,5 +16,6 @@ pub mod Ends
 pub mod SetSearch
 pub mod Names
 pub mod OpenedFiles
-pub mod Unchanged
+pub mod RunFiles
+pub mod OtherLists
 pub mod Lookups

@@ -1,12 +1,12 @@
 -- How the program ends once it tried to open the files of a plan.
 use Rattle.std.specs.Prelude.{◌≡◌, ℕ, List, [], Option, Result, IfErr, false, unwrap_or}
-use Rattle.parsalvage.specs.Kept.{kept_of_files}
 use Rattle.parshelf.specs.Shelf.{ShelfState}
 use Rattle.parplan.specs.Commands.{reads_scanned}
-use Rattle.parreport.specs.Unchanged.{AreSteadyFor}
+use Rattle.parreport.specs.RunFiles.{RunFiles, AreReadAs}
 use Rattle.parreport.specs.Ends.{run_end_of, exit_status_of, message_of, error_line_of}
 use Rattle.parreport.specs.Faults.{OnScannedFault}
 use Rattle.parreport.specs.Outcomes.{Answers, ReadFaultLeaves, LeavesPackets, LeavesScanned, LeavesSink, written, may_follow_text}
+use Rattle.parreport.specs.OtherLists.{TellsList}
 use Rattle.parreport.specs.Report.{report_of}
 use Rattle.parshelf.specs.SinkState.{SinkState}
 use Rattle.parreport.specs.declared.ends.End.{End}
@@ -25,21 +25,24 @@ pub record RunState : Type 0 where
   pub scanned : ShelfState
   pub out : SinkState
 
--- a run of the plan, whose end this tells, went from these files and this output to those after it
+-- the answer, and what it leaves of the output, are those of the plan over these files
+pub record AnswersOver (plan : Plan) (files : RunFiles) (answer : Result Status RunFault)
+    (old new : SinkState) : Type 0 where
+  pub text : Answers (report_of plan files) answer old new
+  pub lines : IfErr answer (OnScannedFault (λ file. ReadFaultLeaves plan files file old new))
+
+-- a run of the plan, of whose end `tells` holds, went from these files and this output to those after
+-- it; the text and the answer are those of any files that could have given what was read
 pub record TellsRun (plan : Plan) (old new : RunState) (tells : End × Option (List ℕ) → Type 0)
     : Type 0 where
   pub answer : Result Status RunFault
   pub told : tells (run_end_of plan answer)
-  pub text : AreSteadyFor plan.command old.packets old.scanned
-      → Answers (report_of plan old.packets.files old.scanned.files) answer old.out new.out
-  pub lines : AreSteadyFor plan.command old.packets old.scanned
-      → IfErr answer (OnScannedFault (λ file. ReadFaultLeaves plan (record {
-        packets = kept_of_files old.packets.files;
-        contents = old.scanned.files;
-      }) file old.out new.out))
+  pub report : (files : RunFiles) → AreReadAs plan.command new.packets new.scanned files
+      → AnswersOver plan files answer old.out new.out
   pub nothing_written : IfErr answer (λ fault.
       may_follow_text plan.command (written old.out new.out) fault ≡ false → new.out ≡ old.out)
   pub packets_read : LeavesPackets answer old.packets new.packets
   pub scanned_read : LeavesScanned answer old.scanned new.scanned
   pub sink : LeavesSink answer old.out new.out
+  pub list : TellsList plan old.scanned.lengths answer
   pub untouched : reads_scanned plan.command ≡ false → new.scanned ≡ old.scanned

@@ -1,13 +1,14 @@
 -- What a run leaves: of its output, and of the files that it reads.
-use Rattle.std.specs.Prelude.{◌≡◌, ℕ, ◌+◌, ◌-◌, ◌&&◌, ◌||◌, not, nat_le, Bool, true, false, List, [], length, IsTrue, IsOkAnd, Result, Ok, Err, ⊤}
+use Rattle.std.specs.Prelude.{◌≡◌, ℕ, ◌+◌, ◌-◌, ◌&&◌, ◌||◌, not, nat_le, Bool, true, false, [], length, IsTrue, IsOkAnd, Result, Ok, Err, ⊤}
 use Rattle.parshelf.specs.Shelf.{ShelfState}
 use Rattle.parshelf.specs.Reads.{ReadsOnly, FaultsIn}
-use Rattle.parsalvage.specs.declared.kept.Kept.{Kept}
+use Rattle.parsalvage.specs.Kept.{kept_of_files}
 use Rattle.parset.specs.RecoverySet.{SetView, set_of}
 use Rattle.parset.specs.declared.recovery_set.SetFault.{SetFault}
 use Rattle.parreport.specs.FindText.{find_search_of, WritesLinesBefore}
 use Rattle.parplan.specs.Commands.{is_find, reads_scanned}
 use Rattle.parreport.specs.Report.{Report, report_with_set, find_start_of}
+use Rattle.parreport.specs.RunFiles.{RunFiles}
 use Rattle.parreport.specs.Blocks.{block}
 use Rattle.parshelf.specs.SinkState.{SinkState, appended, WritesPrefix, FailsAfterPrefix}
 use Rattle.parplan.specs.declared.command.Command.{Command}
@@ -30,11 +31,6 @@ Answers report (Err fault.TooManyTails) old new =
 Answers report (Err fault.Write) old new = FailsAfterPrefix old new report.text
 Answers report (Err _) old new = WritesPrefix old new report.text
 
--- what a run is over: the packets of its packet files, and the contents of its scanned files
-pub record Input : Type 0 where
-  pub packets : List Kept
-  pub contents : List (List ℕ)
-
 -- where the command is `find`, this holds of what is asked
 abbrev pub OnFind : Command → (Query → Type 0) → Type 0
 OnFind (command.Find limit cursor tails) Holds =
@@ -43,13 +39,13 @@ OnFind _ Holds = ⊤
 
 -- after a failed read of this scanned file: the command reads it, there was a set, and of `find`
 -- there are the whole lines of some first sightings, among them all that lie in files before it
-pub record ReadFaultLeaves (plan : Plan) (input : Input) (file : ℕ) (old new : SinkState)
+pub record ReadFaultLeaves (plan : Plan) (files : RunFiles) (file : ℕ) (old new : SinkState)
     : Type 0 where
   pub set : SetView
   pub reads : IsTrue (reads_scanned plan.command)
-  pub made : set_of input.packets plan.set ≡ Ok set
-  pub lines : OnFind plan.command (λ query. IsOkAnd (find_start_of plan query input.contents set) (λ at.
-      WritesLinesBefore (find_search_of plan.scanned input.contents set at query) file old new))
+  pub made : set_of (kept_of_files files.packets) plan.set ≡ Ok set
+  pub lines : OnFind plan.command (λ query. IsOkAnd (find_start_of plan query files.scanned set) (λ at.
+      WritesLinesBefore (find_search_of plan.scanned files.scanned set at query) file old new))
 
 -- so many bytes were written
 abbrev pub written : SinkState → SinkState → ℕ
@@ -80,6 +76,7 @@ LeavesPackets _ old new = ReadsOnly old new
 -- what it says of the shelf of scanned files: where no search begins, none of them is read
 abbrev pub LeavesScanned : Result Status RunFault → ShelfState → ShelfState → Type 0
 LeavesScanned (Err (fault.Read false file why)) old new = FaultsIn old new file why
+LeavesScanned (Err (fault.Read true file why)) old new = new ≡ old
 LeavesScanned (Err (fault.Set why)) old new = new ≡ old
 LeavesScanned (Err fault.OtherSet) old new = new ≡ old
 LeavesScanned (Err fault.OtherList) old new = new ≡ old

@@ -16,6 +16,7 @@ use Rattle.parsalvage.specs.declared.kept.Kept.{Kept}
 use Rattle.parset.specs.RecoverySet.{SetView, set_of}
 use Rattle.parset.specs.declared.recovery_set.SetFault.{SetFault}
 use Rattle.parreport.specs.Names.{list_of, names_of}
+use Rattle.parreport.specs.RunFiles.{RunFiles}
 use Rattle.parreport.specs.PacketsText.{packets_text}
 use Rattle.parreport.specs.SetText.{set_text}
 use Rattle.parreport.specs.States.{named_files}
@@ -105,6 +106,6 @@ kept_report command.Packets plan packets scanned = packets_report plan packets
 kept_report asked plan packets scanned =
     report_with_set (set_of packets plan.set) (command_report asked plan scanned)
 
--- the report of a plan over the contents of its packet files and its scanned files
-abbrev pub report_of : Plan → List (List ℕ) → List (List ℕ) → Report
-report_of plan packets scanned = kept_report plan.command plan (kept_of_files packets) scanned
+-- the report of a plan over what its packet files and its scanned files hold
+abbrev pub report_of : Plan → RunFiles → Report
+report_of plan files = kept_report plan.command plan (kept_of_files files.packets) files.scanned

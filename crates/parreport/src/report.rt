@@ -1,11 +1,11 @@
-ghost use Rattle.std.specs.Prelude.{◌≡◌, length, IsTrue, false, IfErr, List, Ok};
+ghost use Rattle.std.specs.Prelude.{◌≡◌, ℕ, length, IsTrue, false, IfErr, List, Ok};
 ghost use Rattle.parsalvage.specs.Kept.{kept_of_files};
-ghost use Rattle.parsalvage.specs.declared.kept.Kept.{Kept};
 ghost use Rattle.parset.specs.RecoverySet.{set_of};
 ghost use Rattle.parplan.specs.Commands.{reads_scanned, LimitIsNotZero};
-ghost use Rattle.parreport.specs.Unchanged.{IsSteadyFor, AreSteadyFor};
+ghost use Rattle.parreport.specs.RunFiles.{RunFiles, AreReadAs, ReadsAsFor};
 ghost use Rattle.parreport.specs.Faults.{OnScannedFault};
 ghost use Rattle.parreport.specs.Outcomes.{is_packet_file_fault, written, may_follow_text, Answers, ReadFaultLeaves, LeavesPackets, LeavesScanned, LeavesSink, MakesSet};
+ghost use Rattle.parreport.specs.OtherLists.{TellsList};
 ghost use Rattle.parreport.specs.Report.{report_of, command_report};
 
 use crate::salvage::salvage_files;
@@ -30,23 +30,23 @@ pub fn run<P: Shelf, Q: Shelf, W: Sink>(
         → length (Q.state scanned.old).lengths ≡ length plan.now.scanned }
     requires limit { LimitIsNotZero plan.now.command }
 
-    // The text and the status, where the files are read unchanged.
-    ensures text { AreSteadyFor plan.now.command (P.state packets.old) (Q.state scanned.old)
-        → Answers (report_of plan.now (P.state packets.old).files (Q.state scanned.old).files)
-        result (W.state out.old) (W.state out.new) }
-    ensures lines { AreSteadyFor plan.now.command (P.state packets.old) (Q.state scanned.old)
-        → IfErr result (OnScannedFault (λ file. ReadFaultLeaves plan.now (record {
-          packets = kept_of_files (P.state packets.old).files;
-          contents = (Q.state scanned.old).files;
-        }) file (W.state out.old) (W.state out.new))) }
+    // The text and the status are those of any files of which that was read.
+    ensures text { (files : RunFiles)
+        → AreReadAs plan.now.command (P.state packets.new) (Q.state scanned.new) files
+        → Answers (report_of plan.now files) result (W.state out.old) (W.state out.new) }
+    ensures lines { (files : RunFiles)
+        → AreReadAs plan.now.command (P.state packets.new) (Q.state scanned.new) files
+        → IfErr result (OnScannedFault (λ file.
+        ReadFaultLeaves plan.now files file (W.state out.old) (W.state out.new))) }
 
-    // On any shelf: the answer tells what failed, and nothing else did.
+    // Whatever was read: the answer tells what failed, and nothing else did.
     ensures nothing_written { IfErr result (λ fault. may_follow_text plan.now.command
         (written (W.state out.old) (W.state out.new)) fault ≡ false
         → W.state out.new ≡ W.state out.old) }
     ensures packets { LeavesPackets result (P.state packets.old) (P.state packets.new) }
     ensures scanned { LeavesScanned result (Q.state scanned.old) (Q.state scanned.new) }
     ensures sink { LeavesSink result (W.state out.old) (W.state out.new) }
+    ensures list { TellsList plan.now (Q.state scanned.old).lengths result }
     ensures untouched { reads_scanned plan.now.command ≡ false
         → Q.state scanned.new ≡ Q.state scanned.old }
 {
@@ -77,20 +77,21 @@ fn run_over_set<Q: Shelf, W: Sink>(
         → length (Q.state scanned.old).lengths ≡ length plan.now.scanned }
     requires limit { LimitIsNotZero plan.now.command }
 
-    ensures text { IsSteadyFor plan.now.command (Q.state scanned.old)
-        → Answers (command_report plan.now.command plan.now (Q.state scanned.old).files set.now)
+    ensures text { (files : List (List ℕ)) → ReadsAsFor plan.now.command (Q.state scanned.new) files
+        → Answers (command_report plan.now.command plan.now files set.now)
         result (W.state out.old) (W.state out.new) }
-    ensures lines { (packets : List Kept) → set_of packets plan.now.set ≡ Ok set.now
-        → IsSteadyFor plan.now.command (Q.state scanned.old)
-        → IfErr result (OnScannedFault (λ file. ReadFaultLeaves plan.now
-        (record { packets = packets; contents = (Q.state scanned.old).files })
-        file (W.state out.old) (W.state out.new))) }
+    ensures lines { (files : RunFiles)
+        → set_of (kept_of_files files.packets) plan.now.set ≡ Ok set.now
+        → ReadsAsFor plan.now.command (Q.state scanned.new) files.scanned
+        → IfErr result (OnScannedFault (λ file.
+        ReadFaultLeaves plan.now files file (W.state out.old) (W.state out.new))) }
     ensures no_packet { IfErr result (λ fault. is_packet_file_fault fault ≡ false) }
     ensures nothing_written { IfErr result (λ fault. may_follow_text plan.now.command
         (written (W.state out.old) (W.state out.new)) fault ≡ false
         → W.state out.new ≡ W.state out.old) }
     ensures scanned { LeavesScanned result (Q.state scanned.old) (Q.state scanned.new) }
     ensures sink { LeavesSink result (W.state out.old) (W.state out.new) }
+    ensures list { TellsList plan.now (Q.state scanned.old).lengths result }
     ensures untouched { reads_scanned plan.now.command ≡ false
         → Q.state scanned.new ≡ Q.state scanned.old }
 {

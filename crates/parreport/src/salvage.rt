@@ -1,4 +1,5 @@
-ghost use Rattle.std.specs.Prelude.{◌≡◌, IsTrue, IfOk, IfErr};
+ghost use Rattle.std.specs.Prelude.{◌≡◌, ℕ, List, IfOk, IfErr};
+ghost use Rattle.parshelf.specs.Shelf.{ReadsAs};
 ghost use Rattle.parsalvage.specs.Kept.{kept_of_files};
 ghost use Rattle.parreport.specs.Faults.{IsPacketFault};
 ghost use Rattle.parreport.specs.Outcomes.{LeavesPackets};
@@ -12,8 +13,8 @@ use std::alloc::Global;
 // Inlined, its arrays would stay on the stack beside those that scanned files are read into.
 #[inline(never)]
 pub fn salvage_files<H: Shelf>(alloc: Global, shelf: &mut H) -> Result<Vec<Kept>, RunFault>
-    ensures kept { IsTrue (H.state shelf.old).is_steady → IfOk result (λ kept.
-        kept.items ≡ kept_of_files (H.state shelf.old).files) }
+    ensures kept { (files : List (List ℕ)) → ReadsAs (H.state shelf.new) files
+        → IfOk result (λ kept. kept.items ≡ kept_of_files files) }
     ensures fault { IfErr result IsPacketFault }
     ensures reads { LeavesPackets result (H.state shelf.old) (H.state shelf.new) }
 {

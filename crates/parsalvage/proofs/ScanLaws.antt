@@ -7,13 +7,10 @@ use Rattle.std.proofs.lemmas.List.{map-append, drop-drop, drop-take, take-take, 
 use Rattle.std.proofs.lemmas.List.Elements.{All-push, All-weaker, All-head, All-tail, All-map}
 use Rattle.parfield.specs.Packet.{has_header, header_of, length_field}
 use Rattle.parfield.specs.declared.headers.Header.{Header}
-use Rattle.parshelf.specs.Shelf.{ShelfState}
 use Rattle.parsalvage.specs.Packets.{is_packet_at, packet_found_at}
-use Rattle.parsalvage.specs.Hands.{Hands}
-use Rattle.parsalvage.proofs.HandLaws.{Hands-file, Hands-steady}
 use Rattle.parsalvage.specs.BodyStores.{IsStore, HoldsRun}
 use Rattle.parsalvage.specs.Kept.{kept_packet, kept_body}
-use Rattle.parsalvage.specs.FileScans.{kept_body_from, FitsStore, kept_packet_from, packets_between, LiesIn, FoundBelow, FindsBelow}
+use Rattle.parsalvage.specs.FileScans.{kept_body_from, FitsStore, kept_packet_from, packets_between, LiesIn, FoundBelow}
 use Rattle.parsalvage.specs.declared.stored_body.StoredBody.{StoredBody}
 use Rattle.parsalvage.specs.declared.stored_body.StoredBody.TheVariants.{Whole, Front}
 use Rattle.parsalvage.specs.declared.kept.Kept.{Kept}
@@ -173,10 +170,3 @@ no_packet_late bytes at late =
     let long = leb-true 64 (length (drop at bytes)) (and_parts _ _ header).0 in
     absurd (omega (arith, long, length-drop at bytes)))
     (λ no. no) (cases_Bool (is_packet_at bytes at))
-
--- what is found in a file after other bytes of it were read was found in it before
-pub FindsBelow-before : (s t : ShelfState) (file limit below : ℕ) (found : FileScan) → Hands s t file limit
-    → FindsBelow t file below found → FindsBelow s file below found
-FindsBelow-before s t file limit below found hands finds = λ steady.
-    subst (λ (bytes : List ℕ). FoundBelow file bytes below found) (Hands-file s t file limit file hands)
-    (finds (Hands-steady s t file limit hands steady))

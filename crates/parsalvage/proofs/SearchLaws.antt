@@ -6,15 +6,15 @@ use Rattle.std.proofs.lemmas.List.{drop-take, take-take, drop-drop, length-take}
 use Rattle.memchr.specs.Find.{occurs_at, matches}
 use Rattle.memchr.proofs.lemmas.MatchLemmas.{OccursAt-true, occurs_at-true, OccursAt-part, OccursAt-from_part}
 use Rattle.parfield.specs.Packet.{magic_bytes}
-use Rattle.parshelf.specs.Shelf.{ShelfState, file_of}
+use Rattle.parshelf.specs.Shelf.{ShelfState, ReadsAs, file_of}
 use Rattle.parsalvage.specs.declared.files.SalvageFault.{SalvageFault}
 use Rattle.parsalvage.specs.declared.file_scan.FileScan.{FileScan}
 use Rattle.parsalvage.specs.Packets.{is_packet_at, packet_found_at, packets_of}
 use Rattle.parsalvage.specs.Pieces.{IsPiece}
 use Rattle.parsalvage.specs.MagicPlaces.{is_magic_at, framed_size, limit_between}
-use Rattle.parsalvage.specs.FileScans.{LiesIn, FoundBelow, FindsBelow}
+use Rattle.parsalvage.specs.FileScans.{LiesIn, FindsBelow}
 use Rattle.parsalvage.specs.Hands.{Hands, StopsAfter}
-use Rattle.parsalvage.proofs.HandLaws.{Hands-none, Hands-more, Hands-file, Hands-lengths, Hands-steady, Hands-was_steady, StopsAfter-more}
+use Rattle.parsalvage.proofs.HandLaws.{FitsWithin, Hands-none, Hands-more, Hands-lengths, StopsAfter-more}
 use Rattle.parsalvage.proofs.LimitLaws.{limit_between-split, limit_between-one}
 use Rattle.parsalvage.proofs.MagicLaws.{matches-all, packet_has_magic}
 use Rattle.parsalvage.proofs.ScanLaws.{LiesIn-later, FoundBelow-none, no_packet_late}
@@ -74,8 +74,8 @@ pub record SearchedTo (s : ShelfState) (file base : ℕ) (window : List ℕ) (le
   pub high : next ≤ base + (length window - 7)
   pub places_are : left.places ≡ filter (occurs_at window magic_bytes) (range_with_len (next - base) ((length window + 1) - (next - base)))
   pub lies : LiesIn (slice_index s.lengths file) next left.found
-  pub packets : FindsBelow s file next left.found
-  pub hands : Hands s left.shelf file (limit_between (file_of s file) base next)
+  pub packets : FindsBelow left.shelf file next left.found
+  pub hands : Hands s left.shelf file (λ bytes. limit_between bytes base next)
 
 pub SearchedTo-start : (s : ShelfState) (file base : ℕ) (window : List ℕ) (found : FileScan) → LiesIn (slice_index s.lengths file) base found
     → FindsBelow s file base found
@@ -95,16 +95,13 @@ SearchedTo-start s file base window found lies packets = record {
 
 -- the first place that is left
 module _ (s t : ShelfState) (file base : ℕ) (window : List ℕ) (place : ℕ) (later : List ℕ) (found : FileScan)
-    (piece : IsTrue s.is_steady → IsPiece (file_of s file) base window)
+    (piece : (files : List (List ℕ)) → ReadsAs s files → IsPiece (file_of files file) base window)
     (so_far : SearchedTo s file base window (record { shelf = t; places = place ∷ later; found = found })) where
   first : PassesFirst (occurs_at window magic_bytes) (so_far.next - base) ((length window + 1) - (so_far.next - base)) place later
   first = passes_first _ _ _ place later (sym so_far.places_are)
 
   pub place_fits : place + 8 ≤ length window
   place_fits = (OccursAt-true window magic_bytes place first.passes).fits
-
-  same : file_of t file ≡ file_of s file
-  same = Hands-file s t file _ file so_far.hands
 
   behind : so_far.next ≤ base + place
   behind = omega (arith, first.low, so_far.low)
@@ -115,35 +112,32 @@ module _ (s t : ShelfState) (file base : ℕ) (window : List ℕ) (place : ℕ) 
   pub place_within : base + length window ≤ slice_index s.lengths file → base + place ≤ slice_index t.lengths file
   place_within within = omega (arith, same_length, place_fits, within)
 
-  pub lies_before_now : LiesIn (slice_index t.lengths file) (base + place) found
-  lies_before_now =
+  pub piece_now : (files : List (List ℕ)) → ReadsAs t files → IsPiece (file_of files file) base window
+  piece_now files reads = piece files (so_far.hands.older files reads)
+
+  pub lies_before : LiesIn (slice_index t.lengths file) (base + place) found
+  lies_before =
       subst (λ (size : ℕ). LiesIn size (base + place) found) (sym same_length)
       (LiesIn-later (slice_index s.lengths file) so_far.next (base + place) found so_far.lies behind)
 
-  pub packets_before : FindsBelow s file (base + place) found
-  packets_before steady =
-      FoundBelow-none file so_far.next (base + place) (file_of s file) found (so_far.packets steady) behind
-      (λ k low high. no_packet_without (file_of s file) base window (piece steady) k (omega (arith, low, so_far.low)) (omega (arith, high, place_fits))
+  pub packets_before : FindsBelow t file (base + place) found
+  packets_before files reads =
+      FoundBelow-none file so_far.next (base + place) (file_of files file) found (so_far.packets files reads) behind
+      (λ k low high. no_packet_without (file_of files file) base window (piece_now files reads) k (omega (arith, low, so_far.low)) (omega (arith, high, place_fits))
       (first.none (k - base) (omega (arith, low, so_far.low)) (omega (arith, high, low, so_far.low))))
 
-  pub packets_before_now : FindsBelow t file (base + place) found
-  packets_before_now steady =
-      subst (λ (bytes : List ℕ). FoundBelow file bytes (base + place) found) (sym same)
-      (packets_before (Hands-was_steady s t file _ so_far.hands steady))
-
-  cost : IsTrue s.is_steady → limit_between (file_of s file) base so_far.next + (64 + 2 * framed_size (drop (base + place) (file_of t file)))
-      ≤ limit_between (file_of s file) base ((base + place) + 1)
-  cost steady =
-      let magic = magic_in_file (file_of s file) base window (piece steady) place place_fits first.passes in
-      let one = limit_between-one (file_of s file) (base + place) magic in
-      let whole = limit_between-split (file_of s file) base so_far.next ((base + place) + 1) so_far.low (omega (arith, behind)) in
-      let rest = limit_between-split (file_of s file) so_far.next (base + place) ((base + place) + 1) behind (omega arith) in
-      let now = ap (λ (bytes : List ℕ). framed_size (drop (base + place) bytes)) same in
-      omega (arith, one, whole, rest, now)
+  cost : FitsWithin t file (λ bytes. limit_between bytes base so_far.next + (64 + 2 * framed_size (drop (base + place) bytes)))
+      (λ bytes. limit_between bytes base ((base + place) + 1))
+  cost files reads =
+      let magic = magic_in_file (file_of files file) base window (piece_now files reads) place place_fits first.passes in
+      let one = limit_between-one (file_of files file) (base + place) magic in
+      let whole = limit_between-split (file_of files file) base so_far.next ((base + place) + 1) so_far.low (omega (arith, behind)) in
+      let rest = limit_between-split (file_of files file) so_far.next (base + place) ((base + place) + 1) behind (omega arith) in
+      omega (arith, one, whole, rest)
 
   pub SearchedTo-next : (u : ShelfState) (more : FileScan) → LiesIn (slice_index t.lengths file) ((base + place) + 1) more
-      → FindsBelow t file ((base + place) + 1) more
-      → Hands t u file (64 + 2 * framed_size (drop (base + place) (file_of t file)))
+      → FindsBelow u file ((base + place) + 1) more
+      → Hands t u file (λ bytes. 64 + 2 * framed_size (drop (base + place) bytes))
       → SearchedTo s file base window (record { shelf = u; places = later; found = more })
   SearchedTo-next u more lies packets hands = record {
     next = (base + place) + 1;
@@ -157,42 +151,37 @@ module _ (s t : ShelfState) (file base : ℕ) (window : List ℕ) (place : ℕ) 
         ∙ (ap (λ (n : ℕ). filter (occurs_at window magic_bytes) (range_with_len (place + 1) (n - (place + 1)))) count
         ∙ ap (λ (n : ℕ). filter (occurs_at window magic_bytes) (range_with_len n ((length window + 1) - n))) begin);
     lies = subst (λ (size : ℕ). LiesIn size ((base + place) + 1) more) same_length lies;
-    packets = λ steady.
-        subst (λ (bytes : List ℕ). FoundBelow file bytes ((base + place) + 1) more) same (packets (Hands-steady s t file _ so_far.hands steady));
+    packets = packets;
     hands = Hands-more s t u file _ _ _ so_far.hands hands cost;
   }
 
   pub SearchedTo-fault : (u : ShelfState) (fault : SalvageFault)
-      → StopsAfter t u file (64 + 2 * framed_size (drop (base + place) (file_of t file))) fault
-      → StopsAfter s u file (limit_between (file_of s file) base (base + (length window - 7))) fault
+      → StopsAfter t u file (λ bytes. 64 + 2 * framed_size (drop (base + place) bytes)) fault
+      → StopsAfter s u file (λ bytes. limit_between bytes base (base + (length window - 7))) fault
   SearchedTo-fault u fault faults =
       StopsAfter-more s t u file _ _ _ fault so_far.hands faults
-      (λ steady.
-      let all = limit_between-split (file_of s file) base ((base + place) + 1) (base + (length window - 7)) (omega arith) (omega (arith, place_fits)) in
-      omega (arith, cost steady, all))
-
-  -- what comes only with a packet at this place comes only with a packet
-  pub SearchedTo-empty : (Wants : Type 0) → (IsTrue t.is_steady → Wants → IsTrue (is_packet_at (file_of t file) (base + place)))
-      → IsTrue s.is_steady → packets_of (file_of s file) ≡ [] → ¬ Wants
-  SearchedTo-empty Wants packet steady none wants =
-      some_packet (file_of s file) (base + place)
-      (ap (λ (bytes : List ℕ). is_packet_at bytes (base + place)) (sym same) ∙ packet (Hands-steady s t file _ so_far.hands steady) wants) none
+      (λ files reads.
+      let all = limit_between-split (file_of files file) base ((base + place) + 1) (base + (length window - 7)) (omega arith) (omega (arith, place_fits)) in
+      omega (arith, cost files reads, all))
 
 -- no place is left
 module _ (s t : ShelfState) (file base : ℕ) (window : List ℕ) (found : FileScan)
-    (piece : IsTrue s.is_steady → IsPiece (file_of s file) base window)
+    (piece : (files : List (List ℕ)) → ReadsAs s files → IsPiece (file_of files file) base window)
     (all : SearchedTo s file base window (record { shelf = t; places = []; found = found })) where
   pub lies_after : LiesIn (slice_index s.lengths file) (base + (length window - 7)) found
   lies_after = LiesIn-later (slice_index s.lengths file) all.next (base + (length window - 7)) found all.lies all.high
 
-  pub packets_after : FindsBelow s file (base + (length window - 7)) found
-  packets_after steady =
-      FoundBelow-none file all.next (base + (length window - 7)) (file_of s file) found (all.packets steady) all.high
-      (λ k low high. no_packet_without (file_of s file) base window (piece steady) k (omega (arith, low, all.low)) (omega (arith, high, low, all.low))
+  pub packets_after : FindsBelow t file (base + (length window - 7)) found
+  packets_after files reads =
+      let is_piece = piece files (all.hands.older files reads) in
+      FoundBelow-none file all.next (base + (length window - 7)) (file_of files file) found (all.packets files reads) all.high
+      (λ k low high. no_packet_without (file_of files file) base window is_piece k (omega (arith, low, all.low)) (omega (arith, high, low, all.low))
       (passes_none (occurs_at window magic_bytes) (all.next - base) ((length window + 1) - (all.next - base)) (sym all.places_are) (k - base)
       (omega (arith, low, all.low)) (omega (arith, high, low, all.low))))
 
-  pub hands_after : Hands s t file (limit_between (file_of s file) base (base + (length window - 7)))
+  pub hands_after : Hands s t file (λ bytes. limit_between bytes base (base + (length window - 7)))
   hands_after =
-      let rest = limit_between-split (file_of s file) base all.next (base + (length window - 7)) all.low all.high in
-      Hands-more s t t file _ 0 _ all.hands (Hands-none t file 0) (λ _. omega (arith, rest))
+      Hands-more s t t file _ (λ _. 0) _ all.hands (Hands-none t file (λ _. 0))
+      (λ files reads.
+      let rest = limit_between-split (file_of files file) base all.next (base + (length window - 7)) all.low all.high in
+      omega (arith, rest))

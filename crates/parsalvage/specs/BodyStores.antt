@@ -1,6 +1,6 @@
 -- Bodies of a file that are held in one list of bytes, no longer than the file.
-use Rattle.std.specs.Prelude.{◌≡◌, ◌≤◌, ◌+◌, ◌-◌, ℕ, List, length, take, drop, IsTrue}
-use Rattle.parshelf.specs.Shelf.{ShelfState, file_of}
+use Rattle.std.specs.Prelude.{◌≡◌, ◌≤◌, ◌+◌, ◌-◌, ℕ, List, length, take, drop}
+use Rattle.parshelf.specs.Shelf.{ShelfState, ReadsAs, file_of}
 use Rattle.parsalvage.specs.declared.body_store.BodyStore.{BodyStore}
 
 -- no more bytes are held than stand before the end of the last run, in a file of this length
@@ -16,6 +16,7 @@ HoldsRun file bodies =
     drop (length bodies.bytes.items - (bodies.end - bodies.start)) bodies.bytes.items
     ≡ take (bodies.end - bodies.start) (drop bodies.start file)
 
--- the same of a file of a steady shelf
+-- the same of this file of any files of which the shelf was read so far
 abbrev pub HoldsRunOf : ShelfState → ℕ → BodyStore → Type 0
-HoldsRunOf shelf file bodies = IsTrue shelf.is_steady → HoldsRun (file_of shelf file) bodies
+HoldsRunOf shelf file bodies =
+    (files : List (List ℕ)) → ReadsAs shelf files → HoldsRun (file_of files file) bodies

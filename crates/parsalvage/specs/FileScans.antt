@@ -1,9 +1,9 @@
 -- Packets that a search found: their headers, and where their bodies are held in one store.
-use Rattle.std.specs.Prelude.{◌≡◌, ℕ, ◌+◌, ◌-◌, ◌<◌, ◌≤◌, List, All, drop, take, map, filter, length, IsTrue}
+use Rattle.std.specs.Prelude.{◌≡◌, ℕ, ◌+◌, ◌-◌, ◌<◌, ◌≤◌, List, All, drop, take, map, filter, length}
 use Rattle.std.specs.List.{range_with_len}
 use Rattle.std.specs.List.Sorted.{IsStrictlyIncreasing}
 use Rattle.parfield.specs.Packet.{FoundPacket}
-use Rattle.parshelf.specs.Shelf.{ShelfState, file_of}
+use Rattle.parshelf.specs.Shelf.{ShelfState, ReadsAs, file_of}
 use Rattle.parsalvage.specs.Packets.{is_packet_at, packet_found_at}
 use Rattle.parsalvage.specs.BodyStores.{IsStore, HoldsRun}
 use Rattle.parsalvage.specs.Kept.{kept_packet}
@@ -56,7 +56,8 @@ pub record FoundBelow (file : ℕ) (bytes : List ℕ) (below : ℕ) (found : Fil
   pub packets : map (kept_packet_from file found.bodies.bytes.items) found.packets.items
       ≡ map (kept_packet file) (packets_between bytes 0 below)
 
--- the same of a file of a steady shelf
+-- the same of this file of any files of which the shelf was read so far
 abbrev pub FindsBelow : ShelfState → ℕ → ℕ → FileScan → Type 0
 FindsBelow shelf file below found =
-    IsTrue shelf.is_steady → FoundBelow file (file_of shelf file) below found
+    (files : List (List ℕ)) → ReadsAs shelf files
+    → FoundBelow file (file_of files file) below found

@@ -1,5 +1,5 @@
-ghost use Rattle.std.specs.Prelude.{◌≡◌, ◌+◌, ◌-◌, ◌<◌, ◌≤◌, ℕ, List, length, take, drop, slice_index, IsTrue, IfOk, OnOk};
-ghost use Rattle.parshelf.specs.Shelf.{bytes_at};
+ghost use Rattle.std.specs.Prelude.{◌≡◌, ◌+◌, ◌-◌, ◌<◌, ◌≤◌, ℕ, List, length, take, drop, slice_index, IfOk, OnOk};
+ghost use Rattle.parshelf.specs.Shelf.{ReadsAs, bytes_at};
 ghost use Rattle.parsalvage.specs.Hands.{SalvagesAtMost};
 ghost use Rattle.parsalvage.specs.Pieces.{IsPieceOf};
 ghost use Rattle.parsalvage.specs.BodyStores.{IsStore, HoldsRun, HoldsRunOf};
@@ -40,12 +40,12 @@ pub fn hold<H: Shelf>(
     ensures fits { IfOk result (λ place. place + size ≤ length bodies.new.bytes.items) }
     ensures keeps { OnOk result
         (take (length bodies.old.bytes.items) bodies.new.bytes.items ≡ bodies.old.bytes.items) }
-    ensures run { OnOk result (HoldsRunOf (H.state shelf.old) file bodies.new) }
-    ensures part { IsTrue (H.state shelf.old).is_steady → IfOk result (λ place.
-        take size (drop place bodies.new.bytes.items)
-        ≡ bytes_at (H.state shelf.old) file from size) }
+    ensures run { OnOk result (HoldsRunOf (H.state shelf.new) file bodies.new) }
+    ensures part { (files : List (List ℕ)) → ReadsAs (H.state shelf.new) files
+        → IfOk result (λ place. take size (drop place bodies.new.bytes.items)
+        ≡ bytes_at files file from size) }
 
-    ensures leaves { SalvagesAtMost size file (H.state shelf.old) (H.state shelf.new) result }
+    ensures leaves { SalvagesAtMost (λ _. size) file (H.state shelf.old) (H.state shelf.new) result }
 {
     reach(bodies, from);
     let last = bodies.end.max(from + size);
@@ -88,11 +88,11 @@ fn extend<H: Shelf>(
         ≡ length bodies.old.bytes.items + (last - bodies.old.end)) }
     ensures keeps { OnOk result
         (take (length bodies.old.bytes.items) bodies.new.bytes.items ≡ bodies.old.bytes.items) }
-    ensures bytes { IsTrue (H.state shelf.old).is_steady → OnOk result
+    ensures bytes { (files : List (List ℕ)) → ReadsAs (H.state shelf.new) files → OnOk result
         (drop (length bodies.old.bytes.items) bodies.new.bytes.items
-        ≡ bytes_at (H.state shelf.old) file bodies.old.end (last - bodies.old.end)) }
+        ≡ bytes_at files file bodies.old.end (last - bodies.old.end)) }
 
-    ensures leaves { SalvagesAtMost (last - bodies.old.end)
+    ensures leaves { SalvagesAtMost (λ _. last - bodies.old.end)
         file (H.state shelf.old) (H.state shelf.new) result }
 {
     let held = bodies.bytes.len();

@@ -1,6 +1,6 @@
-ghost use Rattle.std.specs.Prelude.{◌≡◌, ◌+◌, ◌*◌, ◌<◌, ◌≤◌, length, drop, slice_index, IsTrue, OnOk};
+ghost use Rattle.std.specs.Prelude.{◌≡◌, ◌+◌, ◌*◌, ◌<◌, ◌≤◌, ℕ, List, length, drop, slice_index, IsTrue, OnOk};
 ghost use Rattle.parfield.specs.Packet.{header_of};
-ghost use Rattle.parshelf.specs.Shelf.{file_of};
+ghost use Rattle.parshelf.specs.Shelf.{ReadsAs, file_of};
 ghost use Rattle.parsalvage.specs.Hands.{SalvagesAtMost};
 ghost use Rattle.parsalvage.specs.FileScans.{LiesIn, FindsBelow};
 ghost use Rattle.parsalvage.specs.Packets.{is_packet_at};
@@ -55,13 +55,12 @@ pub fn scan_at<H: Shelf>(
 
     ensures lies { OnOk result
         (LiesIn (slice_index (H.state shelf.old).lengths file) (at + 1) found.new) }
-    ensures found { OnOk result (FindsBelow (H.state shelf.old) file (at + 1) found.new) }
+    ensures found { OnOk result (FindsBelow (H.state shelf.new) file (at + 1) found.new) }
 
-    ensures leaves { SalvagesAtMost
-        (64 + 2 * framed_size (drop at (file_of (H.state shelf.old) file)))
+    ensures leaves { SalvagesAtMost (λ bytes. 64 + 2 * framed_size (drop at bytes))
         file (H.state shelf.old) (H.state shelf.new) result }
-    ensures memory { IsTrue (H.state shelf.old).is_steady → result ≡ Err SalvageFault.Memory
-        → IsTrue (is_packet_at (file_of (H.state shelf.old) file) at) }
+    ensures memory { (files : List (List ℕ)) → ReadsAs (H.state shelf.new) files
+        → result ≡ Err SalvageFault.Memory → IsTrue (is_packet_at (file_of files file) at) }
 {
     // No packet is shorter than its header.
     if shelf.length(file) - at < 64 {
@@ -86,18 +85,18 @@ fn store_packet<H: Shelf>(
     requires within { at + head.length ≤ slice_index (H.state shelf.old).lengths file }
     requires long { 64 ≤ head.length }
     requires piece { IsPieceOf (H.state shelf.old) file piece.now }
-    requires packet { IsTrue (H.state shelf.old).is_steady
-        → IsTrue (is_packet_at (file_of (H.state shelf.old) file) at) }
-    requires fields { IsTrue (H.state shelf.old).is_steady
-        → head ≡ header_of (drop at (file_of (H.state shelf.old) file)) }
+    requires packet { (files : List (List ℕ)) → ReadsAs (H.state shelf.old) files
+        → IsTrue (is_packet_at (file_of files file) at) }
+    requires fields { (files : List (List ℕ)) → ReadsAs (H.state shelf.old) files
+        → head ≡ header_of (drop at (file_of files file)) }
     requires lies { LiesIn (slice_index (H.state shelf.old).lengths file) at found.old }
     requires found { FindsBelow (H.state shelf.old) file at found.old }
 
     ensures lies { OnOk result
         (LiesIn (slice_index (H.state shelf.old).lengths file) (at + 1) found.new) }
-    ensures found { OnOk result (FindsBelow (H.state shelf.old) file (at + 1) found.new) }
+    ensures found { OnOk result (FindsBelow (H.state shelf.new) file (at + 1) found.new) }
 
-    ensures leaves { SalvagesAtMost head.length
+    ensures leaves { SalvagesAtMost (λ _. head.length)
         file (H.state shelf.old) (H.state shelf.new) result }
 {
     let size = head.length - 64;

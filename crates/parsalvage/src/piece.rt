@@ -1,5 +1,5 @@
-ghost use Rattle.std.specs.Prelude.{◌≡◌, ℕ, List, ◌+◌, ◌-◌, ◌≤◌, ◌<◌, length, take, drop, slice_index, IsTrue, IfSome, IfNone, OnOk};
-ghost use Rattle.parshelf.specs.Shelf.{bytes_at};
+ghost use Rattle.std.specs.Prelude.{◌≡◌, ℕ, List, ◌+◌, ◌-◌, ◌≤◌, ◌<◌, length, take, drop, slice_index, IfSome, IfNone, OnOk};
+ghost use Rattle.parshelf.specs.Shelf.{ReadsAs, bytes_at};
 ghost use Rattle.parsalvage.specs.Hands.{ReadsAtMost};
 ghost use Rattle.parsalvage.specs.Pieces.{IsPiece, IsPieceOf};
 
@@ -60,9 +60,9 @@ pub fn read<H: Shelf>(
     requires within { offset + length buf.old ≤ slice_index (H.state shelf.old).lengths file }
     requires piece { IsPieceOf (H.state shelf.old) file piece.now }
 
-    ensures bytes { IsTrue (H.state shelf.old).is_steady →
-        OnOk result (buf.new ≡ bytes_at (H.state shelf.old) file offset (length buf.old)) }
-    ensures leaves { ReadsAtMost (length buf.old)
+    ensures bytes { (files : List (List ℕ)) → ReadsAs (H.state shelf.new) files
+        → OnOk result (buf.new ≡ bytes_at files file offset (length buf.old)) }
+    ensures leaves { ReadsAtMost (λ _. length buf.old)
         file (H.state shelf.old) (H.state shelf.new) result }
 {
     match piece.part(offset, buf.len() as u64) {

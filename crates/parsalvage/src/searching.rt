@@ -1,5 +1,5 @@
-ghost use Rattle.std.specs.Prelude.{◌≡◌, ◌≢◌, ◌+◌, ◌-◌, ◌<◌, ◌≤◌, [], length, slice_index, IsTrue, IfOk, OnOk};
-ghost use Rattle.parshelf.specs.Shelf.{file_of};
+ghost use Rattle.std.specs.Prelude.{◌≡◌, ◌≢◌, ◌+◌, ◌-◌, ◌<◌, ◌≤◌, ℕ, List, [], length, slice_index, IfOk, OnOk};
+ghost use Rattle.parshelf.specs.Shelf.{ReadsAs, file_of};
 ghost use Rattle.parsalvage.specs.Hands.{SalvagesAtMost};
 ghost use Rattle.parsalvage.specs.FileScans.{LiesIn, FindsBelow};
 ghost use Rattle.parsalvage.specs.Packets.{packets_of};
@@ -37,14 +37,14 @@ fn search_piece<H: Shelf>(
 
     ensures lies { OnOk result (LiesIn (slice_index (H.state shelf.old).lengths file)
         (piece.now.base + (length piece.now.bytes.now - 7)) found.new) }
-    ensures found { OnOk result (FindsBelow (H.state shelf.old) file
+    ensures found { OnOk result (FindsBelow (H.state shelf.new) file
         (piece.now.base + (length piece.now.bytes.now - 7)) found.new) }
 
-    ensures leaves { SalvagesAtMost (limit_between (file_of (H.state shelf.old) file)
+    ensures leaves { SalvagesAtMost (λ bytes. limit_between bytes
         piece.now.base (piece.now.base + (length piece.now.bytes.now - 7)))
         file (H.state shelf.old) (H.state shelf.new) result }
-    ensures empty { IsTrue (H.state shelf.old).is_steady
-        → packets_of (file_of (H.state shelf.old) file) ≡ [] → result ≢ Err SalvageFault.Memory }
+    ensures empty { (files : List (List ℕ)) → ReadsAs (H.state shelf.new) files
+        → packets_of (file_of files file) ≡ [] → result ≢ Err SalvageFault.Memory }
 {
     // Two occurrences of the magic never overlap.
     for place in memmem::find_iter(piece.bytes, &MAGIC) {
@@ -66,13 +66,13 @@ pub fn search_file<H: Shelf>(
 
     ensures lies { IfOk result (λ found. LiesIn (slice_index (H.state shelf.old).lengths file)
         (slice_index (H.state shelf.old).lengths file) found) }
-    ensures found { IfOk result (λ found. FindsBelow (H.state shelf.old) file
+    ensures found { IfOk result (λ found. FindsBelow (H.state shelf.new) file
         (slice_index (H.state shelf.old).lengths file) found) }
 
-    ensures leaves { SalvagesAtMost (salvage_limit (file_of (H.state shelf.old) file))
+    ensures leaves { SalvagesAtMost salvage_limit
         file (H.state shelf.old) (H.state shelf.new) result }
-    ensures empty { IsTrue (H.state shelf.old).is_steady
-        → packets_of (file_of (H.state shelf.old) file) ≡ [] → result ≢ Err SalvageFault.Memory }
+    ensures empty { (files : List (List ℕ)) → ReadsAs (H.state shelf.new) files
+        → packets_of (file_of files file) ≡ [] → result ≢ Err SalvageFault.Memory }
 {
     let end = shelf.length(file);
     let mut found = FileScan {

@@ -1,5 +1,5 @@
-ghost use Rattle.std.specs.Prelude.{◌≡◌, ◌+◌, ◌<◌, ◌≤◌, length, take, slice_index, IsTrue, IfOk, OnOk};
-ghost use Rattle.parshelf.specs.Shelf.{bytes_at};
+ghost use Rattle.std.specs.Prelude.{◌≡◌, ◌+◌, ◌<◌, ◌≤◌, ℕ, List, length, take, slice_index, IfOk, OnOk};
+ghost use Rattle.parshelf.specs.Shelf.{ReadsAs, bytes_at};
 ghost use Rattle.parsalvage.specs.BodyStores.{IsStore, HoldsRunOf};
 ghost use Rattle.parsalvage.specs.Hands.{ReadsAtMost, SalvagesAtMost};
 ghost use Rattle.parsalvage.specs.Kept.{kept_body, front_of};
@@ -46,12 +46,12 @@ pub fn hold_body<H: Shelf>(
     ensures fits { IfOk result (λ held. FitsStore (length bodies.new.bytes.items) held) }
     ensures keeps { OnOk result
         (take (length bodies.old.bytes.items) bodies.new.bytes.items ≡ bodies.old.bytes.items) }
-    ensures run { OnOk result (HoldsRunOf (H.state shelf.old) file bodies.new) }
-    ensures body { IsTrue (H.state shelf.old).is_steady → IfOk result (λ held.
-        kept_body_from bodies.new.bytes.items held
-        ≡ kept_body kind (bytes_at (H.state shelf.old) file from size)) }
+    ensures run { OnOk result (HoldsRunOf (H.state shelf.new) file bodies.new) }
+    ensures body { (files : List (List ℕ)) → ReadsAs (H.state shelf.new) files
+        → IfOk result (λ held. kept_body_from bodies.new.bytes.items held
+        ≡ kept_body kind (bytes_at files file from size)) }
 
-    ensures leaves { SalvagesAtMost size file (H.state shelf.old) (H.state shelf.new) result }
+    ensures leaves { SalvagesAtMost (λ _. size) file (H.state shelf.old) (H.state shelf.new) result }
 {
     if is_whole(kind, size) {
         let place = hold(shelf, file, piece, bodies, from, size)?;
@@ -76,9 +76,9 @@ fn front_at<H: Shelf>(
     requires within { from + size ≤ slice_index (H.state shelf.old).lengths file }
     requires piece { IsPieceOf (H.state shelf.old) file piece.now }
 
-    ensures front { IsTrue (H.state shelf.old).is_steady → IfOk result (λ first.
-        first ≡ front_of (bytes_at (H.state shelf.old) file from size)) }
-    ensures leaves { ReadsAtMost size file (H.state shelf.old) (H.state shelf.new) result }
+    ensures front { (files : List (List ℕ)) → ReadsAs (H.state shelf.new) files
+        → IfOk result (λ first. first ≡ front_of (bytes_at files file from size)) }
+    ensures leaves { ReadsAtMost (λ _. size) file (H.state shelf.old) (H.state shelf.new) result }
 {
     let mut first = [0; 4];
     let count = size.min(4) as usize;

@@ -1,7 +1,7 @@
-ghost use Rattle.std.specs.Prelude.{◌≡◌, ◌+◌, ◌-◌, ◌<◌, ◌≤◌, length, drop, slice_index, is_some, IsTrue, IfOk, IfSome};
+ghost use Rattle.std.specs.Prelude.{◌≡◌, ◌+◌, ◌-◌, ◌<◌, ◌≤◌, ℕ, List, length, drop, slice_index, is_some, IfOk, IfSome};
 ghost use Rattle.md5.specs.Md5.{md5};
 ghost use Rattle.parfield.specs.Packet.{begins_packet, header_of};
-ghost use Rattle.parshelf.specs.Shelf.{file_of, bytes_at};
+ghost use Rattle.parshelf.specs.Shelf.{ReadsAs, file_of, bytes_at};
 ghost use Rattle.parsalvage.specs.MagicPlaces.{begins_framed, framed_size};
 ghost use Rattle.parsalvage.specs.Hands.{ReadsAtMost};
 ghost use Rattle.parsalvage.specs.Pieces.{IsPieceOf};
@@ -28,15 +28,15 @@ pub fn validate<H: Shelf>(
     ensures fits { IfOk result (λ head. IfSome head
         (λ head. at + head.length ≤ slice_index (H.state shelf.old).lengths file)) }
     ensures long { IfOk result (λ head. IfSome head (λ head. 64 ≤ head.length)) }
-    ensures found { IsTrue (H.state shelf.old).is_steady → IfOk result
-        (λ head. is_some head ≡ begins_packet (drop at (file_of (H.state shelf.old) file))) }
-    ensures fields { IsTrue (H.state shelf.old).is_steady → IfOk result (λ head. IfSome head
-        (λ head. head ≡ header_of (drop at (file_of (H.state shelf.old) file)))) }
+    ensures found { (files : List (List ℕ)) → ReadsAs (H.state shelf.new) files → IfOk result
+        (λ head. is_some head ≡ begins_packet (drop at (file_of files file))) }
+    ensures fields { (files : List (List ℕ)) → ReadsAs (H.state shelf.new) files → IfOk result
+        (λ head. IfSome head (λ head. head ≡ header_of (drop at (file_of files file)))) }
 
-    ensures leaves { ReadsAtMost (64 + framed_size (drop at (file_of (H.state shelf.old) file)))
+    ensures leaves { ReadsAtMost (λ bytes. 64 + framed_size (drop at bytes))
         file (H.state shelf.old) (H.state shelf.new) result }
     ensures rest { piece.now.base ≤ at
-        → ReadsAtMost (64 + (at + framed_size (drop at (file_of (H.state shelf.old) file))
+        → ReadsAtMost (λ bytes. 64 + (at + framed_size (drop at bytes)
         - (piece.now.base + length piece.now.bytes.now)))
         file (H.state shelf.old) (H.state shelf.new) result }
 {
@@ -63,12 +63,12 @@ fn header_at<H: Shelf>(
     ensures fits { IfOk result (λ head. IfSome head
         (λ head. at + head.length ≤ slice_index (H.state shelf.old).lengths file)) }
     ensures long { IfOk result (λ head. IfSome head (λ head. 64 ≤ head.length)) }
-    ensures found { IsTrue (H.state shelf.old).is_steady → IfOk result
-        (λ head. is_some head ≡ begins_framed (drop at (file_of (H.state shelf.old) file))) }
-    ensures fields { IsTrue (H.state shelf.old).is_steady → IfOk result (λ head. IfSome head
-        (λ head. head ≡ header_of (drop at (file_of (H.state shelf.old) file)))) }
+    ensures found { (files : List (List ℕ)) → ReadsAs (H.state shelf.new) files → IfOk result
+        (λ head. is_some head ≡ begins_framed (drop at (file_of files file))) }
+    ensures fields { (files : List (List ℕ)) → ReadsAs (H.state shelf.new) files → IfOk result
+        (λ head. IfSome head (λ head. head ≡ header_of (drop at (file_of files file)))) }
 
-    ensures leaves { ReadsAtMost 64 file (H.state shelf.old) (H.state shelf.new) result }
+    ensures leaves { ReadsAtMost (λ _. 64) file (H.state shelf.old) (H.state shelf.new) result }
 {
     let room = shelf.length(file) - at;
     let mut bytes = [0; 64];
@@ -97,11 +97,11 @@ fn hash_at<H: Shelf>(
     requires buffer { 0 < length buffer.old }
     requires piece { IsPieceOf (H.state shelf.old) file piece.now }
 
-    ensures digest { IsTrue (H.state shelf.old).is_steady →
-        IfOk result (λ hash. hash.0 ≡ md5 (bytes_at (H.state shelf.old) file from size)) }
-    ensures leaves { ReadsAtMost size file (H.state shelf.old) (H.state shelf.new) result }
+    ensures digest { (files : List (List ℕ)) → ReadsAs (H.state shelf.new) files
+        → IfOk result (λ hash. hash.0 ≡ md5 (bytes_at files file from size)) }
+    ensures leaves { ReadsAtMost (λ _. size) file (H.state shelf.old) (H.state shelf.new) result }
     ensures rest { piece.now.base ≤ from
-        → ReadsAtMost (from + size - (piece.now.base + length piece.now.bytes.now))
+        → ReadsAtMost (λ _. from + size - (piece.now.base + length piece.now.bytes.now))
         file (H.state shelf.old) (H.state shelf.new) result }
 {
     let front = piece.front_of_part(from, size);

@@ -6,6 +6,7 @@ mod finding;
 mod large;
 mod listing;
 mod many_tails;
+mod own_files;
 mod parts;
 mod reads;
 mod resuming;

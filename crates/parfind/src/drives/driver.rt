@@ -1,5 +1,7 @@
-ghost use Rattle.std.specs.Prelude.{◌≡◌, ◌+◌, ◌<◌, ◌≤◌, ◌++◌, ◌∷◌, [], All, Contains, IsTrue, IfOk, IfErr, vec_len, vec_capacity};
+ghost use Rattle.std.specs.Prelude.{◌≡◌, ◌+◌, ◌<◌, ◌≤◌, ◌++◌, ◌∷◌, ℕ, List, [], All, Contains, IsTrue, IfOk, IfErr, vec_len, vec_capacity};
+ghost use Rattle.parshelf.specs.Shelf.{ReadsAs};
 ghost use Rattle.parfind.specs.Order.{is_from};
+ghost use Rattle.parfind.specs.Steps.{scan_of};
 ghost use Rattle.parfind.specs.OnePass.{HandsWithin};
 ghost use Rattle.parfind.specs.Points.{search_at};
 ghost use Rattle.parfind.specs.Sought.{sought_of};
@@ -27,9 +29,9 @@ pub fn drive<H: Shelf>(
 ) -> Result<Drive, StartFault>
     requires { All HasBudget calls.now }
 
-    // The answers, the cursor and the shelf, where it is steady.
-    ensures answer { IsTrue (H.state shelf.old).is_steady → IfOk result (λ drive.
-        CallsGive (sought_of index.now mode)
+    // The answers, the cursor and the shelf, in any files that the shelf is read as in the end.
+    ensures answer { (files : List (List ℕ)) → ReadsAs (H.state shelf.new) files →
+        IfOk result (λ drive. CallsGive (scan_of (sought_of index.now mode) files)
         (search_at (H.state shelf.old) start) calls.now drive.answers
         (search_at (H.state shelf.new) drive.cursor)) }
 

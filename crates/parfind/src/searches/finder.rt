@@ -1,4 +1,5 @@
-ghost use Rattle.std.specs.Prelude.{◌≡◌, ◌≢◌, ◌-◌, ◌<◌, ◌≤◌, None, Some, Ok, length, option_map, IsTrue, OnOk, IfOk, IfSome, IfNone};
+ghost use Rattle.std.specs.Prelude.{◌≡◌, ◌≢◌, ◌-◌, ◌<◌, ◌≤◌, ℕ, List, None, Some, Ok, length, option_map, IsTrue, OnOk, IfOk, IfSome, IfNone};
+ghost use Rattle.parshelf.specs.Shelf.{ReadsAs};
 ghost use Rattle.parfind.specs.Finders.{BelongsTo, GoesAlong, search_of, sought_for, StandsAt};
 ghost use Rattle.parfind.specs.declared.searches.finder.Step.TheVariants.{Spent};
 ghost use Rattle.parfind.specs.NextPlace.{HasFit, IsAtPlace, IsNextPlace};
@@ -118,9 +119,9 @@ impl Finder {
         requires { BelongsTo self.old index.now (H.state shelf.old) }
         ensures belongs { BelongsTo self.new index.now (H.state shelf.new) }
 
-        // The answer, the cursor and the shelf, where it is steady.
-        ensures answer { IsTrue (H.state shelf.old).is_steady → StepGives
-            (sought_for index.now self.old) None
+        // The answer, the cursor and the shelf, in any files that the shelf is read as.
+        ensures answer { (files : List (List ℕ)) → ReadsAs (H.state shelf.new) files → StepGives
+            (scan_of (sought_for index.now self.old) files) None
             (search_at (H.state shelf.old) self.old.cursor) result
             (search_at (H.state shelf.new) self.new.cursor) }
 
@@ -132,11 +133,11 @@ impl Finder {
         ensures along { GoesAlong (H.state shelf.old) (H.state shelf.new)
             self.old self.new result }
 
-        // How much is read, on any shelf.
+        // How much is read, on any shelf, and hashed of what was read.
         ensures reads { CallReads index.now.slice_size
             (search_of (H.state shelf.old) self.old) (search_of (H.state shelf.new) self.new) }
-        ensures digests { IsTrue (H.state shelf.new).is_steady → self.new.digests
-            ≤ marks (scan_of (sought_for index.now self.new) (H.state shelf.new))
+        ensures digests { (files : List (List ℕ)) → ReadsAs (H.state shelf.new) files
+            → self.new.digests ≤ marks (scan_of (sought_for index.now self.new) files)
             self.new.opening self.new.cursor }
     {
         self.advance(index, shelf, None)
@@ -155,9 +156,9 @@ impl Finder {
         requires belongs { BelongsTo self.old index.now (H.state shelf.old) }
         ensures belongs { BelongsTo self.new index.now (H.state shelf.new) }
 
-        // The answer, the cursor and the shelf, where it is steady.
-        ensures answer { IsTrue (H.state shelf.old).is_steady → StepGives
-            (sought_for index.now self.old) (Some budget)
+        // The answer, the cursor and the shelf, in any files that the shelf is read as.
+        ensures answer { (files : List (List ℕ)) → ReadsAs (H.state shelf.new) files → StepGives
+            (scan_of (sought_for index.now self.old) files) (Some budget)
             (search_at (H.state shelf.old) self.old.cursor) result
             (search_at (H.state shelf.new) self.new.cursor) }
 
@@ -169,11 +170,11 @@ impl Finder {
         ensures along { GoesAlong (H.state shelf.old) (H.state shelf.new)
             self.old self.new result }
 
-        // How much is read, on any shelf.
+        // How much is read, on any shelf, and hashed of what was read.
         ensures reads { CallReads index.now.slice_size
             (search_of (H.state shelf.old) self.old) (search_of (H.state shelf.new) self.new) }
-        ensures digests { IsTrue (H.state shelf.new).is_steady → self.new.digests
-            ≤ marks (scan_of (sought_for index.now self.new) (H.state shelf.new))
+        ensures digests { (files : List (List ℕ)) → ReadsAs (H.state shelf.new) files
+            → self.new.digests ≤ marks (scan_of (sought_for index.now self.new) files)
             self.new.opening self.new.cursor }
     {
         self.advance(index, shelf, Some(budget))
@@ -190,8 +191,8 @@ impl Finder {
         requires belongs { BelongsTo self.old index.now (H.state shelf.old) }
         ensures belongs { BelongsTo self.new index.now (H.state shelf.new) }
 
-        ensures answer { IsTrue (H.state shelf.old).is_steady → StepGives
-            (sought_for index.now self.old) budget
+        ensures answer { (files : List (List ℕ)) → ReadsAs (H.state shelf.new) files → StepGives
+            (scan_of (sought_for index.now self.old) files) budget
             (search_at (H.state shelf.old) self.old.cursor) result
             (search_at (H.state shelf.new) self.new.cursor) }
 
@@ -230,8 +231,8 @@ impl Finder {
         requires belongs { BelongsTo self.old index.now (H.state shelf.old) }
         ensures belongs { BelongsTo self.new index.now (H.state shelf.new) }
 
-        ensures sees { IsTrue (H.state shelf.old).is_steady →
-            StepSees (scan_of (sought_for index.now self.old) (H.state shelf.old))
+        ensures sees { (files : List (List ℕ)) → ReadsAs (H.state shelf.new) files →
+            StepSees (scan_of (sought_for index.now self.old) files)
             self.old.cursor (answer_of result) self.new.cursor }
         ensures moves { StepMoves (H.state shelf.old).lengths (Some (count_of result))
             self.old.cursor (answer_of result) self.new.cursor }
@@ -274,8 +275,8 @@ impl Finder {
 
         ensures fits { IfNone result (HasFit index.now (H.state shelf.now).lengths at
             × (self.new ≡ self.old)) }
-        ensures sees { IsTrue (H.state shelf.now).is_steady → IfSome result (λ _.
-            StepSees (scan_of (sought_for index.now self.old) (H.state shelf.now))
+        ensures sees { (files : List (List ℕ)) → ReadsAs (H.state shelf.now) files →
+            IfSome result (λ _. StepSees (scan_of (sought_for index.now self.old) files)
             self.old.cursor (Ok Spent) self.new.cursor) }
         ensures passes { IfSome result (λ count. PassesAll (H.state shelf.now).lengths count
             self.old.cursor self.new.cursor) }
@@ -341,8 +342,8 @@ impl Finder {
         requires belongs { BelongsTo self.old index.now (H.state shelf.old) }
         ensures belongs { BelongsTo self.new index.now (H.state shelf.new) }
 
-        ensures sees { IsTrue (H.state shelf.old).is_steady →
-            StepSees (scan_of (sought_for index.now self.old) (H.state shelf.old))
+        ensures sees { (files : List (List ℕ)) → ReadsAs (H.state shelf.new) files →
+            StepSees (scan_of (sought_for index.now self.old) files)
             self.old.cursor (answer_of result) self.new.cursor }
         ensures moves { StepMoves (H.state shelf.old).lengths (Some (count_of result))
             self.old.cursor (answer_of result) self.new.cursor }

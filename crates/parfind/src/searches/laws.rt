@@ -1,4 +1,5 @@
 ghost use Rattle.parfind.specs.PlainMode.{PlainSees, PlainMarks, PlainMisses, ModesAgree};
+ghost use Rattle.parfind.specs.Finders.{BelongsLater};
 ghost use Rattle.parfind.specs.OnePass.{ReachAddsUp};
 ghost use Rattle.parfind.specs.Steps.{StepHandsOut, SpentSeesNone};
 
@@ -13,6 +14,12 @@ pub fn step_law()
 /// Does nothing.
 pub fn reach_law()
     ensures { ReachAddsUp }
+{}
+
+/// The law of finders: one still belongs to its shelf once others have read on in it, between two
+/// calls. Does nothing.
+pub fn finder_law()
+    ensures { BelongsLater }
 {}
 
 /// The laws of modes: in the plain one a slice is seen by the whole window, and marks are places;

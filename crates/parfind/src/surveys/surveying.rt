@@ -1,7 +1,8 @@
-ghost use Rattle.std.specs.Prelude.{◌≡◌, ◌+◌, ◌≤◌, ◌<◌, ℕ, [], false, length, IsTrue, IfErr};
+ghost use Rattle.std.specs.Prelude.{◌≡◌, ◌+◌, ◌≤◌, ◌<◌, ℕ, List, [], false, length, IsTrue, IfErr};
 ghost use Rattle.std.specs.List.{list_any};
 ghost use Rattle.parfind.specs.Tracks.{IsUnread};
 ghost use Rattle.parset.specs.Limits.{slice_size_limit};
+ghost use Rattle.parshelf.specs.Shelf.{ReadsAs};
 ghost use Rattle.parshelf.specs.Reads.{ReadsFile};
 ghost use Rattle.parfind.specs.Handover.{HandsEachOnce, SkipsUnfit};
 ghost use Rattle.parfind.specs.Marks.{missing_count};
@@ -50,12 +51,11 @@ pub fn survey<H: Shelf>(
 ) -> Result<(), SurveyFault>
     requires { length found.old ≡ length index.now.slices }
 
-    // The marks on a steady shelf.
-    ensures found { IsTrue (H.state shelf.old).is_steady →
-        SurveyMarks (scan_of (sought_of index.now mode) (H.state shelf.old))
-        found.old found.new result }
-    ensures stops { IsTrue (H.state shelf.old).is_steady →
-        StopsOnceFound (sought_of index.now mode)
+    // The marks, in any files that the shelf is read as.
+    ensures found { (files : List (List ℕ)) → ReadsAs (H.state shelf.new) files →
+        SurveyMarks (scan_of (sought_of index.now mode) files) found.old found.new result }
+    ensures stops { (files : List (List ℕ)) → ReadsAs (H.state shelf.new) files →
+        StopsOnceFound (scan_of (sought_of index.now mode) files)
         (H.state shelf.old) (H.state shelf.new) found.old }
 
     // On any shelf.
@@ -92,11 +92,10 @@ fn survey_few_tails<H: Shelf>(
 ) -> Result<(), SurveyFault>
     requires each { length found.old ≡ length index.now.slices }
     requires few { HasFewTails (sought_of index.now mode) }
-    ensures found { IsTrue (H.state shelf.old).is_steady →
-        SurveyMarks (scan_of (sought_of index.now mode) (H.state shelf.old))
-        found.old found.new result }
-    ensures stops { IsTrue (H.state shelf.old).is_steady →
-        StopsOnceFound (sought_of index.now mode)
+    ensures found { (files : List (List ℕ)) → ReadsAs (H.state shelf.new) files →
+        SurveyMarks (scan_of (sought_of index.now mode) files) found.old found.new result }
+    ensures stops { (files : List (List ℕ)) → ReadsAs (H.state shelf.new) files →
+        StopsOnceFound (scan_of (sought_of index.now mode) files)
         (H.state shelf.old) (H.state shelf.new) found.old }
     ensures kept { KeepsMarks found.old found.new }
     ensures leaves { SurveyLeaves (marked_at (H.state shelf.old) found.old)
@@ -128,21 +127,20 @@ pub fn survey_in<H: Shelf>(
     requires made { IsWindowFor (sought_of index.now mode) window.old }
     requires each { length found.old ≡ length index.now.slices }
 
-    // The marks on a steady shelf.
-    ensures found { IsTrue (H.state shelf.old).is_steady →
-        SurveyMarks (scan_of (sought_of index.now mode) (H.state shelf.old))
-        found.old found.new result }
-    ensures so_far { IsTrue (H.state shelf.old).is_steady → IfErr result (λ fault.
-        MarksUpToFault (sought_of index.now mode) (marked_at (H.state shelf.old) found.old)
-        (marked_at (H.state shelf.new) found.new) fault.0) }
+    // The marks, in any files that the shelf is read as.
+    ensures found { (files : List (List ℕ)) → ReadsAs (H.state shelf.new) files →
+        SurveyMarks (scan_of (sought_of index.now mode) files) found.old found.new result }
+    ensures so_far { IfErr result (λ fault. MarksUpToFault (sought_of index.now mode)
+        (marked_at (H.state shelf.old) found.old) (marked_at (H.state shelf.new) found.new)
+        fault.0) }
 
-    // How much is read and hashed on a steady shelf.
-    ensures stops { IsTrue (H.state shelf.old).is_steady →
-        StopsOnceFound (sought_of index.now mode)
+    // How much is read and hashed, in any such files.
+    ensures stops { (files : List (List ℕ)) → ReadsAs (H.state shelf.new) files →
+        StopsOnceFound (scan_of (sought_of index.now mode) files)
         (H.state shelf.old) (H.state shelf.new) found.old }
-    ensures digests { IsTrue (H.state shelf.old).is_steady → window.new.digests
-        ≤ window.old.digests
-        + missing_count (scan_of (sought_of index.now mode) (H.state shelf.old)) found.old }
+    ensures digests { (files : List (List ℕ)) → ReadsAs (H.state shelf.new) files →
+        window.new.digests ≤ window.old.digests
+        + missing_count (scan_of (sought_of index.now mode) files) found.old }
 
     // On any shelf.
     ensures kept { KeepsMarks found.old found.new }

@@ -1,5 +1,5 @@
-ghost use Rattle.std.specs.Prelude.{◌≡◌, ◌^◌, ◌+◌, ◌-◌, ◌<◌, ◌≤◌, min, length, take, slice_index, IsTrue, OnOk};
-ghost use Rattle.parshelf.specs.Shelf.{file_of};
+ghost use Rattle.std.specs.Prelude.{◌≡◌, ◌^◌, ◌+◌, ◌-◌, ◌<◌, ◌≤◌, ℕ, List, min, length, take, slice_index, OnOk};
+ghost use Rattle.parshelf.specs.Shelf.{ReadsAs, file_of};
 ghost use Rattle.parfind.specs.Tracks.{HasBytes, IsTied, IsUnread, IsReadOn, IsPieceOf, SameTrack, cursor_of_track, next_offset, fetched_of};
 ghost use Rattle.parfind.specs.Fetched.{ReadsUpTo, ahead_limit};
 ghost use Rattle.parshelf.specs.Reads.{ReadsFile};
@@ -78,8 +78,8 @@ impl Track {
             < slice_index (H.state shelf.old).lengths self.old.file }
         ensures on { IsReadOn self.old self.new }
         ensures some { OnOk result (0 < self.new.buffer_len) }
-        ensures bytes { IsTrue (H.state shelf.old).is_steady →
-            HasBytes (file_of (H.state shelf.old) self.old.file) self.new.buffer_offset
+        ensures bytes { (files : List (List ℕ)) → ReadsAs (H.state shelf.new) files →
+            HasBytes (file_of files self.old.file) self.new.buffer_offset
             (take self.new.buffer_len self.new.bytes) }
 
         ensures reads { ReadsUpTo (H.state shelf.old) (H.state shelf.new)

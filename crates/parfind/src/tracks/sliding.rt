@@ -1,5 +1,5 @@
-ghost use Rattle.std.specs.Prelude.{◌≡◌, ◌≢◌, ◌+◌, ◌<◌, ◌≤◌, ◌++◌, [], length, slice_index, IsTrue, OnOk, IfOk, IfErr};
-ghost use Rattle.parshelf.specs.Shelf.{file_of};
+ghost use Rattle.std.specs.Prelude.{◌≡◌, ◌≢◌, ◌+◌, ◌<◌, ◌≤◌, ◌++◌, ℕ, List, [], length, slice_index, OnOk, IfOk, IfErr};
+ghost use Rattle.parshelf.specs.Shelf.{ReadsAs, file_of};
 ghost use Rattle.parfind.specs.Tracks.{IsTied, IsUnread, SameTrack, HaveNoLookedCrc, Passes, fetched_of};
 ghost use Rattle.parfind.specs.Fetched.{ReadsUpTo};
 ghost use Rattle.parfind.specs.Sought.{IsWindowFor, sought_of};
@@ -71,9 +71,9 @@ impl Track {
         ensures passes { IfOk result (Passes
             (slice_index (H.state shelf.old).lengths self.old.file) self.old self.new most) }
         ensures none { (mode : Mode) → IsWindowFor (sought_of index.now mode) window.old
-            → IsTrue (H.state shelf.old).is_steady → IfOk result (HaveNoLookedCrc
-            (sought_of index.now mode) (file_of (H.state shelf.old) self.old.file)
-            self.old.window_offset) }
+            → (files : List (List ℕ)) → ReadsAs (H.state shelf.new) files
+            → IfOk result (HaveNoLookedCrc (sought_of index.now mode)
+            (file_of files self.old.file) self.old.window_offset) }
         ensures stays { IfErr result (λ _.
             SameTrack self.old self.new × (window.new ≡ window.old)) }
         ensures same { self.new.file ≡ self.old.file }

@@ -1,8 +1,8 @@
-ghost use Rattle.std.specs.Prelude.{◌≡◌, ◌||◌, ◌==◌, ◌<◌, ℕ, length, map, IsTrue, IfOk, OnOk, IfErr};
+ghost use Rattle.std.specs.Prelude.{◌≡◌, ◌||◌, ◌==◌, ◌<◌, ℕ, List, length, map, IfOk, OnOk, IfErr};
 ghost use Rattle.std.specs.BTreeSet.{contains};
 ghost use Rattle.std.specs.Ordering.{nat_cmp};
 ghost use Rattle.parshelf.specs.Reads.{ReadsOnly};
-ghost use Rattle.parshelf.specs.Shelf.{file_of};
+ghost use Rattle.parshelf.specs.Shelf.{ReadsAs, file_of};
 ghost use Rattle.parreport.specs.Contents.{HandsOnce, ReadsCandidates};
 ghost use Rattle.parreport.specs.Files.{FilesLeave};
 ghost use Rattle.parreport.specs.States.{has_length, checked_of};
@@ -30,8 +30,8 @@ pub fn contents<Q: Shelf>(
     files: &[SetFile],
     shelf: &mut Q,
 ) -> Result<Vec<Option<LengthAndMd5>>, SurveyFault>
-    ensures contents { IsTrue (Q.state shelf.old).is_steady → IfOk result (λ contents.
-        contents.items ≡ map (checked_of files.now) (Q.state shelf.old).files) }
+    ensures contents { (scanned : List (List ℕ)) → ReadsAs (Q.state shelf.new) scanned
+        → IfOk result (λ contents. contents.items ≡ map (checked_of files.now) scanned) }
     ensures bytes { ReadsCandidates files.now (Q.state shelf.old) (Q.state shelf.new) }
     ensures ok { OnOk result (ReadsOnly (Q.state shelf.old) (Q.state shelf.new)) }
     ensures fault { IfErr result (FilesLeave (Q.state shelf.old) (Q.state shelf.new)) }
@@ -78,8 +78,8 @@ fn content_at<Q: Shelf>(
 ) -> Result<Option<LengthAndMd5>, SurveyFault>
     requires lengths { (n : ℕ) → contains nat_cmp lengths.now n ≡ has_length files.now n }
     requires file { file < length (Q.state shelf.old).lengths }
-    ensures content { IsTrue (Q.state shelf.old).is_steady → IfOk result (λ content.
-        content ≡ checked_of files.now (file_of (Q.state shelf.old) file)) }
+    ensures content { (scanned : List (List ℕ)) → ReadsAs (Q.state shelf.new) scanned
+        → IfOk result (λ content. content ≡ checked_of files.now (file_of scanned file)) }
     ensures bytes { HandsOnce files.now (Q.state shelf.old) (Q.state shelf.new) file }
     ensures ok { OnOk result (ReadsOnly (Q.state shelf.old) (Q.state shelf.new)) }
     ensures fault { IfErr result (FilesLeave (Q.state shelf.old) (Q.state shelf.new)) }

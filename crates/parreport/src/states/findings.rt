@@ -1,5 +1,6 @@
-ghost use Rattle.std.specs.Prelude.{◌≡◌, length, is_none, All, IsTrue, IfOk, OnOk, IfErr};
+ghost use Rattle.std.specs.Prelude.{◌≡◌, ℕ, List, length, is_none, All, IsTrue, IfOk, OnOk, IfErr};
 ghost use Rattle.parshelf.specs.Reads.{ReadsOnly};
+ghost use Rattle.parshelf.specs.Shelf.{ReadsAs};
 ghost use Rattle.parreport.specs.Contents.{ReadsCandidates, ReadsCandidatesThenScans};
 ghost use Rattle.parreport.specs.Files.{FilesLeave};
 ghost use Rattle.parreport.specs.States.{named_files};
@@ -54,11 +55,12 @@ pub(crate) fn findings_on<Q: Shelf>(
     requires index { index.now ≡ slice_set_of set.now.size set.now.slices }
     requires few { HasFewTails (set_sought_of set.now mode) }
 
-    // On a steady shelf.
-    ensures findings { IsTrue (Q.state shelf.old).is_steady → IfOk result (λ findings.
-        findings ≡ findings_of set.now mode (named_files files.now (Q.state shelf.old).files)) }
+    // Of any files of which that was read, by their digests and by the search.
+    ensures findings { (contents : List (List ℕ)) → ReadsAs (Q.state shelf.new) contents
+        → IfOk result (λ findings.
+        findings ≡ findings_of set.now mode (named_files files.now contents)) }
 
-    // On any shelf.
+    // Whatever was read.
     ensures states { IfOk result (λ findings. length findings.states ≡ length set.now.files) }
     ensures slices { IfOk result (λ findings. length findings.found ≡ length set.now.slices) }
     ensures handed { ReadsCandidatesThenScans set.now.files

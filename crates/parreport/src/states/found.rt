@@ -1,18 +1,18 @@
-ghost use Rattle.std.specs.Prelude.{◌≡◌, ◌&&◌, ◌||◌, map, length, All, EachIndex, IsTrue, IfOk, OnOk, IfErr};
+ghost use Rattle.std.specs.Prelude.{◌≡◌, ◌&&◌, ◌||◌, ℕ, List, map, length, All, EachIndex, IsTrue, IfOk, OnOk, IfErr};
 ghost use Rattle.std.specs.BTreeSet.{contains};
 ghost use Rattle.std.specs.List.{enumerate_from, list_any};
 ghost use Rattle.std.specs.Str.{bytes_eq};
 ghost use Rattle.parfield.specs.HashOrder.{id_cmp};
 ghost use Rattle.parshelf.specs.Reads.{ReadsOnly};
+ghost use Rattle.parshelf.specs.Shelf.{ReadsAs};
 ghost use Rattle.parwindow.specs.Index.{slice_set_of};
 ghost use Rattle.parfind.specs.Sought.{HasFewTails};
-ghost use Rattle.parfind.specs.Steps.{scan_of};
 ghost use Rattle.parfind.specs.Handover.{HandsEachOnce};
 ghost use Rattle.parfind.specs.Surveys.{is_sighted, StopsOnceFound};
 ghost use Rattle.parwindow.specs.Missing.{mark_of};
 ghost use Rattle.parreport.specs.Files.{FilesLeave};
 ghost use Rattle.parreport.specs.States.{is_intact};
-ghost use Rattle.parreport.specs.Findings.{need_of, is_settled, can_be_found};
+ghost use Rattle.parreport.specs.Findings.{need_of, is_settled, can_be_found, set_scan_of};
 ghost use Rattle.parreport.specs.SetSearch.{set_sought_of};
 
 use crate::states::state::State;
@@ -68,16 +68,16 @@ pub fn found_slices<Q: Shelf>(
     requires index { index.now ≡ slice_set_of set.now.size set.now.slices }
     requires few { HasFewTails (set_sought_of set.now mode) }
 
-    // On a steady shelf.
-    ensures found { IsTrue (Q.state shelf.old).is_steady → IfOk result (λ found. found.items
-        ≡ map (λ slice. contains id_cmp whole.now slice.1.id || is_sighted
-        (scan_of (set_sought_of set.now mode) (Q.state shelf.old)) slice.0)
+    // Of any files of which that was read.
+    ensures found { (files : List (List ℕ)) → ReadsAs (Q.state shelf.new) files
+        → IfOk result (λ found. found.items ≡ map (λ slice. contains id_cmp whole.now slice.1.id
+        || is_sighted (set_scan_of set.now mode files) slice.0)
         (enumerate_from 0 set.now.slices)) }
-    ensures stops { IsTrue (Q.state shelf.old).is_steady → StopsOnceFound
-        (set_sought_of set.now mode) (Q.state shelf.old) (Q.state shelf.new)
+    ensures stops { (files : List (List ℕ)) → ReadsAs (Q.state shelf.new) files
+        → StopsOnceFound (set_scan_of set.now mode files) (Q.state shelf.old) (Q.state shelf.new)
         (map (is_settled whole.now) set.now.slices) }
 
-    // On any shelf.
+    // Whatever was read.
     ensures slices { IfOk result (λ found. length found.items ≡ length set.now.slices) }
     ensures handed { HandsEachOnce (Q.state shelf.old) (Q.state shelf.new) }
     ensures none { All (λ slice. IsTrue (is_settled whole.now slice)) set.now.slices →

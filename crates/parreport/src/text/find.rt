@@ -1,7 +1,9 @@
-ghost use Rattle.std.specs.Prelude.{◌≡◌, ◌≢◌, length, IsTrue, false, IfErr, IsOkAnd, Some};
+ghost use Rattle.std.specs.Prelude.{◌≡◌, ◌≢◌, ℕ, List, length, false, IfErr, IsOkAnd, Some};
+ghost use Rattle.parshelf.specs.Shelf.{ReadsAs};
 ghost use Rattle.parreport.specs.Faults.{OnScannedFault};
 ghost use Rattle.parreport.specs.FindText.{find_search_of, WritesLinesBefore};
 ghost use Rattle.parreport.specs.Outcomes.{is_packet_file_fault, written, may_follow_text, Answers, LeavesScanned, LeavesSink};
+ghost use Rattle.parreport.specs.OtherLists.{FitsList, is_for_files};
 ghost use Rattle.parreport.specs.Names.{list_of, names_of};
 ghost use Rattle.parreport.specs.Report.{find_report, find_start_of, start_of};
 ghost use Rattle.parplan.specs.declared.command.Command.TheVariants as command;
@@ -43,13 +45,13 @@ pub(crate) fn write_find<Q: Shelf, W: Sink>(
     requires limit { query.limit ≢ Some 0 }
     requires scanned { length (Q.state scanned.old).lengths ≡ length plan.now.scanned }
 
-    ensures text { IsTrue (Q.state scanned.old).is_steady
-        → Answers (find_report plan.now query (Q.state scanned.old).files set.now) result
+    ensures text { (files : List (List ℕ)) → ReadsAs (Q.state scanned.new) files
+        → Answers (find_report plan.now query files set.now) result
         (W.state out.old) (W.state out.new) }
-    ensures lines { IsTrue (Q.state scanned.old).is_steady → IfErr result (OnScannedFault (λ file.
-        IsOkAnd (find_start_of plan.now query (Q.state scanned.old).files set.now)
-        (λ at. WritesLinesBefore
-        (find_search_of plan.now.scanned (Q.state scanned.old).files set.now at query)
+    ensures lines { (files : List (List ℕ)) → ReadsAs (Q.state scanned.new) files
+        → IfErr result (OnScannedFault (λ file.
+        IsOkAnd (find_start_of plan.now query files set.now)
+        (λ at. WritesLinesBefore (find_search_of plan.now.scanned files set.now at query)
         file (W.state out.old) (W.state out.new)))) }
     ensures no_packet { IfErr result (λ fault. is_packet_file_fault fault ≡ false) }
     ensures nothing_written { IfErr result (λ fault.
@@ -58,6 +60,7 @@ pub(crate) fn write_find<Q: Shelf, W: Sink>(
         → W.state out.new ≡ W.state out.old) }
     ensures scanned { LeavesScanned result (Q.state scanned.old) (Q.state scanned.new) }
     ensures sink { LeavesSink result (W.state out.old) (W.state out.new) }
+    ensures list { FitsList (is_for_files plan.now (Q.state scanned.old).lengths query.cursor) result }
 {
     let files = plan.scanned.as_slice();
     let at = start(files, set, scanned, query.cursor)?;

@@ -1,4 +1,5 @@
-ghost use Rattle.std.specs.Prelude.{◌≡◌, length, Bool, IsTrue, false, Ok, IfErr};
+ghost use Rattle.std.specs.Prelude.{◌≡◌, ℕ, List, length, Bool, false, Ok, IfErr};
+ghost use Rattle.parshelf.specs.Shelf.{ReadsAs};
 ghost use Rattle.parreport.specs.SetSearch.{mode_of};
 ghost use Rattle.parreport.specs.Names.{names_of};
 ghost use Rattle.parreport.specs.Outcomes.{is_packet_file_fault, is_read_fault, written, may_follow_text, Answers, LeavesScanned, LeavesSink};
@@ -37,9 +38,8 @@ pub(crate) fn write_verify<Q: Shelf, W: Sink>(
     out: &mut W,
 ) -> Result<Status, RunFault>
     requires { length (Q.state scanned.old).lengths ≡ length plan.now.scanned }
-    ensures text { IsTrue (Q.state scanned.old).is_steady
-        → Answers
-        (verify_report plan.now quiet (mode_of tails) (Q.state scanned.old).files set.now) result
+    ensures text { (files : List (List ℕ)) → ReadsAs (Q.state scanned.new) files
+        → Answers (verify_report plan.now quiet (mode_of tails) files set.now) result
         (W.state out.old) (W.state out.new) }
     ensures no_packet { IfErr result (λ fault. is_packet_file_fault fault ≡ false) }
     ensures nothing_written { IfErr result (λ fault. may_follow_text (command.Verify quiet tails)

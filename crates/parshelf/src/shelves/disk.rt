@@ -2,7 +2,7 @@ ghost use Rattle.std.specs.Prelude.{◌≡◌, ◌<◌, ◌≤◌, ◌^◌, leng
 
 use crate::shelves::shelf::Shelf;
 use crate::sinks::Failed;
-use parfield::Counts;
+use parfield::{Counts, Readings};
 use std::alloc::{AllocError, Global};
 use std::convert::AsStr;
 use std::fs::{File, Files};
@@ -13,6 +13,7 @@ use std::{fs, io};
 #[derive(Drop)]
 pub struct DiskShelf {
     files: Vec<Opened>,
+    readings: Readings,
     failures_by_file: Counts,
     early_ends_by_file: Counts,
     handed_by_file: Counts,
@@ -80,6 +81,7 @@ impl DiskShelf {
         let count = files.len();
         Ok(DiskShelf {
             files,
+            readings: Readings::new(),
             failures_by_file: Counts::new(count),
             early_ends_by_file: Counts::new(count),
             handed_by_file: Counts::new(count),
@@ -120,12 +122,13 @@ impl Shelf for DiskShelf {
     #[tactic(auto, using(parfield::specs::Added::added))]
     fn read_at(&mut self, file: u32, offset: u64, buf: &mut [u8]) -> Result<usize, Failed> {
         match self.files[file as usize].file.read_at(buf, offset) {
-            Ok(0) if !buf.is_empty() && offset < self.length(file) => {
-                self.early_ends_by_file.add_at(file, 1);
-                Ok(0)
-            }
             Ok(size) => {
-                self.handed_by_file.add_at(file, size as u64);
+                self.readings.add(file, offset, buf.len(), &buf[..size]);
+                if size == 0 && !buf.is_empty() && offset < self.length(file) {
+                    self.early_ends_by_file.add_at(file, 1);
+                } else {
+                    self.handed_by_file.add_at(file, size as u64);
+                }
                 Ok(size)
             }
             Err(_) => {

@@ -1,8 +1,9 @@
 ghost use Rattle.std.specs.Prelude.{◌≡◌, ◌+◌, ◌-◌, ◌<◌, ◌≤◌, ◌^◌, ◌↔◌, min, sum, length, take, drop, map, slice_index, All, Contains, IsErr, IfOk, OnErr, vec_len};
+ghost use Rattle.parshelf.specs.Shelf.{IsReadingOf};
 
 use crate::shelves::shelf::Shelf;
 use crate::sinks::Failed;
-use parfield::Counts;
+use parfield::{Counts, Readings};
 
 /// Files in memory, of which certain reads fail.
 #[derive(Drop)]
@@ -12,6 +13,7 @@ pub struct MemShelf {
     failing: Vec<u64>,
     calls: u64,
     handed: u64,
+    readings: Readings,
     failures_by_file: Counts,
     early_ends_by_file: Counts,
     handed_by_file: Counts,
@@ -21,6 +23,7 @@ pub struct MemShelf {
     ghost failures_each: { length failures_by_file.counts ≡ length files.items },
     ghost early_ends_each: { length early_ends_by_file.counts ≡ length files.items },
     ghost handed_each: { length handed_by_file.counts ≡ length files.items },
+    ghost told: { All (IsReadingOf (map (λ file. file.items) files.items)) readings.readings },
     ghost handed_total: { handed ≡ min (sum handed_by_file.counts) (2 ^ 64 - 1) },
 }
 
@@ -47,6 +50,7 @@ impl MemShelf {
             failing,
             calls: 0,
             handed: 0,
+            readings: Readings::new(),
             failures_by_file: Counts::new(count),
             early_ends_by_file: Counts::new(count),
             handed_by_file: Counts::new(count),
@@ -62,7 +66,7 @@ impl MemShelf {
 }
 
 impl Shelf for MemShelf {
-    ghost use Rattle.parshelf.specs.Shelf.{after_read, after_failure, bytes_at};
+    ghost use Rattle.parshelf.specs.Shelf.{after_read, after_failure};
     ghost use Rattle.parshelf.specs.Memory.{shelf_state_of, read_piece, failing_of, read_number_of, shelf_state_of-IsShelf};
 
     ghost state = { shelf_state_of };
@@ -79,14 +83,11 @@ impl Shelf for MemShelf {
     fn read_at(&mut self, file: u32, offset: u64, buf: &mut [u8]) -> Result<usize, Failed>
         requires { file < length (shelf_state_of self.old).lengths }
 
-        // As every shelf, and it is a steady one.
-        ensures ok { IfOk result (λ n.
-            shelf_state_of self.new
-            ≡ after_read (shelf_state_of self.old) file offset (length buf.old) n) }
+        // As every shelf.
+        ensures ok { IfOk result (λ n. shelf_state_of self.new
+            ≡ after_read (shelf_state_of self.old) file offset (length buf.old) (take n buf.new)) }
         ensures failed { OnErr result
             (shelf_state_of self.new ≡ after_failure (shelf_state_of self.old) file) }
-        ensures bytes { IfOk result (λ n.
-            take n buf.new ≡ bytes_at (shelf_state_of self.old) file offset n) }
 
         // Which reads fail, and how much the others give.
         ensures number { read_number_of self.new ≡ min (read_number_of self.old + 1) (2 ^ 64 - 1) }
@@ -103,6 +104,7 @@ impl Shelf for MemShelf {
         }
         let bytes = self.files[file as usize].as_slice();
         let size = copy_piece(bytes, offset, self.piece, buf);
+        self.readings.add(file, offset, buf.len(), &buf[..size]);
         self.handed_by_file.add_at(file, size as u64);
         self.handed = self.handed.saturating_add(size as u64);
         Ok(size)

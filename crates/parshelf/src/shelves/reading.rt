@@ -1,7 +1,7 @@
-ghost use Rattle.std.specs.Prelude.{◌≡◌, ◌+◌, ◌++◌, ◌<◌, ◌≤◌, ◌↔◌, List, ℕ, length, slice_index, IsTrue, OnOk, IfOk, IfErr};
+ghost use Rattle.std.specs.Prelude.{◌≡◌, ◌+◌, ◌++◌, ◌<◌, ◌≤◌, ◌↔◌, List, ℕ, length, slice_index, OnOk, IfOk, IfErr};
 ghost use Rattle.md5.specs.Md5.{md5, Holds};
-ghost use Rattle.parshelf.specs.Shelf.{after_handing, bytes_at, file_of, failure_count, early_end_count};
-ghost use Rattle.parshelf.specs.Reads.{FaultsWithin};
+ghost use Rattle.parshelf.specs.Shelf.{ReadsAs, bytes_at, file_of, failure_count, early_end_count};
+ghost use Rattle.parshelf.specs.Reads.{HandsOver, FaultsWithin};
 
 use crate::shelves::shelf::Shelf;
 use crate::sinks::Failed;
@@ -28,9 +28,9 @@ pub fn fill<H: Shelf>(
     requires within { offset + length buf.old ≤ slice_index (H.state shelf.old).lengths file }
 
     ensures ok { OnOk result
-        (H.state shelf.new ≡ after_handing (H.state shelf.old) file (length buf.old)) }
-    ensures bytes { IsTrue (H.state shelf.old).is_steady →
-        OnOk result (buf.new ≡ bytes_at (H.state shelf.old) file offset (length buf.old)) }
+        (HandsOver (H.state shelf.old) (H.state shelf.new) file (length buf.old)) }
+    ensures bytes { (files : List (List ℕ)) → ReadsAs (H.state shelf.new) files →
+        OnOk result (buf.new ≡ bytes_at files file offset (length buf.old)) }
 
     // There is one failure or early end at most, and none is passed over.
     ensures fault { IfErr result
@@ -59,10 +59,10 @@ const PIECE: usize = 32_768;
 pub fn digest_of<H: Shelf>(shelf: &mut H, file: u32) -> Result<Hash16, ReadFault>
     requires { file < length (H.state shelf.old).lengths }
 
-    ensures ok { OnOk result (H.state shelf.new
-        ≡ after_handing (H.state shelf.old) file (slice_index (H.state shelf.old).lengths file)) }
-    ensures digest { IsTrue (H.state shelf.old).is_steady →
-        IfOk result (λ hash. hash.0 ≡ md5 (file_of (H.state shelf.old) file)) }
+    ensures ok { OnOk result (HandsOver (H.state shelf.old) (H.state shelf.new) file
+        (slice_index (H.state shelf.old).lengths file)) }
+    ensures digest { (files : List (List ℕ)) → ReadsAs (H.state shelf.new) files →
+        IfOk result (λ hash. hash.0 ≡ md5 (file_of files file)) }
 
     // There is one failure or early end at most, and none is passed over.
     ensures fault { IfErr result (FaultsWithin (H.state shelf.old) (H.state shelf.new) file
@@ -89,9 +89,9 @@ pub fn digest_of_part<H: Shelf>(
     requires within { offset + size ≤ slice_index (H.state shelf.old).lengths file }
     requires buffer { 0 < length buffer.old }
 
-    ensures ok { OnOk result (H.state shelf.new ≡ after_handing (H.state shelf.old) file size) }
-    ensures digest { IsTrue (H.state shelf.old).is_steady →
-        IfOk result (λ hash. hash.0 ≡ md5 (bytes_at (H.state shelf.old) file offset size)) }
+    ensures ok { OnOk result (HandsOver (H.state shelf.old) (H.state shelf.new) file size) }
+    ensures digest { (files : List (List ℕ)) → ReadsAs (H.state shelf.new) files →
+        IfOk result (λ hash. hash.0 ≡ md5 (bytes_at files file offset size)) }
 
     // There is one failure or early end at most, and none is passed over.
     ensures fault { IfErr result (FaultsWithin (H.state shelf.old) (H.state shelf.new) file size) }
@@ -119,10 +119,10 @@ pub fn hash_part<H: Shelf>(
     requires within { offset + size ≤ slice_index (H.state shelf.old).lengths file }
     requires buffer { 0 < length buffer.old }
 
-    ensures ok { OnOk result (H.state shelf.new ≡ after_handing (H.state shelf.old) file size) }
-    ensures hashed { IsTrue (H.state shelf.old).is_steady → (front : List ℕ)
-        → Holds hasher.old front
-        → OnOk result (Holds hasher.new (front ++ bytes_at (H.state shelf.old) file offset size)) }
+    ensures ok { OnOk result (HandsOver (H.state shelf.old) (H.state shelf.new) file size) }
+    ensures hashed { (files : List (List ℕ)) → ReadsAs (H.state shelf.new) files
+        → (front : List ℕ) → Holds hasher.old front
+        → OnOk result (Holds hasher.new (front ++ bytes_at files file offset size)) }
 
     // There is one failure or early end at most, and none is passed over.
     ensures fault { IfErr result (FaultsWithin (H.state shelf.old) (H.state shelf.new) file size) }

@@ -1,11 +1,11 @@
-ghost use Rattle.std.specs.Prelude.{◌≡◌, ◌<◌, ◌≤◌, ◌^◌, length, take, slice_index, IsTrue, IfOk, OnErr};
-ghost use Rattle.parshelf.specs.Shelf.{ShelfState, IsShelf, after_read, after_failure, bytes_at};
+ghost use Rattle.std.specs.Prelude.{◌≡◌, ◌<◌, ◌≤◌, ◌^◌, length, take, slice_index, IfOk, OnErr};
+ghost use Rattle.parshelf.specs.Shelf.{ShelfState, IsShelf, after_read, after_failure};
 
 use crate::sinks::Failed;
 
 /// Files that are read by number, the first being 0.
 pub trait Shelf {
-    /// The lengths, what was counted so far, and the content where it is a fixed one.
+    /// The lengths, and what was read and counted so far.
     ghost state: { Self → ShelfState };
 
     /// How many files there are.
@@ -23,17 +23,12 @@ pub trait Shelf {
     fn read_at(&mut self, file: u32, offset: u64, buf: &mut [u8]) -> Result<usize, Failed>
         requires { file < length (state self.old).lengths }
 
-        // One count of this file changes, and nothing else.
-        ensures ok { IfOk result (λ n.
-            state self.new ≡ after_read (state self.old) file offset (length buf.old) n) }
+        // What came is noted, and one count of this file changes.
+        ensures ok { IfOk result (λ n. state self.new
+            ≡ after_read (state self.old) file offset (length buf.old) (take n buf.new)) }
         ensures failed { OnErr result (state self.new ≡ after_failure (state self.old) file) }
 
-        ensures bound { IfOk result (λ n. n ≤ length buf.old) }
-        ensures bytes { IsTrue (state self.old).is_steady →
-            IfOk result (λ n. take n buf.new ≡ bytes_at (state self.old) file offset n) }
-        ensures end { IsTrue (state self.old).is_steady →
-            IfOk result (λ n. n ≡ 0 → 0 < length buf.old
-            → slice_index (state self.old).lengths file ≤ offset) };
+        ensures bound { IfOk result (λ n. n ≤ length buf.old) };
 
     /// What holds of every shelf.
     ghost well_formed: { (shelf : Self) → IsShelf (state shelf) };

@@ -88,8 +88,8 @@ pub fn scanned_in(rt: &(impl Abort + AllocGlobal), row: &Row<'_>, reads: Reads) 
     must(rt, shelf_of(rt.alloc(), &files, reads.piece, &failing))
 }
 
-// The plan of words, which are one.
-fn plan_of(rt: &(impl Abort + AllocGlobal), words: &str) -> Plan
+/// The plan of words, which are one.
+pub fn plan_of(rt: &(impl Abort + AllocGlobal), words: &str) -> Plan
     ensures { LimitIsNotZero result.command }
 {
     plan(rt.alloc(), &words_of(rt, words)).expect(rt, "error")

@@ -10,11 +10,11 @@ returns g c =
     let end = run_end_of c.args.plan.now c.run-answer.result in record {
       answer = c.run-answer.result;
       told = subst (λ end. IfOk c.tell.result (λ told. TellsEnd end told.0 told.1.items)) {y = end} c.run_end-end.ensures c.tell.ensures;
-      text = ran.text;
-      lines = ran.lines;
+      report = λ files reads. record { text = ran.text files reads; lines = ran.lines files reads };
       nothing_written = ran.nothing_written;
       packets_read = ran.packets;
       scanned_read = ran.scanned;
       sink = ran.sink;
+      list = ran.list;
       untouched = ran.untouched;
     }

@@ -1,4 +1,5 @@
-use Rattle.std.proofs.Common.{◌≡◌, IsTrue, take}
+use Rattle.std.proofs.Common.{◌≡◌, ℕ, List, take}
+use Rattle.parshelf.specs.Shelf.{ReadsAs}
 use Rattle.parshelf.specs.Reads.{ReadsOnly}
 use Rattle.parsalvage.specs.Kept.{kept_of_files}
 use Rattle.parreport.proofs.salvage.salvage_files.Given as goal
@@ -7,6 +8,6 @@ use Rattle.parreport.proofs.salvage.salvage_files.Given as goal
 abbrev pub invariant-loop-file : goal.invariant-loop-file
 invariant-loop-file g l = record {
   reads : ReadsOnly (g.H.Shelf.state l.fn.shelf) (g.H.Shelf.state l.shelf);
-  kept : IsTrue (g.H.Shelf.state l.fn.shelf).is_steady
-      → l.all.items ≡ kept_of_files (take l.file (g.H.Shelf.state l.fn.shelf).files);
+  kept : (files : List (List ℕ)) → ReadsAs (g.H.Shelf.state l.shelf) files
+      → l.all.items ≡ kept_of_files (take l.file files);
 }

@@ -1,4 +1,5 @@
-ghost use Rattle.std.specs.Prelude.{◌≡◌, ◌≢◌, length, IsTrue, IfErr, Some};
+ghost use Rattle.std.specs.Prelude.{◌≡◌, ◌≢◌, ℕ, List, length, IfErr, Some};
+ghost use Rattle.parshelf.specs.Shelf.{ReadsAs};
 ghost use Rattle.parfind.specs.Finders.{BelongsTo};
 ghost use Rattle.parwindow.specs.Index.{slice_set_of};
 ghost use Rattle.parreport.specs.Faults.{listing_of, IsFindFault, IsSearchFault, OnScannedFault};
@@ -33,16 +34,16 @@ pub fn write_sightings<Q: Shelf, W: Sink>(
     requires limit { query.limit ≢ Some 0 }
     requires scanned { length (Q.state shelf.old).lengths ≡ length files.now }
 
-    // The text on a steady shelf.
-    ensures text { IsTrue (Q.state shelf.old).is_steady
-        → Answers (search_report
-        (find_search_of files.now (Q.state shelf.old).files set.now at query))
+    // The text is that of any files of which that was read.
+    ensures text { (contents : List (List ℕ)) → ReadsAs (Q.state shelf.new) contents
+        → Answers (search_report (find_search_of files.now contents set.now at query))
         (listing_of result) (W.state out.old) (W.state out.new) }
-    ensures lines { IsTrue (Q.state shelf.old).is_steady → IfErr result (OnScannedFault (λ file.
-        WritesLinesBefore (find_search_of files.now (Q.state shelf.old).files set.now at query)
+    ensures lines { (contents : List (List ℕ)) → ReadsAs (Q.state shelf.new) contents
+        → IfErr result (OnScannedFault (λ file.
+        WritesLinesBefore (find_search_of files.now contents set.now at query)
         file (W.state out.old) (W.state out.new))) }
 
-    // On any shelf: the answer tells what failed.
+    // Whatever was read: the answer tells what failed.
     ensures fault { IfErr result IsFindFault }
     ensures unopened { IfErr result (λ fault. fault ≡ run_fault.TooManyTails
         → W.state out.new ≡ W.state out.old) }
@@ -71,13 +72,13 @@ fn write_from<Q: Shelf, W: Sink>(
     requires belongs { BelongsTo finder.old index.now (Q.state shelf.old) }
     requires mode { finder.old.mode ≡ mode_of query.tails }
 
-    ensures text { IsTrue (Q.state shelf.old).is_steady
+    ensures text { (contents : List (List ℕ)) → ReadsAs (Q.state shelf.new) contents
         → Answers (listed (find_text
-        (find_search_of files.now (Q.state shelf.old).files set.now finder.old.cursor query)))
+        (find_search_of files.now contents set.now finder.old.cursor query)))
         (listing_of result) (W.state out.old) (W.state out.new) }
-    ensures lines { IsTrue (Q.state shelf.old).is_steady → IfErr result (OnScannedFault (λ file.
-        WritesLinesBefore
-        (find_search_of files.now (Q.state shelf.old).files set.now finder.old.cursor query)
+    ensures lines { (contents : List (List ℕ)) → ReadsAs (Q.state shelf.new) contents
+        → IfErr result (OnScannedFault (λ file.
+        WritesLinesBefore (find_search_of files.now contents set.now finder.old.cursor query)
         file (W.state out.old) (W.state out.new))) }
     ensures fault { IfErr result IsSearchFault }
     ensures reads { LeavesScanned (listing_of result) (Q.state shelf.old) (Q.state shelf.new) }

@@ -1,7 +1,7 @@
 use Rattle.std.proofs.lemmas.Grind.{common_steps}
 use Rattle.std.proofs.Common.{arith, length-drop}
 use Rattle.std.proofs.lemmas.Result.{err_from_is_err_and}
-use Rattle.parsalvage.proofs.HandLaws.{Hands-none}
+use Rattle.parsalvage.proofs.HandLaws.{Hands-none, Hands-wider, FaultsAfter-wider}
 use Rattle.parsalvage.proofs.body_store.extend.Goals as goal
 
 pub returns-in_err-resize-clause-leaves : goal.returns-in_err-resize-clause-leaves
@@ -11,19 +11,9 @@ returns-in_err-resize-clause-leaves g c =
 
 pub returns-clause-leaves : goal.returns-clause-leaves
 returns-clause-leaves g c =
-    let hands = c.in_ok-read.ensures.leaves in
     let room = length-drop c.len-held.result c.resize.new.self.items in
-    record {
-      count = hands.count;
-      after = hands.after;
-      within = λ steady. omega (
-        arith,
-        hands.within steady,
-        room,
-        c.in_ok-resize.ensures.len,
-        c.len-held.ensures,
-      );
-    }
+    Hands-wider _ _ c.args.file _ _ c.in_ok-read.ensures.leaves
+    (λ files reads. omega (arith, room, c.in_ok-resize.ensures.len, c.len-held.ensures))
 
 pub overflow_sub-last : goal.overflow_sub-last
 overflow_sub-last g c = grind (arith, common_steps) steps 100000
@@ -62,7 +52,7 @@ pub read-requires-clause-within : goal.read-requires-clause-within
 read-requires-clause-within g c = grind (arith, common_steps) steps 400000
 
 pub read-requires-clause-piece : goal.read-requires-clause-piece
-read-requires-clause-piece g c = grind (arith, common_steps) steps 100000
+read-requires-clause-piece g c = c.requires.piece
 
 pub returns-in_err-read-clause-start : goal.returns-in_err-read-clause-start
 returns-in_err-read-clause-start g c = grind (arith, common_steps) steps 400000
@@ -77,10 +67,16 @@ pub returns-in_err-read-clause-keeps : goal.returns-in_err-read-clause-keeps
 returns-in_err-read-clause-keeps g c = grind (arith, common_steps) steps 400000
 
 pub returns-in_err-read-clause-bytes : goal.returns-in_err-read-clause-bytes
-returns-in_err-read-clause-bytes g c = grind (arith, common_steps) steps 400000
+returns-in_err-read-clause-bytes g c =
+    let same = err_from_is_err_and c.from_residual-in_err-read.result c.from_residual-in_err-read.ensures.1 in
+    λ files reads. rw same.1 tt
 
 pub returns-in_err-read-clause-leaves : goal.returns-in_err-read-clause-leaves
-returns-in_err-read-clause-leaves g c = grind (arith, common_steps) steps 400000
+returns-in_err-read-clause-leaves g c =
+    let same = err_from_is_err_and c.from_residual-in_err-read.result c.from_residual-in_err-read.ensures.1 in
+    let room = length-drop c.len-held.result c.resize.new.self.items in
+    rw (same.1, same.2) (FaultsAfter-wider _ _ c.args.file _ _ _ c.in_err-read.ensures.leaves
+    (λ files reads. omega (arith, room, c.in_ok-resize.ensures.len, c.len-held.ensures)))
 
 pub returns-clause-start : goal.returns-clause-start
 returns-clause-start g c = grind (arith, common_steps) steps 100000
@@ -95,4 +91,5 @@ pub returns-clause-keeps : goal.returns-clause-keeps
 returns-clause-keeps g c = grind (arith, common_steps) steps 1500000
 
 pub returns-clause-bytes : goal.returns-clause-bytes
-returns-clause-bytes g c = grind (arith, common_steps) steps 1500000
+returns-clause-bytes g c = λ files reads.
+    let read = c.in_ok-read.ensures.bytes files reads in grind (arith, common_steps, read) steps 1500000

@@ -1,5 +1,7 @@
+use Rattle.std.proofs.lemmas.Result.{err_from_is_err_and}
 use Rattle.std.proofs.lemmas.Grind.{common_steps}
 use Rattle.std.proofs.Common.{refl, rules, arith}
+use Rattle.parsalvage.proofs.HandLaws.{Hands-wider, StopsAfter-wider}
 use Rattle.parsalvage.specs.declared.file_scan.FileScan.{FileScan}
 use Rattle.parsalvage.specs.declared.file_scan.StoredPacket.{StoredPacket}
 use Rattle.parsalvage.proofs.ScanLaws.{LiesIn-more, FoundBelow-packet, stored_packet}
@@ -14,13 +16,14 @@ returns-clause-lies g c =
     (search rules) refl (omega arith)
 
 pub returns-clause-found : goal.returns-clause-found
-returns-clause-found g c = λ steady.
+returns-clause-found g c = λ files reads.
+    let was = c.in_ok-body.ensures.leaves.older files reads in
     let held = c.in_ok-body.ensures in
     let new : FileScan = record { packets = c.push.new.self; bodies = c.hold_body.new.bodies } in
     let packet : StoredPacket = record { at = c.args.at; length = c.args.head.length; set = c.args.head.set; kind = c.args.head.kind; body = c.in_ok-body.body } in
-    FoundBelow-packet c.args.file c.args.at _ c.args.found.now new packet (c.requires.found steady) (c.requires.packet steady)
-    (held.run steady) held.keeps c.requires.lies.held (search rules)
-    (stored_packet c.args.file c.args.at _ c.hold_body.new.bodies.bytes.items c.args.head packet (c.requires.fields steady) refl refl refl refl (held.body steady))
+    FoundBelow-packet c.args.file c.args.at _ c.args.found.now new packet (c.requires.found files was) (c.requires.packet files was)
+    (held.run files reads) held.keeps c.requires.lies.held (search rules)
+    (stored_packet c.args.file c.args.at _ c.hold_body.new.bodies.bytes.items c.args.head packet (c.requires.fields files was) refl refl refl refl (held.body files reads))
 
 pub overflow_sub-size : goal.overflow_sub-size
 overflow_sub-size g c = grind (arith, common_steps) steps 100000
@@ -41,7 +44,7 @@ pub hold_body-requires-clause-piece : goal.hold_body-requires-clause-piece
 hold_body-requires-clause-piece g c = grind (arith, common_steps) steps 100000
 
 pub hold_body-requires-clause-run : goal.hold_body-requires-clause-run
-hold_body-requires-clause-run g c = grind (arith, common_steps) steps 100000
+hold_body-requires-clause-run g c = λ files reads. (c.requires.found files reads).run
 
 pub returns-in_err-body-clause-lies : goal.returns-in_err-body-clause-lies
 returns-in_err-body-clause-lies g c = grind (arith, common_steps) steps 100000
@@ -50,7 +53,9 @@ pub returns-in_err-body-clause-found : goal.returns-in_err-body-clause-found
 returns-in_err-body-clause-found g c = grind (arith, common_steps) steps 400000
 
 pub returns-in_err-body-clause-leaves : goal.returns-in_err-body-clause-leaves
-returns-in_err-body-clause-leaves g c = grind (arith, common_steps) steps 400000
+returns-in_err-body-clause-leaves g c =
+    let same = err_from_is_err_and c.from_residual.result c.from_residual.ensures.1 in
+    rw (same.1, same.2) (StopsAfter-wider _ _ c.args.file _ _ _ c.in_err-body.ensures.leaves (λ files reads. omega arith))
 
 pub returns-then-is_err-clause-lies : goal.returns-then-is_err-clause-lies
 returns-then-is_err-clause-lies g c = grind (arith, common_steps) steps 100000
@@ -59,10 +64,10 @@ pub returns-then-is_err-clause-found : goal.returns-then-is_err-clause-found
 returns-then-is_err-clause-found g c = grind (arith, common_steps) steps 100000
 
 pub returns-then-is_err-clause-leaves : goal.returns-then-is_err-clause-leaves
-returns-then-is_err-clause-leaves g c = grind (arith, common_steps) steps 400000
+returns-then-is_err-clause-leaves g c = Hands-wider _ _ c.args.file _ _ c.in_ok-body.ensures.leaves (λ files reads. omega arith)
 
 pub returns-clause-leaves : goal.returns-clause-leaves
-returns-clause-leaves g c = grind (arith, common_steps) steps 400000
+returns-clause-leaves g c = Hands-wider _ _ c.args.file _ _ c.in_ok-body.ensures.leaves (λ files reads. omega arith)
 
 pub overflow_add-at : goal.overflow_add-at
 overflow_add-at g c = search rules steps 300000

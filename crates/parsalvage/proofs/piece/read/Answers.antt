@@ -1,5 +1,5 @@
 use Rattle.std.proofs.Common.{arith}
-use Rattle.parsalvage.proofs.HandLaws.{Hands-none, ReadsAtMost-by}
+use Rattle.parsalvage.proofs.HandLaws.{Hands-none, ReadsAtMost-from}
 use Rattle.parsalvage.proofs.piece.read.Goals as goal
 
 pub returns-in-Some-clause-leaves : goal.returns-in-Some-clause-leaves
@@ -7,4 +7,4 @@ returns-in-Some-clause-leaves g c = Hands-none _ _ _
 
 pub returns-in-None-clause-leaves : goal.returns-in-None-clause-leaves
 returns-in-None-clause-leaves g c =
-    ReadsAtMost-by _ _ _ _ _ _ c.fill.ensures.ok c.fill.ensures.fault (omega arith)
+    ReadsAtMost-from _ _ _ _ _ _ c.fill.ensures.ok c.fill.ensures.fault (λ files reads. omega arith)

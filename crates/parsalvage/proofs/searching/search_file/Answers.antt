@@ -3,7 +3,7 @@ use Rattle.std.proofs.Common.{◌≡◌, ◌-◌, ◌≤◌, ◌∙◌, ℕ, Lis
 use Rattle.std.proofs.lemmas.List.{length-take-le, length-replicate}
 use Rattle.std.proofs.lemmas.Result.{err_from_is_err_and}
 use Rattle.parsalvage.proofs.HandLaws.{not_memory}
-use Rattle.parsalvage.proofs.FileLaws.{FileSearched-start, FileSearched-read, FileSearched-next, FileSearched-fault, FileSearched-empty, FileSearched-unread, piece_is, packets_are, hands_whole, lies_whole, packets_whole}
+use Rattle.parsalvage.proofs.FileLaws.{FileSearched-start, FileSearched-read, FileSearched-next, FileSearched-fault, FileSearched-unread, piece_is, hands_whole, lies_whole, packets_whole}
 use borrow.Rule.Slice.PartMut.{same_len_mid}
 use Rattle.parsalvage.proofs.searching.search_file.Goals as goal
 
@@ -37,7 +37,7 @@ search_piece-requires-clause-found g c =
     let high : c.min-size.result ≤ 65536 = omega arith in
     let read = FileSearched-read _ _ _ before.searched c.min-size.result c.fill.new.buf (omega (arith, before.few, wide)) (omega (arith, before.whole, high))
     c.fill.auto.buf _ c.in_ok-fill.ensures.ok c.in_ok-fill.ensures.bytes in
-    packets_are _ _ _ read (omega (arith, wide))
+    read.packets
 
 pub loop-base-preserved : goal.loop-base-preserved
 loop-base-preserved g c =
@@ -56,15 +56,15 @@ loop-base-preserved g c =
 
 pub returns-clause-lies : goal.returns-clause-lies
 returns-clause-lies g c =
-    lies_whole _ _ _ c.loop-base.invariant.searched (g.met.H.Shelf.well_formed c.args.shelf.now) (omega arith) (omega arith)
+    lies_whole _ _ _ c.loop-base.invariant.searched (omega arith) (omega arith)
 
 pub returns-clause-found : goal.returns-clause-found
 returns-clause-found g c =
-    packets_whole _ _ _ c.loop-base.invariant.searched (g.met.H.Shelf.well_formed c.args.shelf.now) (omega arith) (omega arith)
+    packets_whole _ _ _ c.loop-base.invariant.searched (omega arith) (omega arith)
 
 pub returns-clause-leaves : goal.returns-clause-leaves
 returns-clause-leaves g c =
-    hands_whole _ _ _ c.loop-base.invariant.searched (g.met.H.Shelf.well_formed c.args.shelf.now) (omega arith) (omega arith)
+    hands_whole _ _ _ c.loop-base.invariant.searched (omega arith) (omega arith)
 
 pub returns-in_err-fill-clause-leaves : goal.returns-in_err-fill-clause-leaves
 returns-in_err-fill-clause-leaves g c =
@@ -74,7 +74,7 @@ returns-in_err-fill-clause-leaves g c =
     let high : c.min-size.result ≤ 65536 = omega arith in
     let full = part_length c.loop-base.window c.loop-base.held c.min-size.result before.whole (omega (arith, before.few, wide)) high in
     rw (same.1, same.2)
-    (FileSearched-unread _ _ _ _ _ _ before.searched (g.met.H.Shelf.well_formed c.args.shelf.now)
+    (FileSearched-unread _ _ _ _ _ _ before.searched
     (omega (arith, full, before.few, wide, c.length-end.ensures.value)) c.in_err-fill.ensures.fault)
 
 pub returns-in_err-search_piece-clause-leaves : goal.returns-in_err-search_piece-clause-leaves
@@ -86,19 +86,13 @@ returns-in_err-search_piece-clause-leaves g c =
     let read = FileSearched-read _ _ _ before.searched c.min-size.result c.fill.new.buf (omega (arith, before.few, wide)) (omega (arith, before.whole, high))
     c.fill.auto.buf _ c.in_ok-fill.ensures.ok c.in_ok-fill.ensures.bytes in
     rw (same.1, same.2)
-    (FileSearched-fault _ _ _ read (omega (arith, wide)) _ _ (g.met.H.Shelf.well_formed c.args.shelf.now)
+    (FileSearched-fault _ _ _ read (omega (arith, wide)) _ _
     (omega (arith, c.length-end.ensures.value)) c.in_err-search_piece.ensures.leaves)
 
 pub returns-in_err-search_piece-clause-empty : goal.returns-in_err-search_piece-clause-empty
 returns-in_err-search_piece-clause-empty g c =
     let same = err_from_is_err_and c.from_residual-in_err-search_piece.result c.from_residual-in_err-search_piece.ensures.1 in
-    let before = c.loop-base.invariant in
-    let wide : 64 ≤ c.min-size.result = omega arith in
-    let high : c.min-size.result ≤ 65536 = omega arith in
-    let read = FileSearched-read _ _ _ before.searched c.min-size.result c.fill.new.buf (omega (arith, before.few, wide)) (omega (arith, before.whole, high))
-    c.fill.auto.buf _ c.in_ok-fill.ensures.ok c.in_ok-fill.ensures.bytes in
-    rw (same.1, same.2) (λ steady none. not_memory _ _ _ refl refl
-    (FileSearched-empty _ _ _ read (omega (arith, wide)) _ c.in_err-search_piece.ensures.empty steady none))
+    rw (same.1, same.2) (λ files reads none. not_memory _ _ _ refl refl (c.in_err-search_piece.ensures.empty files reads none))
 
 pub returns-in_err-fill-clause-lies : goal.returns-in_err-fill-clause-lies
 returns-in_err-fill-clause-lies g c = grind (arith, common_steps) steps 400000

@@ -3,7 +3,7 @@ use Rattle.std.proofs.Common.{◌≡◌, refl, arith}
 use Rattle.std.proofs.lemmas.Result.{err_from_is_err_and}
 use Rattle.memchr.specs.Find.{matches}
 use Rattle.parfield.specs.Packet.{magic_bytes}
-use Rattle.parsalvage.proofs.SearchLaws.{SearchedTo-start, SearchedTo-next, SearchedTo-fault, SearchedTo-empty, place_fits, place_within, lies_before_now, packets_before_now, lies_after, packets_after, hands_after}
+use Rattle.parsalvage.proofs.SearchLaws.{some_packet, SearchedTo-start, SearchedTo-next, SearchedTo-fault, place_fits, place_within, piece_now, lies_before, packets_before, lies_after, packets_after, hands_after}
 use Rattle.parsalvage.proofs.searching.search_piece.Goals as goal
 
 pub loop-place-init : goal.loop-place-init
@@ -27,12 +27,12 @@ scan_at-requires-clause-within g c =
 pub scan_at-requires-clause-lies : goal.scan_at-requires-clause-lies
 scan_at-requires-clause-lies g c =
     let so_far = rw c.in-Some.ensures.steps at c.loop-place.invariant in
-    lies_before_now _ _ _ _ _ c.in-Some.place _ _ c.requires.piece so_far
+    lies_before _ _ _ _ _ c.in-Some.place _ _ c.requires.piece so_far
 
 pub scan_at-requires-clause-found : goal.scan_at-requires-clause-found
 scan_at-requires-clause-found g c =
     let so_far = rw c.in-Some.ensures.steps at c.loop-place.invariant in
-    packets_before_now _ _ _ _ _ c.in-Some.place _ _ c.requires.piece so_far
+    packets_before _ _ _ _ _ c.in-Some.place _ _ c.requires.piece so_far
 
 pub loop-place-preserved : goal.loop-place-preserved
 loop-place-preserved g c =
@@ -49,8 +49,7 @@ returns-in_err-scan_at-clause-leaves g c =
 pub returns-in_err-scan_at-clause-empty : goal.returns-in_err-scan_at-clause-empty
 returns-in_err-scan_at-clause-empty g c =
     let same = err_from_is_err_and c.from_residual.result c.from_residual.ensures.1 in
-    let so_far = rw c.in-Some.ensures.steps at c.loop-place.invariant in
-    rw (same.1, same.2) (SearchedTo-empty _ _ _ _ _ c.in-Some.place _ _ c.requires.piece so_far _ c.in_err-scan_at.ensures.memory)
+    rw (same.1, same.2) (λ files reads none wants. some_packet _ _ (c.in_err-scan_at.ensures.memory files reads wants) none)
 
 pub returns-clause-found : goal.returns-clause-found
 returns-clause-found g c =
@@ -70,7 +69,9 @@ pub scan_at-requires-clause-buffer : goal.scan_at-requires-clause-buffer
 scan_at-requires-clause-buffer g c = grind (arith, common_steps) steps 400000
 
 pub scan_at-requires-clause-piece : goal.scan_at-requires-clause-piece
-scan_at-requires-clause-piece g c = grind (arith, common_steps) steps 400000
+scan_at-requires-clause-piece g c =
+    let so_far = rw c.in-Some.ensures.steps at c.loop-place.invariant in
+    piece_now _ _ _ _ _ c.in-Some.place _ _ c.requires.piece so_far
 
 pub returns-in_err-scan_at-clause-lies : goal.returns-in_err-scan_at-clause-lies
 returns-in_err-scan_at-clause-lies g c = grind (arith, elements) steps 400000

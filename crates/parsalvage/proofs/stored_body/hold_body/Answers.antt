@@ -1,5 +1,8 @@
-use Rattle.std.proofs.Common.{arith}
+use Rattle.std.proofs.Common.{◌≡◌, ◌∙◌, ap, sym, length, take, drop, length-drop, arith}
+use Rattle.std.proofs.lemmas.List.{length-take-le}
 use Rattle.std.proofs.lemmas.Grind.{common_steps}
+use Rattle.parsalvage.specs.Kept.{kept_body}
+use Rattle.parsalvage.proofs.KeptLaws.{kept_whole}
 use Rattle.parsalvage.proofs.stored_body.hold_body.Goals as goal
 
 pub hold-requires-clause-file : goal.hold-requires-clause-file
@@ -57,7 +60,11 @@ pub returns-then-is_whole-clause-run : goal.returns-then-is_whole-clause-run
 returns-then-is_whole-clause-run g c = grind (arith, common_steps) steps 100000
 
 pub returns-then-is_whole-clause-body : goal.returns-then-is_whole-clause-body
-returns-then-is_whole-clause-body g c = grind (arith, common_steps) steps 1500000
+returns-then-is_whole-clause-body g c = λ files reads.
+    let part = c.in_ok-place.ensures.part files reads in
+    let long : length (take c.args.size (drop c.in_ok-place.place c.hold.new.bodies.bytes.items)) ≡ c.args.size
+    = length-take-le _ _ (omega (arith, c.in_ok-place.ensures.fits, length-drop c.in_ok-place.place c.hold.new.bodies.bytes.items)) in
+    sym (kept_whole c.args.kind _ c.args.size long (rw c.if-is_whole.true at c.is_whole.ensures)) ∙ ap (kept_body c.args.kind) part
 
 pub returns-then-is_whole-clause-leaves : goal.returns-then-is_whole-clause-leaves
 returns-then-is_whole-clause-leaves g c = grind (arith, common_steps) steps 100000
@@ -105,7 +112,7 @@ pub returns-clause-keeps : goal.returns-clause-keeps
 returns-clause-keeps g c = grind (arith, common_steps) steps 100000
 
 pub returns-clause-run : goal.returns-clause-run
-returns-clause-run g c = grind (arith, common_steps) steps 100000
+returns-clause-run g c = λ files reads. c.requires.run files (c.in_ok-first.ensures.leaves.older files reads)
 
 pub returns-clause-leaves : goal.returns-clause-leaves
 returns-clause-leaves g c = grind (arith, common_steps) steps 100000

@@ -1,3 +1,4 @@
+use Rattle.std.proofs.lemmas.Result.{err_from_is_err_and}
 use Rattle.std.proofs.lemmas.Grind.{common_steps}
 use Rattle.std.proofs.Common.{ℕ, List, ◌≤◌, ◌∙◌, arith, length, length-drop, drop}
 use Rattle.parshelf.specs.Shelf.{file_of}
@@ -5,36 +6,42 @@ use Rattle.parshelf.proofs.ShelfLaws.{length-file_of}
 use Rattle.parsalvage.proofs.FrontLaws.{framed_yes, framed_no_header, framed_too_long, fields_same}
 use Rattle.parsalvage.proofs.validating.header_at.Goals as goal
 
+pub returns-then-head-room-clause-leaves : goal.returns-then-head-room-clause-leaves
+returns-then-head-room-clause-leaves g c = c.in_ok-read.ensures.leaves
+
+pub returns-else-head-room-clause-leaves : goal.returns-else-head-room-clause-leaves
+returns-else-head-room-clause-leaves g c = c.in_ok-read.ensures.leaves
+
 pub returns-in_default-clause-found : goal.returns-in_default-clause-found
-returns-in_default-clause-found g c = λ steady.
-    let bytes : List ℕ = file_of (g.H.Shelf.state c.args.shelf.now) c.args.file in
-    let size = length-file_of _ c.args.file (g.met.H.Shelf.well_formed c.args.shelf.now) steady in
+returns-in_default-clause-found g c = λ files reads.
+    let bytes : List ℕ = file_of files c.args.file in
+    let size = length-file_of _ files c.args.file (c.in_ok-read.ensures.leaves.older files reads) in
     let long : 64 ≤ length (drop c.args.at bytes) = omega (arith, length-drop c.args.at bytes, size) in
-    framed_no_header (drop c.args.at bytes) _ (c.in_ok-read.ensures.bytes steady) long c.in_default.ensures.found
+    framed_no_header (drop c.args.at bytes) _ (c.in_ok-read.ensures.bytes files reads) long c.in_default.ensures.found
 
 pub returns-then-head-room-clause-found : goal.returns-then-head-room-clause-found
-returns-then-head-room-clause-found g c = λ steady.
-    let bytes : List ℕ = file_of (g.H.Shelf.state c.args.shelf.now) c.args.file in
-    let size = length-file_of _ c.args.file (g.met.H.Shelf.well_formed c.args.shelf.now) steady in
+returns-then-head-room-clause-found g c = λ files reads.
+    let bytes : List ℕ = file_of files c.args.file in
+    let size = length-file_of _ files c.args.file (c.in_ok-read.ensures.leaves.older files reads) in
     let rest = length-drop c.args.at bytes in
     let long : 64 ≤ length (drop c.args.at bytes) = omega (arith, rest, size) in
-    framed_yes (drop c.args.at bytes) _ (c.in_ok-read.ensures.bytes steady) long c.in-Ok.head
+    framed_yes (drop c.args.at bytes) _ (c.in_ok-read.ensures.bytes files reads) long c.in-Ok.head
     c.in-Ok.ensures.found c.in-Ok.ensures.fields (omega (arith, rest, size, c.if-head-room.true, c.length.ensures.value))
 
 pub returns-then-head-room-clause-fields : goal.returns-then-head-room-clause-fields
-returns-then-head-room-clause-fields g c = λ steady.
-    let bytes : List ℕ = file_of (g.H.Shelf.state c.args.shelf.now) c.args.file in
-    let size = length-file_of _ c.args.file (g.met.H.Shelf.well_formed c.args.shelf.now) steady in
+returns-then-head-room-clause-fields g c = λ files reads.
+    let bytes : List ℕ = file_of files c.args.file in
+    let size = length-file_of _ files c.args.file (c.in_ok-read.ensures.leaves.older files reads) in
     let long : 64 ≤ length (drop c.args.at bytes) = omega (arith, length-drop c.args.at bytes, size) in
-    c.in-Ok.ensures.fields ∙ fields_same (drop c.args.at bytes) _ (c.in_ok-read.ensures.bytes steady) long
+    c.in-Ok.ensures.fields ∙ fields_same (drop c.args.at bytes) _ (c.in_ok-read.ensures.bytes files reads) long
 
 pub returns-else-head-room-clause-found : goal.returns-else-head-room-clause-found
-returns-else-head-room-clause-found g c = λ steady.
-    let bytes : List ℕ = file_of (g.H.Shelf.state c.args.shelf.now) c.args.file in
-    let size = length-file_of _ c.args.file (g.met.H.Shelf.well_formed c.args.shelf.now) steady in
+returns-else-head-room-clause-found g c = λ files reads.
+    let bytes : List ℕ = file_of files c.args.file in
+    let size = length-file_of _ files c.args.file (c.in_ok-read.ensures.leaves.older files reads) in
     let rest = length-drop c.args.at bytes in
     let long : 64 ≤ length (drop c.args.at bytes) = omega (arith, rest, size) in
-    framed_too_long (drop c.args.at bytes) _ (c.in_ok-read.ensures.bytes steady) long c.in-Ok.head
+    framed_too_long (drop c.args.at bytes) _ (c.in_ok-read.ensures.bytes files reads) long c.in-Ok.head
     c.in-Ok.ensures.fields (omega (arith, rest, size, c.if-head-room.false, c.length.ensures.value))
 
 pub returns-then-head-room-clause-fits : goal.returns-then-head-room-clause-fits
@@ -47,10 +54,14 @@ pub returns-in_err-read-clause-long : goal.returns-in_err-read-clause-long
 returns-in_err-read-clause-long g c = grind (arith, common_steps) steps 100000
 
 pub returns-in_err-read-clause-found : goal.returns-in_err-read-clause-found
-returns-in_err-read-clause-found g c = grind (arith, common_steps) steps 100000
+returns-in_err-read-clause-found g c =
+    let same = err_from_is_err_and c.from_residual.result c.from_residual.ensures.1 in
+    λ files reads. rw same.1 tt
 
 pub returns-in_err-read-clause-fields : goal.returns-in_err-read-clause-fields
-returns-in_err-read-clause-fields g c = grind (arith, common_steps) steps 100000
+returns-in_err-read-clause-fields g c =
+    let same = err_from_is_err_and c.from_residual.result c.from_residual.ensures.1 in
+    λ files reads. rw same.1 tt
 
 pub returns-in_err-read-clause-leaves : goal.returns-in_err-read-clause-leaves
 returns-in_err-read-clause-leaves g c = grind (arith, common_steps) steps 100000
@@ -70,9 +81,6 @@ returns-in_default-clause-leaves g c = grind (arith, common_steps) steps 100000
 pub returns-then-head-room-clause-long : goal.returns-then-head-room-clause-long
 returns-then-head-room-clause-long g c = grind (arith, common_steps) steps 1500000
 
-pub returns-then-head-room-clause-leaves : goal.returns-then-head-room-clause-leaves
-returns-then-head-room-clause-leaves g c = grind (arith, common_steps) steps 400000
-
 pub returns-else-head-room-clause-fits : goal.returns-else-head-room-clause-fits
 returns-else-head-room-clause-fits g c = grind (arith, common_steps) steps 100000
 
@@ -81,9 +89,6 @@ returns-else-head-room-clause-long g c = grind (arith, common_steps) steps 10000
 
 pub returns-else-head-room-clause-fields : goal.returns-else-head-room-clause-fields
 returns-else-head-room-clause-fields g c = grind (arith, common_steps) steps 100000
-
-pub returns-else-head-room-clause-leaves : goal.returns-else-head-room-clause-leaves
-returns-else-head-room-clause-leaves g c = grind (arith, common_steps) steps 400000
 
 pub overflow_sub-room : goal.overflow_sub-room
 overflow_sub-room g c = grind (arith, common_steps) steps 100000

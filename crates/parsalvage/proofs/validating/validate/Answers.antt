@@ -1,8 +1,9 @@
 use Rattle.std.proofs.lemmas.Grind.{common_steps}
-use Rattle.std.proofs.Common.{true, false, arith}
+use Rattle.std.proofs.Common.{true, false, drop, arith}
 use Rattle.std.proofs.lemmas.Result.{err_from_is_err_and}
+use Rattle.parshelf.specs.Shelf.{file_of}
 use Rattle.parsalvage.proofs.HandLaws.{Hands-wider, FaultsAfter-wider}
-use Rattle.parsalvage.proofs.ValidateLaws.{validated_hands, validated_fault, validated_rest, validated_rest_fault, validated_packet}
+use Rattle.parsalvage.proofs.ValidateLaws.{validated_hands, validated_fault, validated_rest, validated_rest_fault, validated_packet, unframed_no_packet}
 use Rattle.parsalvage.proofs.validating.validate.Goals as goal
 
 pub returns-in_err-hash-in-Some-clause-leaves : goal.returns-in_err-hash-in-Some-clause-leaves
@@ -10,36 +11,38 @@ returns-in_err-hash-in-Some-clause-leaves g c =
     let same = err_from_is_err_and c.from_residual-in_err-hash-in-Some.result c.from_residual-in_err-hash-in-Some.ensures.1 in
     rw (same.1, same.2)
     (validated_fault _ _ c.args.file c.args.at c.in-Some.head
-    (λ steady. rw c.in-Some.is at (c.in_ok-head.ensures.found steady))
-    (λ steady. rw c.in-Some.is at (c.in_ok-head.ensures.fields steady))
+    (λ files reads. rw c.in-Some.is at (c.in_ok-head.ensures.found files reads))
+    (λ files reads. rw c.in-Some.is at (c.in_ok-head.ensures.fields files reads))
     c.in_ok-head.ensures.leaves _ _ c.in_err-hash-in-Some.ensures.leaves)
 
 pub returns-then-eq-clause-found : goal.returns-then-eq-clause-found
-returns-then-eq-clause-found g c = λ steady.
+returns-then-eq-clause-found g c = λ files reads.
     validated_packet _ _ c.args.file c.args.at c.in-Some.head
-    (λ steady. rw c.in-Some.is at (c.in_ok-head.ensures.found steady))
-    (λ steady. rw c.in-Some.is at (c.in_ok-head.ensures.fields steady))
-    c.in_ok-head.ensures.leaves c.in_ok-hash-in-Some.hash.0 true steady c.in_ok-hash-in-Some.ensures.digest c.if-eq.ensures
+    (λ files reads. rw c.in-Some.is at (c.in_ok-head.ensures.found files reads))
+    (λ files reads. rw c.in-Some.is at (c.in_ok-head.ensures.fields files reads))
+    c.in_ok-head.ensures.leaves files (c.in_ok-hash-in-Some.ensures.leaves.older files reads)
+    c.in_ok-hash-in-Some.hash.0 true (c.in_ok-hash-in-Some.ensures.digest files reads) c.if-eq.ensures
 
 pub returns-then-eq-clause-leaves : goal.returns-then-eq-clause-leaves
 returns-then-eq-clause-leaves g c =
     validated_hands _ _ c.args.file c.args.at c.in-Some.head
-    (λ steady. rw c.in-Some.is at (c.in_ok-head.ensures.found steady))
-    (λ steady. rw c.in-Some.is at (c.in_ok-head.ensures.fields steady))
+    (λ files reads. rw c.in-Some.is at (c.in_ok-head.ensures.found files reads))
+    (λ files reads. rw c.in-Some.is at (c.in_ok-head.ensures.fields files reads))
     c.in_ok-head.ensures.leaves _ c.in_ok-hash-in-Some.ensures.leaves
 
 pub returns-else-eq-clause-found : goal.returns-else-eq-clause-found
-returns-else-eq-clause-found g c = λ steady.
+returns-else-eq-clause-found g c = λ files reads.
     validated_packet _ _ c.args.file c.args.at c.in-Some.head
-    (λ steady. rw c.in-Some.is at (c.in_ok-head.ensures.found steady))
-    (λ steady. rw c.in-Some.is at (c.in_ok-head.ensures.fields steady))
-    c.in_ok-head.ensures.leaves c.in_ok-hash-in-Some.hash.0 false steady c.in_ok-hash-in-Some.ensures.digest c.if-eq.ensures
+    (λ files reads. rw c.in-Some.is at (c.in_ok-head.ensures.found files reads))
+    (λ files reads. rw c.in-Some.is at (c.in_ok-head.ensures.fields files reads))
+    c.in_ok-head.ensures.leaves files (c.in_ok-hash-in-Some.ensures.leaves.older files reads)
+    c.in_ok-hash-in-Some.hash.0 false (c.in_ok-hash-in-Some.ensures.digest files reads) c.if-eq.ensures
 
 pub returns-else-eq-clause-leaves : goal.returns-else-eq-clause-leaves
 returns-else-eq-clause-leaves g c =
     validated_hands _ _ c.args.file c.args.at c.in-Some.head
-    (λ steady. rw c.in-Some.is at (c.in_ok-head.ensures.found steady))
-    (λ steady. rw c.in-Some.is at (c.in_ok-head.ensures.fields steady))
+    (λ files reads. rw c.in-Some.is at (c.in_ok-head.ensures.found files reads))
+    (λ files reads. rw c.in-Some.is at (c.in_ok-head.ensures.fields files reads))
     c.in_ok-head.ensures.leaves _ c.in_ok-hash-in-Some.ensures.leaves
 
 -- what is read to hash the packet stands behind the piece
@@ -47,35 +50,35 @@ returns-else-eq-clause-leaves g c =
 pub returns-in_err-head-clause-rest : goal.returns-in_err-head-clause-rest
 returns-in_err-head-clause-rest g c = λ begins.
     let same = err_from_is_err_and c.from_residual.result c.from_residual.ensures.1 in
-    rw (same.1, same.2) (FaultsAfter-wider _ _ c.args.file 64 _ _ c.in_err-head.ensures.leaves (omega arith))
+    rw (same.1, same.2) (FaultsAfter-wider _ _ c.args.file _ _ _ c.in_err-head.ensures.leaves (λ files reads. omega arith))
 
 pub returns-in_err-hash-in-Some-clause-rest : goal.returns-in_err-hash-in-Some-clause-rest
 returns-in_err-hash-in-Some-clause-rest g c = λ begins.
     let same = err_from_is_err_and c.from_residual-in_err-hash-in-Some.result c.from_residual-in_err-hash-in-Some.ensures.1 in
     rw (same.1, same.2)
     (validated_rest_fault _ _ c.args.file c.args.at c.in-Some.head
-    (λ steady. rw c.in-Some.is at (c.in_ok-head.ensures.found steady))
-    (λ steady. rw c.in-Some.is at (c.in_ok-head.ensures.fields steady))
+    (λ files reads. rw c.in-Some.is at (c.in_ok-head.ensures.found files reads))
+    (λ files reads. rw c.in-Some.is at (c.in_ok-head.ensures.fields files reads))
     c.in_ok-head.ensures.leaves _ _ _ (rw c.in-Some.is at c.in_ok-head.ensures.long)
     (c.in_err-hash-in-Some.ensures.rest (omega arith)))
 
 pub returns-then-eq-clause-rest : goal.returns-then-eq-clause-rest
 returns-then-eq-clause-rest g c = λ begins.
     validated_rest _ _ c.args.file c.args.at c.in-Some.head
-    (λ steady. rw c.in-Some.is at (c.in_ok-head.ensures.found steady))
-    (λ steady. rw c.in-Some.is at (c.in_ok-head.ensures.fields steady))
+    (λ files reads. rw c.in-Some.is at (c.in_ok-head.ensures.found files reads))
+    (λ files reads. rw c.in-Some.is at (c.in_ok-head.ensures.fields files reads))
     c.in_ok-head.ensures.leaves _ _ (rw c.in-Some.is at c.in_ok-head.ensures.long) (c.in_ok-hash-in-Some.ensures.rest (omega arith))
 
 pub returns-else-eq-clause-rest : goal.returns-else-eq-clause-rest
 returns-else-eq-clause-rest g c = λ begins.
     validated_rest _ _ c.args.file c.args.at c.in-Some.head
-    (λ steady. rw c.in-Some.is at (c.in_ok-head.ensures.found steady))
-    (λ steady. rw c.in-Some.is at (c.in_ok-head.ensures.fields steady))
+    (λ files reads. rw c.in-Some.is at (c.in_ok-head.ensures.found files reads))
+    (λ files reads. rw c.in-Some.is at (c.in_ok-head.ensures.fields files reads))
     c.in_ok-head.ensures.leaves _ _ (rw c.in-Some.is at c.in_ok-head.ensures.long) (c.in_ok-hash-in-Some.ensures.rest (omega arith))
 
 pub returns-in-None-clause-rest : goal.returns-in-None-clause-rest
 returns-in-None-clause-rest g c = λ begins.
-    Hands-wider _ _ c.args.file 64 _ c.in_ok-head.ensures.leaves (omega arith)
+    Hands-wider _ _ c.args.file _ _ c.in_ok-head.ensures.leaves (λ files reads. omega arith)
 
 pub returns-in_err-head-clause-fits : goal.returns-in_err-head-clause-fits
 returns-in_err-head-clause-fits g c = grind (arith, common_steps) steps 100000
@@ -90,7 +93,9 @@ pub returns-in_err-head-clause-fields : goal.returns-in_err-head-clause-fields
 returns-in_err-head-clause-fields g c = grind (arith, common_steps) steps 100000
 
 pub returns-in_err-head-clause-leaves : goal.returns-in_err-head-clause-leaves
-returns-in_err-head-clause-leaves g c = grind (arith, common_steps) steps 400000
+returns-in_err-head-clause-leaves g c =
+    let same = err_from_is_err_and c.from_residual.result c.from_residual.ensures.1 in
+    rw (same.1, same.2) (FaultsAfter-wider _ _ c.args.file _ _ _ c.in_err-head.ensures.leaves (λ files reads. omega arith))
 
 pub returns-in_err-hash-in-Some-clause-fits : goal.returns-in_err-hash-in-Some-clause-fits
 returns-in_err-hash-in-Some-clause-fits g c = grind (arith, common_steps) steps 400000
@@ -111,7 +116,8 @@ pub returns-then-eq-clause-long : goal.returns-then-eq-clause-long
 returns-then-eq-clause-long g c = grind (arith, common_steps) steps 400000
 
 pub returns-then-eq-clause-fields : goal.returns-then-eq-clause-fields
-returns-then-eq-clause-fields g c = grind (arith, common_steps) steps 400000
+returns-then-eq-clause-fields g c = λ files reads.
+    rw c.in-Some.is at (c.in_ok-head.ensures.fields files (c.in_ok-hash-in-Some.ensures.leaves.older files reads))
 
 pub returns-else-eq-clause-fits : goal.returns-else-eq-clause-fits
 returns-else-eq-clause-fits g c = grind (arith, common_steps) steps 100000
@@ -129,13 +135,15 @@ pub returns-in-None-clause-long : goal.returns-in-None-clause-long
 returns-in-None-clause-long g c = grind (arith, common_steps) steps 100000
 
 pub returns-in-None-clause-found : goal.returns-in-None-clause-found
-returns-in-None-clause-found g c = grind (arith, common_steps) steps 1500000
+returns-in-None-clause-found g c = λ files reads.
+    unframed_no_packet (drop c.args.at (file_of files c.args.file)) (rw c.in-None.is at (c.in_ok-head.ensures.found files reads))
 
 pub returns-in-None-clause-fields : goal.returns-in-None-clause-fields
 returns-in-None-clause-fields g c = grind (arith, common_steps) steps 100000
 
 pub returns-in-None-clause-leaves : goal.returns-in-None-clause-leaves
-returns-in-None-clause-leaves g c = grind (arith, common_steps) steps 100000
+returns-in-None-clause-leaves g c =
+    Hands-wider _ _ c.args.file _ _ c.in_ok-head.ensures.leaves (λ files reads. omega arith)
 
 pub header_at-requires-clause-file : goal.header_at-requires-clause-file
 header_at-requires-clause-file g c = grind (arith, common_steps) steps 100000
@@ -159,7 +167,8 @@ pub hash_at-requires-clause-buffer : goal.hash_at-requires-clause-buffer
 hash_at-requires-clause-buffer g c = grind (arith, common_steps) steps 100000
 
 pub hash_at-requires-clause-piece : goal.hash_at-requires-clause-piece
-hash_at-requires-clause-piece g c = grind (arith, common_steps) steps 100000
+hash_at-requires-clause-piece g c = λ files reads.
+    c.requires.piece files (c.in_ok-head.ensures.leaves.older files reads)
 
 pub overflow_add-at : goal.overflow_add-at
 overflow_add-at g c = grind (arith, common_steps, g.met.H.Shelf.well_formed)

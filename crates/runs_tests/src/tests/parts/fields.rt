@@ -2,7 +2,7 @@ use super::is;
 use crate::runs::{is_same, must};
 use md5::{Digest, Md5};
 use parfield::{
-    Counts, Hash16, HeaderFault, Kind, Packet, Sequence, Tally, Text, Transcript, header,
+    Counts, Hash16, HeaderFault, Kind, Packet, Readings, Sequence, Tally, Text, Transcript, header,
     ids_follow_numbers, packet_at, show_name,
 };
 use std::cmp::Ordering;
@@ -171,12 +171,15 @@ fn counts_take_no_bytes() {
     const _: () = prove!(std::mem::size_of::<Counts>() == 0);
     const _: () = prove!(std::mem::size_of::<Tally>() == 0);
     const _: () = prove!(std::mem::size_of::<Transcript>() == 0);
+    const _: () = prove!(std::mem::size_of::<Readings>() == 0);
     let mut counts = Counts::new(2);
     counts.add_at(1, 3);
     let mut tally = Tally::new();
     tally.add(3);
     let mut transcript = Transcript::new();
     transcript.append(b"abc");
+    let mut readings = Readings::new();
+    readings.add(0, 3, 8, b"abc");
 }
 
 const BYTES: [u8; 16] = *b"\xab\0\0\0\0\0\0\0\0\0\0\0\0\0\0\x1f";

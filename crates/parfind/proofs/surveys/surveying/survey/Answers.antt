@@ -18,14 +18,14 @@ survey_few_tails-requires-2-clause-few g c =
     rw c.in_ok-missing.ensures (few_missing c.args.index.now c.args.found.now c.args.mode few)
 
 pub returns-clause-found : goal.returns-clause-found
-returns-clause-found g c = λ steady.
-    marks_all c.args.index.now c.args.found.now c.requires c.args.mode (g.H.Shelf.state c.args.shelf.now)
-    c.survey_few_tails-2.new.found c.survey_few_tails-2.result (rw c.in_ok-missing.ensures at c.survey_few_tails-2.ensures.found steady)
+returns-clause-found g c = λ files reads.
+    marks_all c.args.index.now c.args.found.now c.requires c.args.mode files
+    c.survey_few_tails-2.new.found c.survey_few_tails-2.result (rw c.in_ok-missing.ensures at c.survey_few_tails-2.ensures.found files reads)
 
 pub returns-clause-stops : goal.returns-clause-stops
-returns-clause-stops g c = λ steady.
-    stops_all c.args.index.now c.args.found.now c.requires c.args.mode (g.H.Shelf.state c.args.shelf.now)
-    (g.H.Shelf.state c.survey_few_tails-2.new.shelf) (rw c.in_ok-missing.ensures at c.survey_few_tails-2.ensures.stops steady)
+returns-clause-stops g c = λ files reads.
+    stops_all c.args.index.now c.args.found.now c.requires c.args.mode files (g.H.Shelf.state c.args.shelf.now)
+    (g.H.Shelf.state c.survey_few_tails-2.new.shelf) (rw c.in_ok-missing.ensures at c.survey_few_tails-2.ensures.stops files reads)
 
 pub returns-clause-tails : goal.returns-clause-tails
 returns-clause-tails g c =

@@ -1,6 +1,8 @@
 use Rattle.std.proofs.lemmas.Grind.{common_steps}
 use Rattle.std.proofs.Common.{sym, ap, ◌∙◌, arith, inl, inr}
 use Rattle.parfind.specs.Sought.{Sought, sought_of}
+use Rattle.parshelf.specs.Reads.{ReadsOnly}
+use Rattle.parshelf.specs.Shelf.{ShelfState}
 use Rattle.parwindow.specs.Window.{WindowState}
 use Rattle.parfind.specs.Surveying.{SurveyState, survey_at}
 use Rattle.parfind.proofs.SurveyLaws.{surveyed_kept, surveyed_no_other, surveyed_full, surveyed_end, surveyed_digests, surveyed_once, surveyed_stops, surveyed_fault}
@@ -15,16 +17,17 @@ returns-in-Ok g c =
     let f = c.survey_files.ensures in
     let ends = f.ends in
     let counted = ap (λ (w : WindowState). w.digests) c.clear.ensures in
+    let only : ReadsOnly old.shelf new.shelf = rw c.in-Ok.is at f.shelf in
     record {
-      found = λ steady. elim (rw c.in-Ok.is at ends.all) [
-        | inl full ↦ surveyed_full sought old new ends.cursor ends.surveyed steady full
-        | inr past ↦ surveyed_end sought old new ends.cursor ends.surveyed (g.met.H.Shelf.well_formed c.args.shelf.now) steady past
+      found = λ files reads. elim (rw c.in-Ok.is at ends.all) [
+        | inl full ↦ surveyed_full sought old new ends.cursor ends.surveyed files reads full
+        | inr past ↦ surveyed_end sought old new ends.cursor ends.surveyed files reads (ap (λ (u : ShelfState). u.lengths) only.counts) past
       ];
-      so_far = λ steady. tt;
+      so_far = tt;
       stops = surveyed_stops sought old new ends.cursor ends.surveyed;
-      digests = λ steady. omega (arith, counted, surveyed_digests sought old new ends.cursor ends.surveyed steady);
+      digests = λ files reads. omega (arith, counted, surveyed_digests sought old new ends.cursor ends.surveyed files reads);
       kept = surveyed_kept sought old new ends.cursor ends.surveyed;
-      shelf = rw c.in-Ok.is at f.shelf;
+      shelf = only;
       handed = surveyed_once sought old new ends.cursor ends.surveyed;
       unfit = ends.surveyed.unfit;
       none = f.none;
@@ -42,9 +45,9 @@ returns-in-Err g c =
     let counted = ap (λ (w : WindowState). w.digests) c.clear.ensures in
     record {
       found = surveyed_no_other sought old new ends.cursor ends.surveyed;
-      so_far = λ steady. surveyed_fault sought old new ends.cursor ends.surveyed steady ends.first c.file.result (ends.file_is ∙ sym c.file.ensures);
+      so_far = surveyed_fault sought old new ends.cursor ends.surveyed ends.first c.file.result (ends.file_is ∙ sym c.file.ensures);
       stops = surveyed_stops sought old new ends.cursor ends.surveyed;
-      digests = λ steady. omega (arith, counted, surveyed_digests sought old new ends.cursor ends.surveyed steady);
+      digests = λ files reads. omega (arith, counted, surveyed_digests sought old new ends.cursor ends.surveyed files reads);
       kept = surveyed_kept sought old new ends.cursor ends.surveyed;
       shelf = rw c.file.ensures (rw c.in-Err.is at f.shelf);
       handed = surveyed_once sought old new ends.cursor ends.surveyed;

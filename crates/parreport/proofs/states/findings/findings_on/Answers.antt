@@ -1,39 +1,36 @@
-use Rattle.std.proofs.Common.{arith, ◌≡◌, ◌∙◌, ◌&&◌, IsTrue, ap, map, subst, sym}
+use Rattle.std.proofs.Common.{arith, ◌≡◌, ◌∙◌, ◌&&◌, ap, map, subst, sym}
 use Rattle.std.proofs.lemmas.Grind.{common_steps}
-use Rattle.std.specs.BTreeSet.{contains}
+use Rattle.std.proofs.lemmas.Result.{err_from_is_err_and}
 use Rattle.std.specs.List.{list_any}
 use Rattle.std.specs.Str.{bytes_eq}
-use Rattle.parfield.specs.HashOrder.{id_cmp}
 use Rattle.parset.specs.declared.recovery_set.SetFile.{SetFile}
-use Rattle.parset.specs.declared.recovery_set.SetSlice.{SetSlice}
 use Rattle.parshelf.specs.Shelf.{ShelfState}
 use Rattle.parreport.specs.States.{named_files, checked_of, is_intact, state_of}
 use Rattle.parreport.specs.Contents.{ReadsCandidates}
+use Rattle.parshelf.proofs.ReadLaws.{ReadsOnly_more}
+use Rattle.parreport.proofs.LeaveLaws.{FilesLeave_more}
 use Rattle.parreport.proofs.SumLaws.{unsearched}
-use Rattle.parreport.proofs.StateLaws.{contents_sized, findings_made, found_read, states_read}
+use Rattle.parreport.proofs.StateLaws.{contents_sized, findings_made, states_read}
 use Rattle.parreport.proofs.states.findings.findings_on.Goals as goal
 
 pub returns-clause-findings : goal.returns-clause-findings
-returns-clause-findings g c = λ steady.
+returns-clause-findings g c = λ contents reads.
     let set = c.args.set.now in let files = c.args.files.now in
     let old : ShelfState = g.Q.Shelf.state c.args.shelf.now in
-    let now : ShelfState = g.Q.Shelf.state c.contents.new.shelf in
-    let state = state_of (named_files files old.files) in
-    let reads = c.in_ok-contents.ensures.ok in
-    let sized = contents_sized old files (g.met.Q.Shelf.well_formed c.args.shelf.now) c.requires.named steady in
+    let state = state_of (named_files files contents) in
+    let before = c.in_ok-found.ensures.ok.older contents reads in
+    let sized = contents_sized old files contents c.requires.named (c.in_ok-contents.ensures.ok.older contents before) in
     let same = c.files-set_files.ensures.field in
-    let states = states_read files old.files c.deref.result.now c.files-set_files.result.now set.files c.in_ok-states.states.items sized
+    let states = states_read files contents c.deref.result.now c.files-set_files.result.now set.files c.in_ok-states.states.items sized
     c.in_ok-states.ensures
-    (c.deref.ensures.value ∙ (c.in_ok-contents.ensures.contents steady ∙ ap (λ own. map (checked_of own) old.files) same)) same in
+    (c.deref.ensures.value ∙ (c.in_ok-contents.ensures.contents contents before ∙ ap (λ own. map (checked_of own) contents) same)) same in
     let asked : c.as_slice.result.now ≡ map state c.files-set_files.result.now
     = c.as_slice.ensures.value ∙ (states ∙ ap (map state) (sym c.files-set_files.ensures.field)) in
-    let still : IsTrue now.is_steady = ap (λ (s : ShelfState). s.is_steady) reads ∙ steady in
-    findings_made set c.args.mode files old c.from_vec.result c.from_vec-2.result c.in_ok-whole.whole sized
+    findings_made set c.args.mode files contents c.from_vec.result c.from_vec-2.result c.in_ok-whole.whole sized
     (c.from_vec.ensures ∙ states)
     (λ id. c.in_ok-whole.ensures state asked id
     ∙ ap (list_any (λ (file : SetFile). bytes_eq file.id.0 id.0 && is_intact (state file))) c.files-set_files.ensures.field)
-    (c.from_vec-2.ensures ∙ found_read set c.args.mode old now (λ (slice : SetSlice). contains id_cmp c.in_ok-whole.whole slice.id) c.in_ok-found.found.items reads
-    (c.in_ok-found.ensures.found still))
+    (c.from_vec-2.ensures ∙ c.in_ok-found.ensures.found contents reads)
 
 pub returns-clause-unsearched : goal.returns-clause-unsearched
 returns-clause-unsearched g c =
@@ -73,7 +70,7 @@ pub returns-in_err-contents-clause-fault : goal.returns-in_err-contents-clause-f
 returns-in_err-contents-clause-fault g c = grind (arith, common_steps) steps 100000
 
 pub returns-in_err-states-clause-findings : goal.returns-in_err-states-clause-findings
-returns-in_err-states-clause-findings g c = grind (arith, common_steps) steps 100000
+returns-in_err-states-clause-findings g c = grind (arith, common_steps) steps 400000
 
 pub returns-in_err-states-clause-states : goal.returns-in_err-states-clause-states
 returns-in_err-states-clause-states g c = grind (arith, common_steps) steps 100000
@@ -130,7 +127,10 @@ pub returns-in_err-found-clause-ok : goal.returns-in_err-found-clause-ok
 returns-in_err-found-clause-ok g c = grind (arith, common_steps) steps 400000
 
 pub returns-in_err-found-clause-fault : goal.returns-in_err-found-clause-fault
-returns-in_err-found-clause-fault g c = grind (arith, common_steps) steps 1500000
+returns-in_err-found-clause-fault g c =
+    let failed = err_from_is_err_and c.from_residual-in_err-found.result c.from_residual-in_err-found.ensures.1 in
+    rw (failed.1, failed.2) (FilesLeave_more (g.Q.Shelf.state c.args.shelf.now) (g.Q.Shelf.state c.contents.new.shelf)
+    (g.Q.Shelf.state c.found_slices.new.shelf) c.in_err-found.field-0.0 c.in_ok-contents.ensures.ok c.in_err-found.ensures.fault)
 
 pub returns-clause-states : goal.returns-clause-states
 returns-clause-states g c = grind (arith, common_steps) steps 400000
@@ -139,7 +139,9 @@ pub returns-clause-slices : goal.returns-clause-slices
 returns-clause-slices g c = grind (arith, common_steps) steps 400000
 
 pub returns-clause-ok : goal.returns-clause-ok
-returns-clause-ok g c = grind (arith, common_steps) steps 400000
+returns-clause-ok g c =
+    ReadsOnly_more (g.Q.Shelf.state c.args.shelf.now) (g.Q.Shelf.state c.contents.new.shelf) (g.Q.Shelf.state c.found_slices.new.shelf)
+    c.in_ok-contents.ensures.ok c.in_ok-found.ensures.ok
 
 pub returns-clause-fault : goal.returns-clause-fault
 returns-clause-fault g c = grind (arith, common_steps) steps 100000

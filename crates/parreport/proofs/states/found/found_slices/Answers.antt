@@ -1,23 +1,23 @@
 use Rattle.std.proofs.lemmas.Grind.{common_steps}
-use Rattle.std.proofs.Common.{◌≡◌, ◌∙◌, ◌&&◌, ap, arith, length, map, subst}
+use Rattle.std.proofs.Common.{◌≡◌, ◌∙◌, ◌&&◌, ap, arith, length, map, subst, sym}
+use Rattle.std.proofs.lemmas.Result.{err_from_is_err_and}
 use Rattle.std.proofs.lemmas.List.{length-map}
 use Rattle.parshelf.specs.Shelf.{ShelfState}
-use Rattle.parfind.specs.Sought.{sought_of}
-use Rattle.parreport.specs.SetSearch.{set_sought_of}
+use Rattle.parfind.specs.Sought.{HasFewTails, sought_of}
 use Rattle.parfind.specs.Steps.{scan_of}
-use Rattle.parfind.specs.Surveys.{MarksSighted, StopsOnceFound}
+use Rattle.parfind.specs.Surveys.{MarksSighted, StopsOnceFound, marked_at}
 use Rattle.parwindow.specs.Missing.{mark_of}
-use Rattle.parreport.specs.Findings.{is_settled, can_be_found}
+use Rattle.parreport.specs.Findings.{is_settled, can_be_found, set_scan_of}
+use Rattle.parreport.proofs.LeaveLaws.{FilesLeave-survey}
 use Rattle.parreport.proofs.StateLaws.{take-all_back}
 use Rattle.parreport.proofs.SumLaws.{marks_found, all_settled}
 use Rattle.parreport.proofs.states.found.found_slices.Goals as goal
 
 pub returns-clause-found : goal.returns-clause-found
-returns-clause-found g c = λ steady.
+returns-clause-found g c = λ files reads.
     let slices = c.args.set.now.slices in
     let whole = c.args.whole.now in
-    let shelf : ShelfState = g.Q.Shelf.state c.args.shelf.now in
-    let own = set_sought_of c.args.set.now c.args.mode in
+    let scan = set_scan_of c.args.set.now c.args.mode files in
     let was : c.deref_mut.result.now ≡ map (is_settled whole) slices
     = c.deref_mut.ensures.value ∙ (c.in_ok-found.ensures ∙ ap (map (is_settled whole)) c.slices.ensures.field) in
     let same : length c.survey.new.found ≡ length c.in_ok-found.found.items
@@ -26,11 +26,11 @@ returns-clause-found g c = λ steady.
     let now : c.deref_mut-2.result.now ≡ c.survey.new.found = c.deref_mut-2.ensures.value ∙ back in
     let sized : length c.survey.new.found ≡ length slices = omega (arith, c.survey.auto.found, ap length was, length-map slices (is_settled whole)) in
     let kept : length c.unmark_unsearchable.new.found ≡ length slices = omega (arith, c.unmark_unsearchable.auto.found, ap length now, sized) in
-    let marked : MarksSighted (scan_of own shelf) c.deref_mut.result.now c.survey.new.found
-    = subst (λ set. MarksSighted (scan_of (sought_of set c.args.mode) shelf) c.deref_mut.result.now c.survey.new.found) c.requires.index (c.in_ok-survey.ensures.found steady) in
+    let marked : MarksSighted scan c.deref_mut.result.now c.survey.new.found
+    = subst (λ set. MarksSighted (scan_of (sought_of set c.args.mode) files) c.deref_mut.result.now c.survey.new.found) c.requires.index (c.in_ok-survey.ensures.found files reads) in
     take-all_back c.in_ok-found.found.len c.unmark_unsearchable.new.found _ (omega (arith, c.unmark_unsearchable.auto.found, ap length c.deref_mut-2.ensures.value))
     (omega (arith, ap length back, same))
-    ∙ marks_found whole (scan_of own shelf) c.deref_mut.result.now c.survey.new.found c.unmark_unsearchable.new.found was sized kept marked (λ n within.
+    ∙ marks_found whole scan c.deref_mut.result.now c.survey.new.found c.unmark_unsearchable.new.found was sized kept marked (λ n within.
     c.unmark_unsearchable.ensures n within
     ∙ (ap (λ marks. mark_of marks n && can_be_found whole c.slices-2.result.now n) now
     ∙ ap (λ xs. mark_of c.survey.new.found n && can_be_found whole xs n) c.slices-2.ensures.field))
@@ -81,7 +81,13 @@ pub returns-in_err-survey-clause-ok : goal.returns-in_err-survey-clause-ok
 returns-in_err-survey-clause-ok g c = grind (arith, common_steps) steps 1500000
 
 pub returns-in_err-survey-clause-fault : goal.returns-in_err-survey-clause-fault
-returns-in_err-survey-clause-fault g c = grind (arith, common_steps) steps 1500000
+returns-in_err-survey-clause-fault g c =
+    let failed = err_from_is_err_and c.from_residual-in_err-survey.result c.from_residual-in_err-survey.ensures.1 in
+    rw (failed.1, failed.2)
+    (FilesLeave-survey (Unit {0}) (sought_of c.args.index.now c.args.mode) (marked_at (g.Q.Shelf.state c.args.shelf.now) c.deref_mut.result.now)
+    (marked_at (g.Q.Shelf.state c.survey.new.shelf) c.survey.new.found) c.in_err-survey.field-0.0
+    (subst (λ set. HasFewTails (sought_of set c.args.mode)) (sym c.requires.index) c.requires.few)
+    c.in_err-survey.ensures.tails c.in_err-survey.ensures.leaves)
 
 pub returns-clause-slices : goal.returns-clause-slices
 returns-clause-slices g c = grind (arith, common_steps) steps 1500000
@@ -96,24 +102,26 @@ pub returns-clause-fault : goal.returns-clause-fault
 returns-clause-fault g c = grind (arith, common_steps) steps 100000
 
 pub returns-clause-stops : goal.returns-clause-stops
-returns-clause-stops g c = λ steady.
-    let own = set_sought_of c.args.set.now c.args.mode in
+returns-clause-stops g c = λ files reads.
+    let scan = set_scan_of c.args.set.now c.args.mode files in
     let old : ShelfState = g.Q.Shelf.state c.args.shelf.now in
     let new : ShelfState = g.Q.Shelf.state c.survey.new.shelf in
     let was : c.deref_mut.result.now ≡ map (is_settled c.args.whole.now) c.args.set.now.slices
     = c.deref_mut.ensures.value ∙ (c.in_ok-found.ensures ∙ ap (map (is_settled c.args.whole.now)) c.slices.ensures.field) in
-    subst (λ marks. StopsOnceFound own old new marks) was
-    (subst (λ set. StopsOnceFound (sought_of set c.args.mode) old new c.deref_mut.result.now) c.requires.index (c.survey.ensures.stops steady))
+    subst (λ marks. StopsOnceFound scan old new marks) was
+    (subst (λ set. StopsOnceFound (scan_of (sought_of set c.args.mode) files) old new c.deref_mut.result.now) c.requires.index
+    (c.survey.ensures.stops files reads))
 
 pub returns-in_err-survey-clause-stops : goal.returns-in_err-survey-clause-stops
-returns-in_err-survey-clause-stops g c = λ steady.
-    let own = set_sought_of c.args.set.now c.args.mode in
+returns-in_err-survey-clause-stops g c = λ files reads.
+    let scan = set_scan_of c.args.set.now c.args.mode files in
     let old : ShelfState = g.Q.Shelf.state c.args.shelf.now in
     let new : ShelfState = g.Q.Shelf.state c.survey.new.shelf in
     let was : c.deref_mut.result.now ≡ map (is_settled c.args.whole.now) c.args.set.now.slices
     = c.deref_mut.ensures.value ∙ (c.in_ok-found.ensures ∙ ap (map (is_settled c.args.whole.now)) c.slices.ensures.field) in
-    subst (λ marks. StopsOnceFound own old new marks) was
-    (subst (λ set. StopsOnceFound (sought_of set c.args.mode) old new c.deref_mut.result.now) c.requires.index (c.survey.ensures.stops steady))
+    subst (λ marks. StopsOnceFound scan old new marks) was
+    (subst (λ set. StopsOnceFound (scan_of (sought_of set c.args.mode) files) old new c.deref_mut.result.now) c.requires.index
+    (c.survey.ensures.stops files reads))
 
 pub unmark_unsearchable-requires : goal.unmark_unsearchable-requires
 unmark_unsearchable-requires g c = grind (arith, common_steps) steps 400000

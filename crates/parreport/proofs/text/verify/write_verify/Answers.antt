@@ -2,7 +2,6 @@ use Rattle.std.proofs.lemmas.Grind.{common_steps}
 use Rattle.std.proofs.Common.{◌≡◌, ◌∙◌, ℕ, Bool, List, Result, Ok, Err, IfErr, true, false, ap, refl, length, subst, sym, arith}
 use Rattle.std.proofs.lemmas.Result.{err_from_is_err_and}
 use Rattle.parset.specs.RecoverySet.{SetView}
-use Rattle.parshelf.specs.Shelf.{ShelfState}
 use Rattle.parreport.proofs.StateLaws.{contents_sized, map-name}
 use Rattle.parreport.specs.Names.{names_of}
 use Rattle.parreport.specs.Findings.{findings_of}
@@ -25,7 +24,7 @@ use Rattle.parreport.proofs.text.verify.write_verify.Goals as goal
 abbrev report : List ℕ → Status → Report
 report text status = record { text = text; answer = Ok status }
 
--- the report by findings of a steady shelf is that over its files
+-- the report by the findings of files is that over them
 report_is : (quiet : ℕ) (mode : Mode) (plan : Plan) (set : SetView) (findings : Findings) (contents : List (List ℕ)) → length contents ≡ length plan.scanned
     → HasFewTails (set_sought_of set mode) → findings ≡ findings_of set mode (named_files plan.scanned contents)
     → report (findings_text quiet set (names_of plan.scanned) findings) (status_of set findings) ≡ verify_report plan quiet mode contents set
@@ -42,7 +41,7 @@ holds_for Holds (Ok status) tails h = tt
 holds_for Holds (Err fault) tails h = h tails
 
 pub returns-then-has_too_many_tails-clause-text : goal.returns-then-has_too_many_tails-clause-text
-returns-then-has_too_many_tails-clause-text g c = λ steady.
+returns-then-has_too_many_tails-clause-text g c = λ files reads.
     let mode = mode_of c.args.tails in
     let many = test_of_set c.args.set.now mode c.mode_of-mode.result c.in_ok-index.index c.in_ok-index.ensures c.mode_of-mode.ensures true
     (sym c.has_too_many_tails.ensures ∙ c.if-has_too_many_tails.true) in
@@ -54,24 +53,23 @@ findings_on-requires-clause-few g c =
     (few_from_test (sought_of c.in_ok-index.index c.mode_of-mode.result) (sym c.has_too_many_tails.ensures ∙ c.if-has_too_many_tails.false))
 
 pub returns-in_err-findings-clause-text : goal.returns-in_err-findings-clause-text
-returns-in_err-findings-clause-text g c = λ steady.
+returns-in_err-findings-clause-text g c = λ files reads.
     let failed = err_from_is_err_and c.from_residual-in_err-findings.result c.from_residual-in_err-findings.ensures.1 in
     rw (failed.1, failed.2) (answers_before_text _ c.in_err-findings.field-0.0 (g.Q.Shelf.state c.args.scanned.now) (g.Q.Shelf.state c.findings_on.new.shelf) _
     c.in_err-findings.ensures.fault)
 
 pub returns-clause-text : goal.returns-clause-text
-returns-clause-text g c = λ steady.
+returns-clause-text g c = λ files reads.
     let set = c.args.set.now in let plan = c.args.plan.now in let mode = mode_of c.args.tails in
-    let old : ShelfState = g.Q.Shelf.state c.args.scanned.now in
     let start = g.W.Sink.state c.args.out.now in let new = g.W.Sink.state c.write_findings.new.out in
-    let sized = contents_sized old plan.scanned (g.met.Q.Shelf.well_formed c.args.scanned.now) c.requires steady in
+    let sized = contents_sized (g.Q.Shelf.state c.args.scanned.now) plan.scanned files c.requires (c.in_ok-findings.ensures.ok.older files reads) in
     let few = few_of_set set mode c.mode_of-mode.result c.in_ok-index.index c.in_ok-index.ensures c.mode_of-mode.ensures
     (few_from_test (sought_of c.in_ok-index.index c.mode_of-mode.result) (sym c.has_too_many_tails.ensures ∙ c.if-has_too_many_tails.false)) in
-    let findings : c.in_ok-findings.findings ≡ findings_of set mode (named_files plan.scanned old.files)
-    = rw (c.as_slice-files.ensures, c.mode_of-mode.ensures) at (c.in_ok-findings.ensures.findings steady) in
+    let findings : c.in_ok-findings.findings ≡ findings_of set mode (named_files plan.scanned files)
+    = rw (c.as_slice-files.ensures, c.mode_of-mode.ensures) at (c.in_ok-findings.ensures.findings files reads) in
     let after = rw c.as_slice-files.ensures at c.write_findings.ensures.text in
     subst (λ (whole : Report). Answers whole c.write_findings.result start new)
-    (report_is c.args.quiet mode plan set c.in_ok-findings.findings old.files sized few findings) after
+    (report_is c.args.quiet mode plan set c.in_ok-findings.findings files sized few findings) after
 
 pub returns-in_err-findings-clause-no_packet : goal.returns-in_err-findings-clause-no_packet
 returns-in_err-findings-clause-no_packet g c = grind (arith, common_steps)

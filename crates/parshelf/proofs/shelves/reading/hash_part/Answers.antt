@@ -4,15 +4,15 @@ use Rattle.std.proofs.lemmas.List.{length-take-le, drop-drop, append_assoc, appe
 use Rattle.std.proofs.lemmas.Result.{err_from_is_err_and}
 use Rattle.std.proofs.Math.Seq.{take-add}
 use Rattle.parshelf.specs.Shelf.{file_of}
-use Rattle.parshelf.proofs.ShelfLaws.{after_handing-zero, handed_over_more, steady-after_handing}
+use Rattle.parshelf.proofs.ShelfLaws.{HandsOver-none, HandsOver_more}
 use Rattle.parshelf.proofs.ReadLaws.{FaultsWithin_more}
 use Rattle.parshelf.proofs.shelves.reading.hash_part.Goals as goal
 
 pub loop-done-init : goal.loop-done-init
 loop-done-init g c = record {
   within = omega arith;
-  reads = sym (after_handing-zero _ _);
-  holds = λ _ front held. rw (append-nil front) held;
+  reads = HandsOver-none _ _;
+  holds = λ _ _ front held. rw (append-nil front) held;
 }
 
 -- a fault of the piece is one of the file, behind what was handed over before
@@ -30,22 +30,21 @@ loop-done-preserved g c =
     let full : length (take c.min-next.result c.loop-done.buffer) ≡ c.min-next.result
     = length-take-le _ _ (omega arith) in record {
       within = omega arith;
-      reads = handed_over_more _ _ _ _ _ _ before.reads (rw full at c.in_ok-fill.ensures.ok);
-      holds = λ steady front held.
-          let steady_now = steady-after_handing _ _ _ _ before.reads steady in
-          let next = rw (full, before.reads) at (c.in_ok-fill.ensures.bytes steady_now) in
-          let bytes : List ℕ = drop c.args.offset (file_of (g.H.Shelf.state c.args.shelf.now) c.args.file) in
-          let behind = drop-drop c.loop-done.done c.args.offset (file_of (g.H.Shelf.state c.args.shelf.now) c.args.file) in
+      reads = HandsOver_more _ _ _ _ _ _ before.reads (rw full at c.in_ok-fill.ensures.ok);
+      holds = λ files reads front held.
+          let next = rw full at (c.in_ok-fill.ensures.bytes files reads) in
+          let bytes : List ℕ = drop c.args.offset (file_of files c.args.file) in
+          let behind = drop-drop c.loop-done.done c.args.offset (file_of files c.args.file) in
           let joined : take c.loop-done.done bytes ++ c.fill.new.buf ≡ take (c.loop-done.done + c.min-next.result) bytes
           = ap (λ (ys : List ℕ). take c.loop-done.done bytes ++ ys) (next ∙ ap (take c.min-next.result) (sym behind)) ∙ sym (take-add _ _ bytes) in
           let all = append_assoc front (take c.loop-done.done bytes) c.fill.new.buf ∙ ap (λ (ys : List ℕ). front ++ ys) joined in
-          rw all at (c.update.ensures _ (before.holds steady front held));
+          rw all at (c.update.ensures _ (before.holds files (c.in_ok-fill.ensures.ok.older files reads) front held));
     }
 
 pub returns-clause-hashed : goal.returns-clause-hashed
-returns-clause-hashed g c = λ steady front held.
+returns-clause-hashed g c = λ files reads front held.
     let whole : c.loop-done.done ≡ c.args.size = omega arith in
-    rw whole at (c.loop-done.invariant.holds steady front held)
+    rw whole at (c.loop-done.invariant.holds files reads front held)
 
 pub returns-clause-ok : goal.returns-clause-ok
 returns-clause-ok g c = search rules steps 1000000
@@ -69,12 +68,14 @@ pub fill-requires-clause-within : goal.fill-requires-clause-within
 fill-requires-clause-within g c = grind (arith, common_steps) steps 100000
 
 pub returns-in_err-fill-clause-ok : goal.returns-in_err-fill-clause-ok
-returns-in_err-fill-clause-ok g c = grind (arith, common_steps) steps 100000
+returns-in_err-fill-clause-ok g c =
+    let same = err_from_is_err_and c.from_residual.result c.from_residual.ensures.1 in
+    rw same.1 tt
 
 pub returns-in_err-fill-clause-hashed : goal.returns-in_err-fill-clause-hashed
 returns-in_err-fill-clause-hashed g c =
     let same = err_from_is_err_and c.from_residual.result c.from_residual.ensures.1 in
-    λ _ _ _. rw same.1 tt
+    λ _ _ _ _. rw same.1 tt
 
 pub returns-in_err-fill-clause-failed : goal.returns-in_err-fill-clause-failed
 returns-in_err-fill-clause-failed g c = grind (arith, common_steps) steps 400000

@@ -64,6 +64,34 @@ fn files_on_disk_are_read_whole(rt: HostRuntime) -> Result<(), OpenFault> {
     Ok(())
 }
 
+// Reads of two files of one length: the file, the offset, and the two bytes that come.
+static EACH: [(u32, u64, [u8; 2]); 5] = [
+    (0, 1, *b"bc"),
+    (1, 1, *b"yz"),
+    (1, 0, *b"xy"),
+    (0, 2, *b"cd"),
+    (1, 2, *b"zw"),
+];
+
+// Wants that a read of a file from an offset on gives these bytes.
+fn is_read(rt: &impl Abort, shelf: &mut DiskShelf, file: u32, offset: u64, bytes: [u8; 2]) {
+    let mut buf = *b"??";
+    assert!(rt; file < shelf.count());
+    is(rt, &shelf.read_at(file, offset, &mut buf), &Ok(2));
+    is(rt, &buf, &bytes);
+}
+
+#[test]
+fn files_on_disk_of_one_length_are_told_apart(rt: HostRuntime) {
+    let own = process::id(rt.process());
+    let first = written(&rt, own, 'a', b"abcd");
+    let second = written(&rt, own, 'b', b"xyzw");
+    let mut shelf = must(&rt, opened(&rt, &[first.as_str(), second.as_str()]));
+    for row in &EACH {
+        is_read(&rt, &mut shelf, row.0, row.1, row.2);
+    }
+}
+
 // The length of a file of 4 TiB and five bytes, nearly all of them zeros that take no room.
 const LONG: u64 = (1 << 42) + 5;
 

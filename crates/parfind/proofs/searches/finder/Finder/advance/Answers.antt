@@ -23,7 +23,6 @@ pub returns-in-Hit : goal.returns-in-Hit
 returns-in-Hit g c =
     let sought : Sought = sought_for c.args.index.now c.args.self.now in
     let old : ShelfState = g.H.Shelf.state c.args.shelf.now in
-    let shelf = g.met.H.Shelf.well_formed c.args.shelf.now in
     let l = c.loop-sighting in
     let mid : ShelfState = g.H.Shelf.state l.shelf in
     let t = c.try_place.new in
@@ -31,14 +30,13 @@ returns-in-Hit g c =
     let r = c.in_ok-sighting.ensures in
     let tried = tried_is sought l.left mid new l.self t.self _ _ c.in-Hit.is
     (record { sees = rw l.invariant.so_far.along.mode_is at r.sees; moves = r.moves; advances = r.advances; within = r.within; along = r.along }) in
-    let made = tried_ends sought c.args.budget l.left old mid new c.args.self.now l.self t.self l.invariant.so_far shelf (Ok (Hit c.in-Hit.sighting)) (λ e. cc) tried in
+    let made = tried_ends sought c.args.budget l.left old mid new c.args.self.now l.self t.self l.invariant.so_far (Ok (Hit c.in-Hit.sighting)) (λ e. cc) tried in
     record { belongs = r.belongs; answer = made.answer; moves = made.moves; advances = made.advances; along = made.along }
 
 pub returns-in-End : goal.returns-in-End
 returns-in-End g c =
     let sought : Sought = sought_for c.args.index.now c.args.self.now in
     let old : ShelfState = g.H.Shelf.state c.args.shelf.now in
-    let shelf = g.met.H.Shelf.well_formed c.args.shelf.now in
     let l = c.loop-sighting in
     let mid : ShelfState = g.H.Shelf.state l.shelf in
     let t = c.try_place.new in
@@ -46,21 +44,20 @@ returns-in-End g c =
     let r = c.in_ok-sighting.ensures in
     let tried = tried_is sought l.left mid new l.self t.self _ _ c.in-End.is
     (record { sees = rw l.invariant.so_far.along.mode_is at r.sees; moves = r.moves; advances = r.advances; within = r.within; along = r.along }) in
-    let made = tried_ends sought c.args.budget l.left old mid new c.args.self.now l.self t.self l.invariant.so_far shelf (Ok End) (λ e. cc) tried in
+    let made = tried_ends sought c.args.budget l.left old mid new c.args.self.now l.self t.self l.invariant.so_far (Ok End) (λ e. cc) tried in
     record { belongs = r.belongs; answer = made.answer; moves = made.moves; advances = made.advances; along = made.along }
 
 pub returns-in_err-sighting : goal.returns-in_err-sighting
 returns-in_err-sighting g c =
     let sought : Sought = sought_for c.args.index.now c.args.self.now in
     let old : ShelfState = g.H.Shelf.state c.args.shelf.now in
-    let shelf = g.met.H.Shelf.well_formed c.args.shelf.now in
     let l = c.loop-sighting in
     let mid : ShelfState = g.H.Shelf.state l.shelf in
     let t = c.try_place.new in
     let new : ShelfState = g.H.Shelf.state t.shelf in
     let r = c.in_err-sighting.ensures in
     let fault = c.in_err-sighting.field-0.0 in
-    let made = tried_ends sought c.args.budget l.left old mid new c.args.self.now l.self t.self l.invariant.so_far shelf (Err fault) (λ e. cc)
+    let made = tried_ends sought c.args.budget l.left old mid new c.args.self.now l.self t.self l.invariant.so_far (Err fault) (λ e. cc)
     (record { sees = rw l.invariant.so_far.along.mode_is at r.sees; moves = r.moves; advances = r.advances; within = r.within; along = r.along }) in
     let failed = err_from_is_err_and c.from_residual.result c.from_residual.ensures.1 in
     rw (failed.1, failed.2)
@@ -70,7 +67,6 @@ pub returns-then-eq : goal.returns-then-eq
 returns-then-eq g c =
     let sought : Sought = sought_for c.args.index.now c.args.self.now in
     let old : ShelfState = g.H.Shelf.state c.args.shelf.now in
-    let shelf = g.met.H.Shelf.well_formed c.args.shelf.now in
     let l = c.loop-sighting in
     let mid : ShelfState = g.H.Shelf.state l.shelf in
     let t = c.try_place.new in
@@ -81,7 +77,7 @@ returns-then-eq g c =
     let m : ℕ = c.in-Passed.count in
     let none : budget_left l.left m ≡ Some 0 =
     sym c.budget_left-left.ensures ∙ none_left c.budget_left-left.result (sym c.eq.ensures ∙ c.if-eq.true) in
-    let made = tried_spends sought c.args.budget l.left old mid new c.args.self.now l.self t.self l.invariant.so_far shelf m none tried in
+    let made = tried_spends sought c.args.budget l.left old mid new c.args.self.now l.self t.self l.invariant.so_far m none tried in
     record { belongs = r.belongs; answer = made.answer; moves = made.moves; advances = made.advances; along = made.along }
 
 pub loop-sighting-preserved : goal.loop-sighting-preserved

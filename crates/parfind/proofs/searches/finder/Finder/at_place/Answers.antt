@@ -7,6 +7,7 @@ use Rattle.parfind.specs.declared.cursors.cursor.Cursor.{Cursor}
 use Rattle.parfind.specs.Finders.{FinderState}
 use Rattle.parfind.proofs.AtPlaceLaws.{IsThere, Looked, hit_inside, fault_inside, pass_inside}
 use Rattle.parfind.proofs.BelongsLaws.{with_window}
+use Rattle.parfind.proofs.KeptLaws.{tied_digest}
 use Rattle.parfind.proofs.searches.finder.Finder.at_place.Goals as goal
 
 pub returns-in-Some : goal.returns-in-Some
@@ -23,7 +24,7 @@ returns-in-Some g c =
     let looked : Looked set s f c.rest_of-rest.result c.first_seen.result w.window w.self.kept.items =
     record { rest_is = c.rest_of-rest.ensures; first = r.first; looks = r.looks; keeps = rw r.mode at r.keeps } in
     let seen = rw c.in-Some.is at r.there in
-    let tried = hit_inside set s (g.met.H.Shelf.well_formed c.args.shelf.now) f c.args.self.now c.self.view_is there c.args.left q.left c.rest_of-rest.result
+    let tried = hit_inside set s f c.args.self.now c.self.view_is there c.args.left q.left c.rest_of-rest.result
     c.first_seen.result w.window w.self.kept.items looked w.self.mode r.mode c.in-Some.slice c.in-Some.is seen in
     record {
       belongs = tried.0;
@@ -49,7 +50,7 @@ returns-in_err-count g c =
     record { rest_is = c.rest_of-rest.ensures; first = r.first; looks = r.looks; keeps = rw r.mode at r.keeps } in
     let v = c.slide_until_crc.new in
     let e = c.in_err-count.ensures in
-    let tried = fault_inside set s (g.met.H.Shelf.well_formed c.args.shelf.now) f c.args.self.now c.self.view_is there c.args.left q.left c.rest_of-rest.result
+    let tried = fault_inside set s f c.args.self.now c.self.view_is there c.args.left q.left c.rest_of-rest.result
     c.first_seen.result w.window w.self.kept.items looked w.self.mode r.mode (g.H.Shelf.state v.shelf) v.window v.self e.tied e.window e.reads
     c.in_err-count.field-0.0 e.shelf e.stays.0 e.stays.1 in
     let failed = err_from_is_err_and c.from_residual.result c.from_residual.ensures.1 in
@@ -77,7 +78,7 @@ returns g c =
     record { rest_is = c.rest_of-rest.ensures; first = r.first; looks = r.looks; keeps = rw r.mode at r.keeps } in
     let v = c.slide_until_crc.new in
     let e = c.in_ok-count.ensures in
-    let tried = pass_inside set s (g.met.H.Shelf.well_formed c.args.shelf.now) f c.args.self.now c.self.view_is there c.args.left q.left c.rest_of-rest.result
+    let tried = pass_inside set s f c.args.self.now c.self.view_is there c.args.left q.left c.rest_of-rest.result
     c.first_seen.result w.window w.self.kept.items looked c.forget.new.self.mode (c.forget.ensures.mode ∙ r.mode)
     (g.H.Shelf.state v.shelf) v.window v.self e.tied e.window e.reads c.in_ok-count.count c.unwrap_or-most.result c.forget.new.self.kept.items
     c.forget.ensures.none e.shelf e.same e.passes c.in_default.is (omega (arith, c.unwrap_or-most.ensures)) e.none in
@@ -127,4 +128,9 @@ pub slide_until_crc-requires-clause-full : goal.slide_until_crc-requires-clause-
 slide_until_crc-requires-clause-full g c = grind (arith, common_steps) steps 100000
 
 pub slide_until_crc-requires-clause-tied : goal.slide_until_crc-requires-clause-tied
-slide_until_crc-requires-clause-tied g c = grind (arith, common_steps) steps 400000
+slide_until_crc-requires-clause-tied g c =
+    let i = c.self.inside in
+    let track = ap (λ (f : FinderState). f.track) c.self.view_is in
+    let window = ap (λ (f : FinderState). f.window) c.self.view_is in
+    tied_digest (g.H.Shelf.state c.args.shelf.now) i.window c.first_seen.new.window i.track _ (rw (track, window) c.requires.belongs.tied)
+    c.first_seen.ensures.looks.window_is

@@ -6,8 +6,9 @@ use Rattle.parshelf.specs.Reads.{ReadsFile}
 use Rattle.parfind.specs.Tracks.{fetched_of}
 use Rattle.parfind.proofs.FetchedLaws.{hands_more}
 use Rattle.parfind.specs.Finders.{FinderState, BelongsTo, StandsAt, sought_for}
-use Rattle.parfind.proofs.EnterLaws.{enter_tied, enter_file, enter_stands, enter_hands, enter_digests, enter_belongs}
-use Rattle.parfind.proofs.BelongsLaws.{call_files, opened_as, with_window}
+use Rattle.parfind.proofs.EnterLaws.{stays_there, enter_tied, enter_file, enter_stands, enter_hands, enter_digests, enter_belongs}
+use Rattle.parfind.proofs.BelongsLaws.{opened_as, with_window}
+use Rattle.parfind.proofs.LaterLaws.{later_read}
 use Rattle.parfield.specs.declared.hash16.Hash16.{Hash16}
 use Rattle.parfind.specs.Sought.{looked_lengths}
 use Rattle.parfind.specs.declared.tracks.track.Track.{Track}
@@ -59,7 +60,7 @@ returns-clause-belongs g c =
     let belongs : BelongsTo (with_window f c.args.at c.fill.new.window c.fill.new.self kept) set t =
     enter_belongs f set s (g.met.H.Shelf.well_formed c.args.shelf.now) c.requires.belongs c.args.at c.requires.next c.requires.fits
     c.enter_file.new.window c.enter_file.new.self (rw (track, window) at c.enter_file.ensures.same) (rw (track, window) at c.enter_file.ensures.other)
-    unfilled t (call_files s t c.enter_file.new.self.file c.fill.result r.shelf) kept none c.fill.new.window c.fill.new.self
+    unfilled t (later_read s t c.enter_file.new.self.file c.fill.result r.shelf) kept none c.fill.new.window c.fill.new.self
     r.tied r.window r.same in
     opened_as (with_window f c.args.at c.fill.new.window c.fill.new.self kept) set t belongs c.self.inside.opening c.forget.new.self.mode
     (ap (λ (x : FinderState). x.opening) c.self.view_is) (c.forget.ensures.mode ∙ ap (λ (x : FinderState). x.mode) c.self.view_is)
@@ -87,3 +88,12 @@ returns-clause-along g c =
       mode_is = c.forget.ensures.mode ∙ ap (λ (f : FinderState). f.mode) c.self.view_is;
       no_fewer = omega (arith, counted, same, filled);
     }
+
+pub returns-then-is_full-clause-belongs : goal.returns-then-is_full-clause-belongs
+returns-then-is_full-clause-belongs g c =
+    let set : SliceSet = c.args.index.now in
+    let s : ShelfState = g.H.Shelf.state c.args.shelf.now in
+    let same : c.args.self.now.track.file ≡ c.args.at.file =
+    sym (ap (λ (f : FinderState). f.track.file) c.self.view_is) ∙ sym c.file.ensures ∙ sym c.if-at-file.true in
+    subst (λ (f : FinderState). BelongsTo (with_window f c.args.at f.window f.track f.kept) set s) (sym c.self.view_is)
+    (stays_there c.args.self.now set s (g.met.H.Shelf.well_formed c.args.shelf.now) c.requires.belongs c.args.at c.requires.next c.requires.fits same)

@@ -19,12 +19,12 @@ returns-clause-belongs g c =
     subst (λ (f : FinderState). BelongsTo (record f { cursor = cursor_on c.args.at c.min-count.result }) set s) (sym c.self.view_is) belongs
 
 pub returns-clause-sees : goal.returns-clause-sees
-returns-clause-sees g c = λ steady.
+returns-clause-sees g c = λ files reads.
     let none : ¬ HasFit c.args.index.now (g.H.Shelf.state c.args.shelf.now).lengths c.args.at = λ has.
     let e : true ≡ false = sym has ∙ (rw c.rest_of-rest.ensures at (sym c.fits.ensures ∙ c.if-fits.false)) in cc in
     let some = some_passed (g.H.Shelf.state c.args.shelf.now).lengths c.args.at c.args.left c.rest_of-rest.result c.unwrap_or.result c.min-count.result
     c.requires.left c.requires.next.there c.rest_of-rest.ensures c.unwrap_or.ensures c.min-count.ensures in
-    unfit_sees (sought_for c.args.index.now c.args.self.now) (g.H.Shelf.state c.args.shelf.now) (g.met.H.Shelf.well_formed c.args.shelf.now) steady
+    unfit_sees (sought_for c.args.index.now c.args.self.now) (g.H.Shelf.state c.args.shelf.now) files reads
     c.args.self.now.cursor c.args.at c.requires.next none c.min-count.result some
 
 pub returns-clause-passes : goal.returns-clause-passes

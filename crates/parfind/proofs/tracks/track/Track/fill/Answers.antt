@@ -1,12 +1,12 @@
 use Rattle.std.proofs.lemmas.Grind.{common_steps}
 use Rattle.std.proofs.Common.{◌≡◌, slice_index, ap, sym, ◌∙◌, subst, arith}
-use Rattle.parshelf.specs.Shelf.{ShelfState, file_of}
-use Rattle.parshelf.proofs.ReadLaws.{ReadsOnly_more}
-use Rattle.parshelf.proofs.ShelfLaws.{length-file_of}
+use Rattle.parshelf.specs.Shelf.{ShelfState}
+use Rattle.std.proofs.lemmas.Result.{err_from_is_err_and}
+use Rattle.parshelf.proofs.ReadLaws.{ReadsOnly_more, FaultsIn_more}
 use Rattle.parwindow.specs.Window.{WindowState}
 use Rattle.parfind.specs.Tracks.{IsTied, fetched_of}
 use Rattle.parfind.proofs.FetchedLaws.{hands_more}
-use Rattle.parfind.proofs.SlideLaws.{follows_more, kept_window}
+use Rattle.parfind.proofs.SlideLaws.{tied_more, kept_window}
 use Rattle.parfind.proofs.tracks.track.Track.fill.Goals as goal
 
 pub loop-self-preserved : goal.loop-self-preserved
@@ -19,11 +19,10 @@ loop-self-preserved g c =
     let so_far = c.loop-self.invariant in
     let r = c.in_ok-ensure_next_byte.ensures in
     let file_end : c.length.result ≡ slice_index new.lengths t.file = c.length.ensures.value in
-    let lengths : mid.lengths ≡ s.lengths = ap (λ (u : ShelfState). u.lengths) so_far.only in
+    let lengths : mid.lengths ≡ s.lengths = ap (λ (u : ShelfState). u.lengths) so_far.only.counts in
     record {
       tied = subst (λ (w : WindowState). IsTied new w t) (sym c.extend.ensures)
-          (follows_more (slice_index new.lengths t.file) new.is_steady (file_of new t.file) v t r.tied
-          (length-file_of new t.file (g.met.H.Shelf.well_formed c.ensure_next_byte.new.shelf))
+          (tied_more new v t r.tied
           c.next_bytes-bytes.result.now (rw file_end at c.next_bytes-bytes.ensures.bytes) (λ before. c.next_bytes-bytes.ensures.hand (rw file_end before))
           c.next_bytes-bytes.ensures.some (omega (arith, c.next_bytes-bytes.ensures.within, c.size.ensures, c.len.ensures.len, r.tied.within)));
       same = record {
@@ -79,7 +78,12 @@ pub ensure_next_byte-requires-clause-tied : goal.ensure_next_byte-requires-claus
 ensure_next_byte-requires-clause-tied g c = grind (arith, common_steps) steps 100000
 
 pub returns-in_err-ensure_next_byte-clause-shelf : goal.returns-in_err-ensure_next_byte-clause-shelf
-returns-in_err-ensure_next_byte-clause-shelf g c = grind (arith, common_steps) steps 100000
+returns-in_err-ensure_next_byte-clause-shelf g c =
+    let so_far = c.loop-self.invariant in
+    let failed = err_from_is_err_and c.from_residual.result c.from_residual.ensures.1 in
+    rw (failed.1, failed.2)
+    (FaultsIn_more (g.H.Shelf.state c.args.shelf.now) (g.H.Shelf.state c.loop-self.shelf) (g.H.Shelf.state c.ensure_next_byte.new.shelf)
+    c.args.self.now.file c.in_err-ensure_next_byte.field-0.0 so_far.only (rw so_far.same.file_is at c.in_err-ensure_next_byte.ensures.shelf))
 
 pub overflow_sub-room : goal.overflow_sub-room
 overflow_sub-room g c = grind (arith, common_steps) steps 100000

@@ -1,12 +1,11 @@
 use Rattle.std.proofs.lemmas.Result.{err_from_is_err_and}
 use Rattle.std.proofs.lemmas.Grind.{common_steps}
-use Rattle.std.proofs.Common.{◌≡◌, ℕ, ◌+◌, slice_index, ap, sym, ◌∙◌, subst, arith}
+use Rattle.std.proofs.Common.{◌≡◌, ℕ, ◌+◌, slice_index, sym, subst, arith}
 use Rattle.parshelf.specs.Shelf.{ShelfState, file_of}
-use Rattle.parshelf.proofs.ShelfLaws.{length-file_of}
 use Rattle.parwindow.specs.Window.{WindowState}
 use Rattle.parfind.specs.Tracks.{IsTied, HaveNoLookedCrc}
 use Rattle.parfind.specs.Sought.{sought_of}
-use Rattle.parfind.proofs.SlideLaws.{follows_on, none_on}
+use Rattle.parfind.proofs.SlideLaws.{tied_on, none_on}
 use Rattle.parfind.proofs.tracks.track.Track.slide_until_crc.Goals as goal
 
 pub returns-clause-tied : goal.returns-clause-tied
@@ -18,26 +17,22 @@ returns-clause-tied g c =
     let n : ℕ = c.push_until-count.result in
     let file_end : c.length-file_end.result ≡ slice_index new.lengths t.file = c.length-file_end.ensures.value in
     subst (λ (v : WindowState). IsTied new v (record t { window_offset = t.window_offset + n })) (sym c.push_until-count.ensures.content)
-    (follows_on (slice_index new.lengths t.file) new.is_steady (file_of new t.file) w t r.tied
-    (length-file_of new t.file (g.met.H.Shelf.well_formed c.ensure_next_byte.new.shelf))
+    (tied_on new w t r.tied
     c.next_bytes-bytes.result.now (rw file_end at c.next_bytes-bytes.ensures.bytes) (λ before. c.next_bytes-bytes.ensures.hand (rw file_end before)) n c.push_until-count.ensures.until.within)
 
 pub returns-clause-none : goal.returns-clause-none
-returns-clause-none g c = λ mode made steady.
-    let s : ShelfState = g.H.Shelf.state c.args.shelf.now in
+returns-clause-none g c = λ mode made files reads.
     let new : ShelfState = g.H.Shelf.state c.ensure_next_byte.new.shelf in
     let w : WindowState = c.args.window.now in
     let t = c.ensure_next_byte.new.self in
     let r = c.in_ok-ensure_next_byte.ensures in
     let n : ℕ = c.push_until-count.result in
     let file_end : c.length-file_end.result ≡ slice_index new.lengths t.file = c.length-file_end.ensures.value in
-    let none : HaveNoLookedCrc (sought_of c.args.index.now mode) (file_of new t.file) t.window_offset n =
-    none_on (slice_index new.lengths t.file) new.is_steady (file_of new t.file) w t r.tied
-    (length-file_of new t.file (g.met.H.Shelf.well_formed c.ensure_next_byte.new.shelf))
+    let none : HaveNoLookedCrc (sought_of c.args.index.now mode) (file_of files t.file) t.window_offset n =
+    none_on new w t r.tied
     c.next_bytes-bytes.result.now (rw file_end at c.next_bytes-bytes.ensures.bytes) (λ before. c.next_bytes-bytes.ensures.hand (rw file_end before))
-    c.args.index.now mode n c.size-size.ensures.set made c.requires.full c.push_until-count.ensures.until (ap (λ (u : ShelfState). u.is_steady) r.shelf ∙ steady) in
-    let files : file_of new t.file ≡ file_of s c.args.self.now.file = ap (λ (u : ShelfState). file_of u t.file) r.shelf ∙ ap (file_of s) r.same.file_is in
-    rw (files, r.same.offset_is) at none
+    c.args.index.now mode n c.size-size.ensures.set made c.requires.full c.push_until-count.ensures.until files reads in
+    rw (r.same.file_is, r.same.offset_is) at none
 
 pub returns-in_err-ensure_next_byte-clause-tied : goal.returns-in_err-ensure_next_byte-clause-tied
 returns-in_err-ensure_next_byte-clause-tied g c = grind (arith, common_steps) steps 100000
@@ -87,7 +82,9 @@ pub returns-in_err-ensure_next_byte-clause-passes : goal.returns-in_err-ensure_n
 returns-in_err-ensure_next_byte-clause-passes g c = grind (arith, common_steps) steps 100000
 
 pub returns-in_err-ensure_next_byte-clause-none : goal.returns-in_err-ensure_next_byte-clause-none
-returns-in_err-ensure_next_byte-clause-none g c = grind (arith, common_steps) steps 100000
+returns-in_err-ensure_next_byte-clause-none g c = λ mode made files reads.
+    let failed = err_from_is_err_and c.from_residual.result c.from_residual.ensures.1 in
+    rw failed.1 tt
 
 pub returns-in_err-ensure_next_byte-clause-stays : goal.returns-in_err-ensure_next_byte-clause-stays
 returns-in_err-ensure_next_byte-clause-stays g c = grind (arith, common_steps) steps 100000

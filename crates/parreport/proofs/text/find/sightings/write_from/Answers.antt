@@ -1,97 +1,96 @@
 use Rattle.std.proofs.lemmas.Grind.{common_steps}
-use Rattle.std.proofs.Common.{rules, ◌≢◌, ◌≡◌, ◌∙◌, Some, Ok, Err, refl, arith}
+use Rattle.std.proofs.Common.{rules, ◌≢◌, ◌≡◌, ◌∙◌, Some, Ok, Err, refl, sym, arith}
 use Rattle.std.proofs.lemmas.Result.{err_from_is_err_and}
-use Rattle.parset.specs.RecoverySet.{SetView}
 use Rattle.parshelf.specs.Shelf.{ShelfState}
-use Rattle.parshelf.proofs.ReadLaws.{ReadsOnly_more}
+use Rattle.parshelf.proofs.ReadLaws.{ReadsOnly-refl, ReadsOnly_more, FaultsIn_more}
 use Rattle.parfind.specs.declared.cursors.cursor.Cursor.{Cursor}
 use Rattle.parfind.specs.Points.{search_at}
-use Rattle.parfind.proofs.AlongLaws.{faults_before}
+use Rattle.parfind.proofs.LaterLaws.{later_fault}
 use Rattle.parfind.specs.declared.searches.finder.Step.TheVariants.{Hit, Done}
 use Rattle.parreport.specs.FindText.{Search, find_search_of}
 use Rattle.parreport.specs.SetSearch.{mode_of}
 use Rattle.parshelf.specs.SinkState.{SinkState}
-use Rattle.parreport.proofs.FindLaws.{hands_none, hands_front, hands_one, hands_refused, ends_text, ends_refused, stops_text, stops_refused, keeps_after_fault, gives_from}
+use Rattle.parreport.proofs.FindLaws.{hands_none, hands_front, hands_one, hands_refused, ends_text, ends_refused, stops_text, stops_refused, keeps_after_fault, gives_of_set}
 use Rattle.parreport.proofs.LineLaws.{fault_text, last_text, line_reads, line_sink, line_keeps, line_fault}
-use Rattle.parreport.proofs.RunLaws.{lengths_kept, list_same}
+use Rattle.parreport.proofs.RunLaws.{list_same}
 use Rattle.parreport.proofs.text.find.sightings.write_from.Goals as goal
 
 pub loop-left-preserved-in-Ok-Hit : goal.loop-left-preserved-in-Ok-Hit
 loop-left-preserved-in-Ok-Hit g c =
-    let s : Search = find_search_of c.args.files.now (g.Q.Shelf.state c.args.shelf.now).files c.args.set.now c.args.finder.now.cursor c.args.query in
-    let set : SetView = c.args.set.now in
     let old : ShelfState = g.Q.Shelf.state c.args.shelf.now in
     let mid : ShelfState = g.Q.Shelf.state c.loop-left.shelf in
+    let next : ShelfState = g.Q.Shelf.state c.next.new.shelf in
     let so_far = c.loop-left.invariant in
     let line = rw c.in_ok-write_sighting-in-Ok-Hit.was at c.write_sighting.ensures in
     let some : c.loop-left.left ≢ Some 0 = search rules in
     record {
       belongs = c.in-Ok-Hit.ensures.belongs;
       mode = c.in-Ok-Hit.ensures.along.mode_is ∙ so_far.mode;
-      reads = ReadsOnly_more old mid (g.Q.Shelf.state c.next.new.shelf) so_far.reads c.in-Ok-Hit.ensures.along.shelf;
+      reads = ReadsOnly_more old mid next so_far.reads c.in-Ok-Hit.ensures.along.shelf;
       failures = rw line so_far.failures;
-      handed = λ steady.
-          let gives = gives_from set (mode_of c.args.query.tails) c.loop-left.finder.mode c.args.index.now old mid c.loop-left.finder.cursor (search_at (g.Q.Shelf.state c.next.new.shelf) c.next.new.self.cursor) (Ok (Hit c.in-Ok-Hit.sighting)) c.requires.index so_far.mode
-          so_far.reads steady (λ still. rw c.in-Ok-Hit.field-0-is at (c.in-Ok-Hit.ensures.answer still)) in
+      handed = λ contents reads.
+          let gives = gives_of_set c.args.set.now (mode_of c.args.query.tails) c.loop-left.finder.mode c.args.index.now contents
+          (search_at mid c.loop-left.finder.cursor) (search_at next c.next.new.self.cursor) (Ok (Hit c.in-Ok-Hit.sighting))
+          c.requires.index so_far.mode (rw c.in-Ok-Hit.field-0-is at (c.in-Ok-Hit.ensures.answer contents reads)) in
           rw c.limit_left-left.ensures
-          (hands_one s c.loop-left.left c.loop-left.finder.cursor
-          (g.W.Sink.state c.args.out.now) (g.W.Sink.state c.loop-left.out) (so_far.handed steady) some c.in-Ok-Hit.sighting c.next.new.self.cursor gives.sees
+          (hands_one (find_search_of c.args.files.now contents c.args.set.now c.args.finder.now.cursor c.args.query) c.loop-left.left c.loop-left.finder.cursor
+          (g.W.Sink.state c.args.out.now) (g.W.Sink.state c.loop-left.out)
+          (so_far.handed contents (c.in-Ok-Hit.ensures.along.shelf.older contents reads)) some c.in-Ok-Hit.sighting c.next.new.self.cursor gives.sees
           (g.W.Sink.state c.write_sighting.new.out) gives.moves.after line);
     }
 
 pub returns-in_err-write_sighting-in-Ok-Hit-clause-text : goal.returns-in_err-write_sighting-in-Ok-Hit-clause-text
-returns-in_err-write_sighting-in-Ok-Hit-clause-text g c = λ steady.
-    let s : Search = find_search_of c.args.files.now (g.Q.Shelf.state c.args.shelf.now).files c.args.set.now c.args.finder.now.cursor c.args.query in
-    let set : SetView = c.args.set.now in
-    let old : ShelfState = g.Q.Shelf.state c.args.shelf.now in
+returns-in_err-write_sighting-in-Ok-Hit-clause-text g c = λ contents reads.
+    let s : Search = find_search_of c.args.files.now contents c.args.set.now c.args.finder.now.cursor c.args.query in
     let mid : ShelfState = g.Q.Shelf.state c.loop-left.shelf in
+    let next : ShelfState = g.Q.Shelf.state c.next.new.shelf in
     let so_far = c.loop-left.invariant in
+    let handed = so_far.handed contents (c.in-Ok-Hit.ensures.along.shelf.older contents reads) in
     let before : SinkState = g.W.Sink.state c.args.out.now in
     let between : SinkState = g.W.Sink.state c.loop-left.out in
     let after : SinkState = g.W.Sink.state c.write_sighting.new.out in
     let some : c.loop-left.left ≢ Some 0 = search rules in
-    let gives = gives_from set (mode_of c.args.query.tails) c.loop-left.finder.mode c.args.index.now old mid c.loop-left.finder.cursor (search_at (g.Q.Shelf.state c.next.new.shelf) c.next.new.self.cursor) (Ok (Hit c.in-Ok-Hit.sighting)) c.requires.index so_far.mode
-    so_far.reads steady (λ still. rw c.in-Ok-Hit.field-0-is at (c.in-Ok-Hit.ensures.answer still)) in
+    let gives = gives_of_set c.args.set.now (mode_of c.args.query.tails) c.loop-left.finder.mode c.args.index.now contents
+    (search_at mid c.loop-left.finder.cursor) (search_at next c.next.new.self.cursor) (Ok (Hit c.in-Ok-Hit.sighting))
+    c.requires.index so_far.mode (rw c.in-Ok-Hit.field-0-is at (c.in-Ok-Hit.ensures.answer contents reads)) in
     let line = c.in_err-write_sighting-in-Ok-Hit.ensures in
     let failed = err_from_is_err_and c.from_residual.result c.from_residual.ensures.1 in
     rw (failed.1, failed.2)
     (fault_text _ _ c.in_err-write_sighting-in-Ok-Hit.field-0.0 before between after line
-    (hands_front s c.loop-left.left c.loop-left.finder.cursor before between (so_far.handed steady))
-    (hands_refused s c.loop-left.left c.loop-left.finder.cursor before between (so_far.handed steady)
+    (hands_front s c.loop-left.left c.loop-left.finder.cursor before between handed)
+    (hands_refused s c.loop-left.left c.loop-left.finder.cursor before between handed
     some c.in-Ok-Hit.sighting c.next.new.self.cursor gives.sees after))
 
 pub returns-in-Ok-Done-clause-text : goal.returns-in-Ok-Done-clause-text
-returns-in-Ok-Done-clause-text g c = λ steady.
-    let s : Search = find_search_of c.args.files.now (g.Q.Shelf.state c.args.shelf.now).files c.args.set.now c.args.finder.now.cursor c.args.query in
-    let set : SetView = c.args.set.now in
-    let old : ShelfState = g.Q.Shelf.state c.args.shelf.now in
+returns-in-Ok-Done-clause-text g c = λ contents reads.
+    let s : Search = find_search_of c.args.files.now contents c.args.set.now c.args.finder.now.cursor c.args.query in
     let mid : ShelfState = g.Q.Shelf.state c.loop-left.shelf in
+    let next : ShelfState = g.Q.Shelf.state c.next.new.shelf in
     let now : Cursor = c.loop-left.finder.cursor in
     let so_far = c.loop-left.invariant in
+    let handed = so_far.handed contents (c.in-Ok-Done.ensures.along.shelf.older contents reads) in
     let before : SinkState = g.W.Sink.state c.args.out.now in
     let between : SinkState = g.W.Sink.state c.loop-left.out in
     let new : SinkState = g.W.Sink.state c.write_end.new.out in
     let some : c.loop-left.left ≢ Some 0 = search rules in
-    let gives = gives_from set (mode_of c.args.query.tails) c.loop-left.finder.mode c.args.index.now old mid now (search_at (g.Q.Shelf.state c.next.new.shelf) c.next.new.self.cursor) (Ok Done) c.requires.index so_far.mode
-    so_far.reads steady (λ still. rw c.in-Ok-Done.field-0-is at (c.in-Ok-Done.ensures.answer still)) in
+    let gives = gives_of_set c.args.set.now (mode_of c.args.query.tails) c.loop-left.finder.mode c.args.index.now contents
+    (search_at mid now) (search_at next c.next.new.self.cursor) (Ok Done)
+    c.requires.index so_far.mode (rw c.in-Ok-Done.field-0-is at (c.in-Ok-Done.ensures.answer contents reads)) in
     last_text _ _ c.write_end.result before between new c.write_end.ensures
-    (hands_front s c.loop-left.left now before between (so_far.handed steady))
-    (ends_text s c.loop-left.left now before between (so_far.handed steady) some gives.sees new)
-    (ends_refused s c.loop-left.left now before between (so_far.handed steady) some gives.sees new)
+    (hands_front s c.loop-left.left now before between handed)
+    (ends_text s c.loop-left.left now before between handed some gives.sees new)
+    (ends_refused s c.loop-left.left now before between handed some gives.sees new)
 
 pub returns-clause-text : goal.returns-clause-text
-returns-clause-text g c = λ steady.
-    let s : Search = find_search_of c.args.files.now (g.Q.Shelf.state c.args.shelf.now).files c.args.set.now c.args.finder.now.cursor c.args.query in
-    let set : SetView = c.args.set.now in
-    let old : ShelfState = g.Q.Shelf.state c.args.shelf.now in
+returns-clause-text g c = λ contents reads.
+    let s : Search = find_search_of c.args.files.now contents c.args.set.now c.args.finder.now.cursor c.args.query in
     let now : Cursor = c.loop-left.finder.cursor in
     let before : SinkState = g.W.Sink.state c.args.out.now in
     let mid : SinkState = g.W.Sink.state c.loop-left.out in
     let new : SinkState = g.W.Sink.state c.write_cursor.new.out in
     let none : c.loop-left.left ≡ Some 0 = search rules in
-    let handed = rw none at (c.loop-left.invariant.handed steady) in
-    let list = list_same c.list_mark-list.result s.names _ _ c.list_mark-list.ensures
-    (lengths_kept old _ (g.met.Q.Shelf.well_formed c.args.shelf.now) steady c.loop-left.invariant.reads) in
+    let handed = rw none at (c.loop-left.invariant.handed contents reads) in
+    let list = list_same c.list_mark-list.result s.names _ _ c.list_mark-list.ensures (sym reads.lengths) in
     let line = rw (c.id.ensures, c.cursor.ensures, list) at c.write_cursor.ensures in
     last_text _ _ c.write_cursor.result before mid new line
     (hands_front s (Some 0) now before mid handed)
@@ -99,21 +98,26 @@ returns-clause-text g c = λ steady.
     (stops_refused s now before mid handed c.requires.limit new)
 
 pub returns-in-Err-clause-lines : goal.returns-in-Err-clause-lines
-returns-in-Err-clause-lines g c = λ steady.
-    let s : Search = find_search_of c.args.files.now (g.Q.Shelf.state c.args.shelf.now).files c.args.set.now c.args.finder.now.cursor c.args.query in
-    let set : SetView = c.args.set.now in
-    let old : ShelfState = g.Q.Shelf.state c.args.shelf.now in
-    let handed = c.loop-left.invariant.handed steady in
+returns-in-Err-clause-lines g c = λ contents reads.
+    let s : Search = find_search_of c.args.files.now contents c.args.set.now c.args.finder.now.cursor c.args.query in
+    let mid : ShelfState = g.Q.Shelf.state c.loop-left.shelf in
+    let next : ShelfState = g.Q.Shelf.state c.next.new.shelf in
+    let fault = c.in-Err.fault in
+    let later = later_fault mid next c.next.new.self.cursor.file fault c.in-Err.ensures.along.shelf in
+    let handed = c.loop-left.invariant.handed contents (later.older contents reads) in
     let some : c.loop-left.left ≢ Some 0 = search rules in
-    let gives = gives_from set (mode_of c.args.query.tails) c.loop-left.finder.mode c.args.index.now old (g.Q.Shelf.state c.loop-left.shelf) c.loop-left.finder.cursor (search_at (g.Q.Shelf.state c.next.new.shelf) c.next.new.self.cursor) (Err c.in-Err.fault) c.requires.index c.loop-left.invariant.mode
-    c.loop-left.invariant.reads steady (λ still. c.in-Err.ensures.answer still) in
+    let gives = gives_of_set c.args.set.now (mode_of c.args.query.tails) c.loop-left.finder.mode c.args.index.now contents
+    (search_at mid c.loop-left.finder.cursor) (search_at next c.next.new.self.cursor) (Err fault)
+    c.requires.index c.loop-left.invariant.mode (c.in-Err.ensures.answer contents reads) in
     rw c.cursor-file.ensures
-    (keeps_after_fault s old (g.Q.Shelf.state c.next.new.shelf) c.loop-left.left c.loop-left.finder.cursor c.next.new.self.cursor
-    (g.W.Sink.state c.args.out.now) (g.W.Sink.state c.loop-left.out) c.in-Err.fault refl handed some gives)
+    (keeps_after_fault s mid next c.loop-left.left c.loop-left.finder.cursor c.next.new.self.cursor
+    (g.W.Sink.state c.args.out.now) (g.W.Sink.state c.loop-left.out) fault handed some gives)
 
 pub returns-in-Err-clause-text : goal.returns-in-Err-clause-text
-returns-in-Err-clause-text g c = λ steady.
-    hands_front _ c.loop-left.left c.loop-left.finder.cursor _ _ (c.loop-left.invariant.handed steady)
+returns-in-Err-clause-text g c = λ contents reads.
+    let later = later_fault (g.Q.Shelf.state c.loop-left.shelf) (g.Q.Shelf.state c.next.new.shelf) c.next.new.self.cursor.file c.in-Err.fault
+    c.in-Err.ensures.along.shelf in
+    hands_front _ c.loop-left.left c.loop-left.finder.cursor _ _ (c.loop-left.invariant.handed contents (later.older contents reads))
 
 pub returns-in_err-write_sighting-in-Ok-Hit-clause-lines : goal.returns-in_err-write_sighting-in-Ok-Hit-clause-lines
 returns-in_err-write_sighting-in-Ok-Hit-clause-lines g c = grind (arith, common_steps) steps 1500000
@@ -152,7 +156,7 @@ returns-in-Ok-Done-clause-sink g c =
     c.write_end.ensures c.loop-left.invariant.failures
 
 pub returns-in-Ok-Done-clause-lines : goal.returns-in-Ok-Done-clause-lines
-returns-in-Ok-Done-clause-lines g c = λ steady. line_keeps _ _ c.write_end.result _ _ c.write_end.ensures
+returns-in-Ok-Done-clause-lines g c = λ contents reads. line_keeps _ _ c.write_end.result _ _ c.write_end.ensures
 
 pub returns-in_err-write_sighting-in-Ok-Hit-clause-reads : goal.returns-in_err-write_sighting-in-Ok-Hit-clause-reads
 returns-in_err-write_sighting-in-Ok-Hit-clause-reads g c =
@@ -178,17 +182,17 @@ pub returns-in-Err-clause-reads : goal.returns-in-Err-clause-reads
 returns-in-Err-clause-reads g c =
     let mid : ShelfState = g.Q.Shelf.state c.loop-left.shelf in
     rw c.cursor-file.ensures
-    (faults_before (g.Q.Shelf.state c.args.shelf.now) mid (g.Q.Shelf.state c.next.new.shelf) c.next.new.self.cursor.file c.in-Err.fault
+    (FaultsIn_more (g.Q.Shelf.state c.args.shelf.now) mid (g.Q.Shelf.state c.next.new.shelf) c.next.new.self.cursor.file c.in-Err.fault
     c.loop-left.invariant.reads c.in-Err.ensures.along.shelf)
 
 pub loop-left-init : goal.loop-left-init
 loop-left-init g c = record {
   belongs = c.requires.belongs;
   mode = c.requires.mode;
-  reads = refl;
+  reads = ReadsOnly-refl (g.Q.Shelf.state c.args.shelf.now);
   failures = refl;
-  handed = λ steady.
-      hands_none (find_search_of c.args.files.now (g.Q.Shelf.state c.args.shelf.now).files c.args.set.now c.args.finder.now.cursor c.args.query)
+  handed = λ contents reads.
+      hands_none (find_search_of c.args.files.now contents c.args.set.now c.args.finder.now.cursor c.args.query)
       (g.W.Sink.state c.args.out.now);
 }
 

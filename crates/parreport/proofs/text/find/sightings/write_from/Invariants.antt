@@ -1,4 +1,5 @@
-use Rattle.std.proofs.Common.{◌≡◌, IsTrue}
+use Rattle.std.proofs.Common.{◌≡◌, ℕ, List}
+use Rattle.parshelf.specs.Shelf.{ReadsAs}
 use Rattle.parshelf.specs.Reads.{ReadsOnly}
 use Rattle.parfind.specs.Finders.{BelongsTo}
 use Rattle.parfind.specs.Moves.{steps_left}
@@ -13,8 +14,8 @@ invariant-loop-left g l = record {
   mode : l.finder.mode ≡ mode_of l.fn.query.tails;
   reads : ReadsOnly (g.Q.Shelf.state l.fn.shelf) (g.Q.Shelf.state l.shelf);
   failures : (g.W.Sink.state l.out).failures ≡ (g.W.Sink.state l.fn.out).failures;
-  handed : IsTrue (g.Q.Shelf.state l.fn.shelf).is_steady
-      → HandsOut (find_search_of l.files (g.Q.Shelf.state l.fn.shelf).files l.set l.fn.finder.cursor l.fn.query) l.left l.finder.cursor
+  handed : (contents : List (List ℕ)) → ReadsAs (g.Q.Shelf.state l.shelf) contents
+      → HandsOut (find_search_of l.files contents l.set l.fn.finder.cursor l.fn.query) l.left l.finder.cursor
       (g.W.Sink.state l.fn.out) (g.W.Sink.state l.out);
 }
 

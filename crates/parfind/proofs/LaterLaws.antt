@@ -1,0 +1,39 @@
+-- A shelf that was read on.
+use Rattle.std.proofs.Common.{◌≡◌, ℕ, refl, ap, Result, Ok, Err}
+use Rattle.parshelf.specs.Shelf.{ShelfState, Older}
+use Rattle.parshelf.specs.Reads.{ReadsOnly, FaultsIn, ReadsFile}
+use Rattle.parshelf.specs.declared.shelves.reading.ReadFault.{ReadFault}
+use Rattle.parshelf.specs.declared.shelves.reading.ReadFault.TheVariants.{Failed, Ended}
+use Rattle.parshelf.proofs.ShelfLaws.{Older-refl}
+
+-- lengths and fixed files are the same, and whatever files it reads as, it read as them before
+pub record Later (s t : ShelfState) : Type 0 where
+  pub lengths : t.lengths ≡ s.lengths
+  pub fixed : t.fixed ≡ s.fixed
+  pub older : Older s t
+
+pub later_same : (s : ShelfState) → Later s s
+later_same s = record { lengths = refl; fixed = refl; older = Older-refl s }
+
+pub later_only : (s t : ShelfState) → ReadsOnly s t → Later s t
+later_only s t reads = record {
+  lengths = ap (λ (u : ShelfState). u.lengths) reads.counts;
+  fixed = ap (λ (u : ShelfState). u.fixed) reads.counts;
+  older = reads.older;
+}
+
+pub later_fault : (s t : ShelfState) (file : ℕ) (fault : ReadFault) → FaultsIn s t file fault → Later s t
+later_fault s t file Failed faults = record {
+  lengths = ap (λ (u : ShelfState). u.lengths) faults.1.counts;
+  fixed = ap (λ (u : ShelfState). u.fixed) faults.1.counts;
+  older = faults.1.older;
+}
+later_fault s t file Ended faults = record {
+  lengths = ap (λ (u : ShelfState). u.lengths) faults.1.counts;
+  fixed = ap (λ (u : ShelfState). u.fixed) faults.1.counts;
+  older = faults.1.older;
+}
+
+pub later_read : {A : Type 0} (s t : ShelfState) (file : ℕ) (answer : Result A ReadFault) → ReadsFile file s t answer → Later s t
+later_read s t file (Ok x) reads = later_only s t reads
+later_read s t file (Err fault) faults = later_fault s t file fault faults

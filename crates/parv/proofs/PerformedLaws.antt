@@ -1,0 +1,138 @@
+-- What a run over the program's own files leaves of them and of its output.
+use Rattle.std.proofs.Common.{◌≡◌, ◌∙◌, ℕ, List, [], Option, Vec, Global, length, subst, sym, ap, refl}
+use Rattle.std.proofs.lemmas.List.{length-map}
+use Rattle.std.proofs.lemmas.Option.{slice_get-get_or}
+use Rattle.std.specs.Prelude.{Result, Ok, Err, IfOk, IfErr, IsOkAnd, MatchResult}
+use Rattle.parshelf.specs.Disk.{disk_state_of, unread_of, NamesPath}
+use Rattle.parshelf.specs.Shelf.{ShelfState}
+use Rattle.parshelf.specs.SinkState.{SinkState, empty_sink}
+use Rattle.parshelf.specs.declared.shelves.disk.DiskShelf.{DiskShelf}
+use Rattle.parshelf.specs.declared.shelves.disk.OpenFault.{OpenFault}
+use Rattle.parshelf.specs.declared.shelves.disk.OpenFault.TheVariants.{CannotOpen, Memory}
+use Rattle.parplan.specs.Commands.{files_to_scan_of, scanned_paths_of}
+use Rattle.parplan.specs.declared.command.Plan.{Plan}
+use Rattle.parreport.specs.Ends.{open_end_of, opened_of}
+use Rattle.parreport.specs.OpenedFiles.{RunState, TellsEnd, TellsRun}
+use Rattle.parreport.specs.declared.ends.End.{End}
+use Rattle.parreport.proofs.LeaveLaws.{packets_later, scanned_later}
+use Rattle.parshelf.specs.WriterSink.{writer_sink_state}
+use Rattle.parv.specs.declared.program.Run.{Run}
+use Rattle.parv.specs.Performed.{NamesFile, AreUnread, TellsUnopened, RunsPlan, left_state_of, unread_state_of}
+
+-- what opening files at so many paths gives
+abbrev pub Opens : ℕ → Result DiskShelf OpenFault → Type 0
+Opens n (Ok s) = (length (disk_state_of s).lengths ≡ n) × (disk_state_of s ≡ unread_of (disk_state_of s).lengths)
+Opens n (Err why) = NamesPath n why
+
+pub opens : (n : ℕ) (files : Result DiskShelf OpenFault) → IfOk files (λ s. length (disk_state_of s).lengths ≡ n)
+    → IfOk files (λ s. disk_state_of s ≡ unread_of (disk_state_of s).lengths) → IfErr files (NamesPath n) → Opens n files
+opens n (Ok s) count unread named = (count, unread)
+opens n (Err why) count unread named = named
+
+-- where the packet files are opened, the others are tried, else they are not
+pub opens_same : (n : ℕ) (packets scanned other : Result DiskShelf OpenFault) → scanned ≡ other → Opens n other
+    → IfOk packets (λ _. Opens n scanned)
+opens_same n (Ok s) scanned other same opened = subst (Opens n) (sym same) opened
+opens_same n (Err why) scanned other same opened = tt
+
+pub opens_none : (n : ℕ) (packets scanned : Result DiskShelf OpenFault) (why : OpenFault) → packets ≡ Err why → IfOk packets (λ _. Opens n scanned)
+opens_none n packets scanned why is = rw is tt
+
+pub first_opened : (packets scanned : Result DiskShelf OpenFault) (s : DiskShelf) → packets ≡ Ok s → IfErr packets (λ why. scanned ≡ Err why)
+first_opened packets scanned s is = rw is tt
+
+pub first_unopened : (packets scanned : Result DiskShelf OpenFault) (why : OpenFault) → packets ≡ Err why → scanned ≡ Err why
+    → IfErr packets (λ cause. scanned ≡ Err cause)
+first_unopened packets scanned why is same = rw is same
+
+-- the end where a file is not opened names it
+open_end_names : (paths : List (List ℕ)) (why : OpenFault) → NamesPath (length paths) why → NamesFile (open_end_of paths why)
+open_end_names paths (CannotOpen index) within = rw (slice_get-get_or paths index [] within) refl
+open_end_names paths Memory named = tt
+
+module _ (plan : Plan) (told : ℕ × Vec ℕ Global) where
+  abbrev pub Tells : End × Option (List ℕ) → Type 0
+  Tells why = TellsEnd why told.0 told.1.items
+
+  -- files that are opened, and run over
+  runs : (files left : DiskShelf × DiskShelf) (out out_left : SinkState) → Opens (length plan.packets) (Ok files.0)
+      → Opens (length (files_to_scan_of plan)) (Ok files.1) → out ≡ empty_sink
+      → TellsRun plan (left_state_of files out) (left_state_of left out_left) Tells → RunsPlan plan left out_left told.0 told.1.items
+  runs files left out out_left packets scanned empty run =
+      let packets_same = (packets_later run.answer (disk_state_of files.0) (disk_state_of left.0) run.packets_read).lengths in
+      let scanned_same = (scanned_later run.answer (disk_state_of files.1) (disk_state_of left.1) run.scanned_read).lengths in
+      let state = λ (p q : ShelfState) (o : SinkState). let s : RunState = record { packets = p; scanned = q; out = o } in s in
+      let start : left_state_of files out ≡ unread_state_of left
+      = ap (λ (p : ShelfState). state p (disk_state_of files.1) out) (packets.1 ∙ ap unread_of (sym packets_same))
+      ∙ (ap (λ (q : ShelfState). state (unread_of (disk_state_of left.0).lengths) q out) (scanned.1 ∙ ap unread_of (sym scanned_same))
+      ∙ ap (state (unread_of (disk_state_of left.0).lengths) (unread_of (disk_state_of left.1).lengths)) empty) in record {
+        packets_each = ap length packets_same ∙ packets.0;
+        scanned_each = ap length scanned_same ∙ scanned.0;
+        run = subst (λ (s : RunState). TellsRun plan s (left_state_of left out_left) Tells) start run;
+      }
+
+  abbrev pub DoneAs : Run → Result (DiskShelf × DiskShelf) (End × Option (List ℕ)) → Type 0
+  DoneAs run opened =
+      MatchResult opened (λ files. RunsPlan plan files (writer_sink_state run.out) told.0 told.1.items)
+      (λ why. TellsUnopened why run told.0 told.1.items)
+
+  abbrev pub Done : Run → Type 0
+  Done run = DoneAs run (opened_of plan run.packets run.scanned)
+
+  module _ (out : SinkState) (run : Run) (empty : out ≡ empty_sink) where
+    -- files that are not opened
+    tells_unopened : (paths : List (List ℕ)) (why : OpenFault) → NamesPath (length paths) why → IfOk run.packets AreUnread
+        → writer_sink_state run.out ≡ out → Tells (open_end_of paths why) → TellsUnopened (open_end_of paths why) run told.0 told.1.items
+    tells_unopened paths why named unread same tells = record {
+      told = tells;
+      named = open_end_names paths why named;
+      nothing_read = unread;
+      nothing_written = same ∙ empty;
+    }
+
+    done : (packets packets_left scanned scanned_left : Result DiskShelf OpenFault) → packets_left ≡ run.packets → scanned_left ≡ run.scanned
+        → Opens (length plan.packets) packets → IfOk packets (λ _. Opens (length (files_to_scan_of plan)) scanned)
+        → IfOk (opened_of plan packets scanned) (λ files. IsOkAnd (opened_of plan packets_left scanned_left) (λ left.
+        TellsRun plan (left_state_of files out) (left_state_of left (writer_sink_state run.out)) Tells))
+        → IfErr (opened_of plan packets scanned) Tells → IfErr (opened_of plan packets scanned) (λ _. writer_sink_state run.out ≡ out)
+        → IfErr (opened_of plan packets scanned) (λ _. packets_left ≡ packets) → IfErr (opened_of plan packets scanned) (λ _. scanned_left ≡ scanned)
+        → Done run
+    done (Ok p) (Ok p_left) (Ok q) (Ok q_left) mine yours packets scanned ran tells unwritten same also =
+        subst (DoneAs run) (ap (λ files. opened_of plan files (Ok q_left)) mine ∙ ap (opened_of plan run.packets) yours)
+        (runs (p, q) (p_left, q_left) out (writer_sink_state run.out) packets scanned empty ran)
+    done (Ok p) (Ok p_left) (Ok q) (Err why) mine yours packets scanned ran tells unwritten same also = absurd ran
+    done (Ok p) (Err why) (Ok q) q_left mine yours packets scanned ran tells unwritten same also = absurd ran
+    done (Ok p) p_left (Err why) q_left mine yours packets scanned ran tells unwritten same also =
+        let counted : length (scanned_paths_of plan) ≡ length (files_to_scan_of plan) = length-map (files_to_scan_of plan) (λ file. file.path) in
+        let opened : run.packets ≡ Ok p = sym mine ∙ same in
+        let unopened : run.scanned ≡ Err why = sym yours ∙ also in
+        let unread : IfOk run.packets AreUnread = rw opened packets.1 in
+        let told : TellsUnopened (open_end_of (scanned_paths_of plan) why) run told.0 told.1.items
+        = tells_unopened (scanned_paths_of plan) why (subst (λ (n : ℕ). NamesPath n why) (sym counted) scanned) unread unwritten tells in
+        subst (DoneAs run) (sym (ap (λ files. opened_of plan files run.scanned) opened ∙ ap (opened_of plan (Ok p)) unopened)) told
+    done (Err why) p_left q q_left mine yours packets scanned ran tells unwritten same also =
+        let unopened : run.packets ≡ Err why = sym mine ∙ same in
+        let unread : IfOk run.packets AreUnread = rw unopened tt in
+        let told : TellsUnopened (open_end_of plan.packets why) run told.0 told.1.items = tells_unopened plan.packets why packets unread unwritten tells in
+        subst (DoneAs run) (sym (ap (λ files. opened_of plan files run.scanned) unopened)) told
+
+    pub performed : (packets scanned : Result DiskShelf OpenFault) → Opens (length plan.packets) packets
+        → IfOk packets (λ _. Opens (length (files_to_scan_of plan)) scanned)
+        → IfOk (opened_of plan packets scanned) (λ files. IsOkAnd (opened_of plan run.packets run.scanned) (λ left.
+        TellsRun plan (left_state_of files out) (left_state_of left (writer_sink_state run.out)) Tells))
+        → IfErr (opened_of plan packets scanned) Tells → IfErr (opened_of plan packets scanned) (λ _. writer_sink_state run.out ≡ out)
+        → IfErr (opened_of plan packets scanned) (λ _. run.packets ≡ packets) → IfErr (opened_of plan packets scanned) (λ _. run.scanned ≡ scanned)
+        → Done run
+    performed packets scanned = done packets run.packets scanned run.scanned refl refl
+
+  module _ (out out_left : SinkState) where
+    -- no other file is opened where the packet files are not
+    pub unopened_too : (packets packets_left scanned scanned_left : Result DiskShelf OpenFault) → IfErr packets (λ why. scanned ≡ Err why)
+        → IfOk (opened_of plan packets scanned) (λ files. IsOkAnd (opened_of plan packets_left scanned_left) (λ left.
+        TellsRun plan (left_state_of files out) (left_state_of left out_left) Tells))
+        → IfErr (opened_of plan packets scanned) (λ _. packets_left ≡ packets) → IfErr (opened_of plan packets scanned) (λ _. scanned_left ≡ scanned)
+        → IfErr packets_left (λ why. scanned_left ≡ Err why)
+    unopened_too (Ok p) (Ok p_left) (Ok q) scanned_left first ran same also = tt
+    unopened_too (Ok p) (Err why) (Ok q) scanned_left first ran same also = absurd ran
+    unopened_too (Ok p) packets_left (Err cause) scanned_left first ran same also = rw same tt
+    unopened_too (Err why) packets_left scanned scanned_left first ran same also = rw same (also ∙ first)

@@ -1,0 +1,37 @@
+use Rattle.std.proofs.Common.{◌≡◌, Err, IfOk, IfErr, length}
+use Rattle.parshelf.specs.WriterSink.{writer_sink_state}
+use Rattle.parplan.specs.Commands.{files_to_scan_of}
+use Rattle.parv.specs.declared.program.Run.{Run}
+use Rattle.parv.proofs.PerformedLaws.{Opens, opens, opens_same, opens_none, first_opened, first_unopened, unopened_too, performed}
+use Rattle.parv.proofs.program.perform_words.Goals.{in-Ok-packets, in-Err-packets}
+use Rattle.parv.proofs.program.perform_words.Goals as goal
+
+pub returns : goal.returns
+returns c =
+    let plan = c.in-Ok.plan in
+    let opened = rw c.as_slice.ensures at c.open-packets.ensures in
+    let packets : Opens (length plan.packets) c.open-packets.result
+    = opens (length plan.packets) c.open-packets.result opened.count opened.state opened.fault in
+    let scanned : IfOk c.open-packets.result (λ _. Opens (length (files_to_scan_of plan)) c.match-packets.scanned)
+    = elim c.match-packets.branch [
+      | in-Ok-packets w ↦
+          let also = rw w.files_to_scan.ensures.files at w.open-scanned.ensures in
+          opens_same (length (files_to_scan_of plan)) c.open-packets.result c.match-packets.scanned w.open-scanned.result w.scanned-is
+          (opens (length (files_to_scan_of plan)) w.open-scanned.result also.count also.state also.fault)
+      | in-Err-packets w ↦ opens_none (length (files_to_scan_of plan)) c.open-packets.result c.match-packets.scanned _ w.in-Err-packets.is
+    ] in
+    let first : IfErr c.open-packets.result (λ why. c.match-packets.scanned ≡ Err why)
+    = elim c.match-packets.branch [
+      | in-Ok-packets w ↦ first_opened c.open-packets.result _ _ w.in-Ok-packets.is
+      | in-Err-packets w ↦ first_unopened c.open-packets.result _ _ w.in-Err-packets.is w.scanned-is
+    ] in
+    let out = writer_sink_state c.new-out.result in
+    let run : Run = record { packets = c.run_opened.new.packets; scanned = c.run_opened.new.scanned; out = c.run_opened.new.out } in record {
+      plan = plan;
+      planned = c.in-Ok.ensures.plan;
+      packets_first = unopened_too plan c.in_ok-told.told out (writer_sink_state run.out) c.open-packets.result run.packets
+          c.match-packets.scanned run.scanned first c.in_ok-told.ensures.ran c.run_opened.ensures.packets c.run_opened.ensures.scanned;
+      done = performed plan c.in_ok-told.told out run c.new-out.ensures.state c.open-packets.result c.match-packets.scanned
+          packets scanned c.in_ok-told.ensures.ran c.in_ok-told.ensures.unopened
+          c.run_opened.ensures.nothing_written c.run_opened.ensures.packets c.run_opened.ensures.scanned;
+    }

@@ -1,0 +1,82 @@
+-- What the program does with the words behind its name.
+use Rattle.std.specs.Prelude.{◌≡◌, ℕ, List, length, Option, None, IsSome, Ok, Err, IfOk, IfErr, MatchOption, MatchResult, ⊤}
+use Rattle.parshelf.specs.Disk.{disk_state_of, unread_of}
+use Rattle.parshelf.specs.SinkState.{SinkState, empty_sink}
+use Rattle.parshelf.specs.WriterSink.{writer_sink_state}
+use Rattle.parshelf.specs.declared.shelves.disk.DiskShelf.{DiskShelf}
+use Rattle.parplan.specs.Commands.{files_to_scan_of}
+use Rattle.parplan.specs.Plans.{plan_of, AnswersPlan}
+use Rattle.parplan.specs.declared.command.Plan.{Plan}
+use Rattle.parplan.specs.declared.command.PlanFault.{PlanFault}
+use Rattle.parreport.specs.Ends.{opened_of}
+use Rattle.parreport.specs.OpenedFiles.{RunState, TellsEnd, TellsRun}
+use Rattle.parreport.specs.declared.ends.End.{End}
+use Rattle.parreport.specs.declared.ends.End.TheVariants as end
+use Rattle.parv.specs.declared.program.Performed.{Performed}
+use Rattle.parv.specs.declared.program.Run.{Run}
+
+-- files and output, as a run leaves them
+abbrev pub left_state_of : DiskShelf × DiskShelf → SinkState → RunState
+left_state_of files out = record {
+  packets = disk_state_of files.0;
+  scanned = disk_state_of files.1;
+  out = out;
+}
+
+-- the same files, of which nothing was read, and an output to which nothing was written
+abbrev pub unread_state_of : DiskShelf × DiskShelf → RunState
+unread_state_of files = record {
+  packets = unread_of (disk_state_of files.0).lengths;
+  scanned = unread_of (disk_state_of files.1).lengths;
+  out = empty_sink;
+}
+
+-- the plan was run over these files, as many as it has paths, and the end of that run is told
+pub record RunsPlan
+    (plan : Plan) (files : DiskShelf × DiskShelf) (out : SinkState) (status : ℕ) (line : List ℕ)
+    : Type 0 where
+  pub packets_each : length (disk_state_of files.0).lengths ≡ length plan.packets
+  pub scanned_each : length (disk_state_of files.1).lengths ≡ length (files_to_scan_of plan)
+  pub run : TellsRun plan (unread_state_of files) (left_state_of files out) (λ end. TellsEnd end status line)
+
+-- where a file can't be opened, its path is told
+abbrev pub NamesFile : End × Option (List ℕ) → Type 0
+NamesFile (end.CannotOpen, path) = IsSome path
+NamesFile _ = ⊤
+
+-- nothing was read of these files
+abbrev pub AreUnread : DiskShelf → Type 0
+AreUnread files = disk_state_of files ≡ unread_of (disk_state_of files).lengths
+
+-- a file was not opened, or memory was wanted for it: that is told, with the path of the file, and
+-- nothing is read or written
+pub record TellsUnopened
+    (why : End × Option (List ℕ)) (run : Run) (status : ℕ) (line : List ℕ)
+    : Type 0 where
+  pub told : TellsEnd why status line
+  pub named : NamesFile why
+  pub nothing_read : IfOk run.packets AreUnread
+  pub nothing_written : writer_sink_state run.out ≡ empty_sink
+
+-- the words have a plan, which was run over its files, if they were all opened; where the packet files
+-- were not, no other was
+pub record PerformsPlan (words : List (List ℕ)) (run : Run) (status : ℕ) (line : List ℕ)
+    : Type 0 where
+  pub plan : Plan
+  pub planned : plan_of words ≡ Ok plan
+  pub packets_first : IfErr run.packets (λ why. run.scanned ≡ Err why)
+  pub done : MatchResult (opened_of plan run.packets run.scanned)
+      (λ files. RunsPlan plan files (writer_sink_state run.out) status line)
+      (λ why. TellsUnopened why run status line)
+
+-- the words have no plan, or memory was wanted for it, and that is told
+pub record RefusesWords (words : List (List ℕ)) (status : ℕ) (line : List ℕ) : Type 0 where
+  pub fault : PlanFault
+  pub refused : AnswersPlan (plan_of words) (Err fault)
+  pub told : TellsEnd (end.Plan fault, None) status line
+
+-- what came of words: their plan was run, or they are refused
+abbrev pub Performs : List (List ℕ) → Performed → Type 0
+Performs words performed =
+    MatchOption performed.run (RefusesWords words performed.told.0 performed.told.1.items)
+    (λ run. PerformsPlan words run performed.told.0 performed.told.1.items)
