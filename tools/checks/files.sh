@@ -47,4 +47,14 @@ done
 for i in 1 2 3 4 5 6 7; do cp v.par2 "v$i.par2"; done
 wants "more files than may be open at once" 6 "" "parv: cannot open v6.par2" \
     sh -c 'ulimit -n 8; exec "$0" packets v1.par2 v2.par2 v3.par2 v4.par2 v5.par2 v6.par2 v7.par2' "$parv"
+# What the program has of the C library: reading and writing, memory, the number of an error and the
+# setting of a signal, and nothing that makes, renames or removes a file, or speaks to the network.
+nm -D --undefined-only "$parv" | awk '$1 == "U" { sub(/@.*/, "", $2); print $2 }' | LC_ALL=C sort > imports
+printf '%s\n' __errno_location __libc_start_main __sysv_signal __write __x86_get_cpuid_feature_leaf close free \
+    malloc memcpy memmove memset open pread realloc statx write > wanted_imports
+if [ -s imports ] && [ -z "$(LC_ALL=C comm -23 imports wanted_imports)" ]; then
+    echo "ok: the program has $(wc -l < imports) calls of the C library, none that changes files"
+else
+    fails "the program calls $(LC_ALL=C comm -23 imports wanted_imports | tr '\n' ' ')"
+fi
 exit $failed
