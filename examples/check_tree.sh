@@ -1,0 +1,344 @@
+#!/usr/bin/env bash
+# Checks every PAR2 set below a folder and prints a line for each, as cron may do on a backup.
+# Usage: check_tree.sh [-j N] [-q] [--tails] FOLDER
+# A set is one set ID in one folder: so a folder may have several sets, and a copy in another folder is a
+# set of its own. It is called by its folder and by what the name of its first packet file has before
+# .par2, or .vol0+1.par2 and the like. Packet files in which no packet is left belong to the set that is
+# called like them, and are a set of their own where there is none.
+#
+# A set is verified with the files in its folder, and with those in subfolders that its names have; links
+# aren't followed, and a name that is no plain path below the folder is told and looked at nowhere.
+# Each line has the exit status, the set ID, what is needed and there, and the name, as FORMATS.md shows
+# names: `1 <ID> need 5 have 8 photos/2019`; where there is no verdict or no ID, a dash. Lines stand in
+# the order of folders and names. From status 3 on a line on standard error says why.
+#
+# -j checks N sets side by side; -q leaves out the lines of sets that are complete; --tails finds short
+# slices before other bytes too. The exit status is the greatest of all: 0 each set is complete, 1 for one
+# a repair can be tried, 2 for one not enough is left; 3 wrong words, or no packet file at all; 4 packet
+# files without a set; 6 a file or folder can't be read; 8 no memory. PARV names the program.
+set -uo pipefail
+export LC_ALL=C
+usage='usage: check_tree.sh [-j N] [-q] [--tails] FOLDER'
+sides=1 quiet='' tails=()
+while [[ ${1-} == -* ]]; do
+    case $1 in
+    -h | --help)
+        echo "$usage"
+        exit 0
+        ;;
+    -j)
+        sides=${2-}
+        shift
+        ;;
+    -j*) sides=${1#-j} ;;
+    -q) quiet=1 ;;
+    --tails) tails=(--tails) ;;
+    *) break ;;
+    esac
+    shift
+done
+[ "${1-}" != -- ] || shift
+if [ $# -ne 1 ] || [ -z "$1" ] || [[ $1 == --* || ! $sides =~ ^[1-9][0-9]{0,4}$ ]]; then
+    echo "$usage" >&2
+    exit 3
+fi
+
+say() {
+    printf 'check_tree.sh: %s\n' "$*" >&2
+}
+
+# Sets `shown` to a name as parv shows it.
+show() {
+    local at byte code
+    shown=$1
+    [[ $1 == *[!\ -~]* || $1 == *\\* ]] || return 0
+    shown=
+    for ((at = 0; at < ${#1}; at++)); do
+        byte=${1:at:1}
+        printf -v code %d "'$byte"
+        case $byte in
+        [!\ -~]) printf -v byte '\\x%02x' $((code & 255)) ;;
+        "\\") byte="\\\\" ;;
+        esac
+        shown+=$byte
+    done
+}
+
+parv=${PARV:-parv}
+case $parv in
+[!/]*/*) parv=$PWD/$parv ;;
+esac
+show "$1"
+root=$shown
+[[ $1 == /* ]] || set -- "./$1"
+if ! CDPATH='' cd -- "$1" 2> /dev/null; then
+    say "cannot open $root"
+    exit 6
+fi
+top=$PWD
+work=$(mktemp -d) || exit 6
+# parv holds all files open at once.
+ulimit -Sn "$(ulimit -Hn)" 2> /dev/null
+child=''
+trap 'trap "" HUP INT PIPE TERM; kill $(jobs -p) 2> /dev/null; wait; rm -rf "$work"' EXIT
+trap 'exit 129' HUP
+trap 'exit 130' INT
+trap 'exit 141' PIPE
+trap 'exit 143' TERM
+
+is_packet_file() {
+    [[ $1 == *.[Pp][Aa][Rr]2 ]]
+}
+
+# Whether a path stays below the folder, and isn't written in some other way.
+is_below() {
+    case /$1/ in
+    */../* | */./* | *//*) return 1 ;;
+    esac
+}
+
+# Whether no link stands at a path, nor on the way to it.
+is_clear() {
+    local path='' rest=$1/
+    while [ -n "$rest" ]; do
+        path+=${path:+/}${rest%%/*}
+        rest=${rest#*/}
+        [ ! -L "./$path" ] || return 1
+    done
+}
+
+# Sets `name` to what a packet file is called without its end.
+name_of() {
+    name=${1%.*}
+    [[ ! $name =~ ^(.+)\.[Vv][Oo][Ll][0-9]+[-+][0-9]+$ ]] || name=${BASH_REMATCH[1]}
+}
+
+# Whether parv takes these words: all UTF-8. It opens none of them.
+takes() {
+    [ "$("$parv" packets -- "${@/%/ }" 2>&1)" = 'parv: no packet file' ]
+}
+
+# Sets `words` to those for files of the folder; a link, with this end, stands for one that parv wouldn't take for
+# what it is: a name that isn't UTF-8, or a packet file that is verified. `linked` has the paths of links.
+declare -A linked=()
+words_of() {
+    local end=$1 path word all=1
+    shift
+    words=()
+    [ $# -eq 0 ] || takes "${@/#/./}" || all=''
+    for path; do
+        word=./$path
+        if { [ -z "$end" ] && is_packet_file "$path"; } || { [ -z "$all" ] && ! takes "$word"; }; then
+            word=$work/link$BASHPID.${#linked[@]}$end
+            ln -s "$PWD/$path" "$word" || exit 6
+            linked[/$word]=$path
+        fi
+        words+=("$word")
+    done
+}
+
+# Runs a program that ends with the job.
+run() {
+    local status
+    "$@" &
+    child=$!
+    wait "$child"
+    status=$?
+    child=''
+    return $status
+}
+
+# Sets `files` to those of the folder and of the subfolders that the set names, by its lines on standard input.
+gather() {
+    local name path
+    local -A folders=([.]=1) names=()
+    while IFS= read -r name; do
+        [[ $name =~ ^file\ [0-9a-f]+\ [0-9]+\ [0-9]+\ [a-z]+\ (.*)$ ]] || continue
+        printf -v path %b "${BASH_REMATCH[1]}"
+        names[/$path]=1
+        if ! is_below "$path"; then
+            say "$called: the name ${BASH_REMATCH[1]} is refused: it is no plain path below the folder"
+        elif ! is_clear "$path"; then
+            say "$called: ${BASH_REMATCH[1]} is a link, or behind one, and isn't read"
+        elif [[ $path == */* ]] && [ -d "./${path%/*}" ]; then
+            folders[./${path%/*}]=1
+        fi
+    done
+    if ! find "${!folders[@]}" -maxdepth 1 -type f -print0 > "$work/$job.files" 2> "$work/$job.said"; then
+        why=$(sed 's/^find: //' "$work/$job.said")
+        return 6
+    fi
+    files=()
+    while IFS= read -r -d '' path; do
+        path=${path#./}
+        is_packet_file "$path" && [ -z "${names[/$path]-}" ] || files+=("$path")
+    done < <(sort -z "$work/$job.files")
+}
+
+# Whether each file is complete, though parv got some by links, under which they aren't.
+is_complete() {
+    local line name path
+    while IFS= read -r line; do
+        [[ $line != @(damaged|missing)\ * ]] || return 1
+        [[ $line == renamed\ * ]] || continue
+        for path in "${linked[@]}"; do
+            show "$path"
+            name=${line#"renamed $shown from "}
+            [ "$name" != "$line" ] || continue
+            printf -v name %b "$name"
+            cmp -s -- "${linked[/$name]-$name}" "./$path" && continue 2
+        done
+        return 1
+    done < "$work/$job.text"
+}
+
+# Verifies a set with these packet files; sets `counts`.
+verify() {
+    local id=$1 status
+    local -a packets
+    shift
+    words_of .par2 "$@"
+    packets=("${words[@]}")
+    linked=()
+    run "$parv" set --set "$id" "${packets[@]}" > "$work/$job.text" 2> "$work/$job.said" || return
+    gather < "$work/$job.text" || return
+    words_of '' "${files[@]}"
+    run "$parv" verify "${tails[@]}" --set "$id" -B . "${packets[@]}" "${words[@]}" \
+        > "$work/$job.text" 2> "$work/$job.said"
+    status=$?
+    [ $status -gt 2 ] || counts=$(grep '^need [0-9]* have [0-9]*$' "$work/$job.text" | tail -n 1)
+    [ $status -ne 1 ] || [ ${#linked[@]} -eq 0 ] || ! is_complete || status=0
+    return $status
+}
+
+# The job for one set of this folder, with a number: leaves its line, its messages and its status.
+check() {
+    local job=$1 called=$2 id=$3 status counts='need - have -' said why=''
+    trap - EXIT
+    trap '[ -z "$child" ] || kill "$child"; exit 143' TERM
+    {
+        verify "$id" "${@:4}"
+        status=$?
+        if [ $status -gt 2 ]; then
+            said=$(sed -n 's/^parv: //p' "$work/$job.said")
+            said=${said:-$why}
+            say "$called: ${said:-parv has ended with status $status}"
+        fi
+    } 2> "$work/$job.messages"
+    mv "$work/$job.messages" "$work/$job.errors"
+    printf '%s\n' "$status $id $counts $called" > "$work/$job.line"
+    echo $status > "$work/$job.status"
+}
+
+# Prints what jobs have left, as far as all before them have.
+count=0 told=0 running=0 greatest=0
+tell() {
+    local status
+    while [ $told -lt $count ] && [ -s "$work/$((told + 1)).status" ]; do
+        told=$((told + 1))
+        status=$(< "$work/$told.status")
+        cat "$work/$told.errors" >&2
+        [[ -n $quiet && $status -eq 0 ]] || cat "$work/$told.line"
+        [ "$status" -le "$greatest" ] || greatest=$status
+        rm "$work/$told".*
+    done
+}
+
+# start NAME ID FILE..: the job for a set, once there is room for it.
+start() {
+    count=$((count + 1))
+    if [ $running -ge "$sides" ]; then
+        wait -n
+        running=$((running - 1))
+    fi
+    # It leaves this where it is ended.
+    printf '%s\n' "6 $2 need - have - $1" > "$work/$count.line"
+    say "$1: the check was ended" 2> "$work/$count.errors"
+    check $count "$@" &
+    running=$((running + 1))
+    tell
+}
+
+# without NAME STATUS REASON: the line of packet files of which no set is known.
+without() {
+    count=$((count + 1))
+    say "$1: $3" 2> "$work/$count.errors"
+    printf '%s\n' "$2 - need - have - $1" > "$work/$count.line"
+    echo "$2" > "$work/$count.status"
+    tell
+}
+
+# Starts a job for each set of a folder with these packet files.
+sets_in() {
+    local folder=$1 path id name status said reason
+    local -a ids=() lost=()
+    local -A called=() files_of=() reasons=() named=()
+    shift
+    if ! cd "$top/$folder"; then
+        greatest=6
+        return
+    fi
+    for path; do
+        name_of "$path"
+        words_of .par2 "$path"
+        "$parv" packets "${words[@]}" > "$work/packets" 2> "$work/said"
+        status=$?
+        if [ $status -ne 0 ]; then
+            said=$(sed -n 's/^parv: //p' "$work/said")
+            reasons[/$name]="$status ${said:-parv has ended with status $status}"
+        fi
+        sed '$d' "$work/packets" | awk '!($NF in seen) { seen[$NF]; print $NF }' > "$work/ids"
+        [ -s "$work/ids" ] || lost+=("$path")
+        while read -r id; do
+            [ -n "${files_of[$id]-}" ] || ids+=("$id")
+            called[$id]=${called[$id]-$name} named[/$name]=1
+            # (No name has a slash.)
+            files_of[$id]+=$path/
+        done < "$work/ids"
+    done
+    for id in "${ids[@]}"; do
+        mapfile -d / -t listed < <(printf %s "${files_of[$id]}")
+        for path in "${lost[@]}"; do
+            name_of "$path"
+            [ "$name" != "${called[$id]}" ] || listed+=("$path")
+        done
+        show "${folder:+$folder/}${called[$id]}"
+        start "$shown" "$id" "${listed[@]}"
+    done
+    for path in "${lost[@]}"; do
+        name_of "$path"
+        [ -z "${named[/$name]-}" ] || continue
+        named[/$name]=1
+        reason=${reasons[/$name]-4 no usable set: no main}
+        show "${folder:+$folder/}$name"
+        without "$shown" "${reason%% *}" "${reason#* }"
+    done
+}
+
+if ! find . -name .verify_and_repair -prune -o -type f -iname '*.par2' -print0 > "$work/found" 2> "$work/said"; then
+    say "$root: $(sed 's/^find: //' "$work/said")"
+    greatest=6
+fi
+declare -A files_in
+below=()
+while IFS= read -r -d '' path; do
+    path=${path#./}
+    folder=${path%"${path##*/}"}
+    [ -n "${files_in[/$folder]-}" ] || below+=("$folder")
+    files_in[/$folder]+=${path##*/}/
+done < <(sort -z "$work/found")
+for folder in "${below[@]}"; do
+    mapfile -d / -t listed < <(printf %s "${files_in[/$folder]}")
+    sets_in "${folder%/}" "${listed[@]}"
+done
+cd "$top" || exit 6
+wait
+for ((job = told + 1; job <= count; job++)); do
+    [ -s "$work/$job.status" ] || echo 6 > "$work/$job.status"
+done
+tell
+if [ $count -eq 0 ] && [ "$greatest" -eq 0 ]; then
+    say "$root: no packet file"
+    exit 3
+fi
+exit "$greatest"

@@ -1,0 +1,743 @@
+#!/usr/bin/env python3
+"""Copies the slices of a PAR2 set that stand in other files, as in the image of a disc, into files of the set.
+
+usage: extract_found.py [-h] [--tails] [--set ID] FOLDER FILES
+
+FILES are packet files of the set and files to be searched, as `parv find` takes them. FOLDER, which
+is made, or is empty, or was filled by this script, gets each file of the set of which a slice is
+found by its name in the set: every slice at its place, and holes where one is missing. At the end a
+line tells of each file, `complete`, `damaged` with a line `hole OFFSET LENGTH NAME` for each hole,
+`wrong`, `missing` or `refused`, and the last one how many slices are there. A file whose checksums
+aren't known is missing, as its slices can't be seen.
+
+A slice is written where its bytes have its MD5 still; a file is complete where all its slices are
+there and the MD5 of the file, read again, is that of the set. What was written stands in
+FOLDER/.extract_found, so a run that was stopped goes on where it was, when it is called again; with
+other FILES it looks there for what is missing. A set in which a slice of zeros is, or another one
+that is seen at each offset of an image, is searched on without what is there already.
+
+A file of the set is refused where its name could lead out of FOLDER, where something stands in its
+place that this script hasn't made, and where a link is on the way to it. Nothing is overwritten.
+
+With --tails the last slice of a file, mostly a short one, is found before other bytes too. PARV
+names the program. The exit status is 0 where each file of the set is complete, else 1; from 3 on
+that of parv, 3 also where FOLDER is of another set or no folder of this script, and 6 where a file
+can't be read or written.
+"""
+
+import argparse
+import bisect
+import contextlib
+import fcntl
+import hashlib
+import os
+import re
+import stat
+import subprocess
+import sys
+import tempfile
+import time
+from typing import NamedTuple, Optional
+
+PARV = os.environ.get("PARV", "parv")
+RECORD = ".extract_found"
+MAGIC = b"PAR2\0PKT"
+IFSC = b"PAR 2.0\0IFSC\0\0\0\0"
+PAIR = 20           # bytes of the MD5 and the CRC-32 of a slice
+BLOCK = 4096        # so many zeros that begin at a multiple of it are left as a hole
+PIECE = 1 << 20     # bytes read at a time of a file that was written
+WASTE = 1 << 24     # how many bytes may be seen again in vain, each sighting being LINE more
+LINE = 4096
+PAUSE = 4           # seconds at least from one entry into the record to the next
+MANY = 64           # files that are brought to the disc one by one
+
+
+class Fault(Exception):
+    """Ends the script: an exit status, and a line where parv hasn't written one."""
+
+    def __init__(self, status, text=""):
+        super().__init__(text)
+        self.status = status
+
+
+class Refused(Exception):
+    """Why a file of the set isn't written."""
+
+
+@contextlib.contextmanager
+def faults_of(action, name):
+    """Ends the script where the system refuses what is done to a file; the name is as it is shown."""
+    try:
+        yield
+    except OSError as fault:
+        raise Fault(6, f"cannot {action} {name}: {fault.strerror}") from fault
+
+
+class File(NamedTuple):
+    """A file of the set; `first` is the number of its first slice in the whole set, and the sums are
+    those of its slices as they stand in a packet, or none."""
+    id: str
+    first: int
+    length: int
+    slices: int
+    shown: str
+    name: bytes
+    whole: bytes
+    description: bytes
+    sums: Optional[list]
+
+
+class RecoverySet(NamedTuple):
+    """A set with its Main packet; its line is that of parv, and `have` counts its recovery slices."""
+    id: str
+    size: int
+    line: str
+    files: list
+    main: bytes
+    have: int
+
+
+# The set, by the lines of parv and the packets that these name.
+
+def listed(command, words, answers=(0,)):
+    """The lines of a command of parv, whose own line stands on standard error where it fails."""
+    with running(command, words) as process:
+        lines = process.stdout.read().decode("ascii").split("\n")
+        ends_well(process, answers)
+    return lines[:-1]
+
+
+@contextlib.contextmanager
+def running(command, words):
+    """A command of parv that runs, and doesn't afterwards."""
+    with faults_of("run", PARV):
+        process = subprocess.Popen([PARV, command, *words], stdin=subprocess.DEVNULL, stdout=subprocess.PIPE)
+    try:
+        yield process
+    finally:
+        process.kill()
+        process.stdout.close()
+        process.wait()
+
+
+def ends_well(process, answers=(0,)):
+    """Waits for the end of parv, which has one of these exit statuses if all is well."""
+    status = process.wait()
+    if status < 0:
+        raise Fault(128 - status, f"{PARV} was ended by signal {-status}")
+    if status not in answers:
+        raise Fault(status)
+
+
+def shown(name):
+    """A name as parv shows it."""
+    return re.sub(rb"[^ -\[\]-~]", lambda odd: b"\\\\" if odd[0] == b"\\" else b"\\x%02x" % ord(odd[0]),
+                  name).decode("ascii")
+
+
+def is_packet_file(word):
+    return word[-5:].lower() == ".par2"
+
+
+def chosen_packets(owner, files, aside):
+    """The packets that the set is made of, whole: those of Main, descriptions by file ID, and sums by
+    file ID and number of pairs; of several for one thing the first, as parv takes it."""
+    chosen = {}
+    names = {shown(os.fsencode(word)): word for word in files}
+    for line in listed("packets", ["--set", owner, "--", *files])[:-1]:
+        name, at, length, kind, _ = line.rsplit(" ", 4)
+        if kind in ("main", "filedesc", "ifsc") and f"{name} {at}" not in aside:
+            with faults_of("read", name), open(names[name], "rb") as file:
+                file.seek(int(at))
+                packet = file.read(int(length))
+            about = () if kind == "main" else (packet[64:80].hex(),)
+            pairs = ((len(packet) - 80) // PAIR,) if kind == "ifsc" else ()
+            chosen.setdefault((kind, *about, *pairs), packet)
+    return chosen
+
+
+def read_set(files, choice):
+    """The set of the packet files, or that of this ID."""
+    for word in files:
+        if not os.fsencode(word).decode("utf-8", "ignore") == word:
+            raise Fault(3, f"{shown(os.fsencode(word))}: parv takes no name that isn't UTF-8")
+    lines = listed("set", [*(["--set", choice] if choice else []), "--", *files])
+    _, owner, _, size, *_ = lines[0].split(" ")
+    aside = {line[6:].rsplit(" ", 1)[0] for line in lines if line.startswith("aside ")}
+    packets = chosen_packets(owner, list(filter(is_packet_file, files)), aside)
+    members, first = [], 0
+    try:
+        for line in lines:
+            if line.startswith("file "):
+                members.append(member_of(line, first, packets))
+                first += members[-1].slices
+        have = next(int(line[5:]) for line in lines if line.startswith("have "))
+        return RecoverySet(owner, int(size), lines[0], members, packets["main",], have)
+    except KeyError as lost:
+        raise Fault(6, "the packet files have changed") from lost
+
+
+def member_of(line, first, packets):
+    """The file of a line of `parv set`; its name is read as it stands in its packet."""
+    _, owner, length, slices, known, name = line.split(" ", 5)
+    description = packets["filedesc", owner]
+    sums = packets["ifsc", owner, int(slices)][80:] if known == "yes" else None
+    return File(owner, first, int(length), int(slices), name, description[120:].rstrip(b"\0"), description[80:96],
+                description, None if sums is None else [sums[at:at + PAIR] for at in range(0, len(sums), PAIR)])
+
+
+def numbers_of(file):
+    """The numbers of a file's slices in the whole set."""
+    return range(file.first, file.first + file.slices)
+
+
+def own_length(found, file, number):
+    """How many bytes the slice of this number in its file has."""
+    return min(found.size, file.length - number * found.size)
+
+
+# A search for the slices that are wanted still.
+
+def packets_for(found, wanted):
+    """The packets of the set, in which slices that aren't wanted have sums that no bytes will have."""
+    packets, nothing = [found.main], os.urandom(PAIR)
+    for file in found.files:
+        packets.append(file.description)
+        if file.sums and not wanted.isdisjoint(numbers_of(file)):
+            pairs = [pair if number in wanted else nothing for number, pair in zip(numbers_of(file), file.sums)]
+            hashed = bytes.fromhex(found.id) + IFSC + bytes.fromhex(file.id) + b"".join(pairs)
+            length = (32 + len(hashed)).to_bytes(8, "little")
+            packets.append(MAGIC + length + hashlib.md5(hashed).digest() + hashed)
+    return b"".join(packets)
+
+
+def mark_of(words):
+    """The mark of a list of scanned files in a cursor: the MD5 of their names and lengths."""
+    mark = hashlib.md5()
+    for word in words:
+        name = os.fsencode(word)
+        with faults_of("open", shown(name)):
+            now = os.stat(word)
+        if not stat.S_ISREG(now.st_mode):
+            raise Fault(6, f"cannot open {shown(name)}: no regular file")
+        for part in len(name).to_bytes(8, "little"), name, now.st_size.to_bytes(8, "little"):
+            mark.update(part)
+    return mark.hexdigest()
+
+
+class Search:
+    """A search of files for slices of a set, by `parv find`, that goes on from a cursor.
+
+    `wanted` has the numbers in the whole set of the slices that are looked for, and may lose some at
+    each sighting; `at` is where the search stands, the numbers of a cursor.
+    """
+
+    def __init__(self, found, scanned, tails, wanted, at=(0, 0, 0)):
+        self.found, self.scanned, self.wanted, self.at = found, scanned, wanted, at
+        self.flags = ["--tails"] if tails else []
+        self.mark = mark_of(scanned)
+        self.by_name = {shown(os.fsencode(word)): number for number, word in enumerate(scanned)}
+        self.by_id = {file.id: file.first for file in found.files}
+
+    def cursor(self):
+        return ":".join(map(str, ["2", self.found.id, self.mark, *self.at]))
+
+    def sightings(self):
+        """The number of a scanned file, an offset and the number of a slice, for each sighting of one
+        that is wanted; behind it the search stands once the next one is asked for."""
+        with tempfile.TemporaryDirectory() as folder:
+            packets = os.path.join(folder, "wanted.par2")
+            while self.wanted and self.at[0] < len(self.scanned):
+                with open(packets, "wb") as out:
+                    out.write(packets_for(self.found, self.wanted))
+                yield from self.part(packets)
+
+    def part(self, packets):
+        """The sightings as far as it is worth while to search for these slices.
+
+        Slices that aren't wanted any more are seen where they stand again, one of zeros at each
+        offset of an empty part of a disc, and each time parv takes an MD5. Where they have cost as
+        much as a new beginning, the search begins anew where it stands, without them.
+        """
+        words = [*self.flags, "--cursor", self.cursor(), "--", packets, *self.scanned]
+        waste = 0
+        with running("find", words) as process:
+            for line in process.stdout:
+                if line == b"end\n":
+                    self.at = (len(self.scanned), 0, 0)
+                    return
+                if not line.endswith(b"\n"):
+                    break
+                file, offset, number = self.sighting_of(line)
+                if number in self.wanted:
+                    yield file, offset, number
+                else:
+                    waste += self.found.size + LINE
+                self.at = (file, offset, number + 1)
+                if waste > WASTE or not self.wanted:
+                    return
+            ends_well(process)
+            raise Fault(6, f"{PARV} find ended early")
+
+    def sighting_of(self, line):
+        name, offset, owner, number = line.decode("ascii").rsplit(" ", 3)
+        return self.by_name[name], int(offset), self.by_id[owner] + int(number)
+
+
+# The folder, its files and its record.
+
+def refusals(files):
+    """Why files of the set are refused by their names, by their IDs."""
+    why = {file.id: refusal(file.name.split(b"/")) for file in files}
+    fine = sorted(file.name for file in files if why[file.id] is None)
+    for file in files:
+        at = bisect.bisect(fine, file.name + b"/")
+        if why[file.id] is None and at < len(fine) and fine[at].startswith(file.name + b"/"):
+            why[file.id] = "its name is that of another file's folder"
+    return {owner: reason for owner, reason in why.items() if reason}
+
+
+def refusal(parts):
+    """Why a name of these parts is refused, if it is."""
+    if parts[0] == b"":
+        return "its name is absolute"
+    if b".." in parts:
+        return "its name leads out of the folder"
+    if b"" in parts or b"." in parts:
+        return "its name isn't that of a file"
+    if parts[0] == RECORD.encode():
+        return "its name is that of the record"
+    return "a part of its name is too long" if max(map(len, parts)) > 255 else None
+
+
+class Folder:
+    """The folder that files of the set are written to: no part of a way in it may be a link."""
+
+    def __init__(self, path):
+        self.shown = shown(os.fsencode(path))
+        with faults_of("open", self.shown):
+            os.makedirs(path, exist_ok=True)
+            self.place = os.open(path, os.O_RDONLY | os.O_DIRECTORY)
+            entries = os.listdir(self.place)
+        if entries and RECORD not in entries:
+            raise Fault(3, f"{self.shown} isn't empty, and has no {RECORD}")
+
+    @contextlib.contextmanager
+    def above(self, parts, makes=False):
+        """The folder that a file of this name is in, while it is used."""
+        place = os.dup(self.place)
+        try:
+            for part in parts[:-1]:
+                if makes:
+                    with contextlib.suppress(FileExistsError):
+                        os.mkdir(part, dir_fd=place)
+                inner = os.open(part, os.O_RDONLY | os.O_DIRECTORY | os.O_NOFOLLOW, dir_fd=place)
+                os.close(place)
+                place = inner
+            yield place
+        except FileExistsError as fault:
+            raise Refused("something is in its place already") from fault
+        except OSError as fault:
+            raise Refused(f"its place can't be opened: {fault.strerror}") from fault
+        finally:
+            os.close(place)
+
+    def make(self, file):
+        """Makes a file of the set, where nothing is in its place; opened."""
+        parts = file.name.split(b"/")
+        with self.above(parts, True) as above:
+            return os.open(parts[-1], os.O_RDWR | os.O_CREAT | os.O_EXCL | os.O_NOFOLLOW, 0o666, dir_fd=above)
+
+    def open(self, file):
+        """Opens a file of the set that was made before; a link isn't followed, and a FIFO doesn't wait."""
+        parts = file.name.split(b"/")
+        with self.above(parts) as above:
+            return os.open(parts[-1], os.O_RDWR | os.O_NOFOLLOW | os.O_NONBLOCK, dir_fd=above)
+
+
+class Record:
+    """What earlier runs have left, in a file of lines: which files were made, which slices are there,
+    which files were complete, by their last change, and how far each list of files was searched."""
+
+    def __init__(self, folder, found):
+        self.shown = f"{folder.shown}/{RECORD}"
+        with faults_of("open", self.shown):
+            flags = os.O_RDWR | os.O_CREAT | os.O_NOFOLLOW | os.O_NONBLOCK
+            self.place = os.open(RECORD, flags, 0o666, dir_fd=folder.place)
+        now = os.fstat(self.place)
+        if not stat.S_ISREG(now.st_mode) or now.st_nlink != 1:
+            raise Fault(6, f"{self.shown} is a link or no file")
+        try:
+            fcntl.flock(self.place, fcntl.LOCK_EX | fcntl.LOCK_NB)
+        except OSError as fault:
+            raise Fault(3, f"another run is at work in {folder.shown}") from fault
+        self.made, self.there, self.whole, self.reached = set(), set(), {}, {}
+        self.end, self.news = 0, []
+        self.read(found)
+
+    def read(self, found):
+        """Reads the lines; of one that was being written the beginning is taken off."""
+        head = f"extract_found 1 {found.id}"
+        with faults_of("read", self.shown):
+            data = os.pread(self.place, os.fstat(self.place).st_size, 0)
+        lines = data[:data.rfind(b"\n") + 1].decode("ascii", "replace").split("\n")[:-1]
+        if lines and lines[0] != head:
+            raise Fault(3, f"{self.shown} is of another set")
+        for number, line in enumerate(lines[1:], 2):
+            try:
+                self.take(*line.split(" "))
+            except (TypeError, ValueError) as fault:
+                raise Fault(6, f"line {number} of {self.shown} is damaged") from fault
+        self.end = data.rfind(b"\n") + 1
+        with faults_of("write", self.shown):
+            os.ftruncate(self.place, self.end)
+        if not lines:
+            self.write(head + "\n")
+
+    def take(self, kind, about="", value=""):
+        """Takes a line of the record."""
+        if kind == "made":
+            self.made.add(about)
+        elif kind == "slice":
+            self.there.add(int(about))
+        elif kind == "whole":
+            self.whole[about] = int(value)
+        elif kind == "at":
+            *_, mark, file, offset, number = value.split(":")
+            self.reached[about, mark] = (int(file), int(offset), int(number))
+        elif kind == "again":
+            self.reached.clear()
+        else:
+            raise ValueError(kind)
+
+    def write(self, text):
+        """Puts text behind the last whole line."""
+        with faults_of("write", self.shown):
+            write(self.place, text.encode(), self.end)
+        self.end += len(text)
+
+    def tell(self, *words):
+        """Has a line for the next time that it is saved."""
+        self.news.append(" ".join(map(str, words)) + "\n")
+
+    def save(self):
+        self.write("".join(self.news))
+        self.news = []
+        with faults_of("write", self.shown):
+            os.fsync(self.place)
+
+
+def write(place, data, at):
+    """Writes all of the data at an offset."""
+    left = memoryview(data)
+    while left:
+        count = os.pwrite(place, left, at)
+        left = left[count:]
+        at += count
+
+
+def bytes_of(place, length, at):
+    """So many bytes at an offset of a file that has them; a hole isn't read."""
+    try:
+        is_hole = os.lseek(place, at, os.SEEK_DATA) >= at + length
+    except OSError:
+        is_hole = True      # to the end of the file
+    return bytes(length) if is_hole else os.pread(place, length, at)
+
+
+def fill(place, data, at):
+    """Writes the blocks of the data that aren't there yet, each where nothing but zeros is."""
+    now, zeros, start, begin = bytes_of(place, len(data), at), bytes(BLOCK), 0, None
+    while start < len(data) and now != data:
+        end = min(len(data), start + BLOCK - (at + start) % BLOCK)
+        if data[start:end] != now[start:end]:
+            if now[start:end] != zeros[:end - start]:
+                raise Refused("it has other bytes where a slice belongs")
+            begin = start if begin is None else begin
+        elif begin is not None:
+            write(place, memoryview(data)[begin:start], at + begin)
+            begin = None
+        start = end
+    if begin is not None:
+        write(place, memoryview(data)[begin:], at + begin)
+
+
+class Writer:
+    """Writes slices into files of the set, and keeps the record of it."""
+
+    def __init__(self, found, folder, record):
+        self.found, self.folder, self.record = found, folder, record
+        self.refused = {}           # why files are refused, by their IDs
+        self.touched = []           # files that were written to since that was saved
+        self.is_lossy = False       # whether this run has passed something that a later one may take
+        self.saved = time.monotonic()
+
+    def refuse(self, file, why):
+        self.refused[file.id] = why
+        says(f"refused: {file.shown}: {why}")
+
+    def refuse_for_now(self, file, why):
+        """Refuses a file for what stands in its place, which a later run may find gone."""
+        self.is_lossy = True
+        self.refuse(file, why)
+
+    def prepare(self):
+        """Refuses files by their names, makes those without bytes, and looks at those made before."""
+        why = refusals(self.found.files)
+        for file in self.found.files:
+            if file.id in why:
+                self.refuse(file, why[file.id])
+            elif file.length == 0 or file.id in self.record.made:
+                with self.opened(file):
+                    pass
+
+    @contextlib.contextmanager
+    def opened(self, file):
+        """The file while it is used, or nothing where it is refused, now or from now on."""
+        place = None
+        try:
+            try:
+                place = self.place_of(file)
+                has_length(place, file.length)
+            except Refused as why:
+                self.refuse_for_now(file, why)
+            yield None if file.id in self.refused else place
+        finally:
+            if place is not None:
+                os.close(place)
+
+    def place_of(self, file):
+        if file.id in self.record.made:
+            return self.folder.open(file)
+        place = self.folder.make(file)
+        self.record.made.add(file.id)
+        self.record.write(f"made {file.id}\n")
+        return place
+
+    def takes(self, file, number, data):
+        """Writes a slice at its place, unless its file is refused."""
+        with self.opened(file) as place:
+            if place is None:
+                return False
+            try:
+                with faults_of("write", file.shown):
+                    fill(place, data, number * self.found.size)
+            except Refused as why:
+                self.refuse_for_now(file, why)
+                return False
+        self.record.there.add(file.first + number)
+        self.record.tell("slice", file.first + number)
+        if file not in self.touched[-1:]:
+            self.touched.append(file)
+        return True
+
+    def save(self, search, way):
+        """Puts what was done into the record, once it is on the disc, and how far the search came."""
+        self.sync({file.id: file for file in self.touched}.values())
+        self.touched = []
+        if self.is_lossy:
+            self.record.tell("again")
+        else:
+            self.record.tell("at", way, search.cursor())
+        self.record.save()
+        self.saved = time.monotonic()
+
+    def sync(self, files):
+        if len(files) > MANY:
+            os.sync()
+            return
+        for file in files:
+            with self.opened(file) as place, faults_of("write", file.shown):
+                if place is not None:
+                    os.fsync(place)
+
+    def state_if_whole(self, file):
+        """Whether a file all of whose slices are there is complete by its MD5, or wrong.
+
+        It isn't read again where it was complete before and has not changed since."""
+        with self.opened(file) as place, faults_of("read", file.shown):
+            if place is None:
+                return None
+            changed = os.fstat(place).st_ctime_ns
+            if self.record.whole.get(file.id) == changed:
+                return "complete"
+            if md5_of(place) != file.whole:
+                return "wrong"
+        self.record.tell("whole", file.id, changed)
+        return "complete"
+
+
+def has_length(place, length):
+    """Gives a file that was just made its length, as a hole; one that was made before has it, and no other name."""
+    now = os.fstat(place)
+    if not stat.S_ISREG(now.st_mode) or now.st_nlink != 1 or now.st_size not in (0, length):
+        raise Refused("what is in its place isn't what was left there")
+    try:
+        if now.st_size != length:
+            os.ftruncate(place, length)
+    except OSError as fault:
+        raise Refused(f"it can't have {length} bytes: {fault.strerror}") from fault
+
+
+def md5_of(place):
+    """The MD5 of a whole file."""
+    hashed, at = hashlib.md5(), 0
+    while data := os.pread(place, PIECE, at):
+        hashed.update(data)
+        at += len(data)
+    return hashed.digest()
+
+
+# The run.
+
+def says(text):
+    print(f"{os.path.basename(sys.argv[0])}: {text}", file=sys.stderr)
+
+
+def bytes_at(source, offset, own, size):
+    """So many bytes of a slice where it was seen, and their MD5 with zeros up to the slice size."""
+    with faults_of("read", shown(os.fsencode(source))), open(source, "rb") as opened:
+        opened.seek(offset)
+        data = opened.read(own)
+    hashed = hashlib.md5(data)
+    hashed.update(bytes(size - len(data)))
+    return data, hashed.digest()
+
+
+def copy(found, search, writer, way):
+    """Copies each slice that the search sees; how many it was."""
+    owners = [file for file in found.files for _ in numbers_of(file)]
+    copied, key, seen = 0, None, None
+    for at, offset, number in search.sightings():
+        file, source = owners[number], search.scanned[at]
+        own = own_length(found, file, number - file.first)
+        if key != (at, offset, own):        # equal slices are seen at one place, one after another
+            key, seen = (at, offset, own), bytes_at(source, offset, own, found.size)
+        if seen[1] != file.sums[number - file.first][:16]:
+            writer.is_lossy = True
+            says(f"{shown(os.fsencode(source))} has changed at {offset}")
+        elif writer.takes(file, number - file.first, seen[0]):
+            search.wanted.discard(number)
+            copied += 1
+        else:
+            search.wanted.difference_update(numbers_of(file))
+        if time.monotonic() - writer.saved > PAUSE:
+            writer.save(search, way)
+            if sys.stderr.isatty():
+                says(f"at {offset} of {shown(os.fsencode(source))}, {copied} slices were copied")
+    return copied
+
+
+def holes(found, file, there):
+    """The offset and length of each hole of a file, of as many slices as are missing in turn."""
+    gaps = []
+    for number in range(file.slices):
+        if file.first + number not in there:
+            at, length = number * found.size, own_length(found, file, number)
+            if gaps and sum(gaps[-1]) == at:
+                gaps[-1] = (gaps[-1][0], gaps[-1][1] + length)
+            else:
+                gaps.append((at, length))
+    return gaps
+
+
+def told(found, file, writer):
+    """What is told of a file at the end: its state, and lines of its holes."""
+    there = writer.record.there
+    count = sum(number in there for number in numbers_of(file))
+    state = writer.state_if_whole(file) if count == file.slices else "damaged" if count else "missing"
+    if file.id in writer.refused:
+        return [f"refused {file.shown}"]
+    if state == "complete":
+        return [f"complete {file.shown}"]
+    gaps = holes(found, file, there) if state == "damaged" else []
+    return [f"{state} {file.shown} {count}/{file.slices}",
+            *[f"hole {at} {length} {file.shown}" for at, length in gaps]]
+
+
+def extract(asked):
+    """The whole run; its exit status."""
+    found = read_set(asked.files, asked.set)
+    scanned = list(dict.fromkeys(word for word in asked.files if not is_packet_file(word)))
+    search = Search(found, scanned, asked.tails, set())
+    folder = Folder(asked.folder)
+    record = Record(folder, found)
+    writer = Writer(found, folder, record)
+    writer.prepare()
+    way = "tails" if asked.tails else "plain"
+    search.wanted |= {number for file in found.files if file.sums and file.id not in writer.refused
+                      for number in numbers_of(file)} - record.there
+    if not writer.is_lossy:
+        search.at = record.reached.get((way, search.mark), search.at)
+    try:
+        copied = copy(found, search, writer, way)
+    except BaseException:
+        with contextlib.suppress(Fault, OSError):
+            writer.save(search, way)
+        raise
+    writer.save(search, way)
+    return ending(found, writer, copied)
+
+
+def ending(found, writer, copied):
+    """Tells what is there; the exit status."""
+    parts = [told(found, file, writer) for file in found.files]
+    writer.record.save()
+    there = sum(number in writer.record.there for file in found.files if file.id not in writer.refused
+                for number in numbers_of(file))
+    for line in (line for part in parts for line in part):
+        print(line)
+    print(f"slices {there}/{sum(file.slices for file in found.files)}, copied now {copied}")
+    return 0 if all(part[0].startswith("complete ") for part in parts) else 1
+
+
+class Words(argparse.ArgumentParser):
+    """Words on a command line, of which wrong ones end with 3, as those of parv do."""
+
+    def error(self, message):
+        self.exit(3, f"{self.prog}: {message}\n{self.format_usage()}")
+
+
+def parser_of(text):
+    """A parser whose help is the text of a script, in which its usage is the second part."""
+    first, usage, *rest = text.split("\n\n")
+    return Words(usage=usage[7:], description="\n\n".join([first, *rest]),
+                 formatter_class=argparse.RawDescriptionHelpFormatter, allow_abbrev=False)
+
+
+def is_set_id(text):
+    if not re.fullmatch("[0-9A-Fa-f]{32}", text):
+        raise argparse.ArgumentTypeError("a set ID has 32 hexadecimal digits")
+    return text
+
+
+def ended(run, asked):
+    """The exit status of a run, with a line on standard error for what ended it."""
+    try:
+        status = run(asked)
+        sys.stdout.flush()
+        return status
+    except Fault as fault:
+        if str(fault):
+            says(fault)
+        return fault.status
+    except OSError as fault:
+        # Of standard output, which is flushed once more at the end.
+        os.dup2(os.open(os.devnull, os.O_WRONLY), sys.stdout.fileno())
+        says(f"cannot write standard output: {fault.strerror}")
+        return 6
+    except KeyboardInterrupt:
+        return 130
+
+
+def main():
+    parser = parser_of(__doc__)
+    parser.add_argument("--tails", action="store_true", help="find short last slices before other bytes too")
+    parser.add_argument("--set", type=is_set_id, metavar="ID", help="the set of this ID, in place of the first")
+    parser.add_argument("folder", metavar="FOLDER", help="where the files of the set are written")
+    parser.add_argument("files", nargs="+", metavar="FILES", help="packet files, and files to be searched")
+    return ended(extract, parser.parse_intermixed_args())
+
+
+if __name__ == "__main__":
+    sys.exit(main())

@@ -1,0 +1,200 @@
+#!/usr/bin/env bash
+# examples/check_tree.sh: a line for each set of a folder, by set ID and folder, damaged ones too, and nothing read
+# by a name of a set that isn't one below its folder.
+. "$(dirname "$0")/wants.sh"
+cd "$work" || exit 1
+export LC_ALL=C
+export PARV=$parv
+script=$top/examples/check_tree.sh
+one_set=$tools/make/one_set.py
+demo=$top/demo
+photos=589c76e09f0580b9203c5b64963b8957
+
+usage='usage: check_tree.sh [-j N] [-q] [--tails] FOLDER'
+wants "the words" 0 "$usage" "" "$script" -h
+for words in '' '--wrong tree' 'tree tree' '-j 0 tree' '-j' '-j x tree'; do
+    # shellcheck disable=SC2086
+    wants "wrong words: $words" 3 "" "$usage" "$script" $words
+done
+wants "a folder that isn't there" 6 "" "check_tree.sh: cannot open no\\x0ane" "$script" $'no\nne'
+mkdir tree
+wants "a folder without packet files" 3 "" "check_tree.sh: tree: no packet file" "$script" tree
+
+# Of several folders, of which one has two sets, and one a copy of a set of another.
+mkdir -p tree/{a,b/c,'b d/-e'} small
+printf 'abcdefgh' > small/g.bin
+"$one_set" v.par2 4 0 small
+v=$("$parv" packets v.par2 | awk '$4 == "main" { print $5 }')
+cp "$demo"/*.raw "$demo"/notes.txt "$demo"/photos*.par2 v.par2 tree/a
+cp "$demo"/photos.vol07+8.par2 "tree/b/c/Photos of summer.VOL07-8.PAR2"
+cp "$demo"/photos.vol00+1.par2 "tree/b/c/other.par2"
+cp "$demo"/{beach,tower,harbour}.raw tree/b/c
+cp v.par2 small/g.bin 'tree/b d/-e'
+head -c 90 v.par2 > 'tree/b d/lost.par2'
+cp 'tree/b d/lost.par2' 'tree/b d/lost.vol0+1.par2'
+cp 'tree/b d/lost.par2' 'tree/a/photos.vol15+16.par2'
+head -c 90 v.par2 > tree/b/c/.par2
+lines="0 $photos need 0 have 14 a/photos
+2 $v need 2 have 0 a/v
+0 $v need 0 have 0 b d/-e/v
+4 - need - have - b d/lost
+1 $photos need 1 have 9 b/c/Photos of summer
+4 - need - have - b/c/"
+told="check_tree.sh: b d/lost: no usable set: no main
+check_tree.sh: b/c/: no usable set: no main"
+wants "sets of several folders" 4 "$lines" "$told" "$script" tree
+for sides in 1 2 9; do
+    wants "$sides sets side by side" 4 "$lines" "$told" "$script" -j "$sides" tree
+done
+wants "what isn't complete" 4 "$(grep -v '^0' <<< "$lines")" "$told" "$script" -q -j2 tree
+rm tree/b*/*.par2 tree/b/c/.par2
+wants "the greatest exit status" 2 "$(grep -v '^4' <<< "$lines")" "" "$script" ./tree/
+rm tree/a/v.par2
+wants "a repair can be tried" 1 "$(grep '^1' <<< "$lines")" "" "$script" -q tree
+cp "$demo"/notes.txt tree/b/c
+rm tree/a/tower.raw
+wants "a repair can be tried by --tails" 1 "1 $photos need 5 have 14 a/photos" "" "$script" -q --tails tree
+cp "$demo"/tower.raw tree/a
+wants "nothing to tell" 0 "" "" "$script" -q tree
+{ cat "$demo/notes.txt"; echo more; } > tree/b/c/notes.txt
+wants "without --tails" 1 "1 $photos need 1 have 9 b/c/Photos of summer" "" "$script" -q tree
+wants "with --tails" 1 "1 $photos need 0 have 9 b/c/Photos of summer" "" "$script" -q --tails tree
+
+# A set of which no Main is left, and one whose files are lost in part.
+rm -r tree
+mkdir tree
+main=$("$parv" packets v.par2 | awk '$4 == "main" { print $3 }')
+tail -c +$((main + 1)) v.par2 > tree/no_main.par2
+wants "a set without Main" 4 "4 $v need - have - no_main" "check_tree.sh: no_main: no usable set: no main" "$script" tree
+cp "$demo/photos.vol03+4.damaged.par2" "$demo/photos.par2" tree
+wants "damaged packet files" 4 "4 $v need - have - no_main
+2 $photos need 38 have 3 photos" "check_tree.sh: no_main: no usable set: no main" "$script" tree
+cp v.par2 tree/v.par2
+wants "the same with Main elsewhere" 2 "2 $v need 2 have 0 no_main
+2 $photos need 38 have 3 photos" "" "$script" tree
+
+# Names of any bytes, of folders and of files of a set.
+rm -r tree
+mkdir -p whole/sub
+names=($'line\nfeed\n' ' two  blanks ' -dash $'caf\xe9' $'\xff' 'back\slash' 'st*r[x]?' '@' sub/in 'from a to b' .hidden)
+for name in "${names[@]}"; do printf 'content' > "whole/$name"; done
+printf 'another' > $'whole/\xfe'
+cp v.par2 whole/other.par2
+folder=$'tree/sp ace/\xe9\n/-x'
+mkdir -p "$folder"
+cp -r whole/. "$folder"
+"$one_set" "$folder/"$'\xe9\n.par2' 4 3 whole
+id=$("$script" tree | tail -n 1 | cut -d ' ' -f 2)
+printf abcdefgh > "$folder/g.bin"
+# states NAME STATUS NEED: of the set with these names, beside that of one of its files.
+states() {
+    wants "$1" "$2" "0 $v need 0 have 0 sp ace/\\xe9\\x0a/-x/other
+$2 $id need $3 have 3 sp ace/\\xe9\\x0a/-x/\\xe9\\x0a" "" "$script" tree
+}
+states "names of any bytes" 0 0
+mv "$folder/@" "$folder/sub/@"
+states "one of them in another folder" 1 0
+mv "$folder/sub/@" "$folder/@"
+rm "$folder/"$'\xff'
+states "one of one content is gone" 1 0
+cp $'whole/\xff' "$folder"
+rm "$folder/"$'\xfe'
+states "one is gone" 1 2
+
+# Names that are no plain paths below the folder: what lies there isn't read, whatever the rest is.
+rm -r tree whole
+mkdir -p tree/set/sub whole outer
+printf 'abcdefgh' > outer/bad.txt
+cp outer/bad.txt outside
+printf 'ijkl' > whole/good.txt
+cp outer/bad.txt whole
+cp whole/good.txt tree/set
+refused() {
+    "$one_set" tree/set/set.par2 4 0 whole bad.txt "$1"
+    id=$("$parv" packets tree/set/set.par2 | awk '$4 == "main" { print $5 }')
+    wants "the name ${1@Q}" 2 "2 $id need 2 have 0 set/set" \
+        "check_tree.sh: set/set: the name $2 is refused: it is no plain path below the folder" "$script" tree
+}
+refused ../outside ../outside
+refused ../../outside ../../outside
+refused "$work/outside" "$work/outside"
+refused sub/../../../outside sub/../../../outside
+refused ./good.txt ./good.txt
+refused sub//bad.txt sub//bad.txt
+refused .. ..
+refused $'../\xff\n' '../\xff\x0a'
+"$one_set" tree/set/set.par2 4 0 whole bad.txt sub/bad.txt
+id=$("$parv" packets tree/set/set.par2 | awk '$4 == "main" { print $5 }')
+linked() {
+    wants "$1" 2 "2 $id need 2 have 0 set/set" \
+        "check_tree.sh: set/set: sub/bad.txt is a link, or behind one, and isn't read" "$script" tree
+}
+ln -s "$work/outer/bad.txt" tree/set/sub/bad.txt
+linked "a link at a name"
+rm -r tree/set/sub
+ln -s "$work/outer" tree/set/sub
+linked "a link on the way to a name"
+mkdir other
+cp tree/set/set.par2 other
+ln -s "$work/other" tree/other
+ln -s "$work/other/set.par2" tree/set/linked.par2
+mkdir tree/set/folder.par2
+mkfifo tree/set/fifo.par2
+linked "packet files that are links, folders or FIFOs"
+rm -r tree/set/sub
+mkdir tree/set/sub
+mkfifo tree/set/sub/bad.txt
+wants "a FIFO at a name" 2 "2 $id need 2 have 0 set/set" "" "$script" tree
+rm tree/set/sub/bad.txt
+cp outer/bad.txt tree/set/sub
+mkdir -p tree/set/.verify_and_repair/files
+cp v.par2 tree/set/.verify_and_repair/files
+wants "a file in a subfolder" 0 "0 $id need 0 have 0 set/set" "" "$script" tree
+
+# Ends of parv that are no answers, and an end of the script.
+# shellcheck disable=SC2016
+printf '#!/bin/sh\n[ "$1" != verify ] || kill -KILL $$\nexec "%s" "$@"\n' "$parv" > ends
+# shellcheck disable=SC2016
+printf '#!/bin/sh\n[ "$1" != verify ] || { echo $$ > "%s/pid"; exec "%s" "$@" "%s/endless"; }\nexec "%s" "$@"\n' \
+    "$work" "$parv" "$work" "$parv" > long
+truncate -s 1T endless
+chmod +x ends long
+PARV=$work/ends wants "parv is ended" 137 "137 $id need - have - set/set" \
+    "check_tree.sh: set/set: parv has ended with status 137" "$script" tree
+PARV=./none wants "no parv" 127 "127 - need - have - set/set" \
+    "check_tree.sh: set/set: parv has ended with status 127" "$script" tree
+rm tree/set/sub/bad.txt
+PARV=$work/long "$script" tree > text 2> line &
+for _ in $(seq 100); do [ -s pid ] && break; sleep 0.1; done
+sleep 0.3
+kill $!
+wait $!
+status=$?
+sleep 0.3
+# (What was ended may not have been waited for by then.)
+if [ $status -eq 143 ] && ! grep -q '^State:[[:blank:]][^Z]' "/proc/$(< pid)/status" 2> "$said/kill"; then
+    echo "ok: parv ends with the script"
+else
+    fails "an end by SIGTERM: status $status, $(cat text line)"
+fi
+
+# What may not be read, by one who isn't root.
+user=()
+[ "$(id -u)" -ne 0 ] || user=(setpriv --reuid 65534 --regid 65534 --clear-groups)
+chmod 711 .
+cp "$parv" parv
+cp "$script" script
+rm -r tree
+mkdir -p tree/{a,b,c}
+cp v.par2 small/g.bin tree/a
+cp v.par2 tree/a/w.vol0+1.par2
+cp tree/a/* tree/b
+cp tree/a/* tree/c
+chmod 000 tree/a/g.bin tree/b/v.par2 tree/c
+wants "what may not be read" 6 "6 $v need - have - a/v
+0 $v need 0 have 0 b/w
+6 - need - have - b/v" "check_tree.sh: tree: './c': Permission denied
+check_tree.sh: a/v: cannot open ./g.bin
+check_tree.sh: b/v: cannot open ./v.par2" env PARV="$work/parv" "${user[@]}" ./script tree
+chmod 700 tree/c
+exit $failed

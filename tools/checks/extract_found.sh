@@ -1,0 +1,221 @@
+#!/usr/bin/env bash
+# examples/extract_found.py: what it copies out of files is compared with the originals by an independent search, and
+# the holes that it tells; runs that go on, that were stopped, or have other files; slices that are seen at each offset.
+. "$(dirname "$0")/wants.sh"
+cd "$work" || exit 1
+export PARV=$parv
+extract=$top/examples/extract_found.py
+demo=$top/demo
+record=.extract_found
+
+# leaves NAME FOLDER: what stands in `wanted`, beside the record.
+leaves() {
+    diff -r --exclude=$record "$2" wanted > differ 2>&1 || fails "$1: $(head -c 300 differ)"
+}
+# extracts NAME STATUS COPIED ORIGINALS FOLDER [--tails] FILES: the files and lines of the independent search.
+extracts() {
+    local name=$1 status=$2 copied=$3 originals=$4 folder=$5 tails=()
+    shift 5
+    if [ "$1" = --tails ]; then
+        tails=(--tails)
+        shift
+    fi
+    rm -rf wanted
+    mkdir wanted
+    "$tools/models/place_slices.py" "${tails[@]}" "$originals" wanted "$@" | sed "\$s/\$/, copied now $copied/" > lines
+    gives "$name" "$status" lines "" "$extract" "${tails[@]}" "$folder" "$@"
+    leaves "$name" "$folder"
+}
+
+# Some zeros, a whole file, the end of another at other places, one that was damaged, and a short one.
+{
+    head -c 20000 /dev/zero
+    cat "$demo/beach.raw"
+    printf 'x'
+    tail -c 9001 "$demo/harbour.raw"
+    head -c 3000 "$demo/tower.raw"
+    printf '?'
+    tail -c 2000 "$demo/tower.raw"
+    cat "$demo/notes.txt"
+} > 'disc image'
+words=("$demo/photos.par2" 'disc image')
+extracts "what an image has" 1 31 "$demo" 'out 1/in' "${words[@]}"
+extracts "the same with --tails" 1 33 "$demo" out --tails "${words[@]}"
+grep -q '^hole ' lines || fails "there is no hole"
+extracts "with --tails where the rest is there" 1 2 "$demo" 'out 1/in' --tails "${words[@]}"
+
+# What parv is asked, and what is asked of it anew.
+cat > logs << 'END'
+#!/bin/sh
+echo "$*" >> calls
+exec "$parv" "$@"
+END
+chmod +x logs
+export parv
+extracts "a second run" 1 0 "$demo" 'out 1/in' --tails "${words[@]}"
+PARV=$work/logs extracts "a third one" 1 0 "$demo" 'out 1/in' --tails "${words[@]}"
+if grep -q '^set ' calls && ! grep -q '^find ' calls; then
+    echo "ok: nothing is looked for where that was done"
+else
+    fails "parv was asked $(cat calls)"
+fi
+# The rest in another file.
+head -c 4000 "$demo/harbour.raw" > more.bin
+cat "$demo/tower.raw" >> more.bin
+rm -rf wanted
+mkdir wanted
+"$tools/models/place_slices.py" --tails "$demo" wanted "${words[@]}" more.bin > lines
+sed -i '$s/$/, copied now 4/' lines
+gives "another file has more" 1 lines "" "$extract" --tails 'out 1/in' "$demo/photos.par2" more.bin
+leaves "another file has more" 'out 1/in'
+extracts "all files at once, into a new folder" 1 37 "$demo" all --tails "${words[@]}" more.bin
+{ head -c 5000 "$demo/harbour.raw"; } > last.bin
+wants "the last slice" 0 "complete harbour.raw
+complete beach.raw
+complete notes.txt
+complete tower.raw
+slices 38/38, copied now 1" "" "$extract" all "$demo/photos.par2" last.bin
+for file in harbour.raw beach.raw notes.txt tower.raw; do
+    cmp "all/$file" "$demo/$file" || fails "$file isn't whole"
+done
+truncate -s 64G last.bin
+wants "where all is there nothing is looked for" 0 "complete harbour.raw
+complete beach.raw
+complete notes.txt
+complete tower.raw
+slices 38/38, copied now 0" "" "$extract" all "$demo/photos.par2" last.bin
+cat "$demo"/*.raw "$demo/notes.txt" > joined
+truncate -s 64G joined
+wants "where all is found nothing more is" 0 "complete harbour.raw
+complete beach.raw
+complete notes.txt
+complete tower.raw
+slices 38/38, copied now 38" "" "$extract" --tails joined.out "$demo/photos.par2" joined
+
+# Stopped: parv ends behind 9 lines, or the script is killed while it waits for more.
+cat > ends << 'END'
+#!/bin/bash
+[ "$1" = find ] || exec "$parv" "$@"
+"$parv" "$@" 2> /dev/null | head -n 9
+exit 6
+END
+cat > hangs << 'END'
+#!/bin/bash
+[ "$1" = find ] || exec "$parv" "$@"
+"$parv" "$@" | head -n 9
+echo $$ > waits
+exec sleep 60
+END
+chmod +x ends hangs
+PARV=$work/ends wants "a run that is stopped" 6 "" "" "$extract" --tails stopped "${words[@]}"
+rm calls
+PARV=$work/logs extracts "it goes on" 1 24 "$demo" stopped --tails "${words[@]}"
+grep -q '^find .*:0:2[0-9]*:[0-9]* -- ' calls || fails "it doesn't go on behind the zeros: $(cat calls)"
+PARV=$work/hangs "$extract" --tails killed "${words[@]}" > told 2>&1 &
+for _ in $(seq 300); do [ -e waits ] && [ -s killed/beach.raw ] && break; sleep 0.1; done
+kill -KILL $!
+wait $! 2> /dev/null
+kill "$(cat waits)"
+[ -s killed/beach.raw ] || fails "nothing was written before the kill"
+extracts "a run that was killed goes on" 1 $((33 - $(grep -c '^slice' killed/$record))) "$demo" killed --tails "${words[@]}"
+head -c -3 killed/$record > short && cat short > killed/$record
+extracts "it goes on behind the last whole line of its record" 1 0 "$demo" killed --tails "${words[@]}"
+extracts "and once more" 1 0 "$demo" killed --tails "${words[@]}"
+
+# A slice is copied where its bytes are there, and not where they were.
+cat > shifts << 'END'
+#!/bin/bash
+[ "$1" = find ] || exec "$parv" "$@"
+"$parv" "$@" | awk '/^notes/ { $2 += 1 } { print }'
+END
+chmod +x shifts
+cp "$demo/notes.txt" notes
+printf 'more' >> notes
+cp "$demo/tower.raw" tower
+PARV=$work/shifts wants "a slice that isn't there any more" 1 "missing harbour.raw 0/12
+missing beach.raw 0/20
+missing notes.txt 0/1
+complete tower.raw
+slices 5/38, copied now 5" "extract_found.py: notes has changed at 1" \
+    "$extract" --tails changed "$demo/photos.par2" notes tower
+wants "a later run looks there again" 1 "missing harbour.raw 0/12
+missing beach.raw 0/20
+complete notes.txt
+complete tower.raw
+slices 6/38, copied now 1" "" "$extract" --tails changed "$demo/photos.par2" notes tower
+
+# Slices that are seen at many offsets, whole ones and short ones, an empty file, and one without known sums.
+"$tools/make/extract_sets.py" . || exit 1
+for tails in "" --tails; do
+    rm -f calls
+    # shellcheck disable=SC2086
+    PARV=$work/logs extracts "slices that are seen again and again${tails:+, with $tails}" 1 $((19 + ${#tails} / 3)) \
+        repeated "again$tails" $tails repeated.par2 repeated.img
+    searches=$(grep -c '^find ' calls)
+    if [ "$searches" -gt 1 ] && [ "$searches" -lt 12 ]; then
+        echo "ok: they take $searches searches"
+    else
+        fails "they take $searches searches"
+    fi
+done
+# Begun anew at each sighting of a slice that is there.
+cat > anew << 'END'
+#!/usr/bin/env python3
+import os
+import sys
+sys.path.insert(0, os.environ["examples"])
+import extract_found
+extract_found.WASTE = 0
+sys.exit(extract_found.main())
+END
+chmod +x anew
+script=$extract
+extract=$work/anew
+for tails in "" --tails; do
+    # shellcheck disable=SC2086
+    examples=${script%/*} extracts "slices that are seen again, each time anew${tails:+, with $tails}" \
+        1 $((19 + ${#tails} / 3)) repeated "again$tails anew" $tails repeated.par2 repeated.img
+done
+extract=$script
+# Half a GiB of zeros, of which parv would take an MD5 of 64 KiB at each offset, before a file and behind it; one slice
+# of that has another byte.
+mkdir large
+{ head -c 300000 /dev/zero; head -c 100000 "$parv"; head -c 200000 /dev/zero; printf 'end'; } > large/zeros
+PYTHONPATH=$tools python3 - << 'END'
+from make.packets import desc_body, ifsc_body, main_body, set_of
+with open("large/zeros", "rb") as file:
+    content = file.read()
+with open("large.par2", "wb") as out:
+    owner = bytes(16)
+    out.write(set_of(main_body(65536, [owner]), ("filedesc", desc_body(owner, b"zeros", content)),
+                     ("ifsc", ifsc_body(owner, content, 65536))))
+END
+truncate -s 256M large.img
+{ head -c 330000 large/zeros | tail -c 80000; printf '?'; tail -c +330002 large/zeros; } >> large.img
+truncate -s 512M large.img
+for tails in "" --tails; do
+    # shellcheck disable=SC2086
+    wants "zeros for a long way${tails:+, with $tails}" 1 "damaged zeros 9/10
+hole 327680 65536 zeros
+slices 9/10, copied now 9" "" "$extract" $tails "zeros$tails" large.par2 large.img
+    { head -c 327680 large/zeros; head -c 65536 /dev/zero; tail -c +393217 large/zeros; } > wanted/zeros
+    cmp "zeros$tails/zeros" wanted/zeros || fails "zeros for a long way, $tails: another content"
+done
+if [ "$(stat -c %b zeros/zeros)" -lt 200 ] && [ "$(stat -c %s zeros/zeros)" -eq 600003 ]; then
+    echo "ok: zeros that were copied, and holes, take no room"
+else
+    fails "the file takes $(stat -c '%b blocks for %s bytes' zeros/zeros)"
+fi
+
+# All slices are there, and the file isn't that of the set.
+PYTHONPATH=$tools python3 - << 'END'
+from make.packets import desc_body, ifsc_body, main_body, set_of
+owner = bytes(16)
+with open("wrong.par2", "wb") as out:
+    out.write(set_of(main_body(4, [owner]), ("filedesc", desc_body(owner, b"wrong", b"abcdefgh")),
+                     ("ifsc", ifsc_body(owner, b"abcdefgX", 4))))
+END
+printf 'efgXabcd' > pieces
+wants "a file that isn't that of the set" 1 "wrong wrong 2/2
+slices 2/2, copied now 2" "" "$extract" wrong wrong.par2 pieces
+exit $failed

@@ -1,0 +1,215 @@
+#!/usr/bin/env bash
+# examples/extract_found.py with packets that anyone may have made: names that lead out of the folder, what stands in
+# it already, links on the way, and what was put there between two runs. Nothing around it is made or changed, and
+# nothing in it written over. Folders that it doesn't take, words that are none, and files that it can't read.
+. "$(dirname "$0")/wants.sh"
+cd "$work" || exit 1
+export PARV=$parv LC_ALL=C
+extract=$top/examples/extract_found.py
+me=extract_found.py
+record=.extract_found
+
+mkdir room
+"$tools/make/extract_sets.py" room || exit 1
+cd room || exit 1
+names=(--tails names.par2 names.img)
+# What is said of each name that leads elsewhere.
+cat > refusals << END
+$PWD/absolute: its name is absolute
+/absolute: its name is absolute
+../above: its name leads out of the folder
+in/../../above: its name leads out of the folder
+in/..: its name leads out of the folder
+..: its name leads out of the folder
+.: its name isn't that of a file
+./dot: its name isn't that of a file
+in/./dot: its name isn't that of a file
+in//twice: its name isn't that of a file
+in/: its name isn't that of a file
+$record: its name is that of the record
+$record/in: its name is that of the record
+both: its name is that of another file's folder
+$(printf 'x%.0s' {1..256}): a part of its name is too long
+END
+# The other names, as they are shown.
+cat > fine << END
+both/in
+fine
+in/fine
+in/deep/..fine
+new\\x0aline \\xff\\\\
+way/through
+late
+$(printf 'y%.0s' {1..255})
+-dash
+back\\\\slash
+END
+
+# All that stands around the folder `out`, with its times and contents.
+around() {
+    find . -path ./out -prune -o ! -path . -printf '%p %y %s %T@ %n %l\n' | sort
+    find . -path ./out -prune -o -type f -print0 | sort -z | xargs -0 md5sum
+}
+begins() {
+    around > "$said/around"
+}
+# tells NAME COPIED COMPLETE [REFUSAL ..]: `out` gets the files of the set, those of this pattern are complete, and
+# what is said of others is this, beside what is said of the names. The files around stay as they are.
+tells() {
+    local name=$1 copied=$2 complete=$3
+    shift 3
+    { cat refusals; [ $# -eq 0 ] || printf '%s\n' "$@"; } > "$said/why"
+    {
+        grep -xE -- "$complete" fine | sed 's/^/complete /'
+        sed 's/: .*//; s/^/refused /' "$said/why"
+        echo "slices $(($(grep -cxE -- "$complete" fine) * 2))/50, copied now $copied"
+    } | sort > "$said/wanted"
+    timeout 60 "$extract" out "${names[@]}" > "$said/text" 2> "$said/line" < /dev/null
+    local got=$?
+    around > "$said/now"
+    if [ $got -eq 1 ] && [ "$(sort "$said/text")" = "$(cat "$said/wanted")" ] \
+        && [ "$(sort "$said/line")" = "$(sed "s/^/$me: refused: /" "$said/why" | sort)" ] \
+        && cmp -s "$said/around" "$said/now"; then
+        echo "ok: $name"
+    else
+        fails "$name: status $got $(sort "$said/text" | diff - "$said/wanted" | head -n 4)" \
+            "$(sed "s/^/$me: refused: /" "$said/why" | sort | diff <(sort "$said/line") - | head -n 4)" \
+            "$(diff "$said/around" "$said/now" | head -n 4)"
+    fi
+}
+
+begins
+tells "names that lead out of the folder" 20 ".*"
+diff -r --exclude=$record out names || fails "the other files aren't as they were"
+tells "the same once more" 0 ".*"
+
+# A file of the set was begun; the rest comes where other things stand.
+cp -r names elsewhere
+printf 'mine' > elsewhere/mine
+head -c 1024 names/fine > begun
+again() {
+    rm -rf out
+    "$extract" out --tails names.par2 begun > "$said/begun" 2>&1
+    [ "$(tail -n 1 "$said/begun")" = "slices 1/50, copied now 1" ] || fails "no file was begun: $(cat "$said/begun")"
+}
+again
+printf 'mine' > out/late
+ln -s ../elsewhere out/in
+ln -s ../elsewhere/none out/way
+mkfifo out/both
+mkdir out/-dash
+ln -s ../elsewhere/none 'out/back\slash'
+begins
+there="something is in its place already"
+no_way="its place can't be opened"
+tells "what stands in places already" 5 "(fine|new.*|y*)" "late: $there" "in/fine: $no_way: Not a directory" \
+    "in/deep/..fine: $no_way: Not a directory" "way/through: $no_way: Not a directory" \
+    "both/in: $no_way: Not a directory" "-dash: $there" "back\\\\slash: $there"
+[ "$(cat out/late)" = mine ] && [ -p out/both ] && [ -L out/way ] && [ -L out/in ] && [ -d out/-dash ] \
+    || fails "what stood in places is gone"
+rm -r out/late out/in out/way out/both out/-dash 'out/back\slash'
+tells "all of it, once that is gone" 14 ".*"
+diff -r --exclude=$record out names || fails "the other files aren't as they were"
+
+# The file that was begun is another one now.
+others="(both.*|in/.*|new.*|way.*|late|y*|-dash|back.*)"
+left="fine: what is in its place isn't what was left there"
+again
+rm out/fine
+ln -s ../elsewhere/fine out/fine
+begins
+tells "a link in place of a file that was begun" 18 "$others" "fine: $no_way: Too many levels of symbolic links"
+again
+ln -f elsewhere/fine out/fine
+begins
+tells "a second name of another file" 18 "$others" "$left"
+rm elsewhere/fine
+cp names/fine elsewhere
+again
+rm out/fine
+mkfifo out/fine
+begins
+tells "a FIFO" 18 "$others" "$left"
+again
+truncate -s 1499 out/fine
+tells "a file of another length" 18 "$others" "$left"
+[ "$(stat -c %s out/fine)" -eq 1499 ] || fails "the file of another length has another one"
+again
+rm out/fine
+tells "no file" 18 "$others" "fine: $no_way: No such file or directory"
+again
+head -c 1500 names/late > out/fine
+tells "other bytes where a slice belongs" 18 "$others" "fine: it has other bytes where a slice belongs"
+head -c 1500 names/late | cmp out/fine - || fails "other bytes were written over"
+again
+mv out elsewhere/out
+mkdir out
+mv elsewhere/out/$record elsewhere
+ln -s ../elsewhere/$record out/$record
+begins
+wants "a record that is a link" 6 "" "$me: cannot open out/$record: Too many levels of symbolic links" \
+    "$extract" out "${names[@]}"
+rm out/$record
+ln elsewhere/$record out/$record
+wants "a record that has another name too" 6 "" "$me: out/$record is a link or no file" "$extract" out "${names[@]}"
+rm out/$record
+mkfifo out/$record
+wants "a record that is a FIFO" 6 "" "$me: out/$record is a link or no file" "$extract" out "${names[@]}"
+around > "$said/now"
+sed -i '/extract_found /d' "$said/around" "$said/now"
+cmp -s "$said/around" "$said/now" || fails "around the folder: $(diff "$said/around" "$said/now")"
+
+# Folders that aren't taken.
+rm -rf out
+mkdir out
+printf 'mine' > out/mine
+wants "a folder of others" 3 "" "$me: out isn't empty, and has no $record" "$extract" out "${names[@]}"
+[ "$(ls -A out)" = mine ] || fails "the folder of others has more now: $(ls -A out)"
+wants "a file in place of the folder" 6 "" "$me: cannot open out/mine: File exists" "$extract" out/mine "${names[@]}"
+ln -s none broken
+wants "a broken link in place of the folder" 6 "" "$me: cannot open broken: File exists" "$extract" broken "${names[@]}"
+[ ! -e none ] || fails "the broken link leads to something now"
+"$extract" other "$top/demo/photos.par2" > text
+wants "a folder of another set" 3 "" "$me: other/$record is of another set" "$extract" other "${names[@]}"
+sed -i 's/^at plain .*/at plain/' other/$record
+wants "a record that was changed" 6 "" "$me: line 2 of other/$record is damaged" "$extract" other "$top/demo/photos.par2"
+again
+exec 9< out/$record
+flock 9
+wants "another run at work" 3 "" "$me: another run is at work in out" "$extract" out "${names[@]}"
+exec 9<&-
+
+# A file that can't have its length.
+rm -rf out
+wants "files above a limit" 1 "refused harbour.raw
+refused beach.raw
+complete notes.txt
+complete tower.raw
+slices 6/38, copied now 6" "$me: refused: beach.raw: it can't have 20000 bytes: File too large
+$me: refused: harbour.raw: it can't have 12288 bytes: File too large" \
+    bash -c 'ulimit -f 8; exec "$@"' - "$extract" out "$top/demo/photos.par2" "$top"/demo/{beach,harbour,tower}.raw \
+    "$top/demo/notes.txt"
+
+# Words, and files that can't be read.
+usage="usage: $me [-h] [--tails] [--set ID] FOLDER FILES"
+wants "no files" 3 "" "$me: the following arguments are required: FILES
+$usage" "$extract" new
+wants "an option that there isn't" 3 "" "$me: unrecognized arguments: --tail
+$usage" "$extract" --tail new names.par2
+wants "an ID that is none" 3 "" "$me: argument --set: a set ID has 32 hexadecimal digits
+$usage" "$extract" --set 12 new names.par2
+wants "no packet file" 3 "" "parv: no packet file" "$extract" new names.img
+wants "no set" 4 "" "parv: no usable set: no main" "$extract" --set 00000000000000000000000000000000 new names.par2
+wants "a packet file that isn't there" 6 "" "parv: cannot open none.par2" "$extract" new none.par2 names.img
+wants "a file that isn't there" 6 "" "$me: cannot open none.img: No such file or directory" "$extract" new names.par2 none.img
+mkfifo fifo.img
+wants "a FIFO to be searched" 6 "" "$me: cannot open fifo.img: no regular file" "$extract" new names.par2 fifo.img
+wants "a folder to be searched" 6 "" "$me: cannot open names: no regular file" "$extract" new names.par2 names
+odd=$'\xff.img'
+wants "a name that isn't UTF-8" 3 "" "$me: \\xff.img: parv takes no name that isn't UTF-8" "$extract" new names.par2 "$odd"
+PARV=./none wants "no program" 6 "" "$me: cannot run ./none: No such file or directory" "$extract" new names.par2
+[ ! -e new ] || fails "a folder was made for nothing"
+wants "a full device" 6 "" "$me: cannot write standard output: No space left on device" \
+    bash -c '"$@" > /dev/full' - "$extract" full "$top/demo/photos.par2" "$top/demo/notes.txt"
+if "$extract" -h | grep -qxF "$usage"; then echo "ok: its usage is told"; else fails "its usage isn't told"; fi
+exit $failed

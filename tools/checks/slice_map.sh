@@ -1,0 +1,335 @@
+#!/usr/bin/env bash
+# examples/slice_map.py: its signs are those of an independent search at every offset, of whole files, damaged ones, and
+# slices that are seen again and again; its widths, colours, pages and drawings, of which one is docs/slice_map.svg;
+# names that lead elsewhere or are markup; files that are there already.
+. "$(dirname "$0")/wants.sh"
+cd "$work" || exit 1
+export PARV=$parv LC_ALL=C
+unset NO_COLOR COLUMNS
+map=$top/examples/slice_map.py
+me=slice_map.py
+demo=$top/demo
+set="set 589c76e09f0580b9203c5b64963b8957 size 1024 slices 38"
+legend="# in place  + moved  ? not known  . missing"
+
+# maps NAME [--tails] FILES: the signs are those of the independent search, and what is needed is that of parv verify.
+maps() {
+    local name=$1 got needed
+    shift
+    "$tools/models/map_slices.py" "$@" > "$said/wanted"
+    timeout 60 "$map" --width 4000 "$@" > "$said/text" 2> "$said/line" < /dev/null
+    got=$?
+    sed '1,/^$/d; /^$/d; $d; s/: .*//' "$said/text" > "$said/signs"
+    needed=$("$parv" verify -q "$@" | head -n 1)
+    if [ $got -eq 0 ] && cmp -s "$said/signs" "$said/wanted" && [ ! -s "$said/line" ] \
+        && [ "$(tail -n 1 "$said/text" | sed 's/.*; //')" = "$needed" ]; then
+        echo "ok: $name"
+    else
+        fails "$name: status $got, $(diff "$said/signs" "$said/wanted" | head -n 4), $(cat "$said/line")" \
+            "$(tail -n 1 "$said/text"), and $needed"
+    fi
+}
+
+# Renamed, with a byte more inside, and whole; then with a byte changed, with more behind, cut off, and gone.
+mkdir photos
+cd photos || exit 1
+cp "$demo"/photos*.par2 "$demo/notes.txt" "$demo/tower.raw" .
+cp "$demo/harbour.raw" port.raw
+{ head -c 6000 "$demo/beach.raw"; printf '?'; tail -c +6001 "$demo/beach.raw"; } > beach.raw
+maps "some are moved" photos.par2 photos.vol0* beach.raw port.raw tower.raw notes.txt
+maps "some are moved, with --tails" --tails photos.par2 photos.vol0* beach.raw port.raw tower.raw notes.txt
+rm notes.txt port.raw
+{ head -c 5000 "$demo/harbour.raw"; printf '?'; tail -c +5002 "$demo/harbour.raw"; } > harbour.raw
+printf 'more' >> tower.raw
+head -c 7000 "$demo/beach.raw" > beach.raw
+maps "some are missing" photos.par2 photos.vol0* beach.raw harbour.raw tower.raw
+maps "some are missing, with --tails" --tails photos.par2 photos.vol0* beach.raw harbour.raw tower.raw
+maps "all are missing" photos.par2
+cd "$work" || exit 1
+head -c 2048 "$demo/beach.raw" > 'a disc'
+wants "a folder, and what another file has" 0 "$set
+$legend
+
+harbour.raw: 11 in place, 1 missing
+####.#######
+
+beach.raw: 6 in place, 14 missing
+######..............
+
+notes.txt: 1 missing
+.
+
+tower.raw: 4 in place, 1 missing
+####.
+
+21 in place, 17 missing; need 17 have 0" "" "$map" -B photos photos/photos.par2 photos/*.raw 'a disc'
+moved="$set
+$legend
+
+harbour.raw: 12 missing
+............
+
+beach.raw: 2 moved, 18 missing
+++..................
+
+notes.txt: 1 missing
+.
+
+tower.raw: 5 missing
+.....
+
+2 moved, 36 missing; need 36 have 0"
+wants "names with their folder are others" 0 "$moved" "" "$map" photos/photos.par2 'a disc'
+mkdir renamed
+cp 'a disc' renamed/beach.raw
+wants "names with their folder, of one that is in place" 0 "$moved" "" "$map" photos/photos.par2 renamed/beach.raw
+wants "the name of -B ends in a slash" 0 "$(sed 's/2 moved/2 in place/; s/++/##/' <<< "$moved")" "" \
+    "$map" --base renamed/ photos/photos.par2 renamed/beach.raw
+
+# Slices that are seen at many offsets, and files whose sums aren't known.
+"$tools/make/extract_sets.py" . || exit 1
+cd repeated || exit 1
+for tails in "" --tails; do
+    # shellcheck disable=SC2086
+    maps "slices that are seen again and again${tails:+, with $tails}" $tails ../repeated.par2 ../repeated.img
+    # shellcheck disable=SC2086
+    maps "slices that are in place, and others that are the same${tails:+, with $tails}" $tails ../repeated.par2 \
+        zeros ones odd begins no_sums
+done
+truncate -s -50 zeros
+truncate -s 1948 ends
+for tails in "" --tails; do
+    # shellcheck disable=SC2086
+    maps "slices of zeros that aren't inside${tails:+, with $tails}" $tails ../repeated.par2 zeros ends
+done
+mv no_sums renamed
+maps "sums that aren't known, of a file that was renamed" ../repeated.par2 renamed ends
+truncate -s 2400 renamed
+maps "sums that aren't known, of a file that was cut" ../repeated.par2 renamed ends
+cd "$work" || exit 1
+
+# Widths. Of twenty slices in eight cells each shows the worst of two or three.
+head -c 7000 "$demo/beach.raw" > photos/beach.raw
+head -c 6144 "$demo/beach.raw" | tail -c 3072 > 'a disc'
+tail -c +8193 "$demo/beach.raw" | head -c 1024 >> 'a disc'
+printf '?' | dd of=photos/beach.raw bs=1 seek=4000 conv=notrunc status=none
+wide=(-B photos photos/photos.par2 photos/beach.raw 'a disc')
+"$map" --width 90 "${wide[@]}" > text
+[ "$(grep '^#' text | tail -n 1)" = "###+##..+..........." ] || fails "these are to be summed up: $(cat text)"
+wants "the worst of each cell" 0 "$set
+${legend//  /$'\n'}
+
+..
+..
+..
+..
+..
+..
+
+..
+..
+#+
+..
+..
+..
+
+..
+..
+.
+
+..
+..
+..
+..
+.
+
+5 in place, 2 moved, 31 missing; need 31 have 0" "" "$map" --width 2 "${wide[@]}"
+for columns in 7 30 79; do
+    for words in "--width $columns" ""; do
+        # shellcheck disable=SC2086
+        if COLUMNS=$columns "$map" $words "${wide[@]}" | sed '1,/^$/d; $d' | awk -v n=$columns 'length > n { exit 1 }'
+        then
+            echo "ok: no line of a file is longer than $columns${words:+, by --width}"
+        else
+            fails "a line is longer than $columns"
+        fi
+    done
+done
+
+# Colours on a terminal alone, whose width is taken.
+cat > painted << 'END'
+set 589c76e09f0580b9203c5b64963b8957 size 1024 slices 38
+[32m#[0m in place
+[33m+[0m moved
+[35m?[0m not known
+[31m.[0m missing
+
+harbour.raw
+12 missing
+[31m............[0m
+
+beach.raw
+5 in place, 2 mo..
+[32m###[33m+[32m##[31m..[33m+[31m.........[0m
+[31m..[0m
+
+notes.txt
+1 missing
+[31m.[0m
+
+tower.raw
+5 missing
+[31m.....[0m
+
+5 in place, 2 moved, 31 missing; need 31 have 0
+END
+if command -v script > /dev/null; then
+    on_terminal() {
+        script -qec "stty cols 18; $(printf '%q ' "$@")" /dev/null < /dev/null | tr -d '\r\033'
+    }
+    on_terminal "$map" "${wide[@]}" > text
+    if cmp text painted; then echo "ok: a terminal has colours"; else fails "a terminal: $(cat text)"; fi
+    NO_COLOR=1 on_terminal "$map" "${wide[@]}" > text
+    if sed 's/\[[0-9]*m//g' painted | cmp - text; then
+        echo "ok: a terminal has none with NO_COLOR"
+    else
+        fails "a terminal with NO_COLOR: $(cat text)"
+    fi
+else
+    echo "not run: there is no script"
+fi
+
+# The drawing in docs/ is that of demo/ with a file renamed, one damaged, and one missing.
+mkdir drawn
+cd drawn || exit 1
+cp "$demo"/photos.par2 "$demo"/photos.vol00+1.par2 "$demo/beach.raw" .
+cp "$demo/harbour.raw" port.raw
+{ head -c 2000 "$demo/tower.raw"; printf '?'; tail -c 3000 "$demo/tower.raw"; } > tower.raw
+wants "a page and a drawing" 0 "$set
+$legend
+
+harbour.raw: 12 moved
+++++++++++++
+
+beach.raw: 20 in place
+####################
+
+notes.txt: 1 missing
+.
+
+tower.raw: 4 in place, 1 missing
+#.###
+
+24 in place, 12 moved, 2 missing; need 2 have 1" "" \
+    "$map" --html page.html --svg drawing.svg photos.par2 photos.vol00+1.par2 ./*.raw -B .
+if cmp drawing.svg "$top/docs/slice_map.svg"; then
+    echo "ok: the drawing is that of docs/"
+else
+    fails "the drawing isn't that of docs/"
+fi
+cat > reads.py << 'END'
+"""Reads a page and a drawing: all that is opened is closed, and nothing comes from elsewhere."""
+import html.parser
+import sys
+import xml.etree.ElementTree
+
+
+class Page(html.parser.HTMLParser):
+    def __init__(self):
+        super().__init__()
+        self.open, self.cells, self.texts = [], 0, []
+
+    def handle_starttag(self, tag, attributes):
+        assert tag in ("html head meta title style body p svg path text h2 details summary ul li").split(), tag
+        assert not {"src", "href", "onload"} & dict(attributes).keys()
+        self.cells += tag == "title" and self.open[-1] == "path"
+        if tag != "meta":
+            self.open.append(tag)
+
+    def handle_startendtag(self, tag, attributes):
+        self.handle_starttag(tag, attributes)
+        self.open.pop()
+
+    def handle_endtag(self, tag):
+        assert self.open.pop() == tag
+
+    def handle_data(self, data):
+        self.texts.append(data)
+
+
+page = Page()
+with open("page.html", encoding="ascii") as file:
+    page.feed(file.read())
+page.close()
+assert page.open == [], page.open
+drawing = xml.etree.ElementTree.parse("drawing.svg")
+print(page.cells)
+print(*[text for text in page.texts if text.strip() and not text.startswith("body{")], sep="\n")
+print(*[node.text for node in drawing.iter() if node.tag.endswith("}text")], sep="\n")
+END
+python3 reads.py > read || fails "the page or the drawing can't be read"
+for text in 38 "harbour.raw: 12 moved" "slice 3: moved, in ./port.raw at 3072" "slices 0 to 11 in ./port.raw from 0" \
+    "slice 1: missing" "slice 0: in place" "24 in place, 12 moved, 2 missing; need 2 have 1"; do
+    grep -qxF "$text" read || fails "neither page nor drawing has $text"
+done
+# Neither writes over what is there.
+cp page.html kept
+printf 'mine' > mine
+ln -s mine link
+ln -s none broken
+for file in mine link broken; do
+    for kind in html svg; do
+        wants "--$kind where $file is" 6 "" "$me: $file is there already" "$map" --$kind $file photos.par2 beach.raw
+    done
+done
+[ "$(cat mine)" = mine ] && [ ! -e none ] && [ -L link ] || fails "something was written over"
+wants "a folder that isn't there" 6 "$("$map" photos.par2)" "$me: cannot write none/page.html: No such file or directory" \
+    "$map" --html none/page.html photos.par2
+
+# Names that are markup or lead elsewhere; what they lead to isn't opened, though a FIFO is there.
+PYTHONPATH=$tools python3 - << 'END'
+import os
+from make.packets import desc_body, file_id, ifsc_body, main_body, set_of
+names = [b"<script>alert('1')</script>", b"a&b\"c\".bin", b"\x1b[31mred\n", os.path.realpath(b"fifo"), b"../odd/fifo"]
+os.mkdir("odd")
+os.mkfifo("odd/fifo")
+os.mkfifo("fifo")
+bodies, ids = [], []
+for name in names:
+    content = b"a slice of " + name * 4000
+    ids.append(file_id(name, content))
+    bodies += [("filedesc", desc_body(ids[-1], name, content)), ("ifsc", ifsc_body(ids[-1], content, 64))]
+    if b"/" not in name:
+        with open(b"odd/" + name.replace(b"/", b""), "wb") as out:
+            out.write(content)
+with open("odd.par2", "wb") as out:
+    out.write(set_of(main_body(64, ids), *bodies))
+END
+rm page.html drawing.svg
+cd odd || exit 1
+timeout 60 "$map" --html ../page.html --svg ../drawing.svg ../odd.par2 a* $'\e[31mred\n' > ../text 2> ../line
+status=$?
+cd .. || exit 1
+python3 reads.py > read || fails "the page or the drawing with odd names can't be read"
+if [ $status -eq 0 ] && [ ! -s line ] && ! grep -q "$(printf '\033')" text page.html drawing.svg \
+    && ! grep -q '<script' page.html drawing.svg && grep -q '^\\x1b\[31mred\\x0a: [0-9]* in place; up to 2 slices a sign$' text \
+    && grep -qF 'a&b"c".bin: ' read; then
+    echo "ok: names that are markup, or lead elsewhere"
+else
+    fails "odd names: status $status $(cat line) $(head -c 600 text)"
+fi
+
+# Words, and files that can't be read.
+usage="usage: $me [-h] [--tails] [--set ID] [-B DIR] [--width N] [--html FILE] [--svg FILE] FILES"
+wants "no files" 3 "" "$me: the following arguments are required: FILES
+$usage" "$map"
+wants "no width" 3 "" "$me: a line has one character at least
+$usage" "$map" --width 0 photos.par2
+wants "no packet file" 3 "" "parv: no packet file" "$map" beach.raw
+wants "no set" 4 "" "parv: no usable set: no main" "$map" --set 00000000000000000000000000000000 photos.par2
+wants "a file that isn't there" 6 "" "$me: cannot open none.raw: No such file or directory" "$map" photos.par2 none.raw
+wants "a FIFO" 6 "" "$me: cannot open fifo: no regular file" "$map" photos.par2 fifo
+wants "a full device" 6 "" "$me: cannot write standard output: No space left on device" \
+    bash -c '"$@" > /dev/full' - "$map" photos.par2
+if "$map" -h | grep -qxF "$usage"; then echo "ok: its usage is told"; else fails "its usage isn't told"; fi
+exit $failed

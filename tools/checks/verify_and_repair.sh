@@ -1,0 +1,481 @@
+#!/usr/bin/env bash
+# examples/verify_and_repair.sh on real damage, with a stand-in for par2: what becomes of each file, that nothing is
+# overwritten or lost, that all is left as it was where it fails, is interrupted or refuses a name, and why.
+. "$(dirname "$0")/wants.sh"
+cd "$work" || exit 1
+export LC_ALL=C
+export PARV=$parv PAR2=$tools/stand_in/par2.py ORIGINALS=$work/whole GIVEN=$work/given
+script=$top/examples/verify_and_repair.sh
+one_set=$tools/make/one_set.py
+
+# The paths, kinds and contents of all below a folder, a line each.
+listed() {
+    (cd "$1" && find . -type f -exec md5sum -- {} + | sort
+        find . ! -type f -printf '%y %p %l\n' | sort)
+}
+
+# A folder `room` with the set of these files, which stand in `whole` too: furnish SIZE RECOVERY NAME CONTENT..
+furnish() {
+    local size=$1 recovery=$2
+    shift 2
+    rm -rf whole room
+    mkdir whole room
+    while [ $# -gt 0 ]; do
+        mkdir -p "whole/$(dirname -- "$1")"
+        printf '%s' "$2" > "whole/$1"
+        shift 2
+    done
+    cp -r whole/. room
+    "$one_set" room/set.par2 "$size" "$recovery" whole || exit 1
+    : > given
+}
+
+# ends NAME STATUS TEXT LINE WORDS..: the script over `room` ends so.
+ends() {
+    wants "$1" "$2" "$3" "$4" "$script" "${@:5}" room
+}
+
+# fails_with NAME STATUS TEXT LINE WORDS..: it ends so, and all is as it was.
+fails_with() {
+    listed room > before
+    ends "$@"
+    if cmp -s before <(listed room); then
+        echo "ok: all is as it was: $1"
+    else
+        fails "it isn't as it was: $1: $(diff before <(listed room) | head -5 | tr '\n' ';')"
+    fi
+}
+
+# whole_now NAME MORE..: `room` has the files of `whole`, the packet file and these, each with its content, and no others.
+whole_now() {
+    local name=$1
+    shift
+    rm -rf wanted_room
+    cp -r whole wanted_room
+    cp room/*.par2 wanted_room
+    while [ $# -gt 0 ]; do
+        printf '%s' "$2" > "wanted_room/$1"
+        shift 2
+    done
+    if cmp -s <(listed room) <(listed wanted_room); then
+        echo "ok: each file is whole, and nothing is lost: $name"
+    else
+        fails "$name: $(diff <(listed room) <(listed wanted_room) | tr '\n' ';')"
+    fi
+}
+
+usage='usage: verify_and_repair.sh [--dry-run] [--remove-backups] [--set ID] FOLDER'
+say='verify_and_repair.sh: room:'
+named="$say the name"
+wants "the words" 0 "$usage" "" "$script" -h
+for words in '' '--wrong room' 'room room' '--set'; do
+    # shellcheck disable=SC2086
+    wants "wrong words: $words" 3 "" "$usage" "$script" $words
+done
+wants "a folder that isn't there" 6 "" "verify_and_repair.sh: cannot open none\\x0a" "$script" $'none\n'
+mkdir room
+ends "a folder without packet files" 3 "" "$say no packet file"
+printf 'damaged' > room/a.par2
+ends "a packet file without a packet" 4 "" "$say no usable set: no main"
+
+furnish 4 2 first.txt abcdefgh second.txt ijklmnop third.txt qrstuvwxyz
+fails_with "a set that is complete" 0 complete ""
+mv room/first.txt room/-x
+mv room/second.txt 'room/ a  b '
+told="rename -x to first.txt
+rename  a  b  to second.txt"
+fails_with "renamed files, tried" 1 "$told
+a repair can be tried: need 0 have 2" "" --dry-run
+PAR2=none ends "renamed files" 0 "$told
+complete" ""
+whole_now "renamed files"
+mv room/first.txt room/x
+mv room/second.txt room/first.txt
+mv room/third.txt room/second.txt
+mv room/x room/third.txt
+PAR2=none ends "names that go round" 0 "rename second.txt to third.txt
+rename third.txt to first.txt
+rename first.txt to second.txt
+complete" ""
+whole_now "names that go round"
+if [ ! -s given ]; then echo "ok: no repair where names alone are wrong"; else fails "par2 was called for names"; fi
+
+# What par2 gets, and what becomes of damaged files.
+mv room/first.txt room/other
+printf 'ijklXXXX' > room/second.txt
+printf 'kept' > room/second.txt.1
+rm room/third.txt
+"$one_set" room/set.par2 4 4 whole
+fails_with "a repair, tried" 1 "repair third.txt
+rename other to first.txt
+repair second.txt
+keep second.txt as second.txt.2
+a repair can be tried: need 4 have 4" "" --dry-run
+md5sum room/other room/second.txt{,.1} | cut -c 1-32 | sort > wanted_given
+ends "a repair" 0 "repair third.txt
+rename other to first.txt
+repair second.txt
+keep second.txt as second.txt.2
+complete" ""
+whole_now "a repair" second.txt.1 kept second.txt.2 ijklXXXX
+if cmp -s <(sort given) wanted_given; then
+    echo "ok: par2 gets all files"
+else
+    fails "par2 got other files: $(sort given | diff - wanted_given | tr '\n' ';')"
+fi
+printf 'abcdXXXX' > room/first.txt
+ends "a repair without its backups" 0 "repair first.txt
+keep first.txt as first.txt.1
+remove first.txt.1
+complete" "" --remove-backups
+whole_now "a repair without its backups" second.txt.1 kept second.txt.2 ijklXXXX
+
+# Names of any bytes: shown as parv shows them, also where parv takes them by a link alone or par2 reads them as others.
+# shellcheck disable=SC2016
+names=($'line\nfeed\n' ' two  blanks ' -dash --set $'caf\xe9' 'back\slash' 'st*r[x]?' '$(id)`id`"' "it's" '%41' '@' '*' \
+    'in a/sub/folder' .hidden 'from a to b' other.par2 $'\xff\n.PAR2')
+words=()
+for name in "${names[@]}"; do words+=("$name" "content of $name"); done
+furnish 8 100 "${words[@]}"
+fails_with "a set with names of any bytes" 0 complete ""
+number=0
+find room -type f ! -name set.par2 -print0 | sort -z | while IFS= read -r -d '' name; do
+    number=$((number + 1))
+    mv -- "$name" "room/-$number"
+done
+rm -r 'room/in a'
+printf 'complete\n' > last
+"$script" room > text 2> line
+status=$?
+if [ $status -eq 0 ] && [ ! -s line ] && [ "$(wc -l < text)" -eq $((${#names[@]} + 1)) ] \
+    && grep -qx 'rename -[0-9]* to line\\x0afeed\\x0a' text && grep -qx 'rename -[0-9]* to caf\\xe9' text \
+    && grep -qx 'rename -[0-9]* to back\\\\slash' text && cmp -s <(tail -n 1 text) last; then
+    echo "ok: names of any bytes are given back"
+else
+    fails "names of any bytes: status $status, $(cat text line)"
+fi
+whole_now "names of any bytes are given back"
+find room -type f ! -name set.par2 -exec sh -c 'printf x >> "$1"' sh {} \;
+"$script" --remove-backups room > text 2> line
+status=$?
+if [ $status -eq 0 ] && [ ! -s line ] && [ "$(grep -c '^repair ' text)" -eq ${#names[@]} ]; then
+    echo "ok: files with names of any bytes are repaired"
+else
+    fails "a repair with names of any bytes: status $status, $(cat text line)"
+fi
+whole_now "files with names of any bytes are repaired"
+
+furnish 8 1 $'line\nfeed' 0123456789 other abcdefgh
+printf 'abcd' > room/other
+ends "a name that par2 reads as another, where little can be repaired" 0 "repair other
+keep other as other.1
+remove other.1
+complete" "" --remove-backups
+whole_now "a name that par2 reads as another, where little can be repaired"
+
+# Two files of one content, and empty files.
+furnish 4 0 one same-same two same-same three "" four other
+fails_with "files of one content, and an empty one" 0 complete ""
+mv room/one room/x
+mv room/two room/y
+ends "files of one content renamed" 0 "rename x to two
+rename y to one
+complete" ""
+whole_now "files of one content renamed"
+rm room/two
+: > room/lock
+rm room/three
+ends "one of two files of one content, and an empty one" 0 "make three
+copy one to two
+complete" ""
+whole_now "one of two files of one content, and an empty one" lock ""
+mv room/two room/x
+rm room/one
+ends "a file of one content for two" 0 "rename x to two
+copy x to one
+complete" ""
+
+# Where parv sees more than par2, by --tails: slices of other files, put together.
+furnish 8 1 long abcdefghijklmnopqrstuvwxyz short 01234
+{ printf 'Some text. '; cat room/long; printf ' and '; cat room/short; printf ' behind it'; } > room/image
+rm room/long room/short
+ends "slices that par2 doesn't see" 0 "repair short
+repair long
+complete" ""
+whole_now "slices that par2 doesn't see" image 'Some text. abcdefghijklmnopqrstuvwxyz and 01234 behind it'
+rm room/long room/short
+printf 'Some text. abcdefghijklmnopqrstuvwxyz and 0123' > room/image
+PAR2=none fails_with "no par2" 5 "" \
+    "$say par2 repair has failed with status 127: env: 'none': No such file or directory"
+ends "slices that par2 doesn't see, and one that is gone" 0 "repair short
+repair long
+complete" ""
+rm room/long room/short
+printf 'Some text. abcdefghijklmnopqrst0123' > room/image
+fails_with "not enough, and not with --tails either" 2 "" "$say not enough for a repair: need 3 have 1"
+
+# A repair that fails: all is as it was.
+furnish 4 5 first.txt abcdefgh second.txt ijklmnop third.txt qrst 'sub/in sub' uvwx
+mv room/second.txt room/first.txt
+mv 'room/sub/in sub' room/other
+rmdir room/sub
+rm room/third.txt
+printf 'damaged' > room/second.txt
+WRONG=fails fails_with "a repair that fails" 5 "" "$say par2 repair has failed with status 5: Repair Failed."
+WRONG=lies fails_with "a repair that isn't one" 5 "" "$say par2 repair has ended, but third.txt isn't complete"
+for signal in INT:130 HUP:129 TERM:143; do
+    WRONG=SIG${signal%:*} fails_with "a repair that is ended by SIG${signal%:*}" "${signal#*:}" "" ""
+done
+
+# Each move in turn is the last one that is made, or isn't made any more; SIGKILL leaves that to the next run.
+mkdir bin
+ln -s "$tools/stand_in/mv" bin
+export CALLS=$work/calls
+moving() {
+    echo 0 > calls
+    MV_AT="$1 $2" SIGNAL=$3 PATH="$work/bin:$PATH" "$script" room > text 2> line
+    status=$?
+}
+listed room > before
+again="$say a run was ended here, and is undone"
+for number in 1 2 3 4 5 6; do
+    for end in 'kills before' 'kills behind'; do
+        moving $number "$end" TERM
+        if [ $status -eq 143 ] && [ ! -s text ] && [ ! -s line ] && cmp -s before <(listed room); then
+            echo "ok: undone where SIGTERM $end move $number"
+        else
+            fails "SIGTERM $end move $number: status $status, $(cat text line; diff before <(listed room))"
+        fi
+        moving $number "$end" KILL 2> "$said/ended"
+        [ $status -eq 137 ] || fails "SIGKILL $end move $number: status $status"
+        listed room > ended
+        wants "a trial where a run was ended" 6 "" \
+            "$say a run was ended here, and is undone by the next without --dry-run" "$script" --dry-run room
+        cmp -s ended <(listed room) || fails "a trial has changed something"
+        WRONG=fails "$script" room > text 2> line
+        if [ $? -eq 5 ] && [ "$(head -n 1 line)" = "$again" ] && cmp -s before <(listed room); then
+            echo "ok: undone by the next run where SIGKILL $end move $number"
+        else
+            fails "behind SIGKILL $end move $number: $(cat text line; diff before <(listed room))"
+        fi
+    done
+    # (The first move is one to the stage.)
+    [ $number -gt 1 ] || continue
+    moving $number taken TERM
+    find room -type f -size 6c -exec grep -lx taken {} + > other
+    first=$(head -n 1 line)
+    if [ $status -eq 6 ] && [ ! -s text ] && [ "${first#"$say "*:}" = " cannot move it" ] \
+        && [ "$(wc -l < other)" -eq 1 ] && rm "$(< other)"; then
+        # What has come where a file stood keeps it from going back, until that goes.
+        [ ! -e room/.verify_and_repair ] || WRONG=fails "$script" room > text 2> line
+        [ ! -e room/sub ] || rmdir room/sub
+        if cmp -s before <(listed room); then
+            echo "ok: what comes to where a file is moved isn't overwritten, and all is undone: move $number"
+        else
+            fails "behind a place that is taken at move $number: $(cat text line; diff before <(listed room))"
+        fi
+    else
+        fails "a place that is taken at move $number: status $status, $(cat text line)"
+    fi
+done
+moving 7 'kills behind' KILL
+if [ $status -eq 0 ] && [ "$(< calls)" -eq 6 ] && [ ! -s line ] && [ "$(< text)" = "repair third.txt
+repair first.txt
+rename first.txt to second.txt
+rename other to sub/in sub
+keep second.txt as second.txt.1
+complete" ]; then
+    echo "ok: six moves"
+else
+    fails "six moves: status $status, $(cat calls text line)"
+fi
+whole_now "six moves" second.txt.1 damaged
+
+# A list of moves that someone else made, or a stage that is a link, undoes nothing elsewhere.
+furnish 4 5 first.txt abcdefgh second.txt ijklmnop
+mv room/first.txt room/x
+printf outside > outside
+mkdir folder
+# planted FROM TO..: that the file TO was moved from FROM.
+planted() {
+    rm -rf room/.verify_and_repair
+    mkdir -p room/.verify_and_repair/aside
+    while [ $# -gt 0 ]; do
+        printf '%s\0' "$(stat -c %i "room/$2")" "$1" "$2"
+        shift 2
+    done > room/.verify_and_repair/moves
+}
+left="$say .verify_and_repair stays, for what is to be undone"
+moves() {
+    planted "$2" "$3"
+    fails_with "a planted move $1" 6 "" "$4
+$left"
+}
+moves "to elsewhere" ../taken x "$say x: cannot move it
+$say ../taken isn't where it was"
+moves "from elsewhere" y ../outside "$say ../outside: cannot move it
+$say y isn't where it was"
+moves "by the whole path" "$work/taken" x "$say x: cannot move it
+$say $work/taken isn't where it was"
+ln -s ../folder room/link
+moves "through a link" link/taken x "$say x: link is a link
+$say link/taken isn't where it was"
+moves "of a link" y link "$say link: link is a link
+$say y isn't where it was"
+rm room/link
+rm -r room/.verify_and_repair
+for at in '' /aside /moves; do
+    planted
+    rm -r "room/.verify_and_repair$at"
+    ln -s "$work/folder" "room/.verify_and_repair$at"
+    fails_with "a stage with a link: $at" 6 "" "$left: .verify_and_repair is a link, or has one"
+    rm -r room/.verify_and_repair
+done
+planted
+printf 'mine' > room/.verify_and_repair/mine
+ends "a stage with another file" 6 "" "$left: rmdir: failed to remove '.verify_and_repair': Directory not empty"
+[ "$(cat outside room/.verify_and_repair/mine)" = outsidemine ] || fails "a file is another one"
+rm -r room/.verify_and_repair
+planted
+mv room/.verify_and_repair/moves room/.verify_and_repair/list
+mkdir room/.verify_and_repair/files
+ln -s "$work/outside" room/.verify_and_repair/files/first.txt
+PAR2=none ends "a stage of which the list isn't whole yet" 0 "rename x to first.txt
+complete" "$again"
+mv room/first.txt room/x
+flock room "$script" room 2> line
+status=$?
+if [ $status -eq 6 ] && [ "$(< line)" = "$say another run is at work" ]; then
+    echo "ok: one run at a time"
+else
+    fails "two runs: status $status, $(< line)"
+fi
+ends "after all that" 0 "rename x to first.txt
+complete" ""
+whole_now "after all that"
+
+# Names that are refused, whatever else could be done; what lies there stays as it is.
+printf 'abcdefgh' > content
+refused() {
+    local name=$1 shown=$2
+    furnish 4 5 good.txt ijkl bad.txt abcdefgh
+    "$one_set" room/set.par2 4 5 whole bad.txt "$name"
+    mv room/good.txt room/x
+    mv room/bad.txt room/y
+    # The file may be repaired, or have another name, or stand there.
+    fails_with "a name that is refused: $shown" 4 "" "$named $shown is refused: it is no plain path below the folder"
+    rm room/y
+    fails_with "a name that is refused, of a file that is gone: $shown" 4 "" \
+        "$named $shown is refused: it is no plain path below the folder"
+    [ "$(cat outside)" = outside ] || fails "another file was written: $shown"
+}
+refused ../outside ../outside
+refused "$work/outside" "$work/outside"
+refused sub/../../outside sub/../../outside
+refused .. ..
+refused ./bad.txt ./bad.txt
+refused sub//bad.txt sub//bad.txt
+refused sub/ sub/
+refused '..\outside' '..\\outside'
+refused '\outside' '\\outside'
+refused .verify_and_repair/moves .verify_and_repair/moves
+refused $'../\xff\n' '../\xff\x0a'
+[ "$(find "$work" -maxdepth 1 -newer content | grep -c outside)" -eq 0 ] || fails "something was written elsewhere"
+
+# What stands at a name, or on the way to it.
+furnish 4 5 good.txt ijkl 'sub/bad.txt' abcdefgh
+mv room/good.txt room/x
+mkdir outer
+cp whole/sub/bad.txt outer
+hindered() {
+    fails_with "what stands at a name: $1" 4 "" "$named sub/bad.txt is refused: $2"
+}
+mv room/sub/bad.txt room/y
+ln -s "$work/outer/bad.txt" room/sub/bad.txt
+hindered "a link" "sub/bad.txt is a link"
+ln -sf none room/sub/bad.txt
+hindered "a link to nothing" "sub/bad.txt is a link"
+rm room/sub/bad.txt
+mkfifo room/sub/bad.txt
+hindered "a FIFO" "sub/bad.txt is no regular file"
+rm room/sub/bad.txt
+mkdir room/sub/bad.txt
+hindered "a folder" "sub/bad.txt is no regular file"
+rm -r room/sub
+ln -s "$work/outer" room/sub
+hindered "a link to a folder" "sub is a link"
+rm room/y
+hindered "a link to a folder that has the file" "sub is a link"
+rm room/sub
+printf 'abcd' > room/sub
+hindered "a file in place of a folder" "sub is no folder"
+[ "$(cat outer/*)" = abcdefgh ] || fails "a file behind a link is another one"
+rm room/sub
+mv room/set.par2 outer
+ln -s "$work/outer/set.par2" room/set.par2
+fails_with "packet files that are links" 3 "" "$say set.par2 is a link, and isn't read
+$say no packet file"
+
+# Names that can't be made: all is undone.
+furnish 4 5 one abcdefgh two ijkl
+for name in one/two "$(printf 'x%.0s' $(seq 300))"; do
+    "$one_set" room/set.par2 4 5 whole two "$name"
+    mv room/one room/x
+    mv room/two room/y
+    listed room > before
+    "$script" room > text 2> line
+    if [ $? -eq 6 ] && [ ! -s text ] && [ -s line ] && cmp -s before <(listed room); then
+        echo "ok: undone where a name can't be made: ${name:0:9}"
+    else
+        fails "a name that can't be made: ${name:0:9}: $(cat text line)"
+    fi
+    rm room/x
+    "$script" room > text 2> line
+    if [ $? -eq 6 ] && [ ! -s text ] && [ -s line ] && [ "$(cat room/y)" = ijkl ] && [ ! -e room/.verify_and_repair ]; then
+        echo "ok: nor is it repaired: ${name:0:9}"
+    else
+        fails "a name that can't be made, and a repair: ${name:0:9}: $(cat text line)"
+    fi
+    cp whole/* room
+done
+
+# Several sets in a folder, of which one is chosen; what has a name of the other keeps it.
+furnish 4 5 first.txt abcdefgh
+mkdir two
+printf 'abcdefgh' > two/second.txt
+"$one_set" room/two.par2 4 5 two
+mv room/first.txt room/second.txt
+ids=$("$parv" packets room/set.par2 room/two.par2 | awk '$4 == "main" { printf " %s", $5 }')
+fails_with "two sets" 3 "" "$say there are several sets, of which --set takes one:$ids"
+id=${ids:1:32}
+ends "one of two sets" 0 "copy second.txt to first.txt
+complete" "" --set "${id^^}"
+whole_now "one of two sets" second.txt abcdefgh
+fails_with "a set that isn't there" 4 "" "$say no usable set: no main" --set 00000000000000000000000000000000
+fails_with "an ID that is none" 3 "" "$say bad value" --set 0
+rm room/first.txt
+cat room/two.par2 >> room/all.par2
+cat room/set.par2 >> room/all.par2
+mv room/set.par2 room/two.par2 .
+rm room/second.txt
+fails_with "a set behind another" 5 "" "$say no packet file begins with a packet of this set, which par2 wants" --set "$id"
+
+# What can't be read, or written, by one who isn't root.
+user=()
+[ "$(id -u)" -ne 0 ] || user=(setpriv --reuid 65534 --regid 65534 --clear-groups)
+furnish 4 5 first.txt abcdefgh second.txt ijkl
+mv room/second.txt room/x
+chmod 555 room
+chmod 711 .
+cp "$parv" "$script" .
+script=./verify_and_repair.sh
+wants "a trial in a folder that may not be written" 1 "rename x to second.txt
+a repair can be tried: need 0 have 5" "" env PARV="$work/parv" "${user[@]}" "$script" --dry-run room
+wants "a folder that may not be written" 6 "" "$say cannot write there" env PARV="$work/parv" "${user[@]}" "$script" room
+chmod 000 room/first.txt
+wants "a file that may not be read" 6 "" "$say cannot open ./first.txt" env PARV="$work/parv" "${user[@]}" "$script" room
+chmod 000 room
+wants "a folder that may not be read" 6 "" "verify_and_repair.sh: cannot open room" \
+    env PARV="$work/parv" "${user[@]}" "$script" room
+chmod 700 room room/first.txt
+exit $failed

@@ -1,0 +1,72 @@
+#!/usr/bin/env python3
+"""Puts the slices of a PAR2 set that are found into their places, by its own search, with the bytes of the originals.
+
+usage: place_slices.py [--tails] ORIGINALS FOLDER FILE...
+
+Takes the bytes of each slice that is seen anywhere from the file of its name in the folder ORIGINALS,
+and not from where it was seen. FOLDER gets what examples/extract_found.py must leave, and standard
+output its lines, the last one without how many were copied.
+"""
+
+import os
+import sys
+
+sys.path[0] = os.path.dirname(os.path.dirname(os.path.realpath(__file__)))  # tools/, where imports begin
+
+from models.describe_set import packets_of, set_of
+from models.find_slices import sightings, slices_of, tails_and_files
+from models.list_packets import is_packet_file, shown, with_bytes
+
+
+def parts_of(found):
+    """Of each file its slices by their numbers in the whole set, as pairs of beginning and end."""
+    parts = {}
+    for at, (owner, number, own, _) in enumerate(slices_of(found)):
+        parts.setdefault(owner, {})[at] = number * found.size, number * found.size + own
+    return parts
+
+
+def placed(original, parts, there):
+    """The original with zeros where it has no slice that is there, and the lines of these holes' bounds."""
+    data, bounds = bytearray(len(original)), []
+    for at, (begin, end) in parts.items():
+        if at in there:
+            data[begin:end] = original[begin:end]
+        elif bounds and bounds[-1][1] == begin:
+            bounds[-1][1] = end
+        else:
+            bounds.append([begin, end])
+    return bytes(data), bounds
+
+
+def lines_of(file, count, bounds):
+    if count == file.slices:
+        return [f"complete {shown(file.name)}"]
+    state = "damaged" if count else "missing"
+    holes = [f"hole {begin} {end - begin} {shown(file.name)}" for begin, end in bounds if count]
+    return [f"{state} {shown(file.name)} {count}/{file.slices}", *holes]
+
+
+def main():
+    tails, names = tails_and_files(sys.argv[1:])
+    originals, folder, *names = names
+    found = set_of(packets_of(with_bytes(filter(is_packet_file, names))))
+    scanned = with_bytes(name for name in names if not is_packet_file(name))
+    there = {at for _, _, at in sightings(found, [data for _, data in scanned], tails)}
+    parts = parts_of(found)
+    for file in found.files:
+        [(_, original)] = with_bytes([os.path.join(originals, file.name)])
+        own = parts.get(file.id, {})
+        data, bounds = placed(original, own, there)
+        count = len(there & own.keys())
+        print("\n".join(lines_of(file, count, bounds)))
+        if count or not original:
+            path = os.path.join(folder, file.name)
+            os.makedirs(os.path.dirname(path), exist_ok=True)
+            with open(path, "wb") as out:
+                out.write(data)
+    print(f"slices {len(there)}/{len(slices_of(found))}")
+
+
+if __name__ == "__main__":
+    main()

@@ -1,0 +1,115 @@
+#!/usr/bin/env python3
+"""Stands in for `par2 repair` in the checks of scripts that call it.
+
+usage: par2.py repair -q FILE..
+
+The packet files among FILES and the others are read by the models of models/, in the folder where it is
+run; names as par2cmdline 0.8.1 reads them: a backslash as a slash, a control character as % and two digits.
+The set is that of the first packet of the first packet file. It ends with 2 where more slices are needed
+than there are recovery slices, a short one being seen where a file ends; else it does what par2 does: moves
+a damaged file to name.1, renames one that is another, and writes the rest, which it takes from the folder
+ORIGINALS. GIVEN is a file to which it adds a line for each file that it sees, with the file's MD5.
+
+WRONG is how it goes wrong, once something is to be repaired: `fails` with half of a file written, `lies`
+by writing other bytes and ending with 0, or the name of a signal, which then ends what has called it.
+"""
+
+import hashlib
+import os
+import re
+import signal
+import sys
+import time
+
+sys.path[0] = os.path.dirname(os.path.dirname(os.path.realpath(__file__)))  # tools/, where imports begin
+sys.dont_write_bytecode = True
+
+from models.describe_set import NoSet, packets_of, set_of
+from models.find_slices import sightings
+from models.list_packets import is_packet_file, with_bytes
+from models.tell_states import state_of, verdict
+
+WRONG = os.environ.get("WRONG", "")
+
+
+def name_there(name):
+    """The path by which par2 looks for a file of the set."""
+    return re.sub(rb"[\0-\x1f]", lambda found: b"%%%02X" % found[0][0], name.replace(b"\\", b"/"))
+
+
+def end(status, text):
+    print(text)
+    sys.exit(status)
+
+
+def free_name(path):
+    number = 1
+    while os.path.lexists(path + b".%d" % number):
+        number += 1
+    return path + b".%d" % number
+
+
+def write(path, data):
+    os.makedirs(os.path.dirname(path) or b".", exist_ok=True)
+    with open(path, "xb") as out:
+        out.write(data)
+
+
+def go_wrong(path, data):
+    """The fault, at the first file that is to be written."""
+    if WRONG == "fails":
+        write(path, data[:len(data) // 2])
+        end(5, "Repair Failed.")
+    if WRONG.startswith("SIG"):
+        write(path, data[:len(data) // 2])
+        os.kill(os.getppid(), getattr(signal, WRONG))
+        time.sleep(30)
+
+
+def repair(file, name, scanned, moved):
+    """Makes a file complete; `moved` has where files are now that were moved."""
+    state, other = state_of(file, scanned)
+    if state == "complete":
+        return
+    if os.path.lexists(file.name):
+        moved[file.name] = free_name(file.name)
+        os.rename(file.name, moved[file.name])
+    other = moved.get(other, other)
+    if state == "renamed" and os.path.lexists(other):
+        os.makedirs(os.path.dirname(file.name) or b".", exist_ok=True)
+        os.rename(other, file.name)
+        return
+    with open(os.path.join(os.fsencode(os.environ["ORIGINALS"]), name), "rb") as whole:
+        data = whole.read()
+    go_wrong(file.name, data)
+    write(file.name, data[::-1] if WRONG == "lies" else data)
+
+
+def main():
+    words = list(map(os.fsencode, sys.argv[1:]))
+    if words[:2] != [b"repair", b"-q"] or not all(map(os.path.isfile, words[2:])):
+        end(3, "Wrong words.")
+    packets = packets_of(with_bytes(filter(is_packet_file, words[2:])))
+    try:
+        found = set_of(packets, packets[0][3])
+    except NoSet as cause:
+        end(4, f"No set: {cause}")
+    files = [file._replace(name=name_there(file.name)) for file in found.files]
+    there = [file.name for file in files]
+    scanned = with_bytes([*filter(os.path.isfile, there),
+                          *[word for word in words[2:] if not is_packet_file(word) and word not in there]])
+    if "GIVEN" in os.environ:
+        with open(os.environ["GIVEN"], "a", encoding="ascii") as given:
+            given.writelines(hashlib.md5(data).hexdigest() + "\n" for _, data in scanned)
+    seen = list(sightings(found, [data for _, data in scanned]))
+    status, lines = verdict(found._replace(files=files), scanned, seen)
+    if status == 2:
+        end(2, f"You need more recovery blocks: {lines[-2]}")
+    moved = {}
+    for file, original in zip(files, found.files):
+        repair(file, original.name, scanned, moved)
+    end(0, "Repair complete.")
+
+
+if __name__ == "__main__":
+    main()
