@@ -4,11 +4,14 @@ PREFIX ?= /usr/local
 MANDIR ?= $(PREFIX)/share/man
 BASHDIR ?= $(PREFIX)/share/bash-completion/completions
 ZSHDIR ?= $(PREFIX)/share/zsh/site-functions
+FISHDIR ?= $(PREFIX)/share/fish/vendor_completions.d
+DOCDIR ?= $(PREFIX)/share/doc/parv
+EXAMPLES = $(notdir $(wildcard examples/*))
 CRATE ?= parv
 SIZE ?= small
 PARV = crates/parv/out/parv
 
-.PHONY: demo build test checks bench check try plant mustfail format install uninstall
+.PHONY: demo build test checks bench dist check try plant mustfail format install uninstall
 
 # Builds the proved program and runs it on a real damaged set. Its log is out/demo.log.
 demo:
@@ -66,8 +69,17 @@ install:
 	install -D -m 644 docs/parv.1 "$(DESTDIR)$(MANDIR)/man1/parv.1"
 	install -D -m 644 completions/parv.bash "$(DESTDIR)$(BASHDIR)/parv"
 	install -D -m 644 completions/_parv "$(DESTDIR)$(ZSHDIR)/_parv"
+	install -D -m 644 completions/parv.fish "$(DESTDIR)$(FISHDIR)/parv.fish"
+	install -D -m 644 docs/FORMATS.md "$(DESTDIR)$(DOCDIR)/FORMATS.md"
+	install -d "$(DESTDIR)$(DOCDIR)/examples"
+	install -m 755 $(EXAMPLES:%=examples/%) "$(DESTDIR)$(DOCDIR)/examples"
 
-# Removes these four files, and no folder.
+# Removes these files, and no folder.
 uninstall:
 	rm -f "$(DESTDIR)$(PREFIX)/bin/parv" "$(DESTDIR)$(MANDIR)/man1/parv.1"
-	rm -f "$(DESTDIR)$(BASHDIR)/parv" "$(DESTDIR)$(ZSHDIR)/_parv"
+	rm -f "$(DESTDIR)$(BASHDIR)/parv" "$(DESTDIR)$(ZSHDIR)/_parv" "$(DESTDIR)$(FISHDIR)/parv.fish"
+	rm -f "$(DESTDIR)$(DOCDIR)/FORMATS.md" $(EXAMPLES:%="$(DESTDIR)$(DOCDIR)/examples/%")
+
+# The archive that installs without the toolchain, out/dist/parv-VERSION-x86_64-linux.tar.gz.
+dist: $(if $(filter file,$(origin PARV)),build)
+	@PARV="$(PARV)" tools/dist.sh

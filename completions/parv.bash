@@ -1,6 +1,19 @@
 # Completion of parv for bash. The package bash-completion loads it once it is installed as
 # share/bash-completion/completions/parv; without that package: . completions/parv.bash
 
+# The IDs of the sets of the packet files that were typed.
+_parv_sets() {
+    local typed files=()
+    for typed in "${COMP_WORDS[@]:2}"; do
+        typed=${typed//[\\\'\"]/}
+        case $typed in
+        *.[Pp][Aa][Rr]2) [ ! -f "$typed" ] || files+=("$typed") ;;
+        esac
+    done
+    [ ${#files[@]} -eq 0 ] || "${COMP_WORDS[0]}" packets -- "${files[@]}" 2> /dev/null \
+        | sed -n 's/^.* main \([0-9a-f]\{32\}\)$/\1/p' | sort -u
+}
+
 _parv() {
     local word=${COMP_WORDS[COMP_CWORD]} option=${COMP_WORDS[COMP_CWORD - 1]}
     local options='--set --base -B' ended='' i
@@ -32,7 +45,11 @@ _parv() {
             compopt -o dirnames
             return
             ;;
-        --set | --limit | --cursor) return ;;
+        --set)
+            mapfile -t COMPREPLY < <(compgen -W "$(_parv_sets)" -- "$word")
+            return
+            ;;
+        --limit | --cursor) return ;;
         esac
         case $word in
         -*)

@@ -1,9 +1,14 @@
 #!/usr/bin/env bash
 # The completions, typed into bash itself, and into zsh where it is there: each line is typed at a
-# terminal with a key behind it, and then it must be the one that is wanted.
+# terminal with a key behind it, and then it must be the one that is wanted. fish, where it is there,
+# is asked for what it offers for the same lines.
 . "$(dirname "$0")/wants.sh"
 cd "$work" || exit 1
 mkdir 'a folder' folder typed
+mkdir sets
+cp "$top/demo/photos.par2" sets/photos.par2
+cat "$top/demo/photos.par2" "$top/crates/parv/data/v.par2" > 'sets/two sets.par2'
+export PATH="$(dirname "$parv"):$PATH"
 touch photos.par2 'more photos.PAR2' 'a picture.raw' -- -odd.raw folder/inner.par2
 cat > type.py << 'PYTHON'
 """Types each line of standard input into the shell named first, on a terminal of its own. A line is
@@ -130,7 +135,41 @@ parv packets folder/|TAB|parv packets folder/inner.par2
 parv set -B . p|TAB|parv set -B . photos.par2
 parv verify -- -o|TAB|parv verify -- -odd.raw
 parv other -|TAB|parv other -
+parv verify --set |TAB|parv verify --set
+parv verify sets/photos.par2 --set 5|TAB|parv verify sets/photos.par2 --set 589c76e09f0580b9203c5b64963b8957
+parv find sets/two\ sets.par2 --set 61|TAB|parv find sets/two\ sets.par2 --set 617cdc72ba53d94fe713fea2ae18f776
+parv set sets/photos.par2 sets/two\ sets.par2 --set |ALL|parv set sets/photos.par2 sets/two\ sets.par2 --set 589c76e09f0580b9203c5b64963b8957 617cdc72ba53d94fe713fea2ae18f776
 LINES
+
+cat > offered.py << 'PYTHON'
+"""Asks fish what it offers for each line of standard input, as type.py reads them: of TAB the one word
+that is put in, or nothing, of ALL these words."""
+import re
+import subprocess
+import sys
+
+completions = sys.argv[1]
+failed = 0
+for case in sys.stdin.read().splitlines():
+    text, key, wanted = case.split("|")
+    ask = 'source "$argv[1]/parv.fish"; complete -C "$argv[2]"'
+    said = subprocess.run(["fish", "--no-config", "-c", ask, completions, text],
+                          capture_output=True, text=True)
+    offered = sorted({line.split("\t")[0] for line in said.stdout.splitlines()})
+    front = len(re.match(r"(?:.*[^\\])? |", text).group())
+    if wanted == text.rstrip():
+        words = []
+    elif key == "TAB":
+        words = [wanted[front:].replace("\\", "")]
+    else:
+        words = sorted(set(wanted[front:].split()))
+    if offered == words and not said.stderr:
+        print("ok: fish offers for '%s' %s" % (text, " ".join(words) or "nothing"))
+    else:
+        print("FAILED: fish offers for '%s' %s, not %s %s" % (text, offered, words, said.stderr))
+        failed = 1
+sys.exit(failed)
+PYTHON
 
 for shell in bash zsh; do
     if command -v $shell > /dev/null; then
@@ -139,4 +178,9 @@ for shell in bash zsh; do
         echo "not run: there is no $shell"
     fi
 done
+if command -v fish > /dev/null; then
+    timeout 120 python3 offered.py "$top/completions" < lines || failed=1
+else
+    echo "not run: there is no fish"
+fi
 exit $failed

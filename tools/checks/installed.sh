@@ -5,6 +5,9 @@
 
 places="/usr/bin/parv
 /usr/share/bash-completion/completions/parv
+/usr/share/doc/parv/FORMATS.md
+$(cd "$top/examples" && ls | LC_ALL=C sort | sed 's|^|/usr/share/doc/parv/examples/|')
+/usr/share/fish/vendor_completions.d/parv.fish
 /usr/share/man/man1/parv.1
 /usr/share/zsh/site-functions/_parv"
 room="$work/a room"
@@ -30,7 +33,10 @@ fi
 if cmp -s "$parv" "$room/usr/bin/parv" && [ -x "$room/usr/bin/parv" ] \
     && cmp -s "$top/docs/parv.1" "$room/usr/share/man/man1/parv.1" \
     && cmp -s "$top/completions/parv.bash" "$room/usr/share/bash-completion/completions/parv" \
-    && cmp -s "$top/completions/_parv" "$room/usr/share/zsh/site-functions/_parv"; then
+    && cmp -s "$top/completions/_parv" "$room/usr/share/zsh/site-functions/_parv" \
+    && cmp -s "$top/completions/parv.fish" "$room/usr/share/fish/vendor_completions.d/parv.fish" \
+    && cmp -s "$top/docs/FORMATS.md" "$room/usr/share/doc/parv/FORMATS.md" \
+    && diff -rq "$top/examples" "$room/usr/share/doc/parv/examples" > /dev/null; then
     echo "ok: what is installed is what was built"
 else
     fails "what is installed is another"

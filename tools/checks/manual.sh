@@ -113,6 +113,10 @@ example 9 "a search from a cursor on" 0 "$(cat ../found; awk '$1 == "end" || $2 
 sed -i 's/1000/3/' ../examples/10
 example 10 "a search in parts" 0 "$(sed '$d' ../found)"
 example 11 "a cursor made by hand" 0 "$(awk '$1 == "end" || $2 >= 51200' ../found)"
+example 12 "a folder with its subfolders" 0 "$whole"
+example 13 "as many files as may be open" 0 "$whole"
+"$tools/models/find_slices.py" photos.par2 disc.img > ../plain
+example 14 "a search behind a bad region" 0 "$(awk '$1 == "end" || $2 >= 51200' ../plain)"
 printf 'XXabcdefgh' > x.bin
 { sed '/^set=/,$d' ../examples/11; echo 'listed "$@" | md5sum'; } > ../mark
 # marked MARK NAME [FILE]: the mark by the functions of that example.

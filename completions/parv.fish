@@ -1,0 +1,64 @@
+# Completion of parv for fish, which loads it from share/fish/vendor_completions.d.
+
+# Whether the command that was typed is one of these.
+function __parv_is
+    set -l words (commandline -opc)
+    test (count $words) -gt 1; and contains -- $words[2] $argv
+end
+
+# Whether no command was typed yet.
+function __parv_begins
+    test (count (commandline -opc)) -eq 1
+end
+
+# The same, and what is typed is a file: no option and no value of one.
+function __parv_file_of
+    __parv_is $argv; or return 1
+    set -l words (commandline -opc)
+    contains -- -- $words; and return 0
+    not contains -- $words[-1] -B --base --set --limit --cursor
+    and not string match -q -- '-*' (commandline -ct)
+end
+
+# What is typed is the value of one of these options.
+function __parv_behind
+    set -l words (commandline -opc)
+    test (count $words) -gt 2; and contains -- $words[-1] $argv
+end
+
+# The IDs of the sets of the packet files that were typed.
+function __parv_sets
+    set -l files
+    for word in (commandline -o)
+        if string match -qi '*.par2' -- $word; and test -f $word
+            set -a files $word
+        end
+    end
+    test (count $files) -gt 0; or return 1
+    parv packets -- $files 2> /dev/null \
+        | string replace -rf '^.* main ([0-9a-f]{32})$' '$1' | sort -u
+end
+
+complete -c parv -f
+complete -c parv -n __parv_begins -a packets -d 'list every packet of the packet files'
+complete -c parv -n __parv_begins -a set -d 'show the recovery set that the packets describe'
+complete -c parv -n __parv_begins -a find -d 'list every slice of the set in the scanned files'
+complete -c parv -n __parv_begins -a verify -d 'tell the state of each file of the set'
+
+complete -c parv -n '__parv_behind --set' -a '(__parv_sets)'
+complete -c parv -n '__parv_behind -B --base' -a '(__fish_complete_directories)'
+
+set -l all 'packets set find verify'
+complete -c parv -n "__parv_is $all; and not __fish_contains_opt set" -l set -x -a '(__parv_sets)' \
+    -d 'take the set of this ID in place of the first'
+complete -c parv -n "__parv_is $all; and not __fish_contains_opt -s B base" -s B -l base -x \
+    -a '(__fish_complete_directories)' -d 'take a folder off the names of scanned files'
+complete -c parv -n '__parv_is find; and not __fish_contains_opt limit' -l limit -x \
+    -d 'end after so many sightings'
+complete -c parv -n '__parv_is find; and not __fish_contains_opt cursor' -l cursor -x \
+    -d 'begin at a cursor that an earlier run has written'
+complete -c parv -n '__parv_is find verify; and not __fish_contains_opt tails' -l tails \
+    -d 'see short last slices also where other bytes follow'
+complete -c parv -n '__parv_is verify' -s q -d 'leave out all but the last two lines; twice, all'
+complete -c parv -n '__parv_file_of find verify' -F
+complete -c parv -n '__parv_file_of packets set' -k -a '(__fish_complete_suffix .par2)'

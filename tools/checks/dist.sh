@@ -1,0 +1,48 @@
+#!/usr/bin/env bash
+# The archive: it holds what is installed and sums that hold, it installs without a toolchain, what it
+# installs runs, and it is the same bytes whenever and wherever it is made.
+. "$(dirname "$0")/wants.sh"
+cd "$work" || exit 1
+
+made() {
+    (cd "$top" && PARV=$parv DIST=$work/$1 tools/dist.sh) > "$1.log" 2>&1
+}
+
+if made first && sleep 1 && made second && cmp -s first/*.tar.gz second/*.tar.gz \
+    && (cd first && sha256sum --quiet -c SHA256SUMS); then
+    echo "ok: the archive is the same bytes twice, and its sum holds"
+else
+    fails "the archive: $(head -c 300 first.log second.log)"
+fi
+tar -xzf first/*.tar.gz
+room=$(echo parv-*-x86_64-linux)
+version=$(sed -n 's/^## \([0-9.]*\), .*/\1/p' "$top/CHANGELOG.md" | head -n 1)
+if [ "$room" = "parv-$version-x86_64-linux" ] && (cd "$room" && sha256sum --quiet -c SHA256SUMS) \
+    && grep -q "^commit [0-9a-f]\{40\}\|^commit unknown" "$room/BUILD" && grep -q "^kit " "$room/BUILD" \
+    && [ "$(cd "$room" && find . -type f -not -name SHA256SUMS | wc -l)" -eq "$(wc -l < "$room/SHA256SUMS")" ]; then
+    echo "ok: the archive names its version, commit and kit, and the sums are those of all its files"
+else
+    fails "what the archive holds: $room, $(cat "$room/BUILD")"
+fi
+grep -q "version $version" "$top/README.md" && grep -q "version $version" "$top/docs/parv.1" \
+    && echo "ok: the pages are of that version" || fails "the pages are of another version than $version"
+
+path=$work/path
+mkdir "$path"
+for tool in sh dirname sha256sum find install sed; do ln -s "$(command -v $tool)" "$path"; done
+if env -i PATH="$path" "$room/install.sh" "$work/a place" > said 2>&1 \
+    && cmp -s "$parv" "a place/bin/parv" && cmp -s "$top/docs/parv.1" "a place/share/man/man1/parv.1" \
+    && [ "$(cd "a place" && find . -type f | wc -l)" -eq "$(cd "$room" && find bin share -type f | wc -l)" ]; then
+    echo "ok: the archive installs without a toolchain"
+else
+    fails "the archive doesn't install: $(head -c 300 said)"
+fi
+wants "what the archive installs runs" 0 "$("$parv" packets "$top/demo/photos.par2")" "" \
+    "a place/bin/parv" packets "$top/demo/photos.par2"
+printf x >> "$room/bin/parv"
+if ! env -i PATH="$path" "$room/install.sh" "$work/other" > said 2>&1 && [ ! -e "$work/other" ]; then
+    echo "ok: a changed file isn't installed"
+else
+    fails "a changed file is installed: $(head -c 300 said)"
+fi
+exit $failed

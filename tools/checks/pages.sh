@@ -1,0 +1,101 @@
+#!/usr/bin/env bash
+# The pages: links and paths in them lead somewhere, README is short and its example and its ways to
+# install do what it says, and each clause that PROVED names stands in the sources.
+. "$(dirname "$0")/wants.sh"
+cd "$work" || exit 1
+
+cat > pages.py << 'PYTHON'
+"""Looks through the pages of a repository for links, paths and clauses that aren't there."""
+import glob
+import os
+import re
+import sys
+
+os.chdir(sys.argv[1])
+PAGES = sorted(glob.glob("*.md") + glob.glob("docs/*.md") + glob.glob("crates/*/README.md")
+               + glob.glob("demo/*.md"))
+failed = 0
+
+
+def fails(text):
+    global failed
+    failed = 1
+    print("FAILED: " + text)
+
+
+def anchors(page):
+    """The anchors of a page's headings."""
+    heads = re.findall(r"^#+ (.*)$", open(page).read(), re.M)
+    return {re.sub(r"[^\w\- ]", "", head.lower()).replace(" ", "-") for head in heads}
+
+
+links = paths = 0
+for page in PAGES:
+    text = open(page).read()
+    if page != "CHANGELOG.md":
+        for path in re.findall(r"`((?:tools|crates|docs|examples|demo|completions)/[\w./-]+)", text):
+            paths += 1
+            if not os.path.exists(path.rstrip(".")):
+                fails("%s names %s, which isn't there" % (page, path))
+    for target in re.findall(r"\]\(([^)\s]+)\)", text):
+        links += 1
+        if re.match(r"https?://", target):
+            fails("%s leads outside, to %s" % (page, target))
+            continue
+        path, _, anchor = target.partition("#")
+        path = os.path.normpath(os.path.join(os.path.dirname(page), path)) if path else page
+        if not os.path.exists(path):
+            fails("%s leads to %s, which isn't there" % (page, target))
+        elif anchor and anchor not in anchors(path):
+            fails("%s leads to %s, which has no such heading" % (page, target))
+if not failed and links > 30 and paths > 30:
+    print("ok: %d links and %d paths in %d pages lead somewhere" % (links, paths, len(PAGES)))
+elif not failed:
+    fails("there are %d links and %d paths" % (links, paths))
+
+size = os.path.getsize("README.md")
+if size <= 10 * 1024:
+    print("ok: README has at most 10 KB")
+else:
+    fails("README has %d bytes" % size)
+
+sources = "".join(open(path).read() for path in glob.glob("crates/*/src/**/*.rt", recursive=True))
+clauses = set(re.findall(r"\bensures (\w+) \{", sources)) | {"from_gives"}
+words = set(re.findall(r"\b\w+\b", sources))
+named = 0
+for row in re.findall(r"^\|.*\|$", open("docs/PROVED.md").read(), re.M):
+    cells = [cell.strip() for cell in re.split(r"(?<!\\)\|", row)[1:-1]]
+    if len(cells) == 3 and "," in cells[2] + ",":
+        for name in re.findall(r"`(\w+)`", cells[2]):
+            named += 1
+            if name not in clauses and name not in words:
+                fails("PROVED names the clause %s, which isn't there" % name)
+if not failed and named > 150:
+    print("ok: PROVED names %d clauses, each in the sources" % named)
+elif not failed:
+    fails("PROVED names %d clauses" % named)
+sys.exit(failed)
+PYTHON
+python3 pages.py "$top" || failed=1
+
+# The first example of README, as it stands, in demo/.
+awk '/^    \$ parv verify/ { here = 1 } here && !/^    / { exit } here { sub(/^    /, ""); print }' \
+    "$top/README.md" > example
+words=$(sed -n '1s/^\$ parv //p' example)
+cd "$top/demo" || exit 1
+[ "$(wc -l < "$work/example")" -ge 7 ] || fails "README has no example"
+# shellcheck disable=SC2086
+wants "the example of README" 1 "$(sed 1d "$work/example")" "" "$parv" $words
+
+# Its ways to install, but for sudo.
+cd "$top" || exit 1
+grep -o '^    make install PREFIX=[^ ]*' README.md | sed 's/^ *//' > "$work/install"
+[ "$(wc -l < "$work/install")" -eq 1 ] || fails "README has no way to install below a folder"
+mkdir "$work/home"
+if HOME=$work/home PARV=$parv bash -c "$(cat "$work/install") PARV=\"\$PARV\"" > "$work/made" 2>&1 \
+    && cmp -s "$parv" "$work/home/.local/bin/parv" && [ -s "$work/home/.local/share/man/man1/parv.1" ]; then
+    echo "ok: README installs below a folder"
+else
+    fails "README doesn't install: $(head -c 300 "$work/made")"
+fi
+exit $failed
