@@ -6,17 +6,19 @@ use Rattle.parshelf.specs.declared.shelves.reading.ReadFault.{ReadFault}
 use Rattle.parshelf.specs.declared.shelves.reading.ReadFault.TheVariants.{Failed, Ended}
 use Rattle.parshelf.proofs.ShelfLaws.{Older-refl}
 
--- lengths and fixed files are the same, and whatever files it reads as, it read as them before
+-- paths, lengths and fixed files are the same, and whatever files it reads as, it read as them before
 pub record Later (s t : ShelfState) : Type 0 where
+  pub paths : t.paths ≡ s.paths
   pub lengths : t.lengths ≡ s.lengths
   pub fixed : t.fixed ≡ s.fixed
   pub older : Older s t
 
 pub later_same : (s : ShelfState) → Later s s
-later_same s = record { lengths = refl; fixed = refl; older = Older-refl s }
+later_same s = record { paths = refl; lengths = refl; fixed = refl; older = Older-refl s }
 
 pub later_only : (s t : ShelfState) → ReadsOnly s t → Later s t
 later_only s t reads = record {
+  paths = ap (λ (u : ShelfState). u.paths) reads.counts;
   lengths = ap (λ (u : ShelfState). u.lengths) reads.counts;
   fixed = ap (λ (u : ShelfState). u.fixed) reads.counts;
   older = reads.older;
@@ -24,11 +26,13 @@ later_only s t reads = record {
 
 pub later_fault : (s t : ShelfState) (file : ℕ) (fault : ReadFault) → FaultsIn s t file fault → Later s t
 later_fault s t file Failed faults = record {
+  paths = ap (λ (u : ShelfState). u.paths) faults.1.counts;
   lengths = ap (λ (u : ShelfState). u.lengths) faults.1.counts;
   fixed = ap (λ (u : ShelfState). u.fixed) faults.1.counts;
   older = faults.1.older;
 }
 later_fault s t file Ended faults = record {
+  paths = ap (λ (u : ShelfState). u.paths) faults.1.counts;
   lengths = ap (λ (u : ShelfState). u.lengths) faults.1.counts;
   fixed = ap (λ (u : ShelfState). u.fixed) faults.1.counts;
   older = faults.1.older;

@@ -24,11 +24,12 @@ sum_after f (x ∷ xs) a = omega (
 )
 
 pub tells_none : (s : ShelfState) → TellsOf s s []
-tells_none s = record { lengths_are = refl; fixed_is = refl; failed = omega arith; ended = omega arith; older = Older-refl s }
+tells_none s = record { paths_are = refl; lengths_are = refl; fixed_is = refl; failed = omega arith; ended = omega arith; older = Older-refl s }
 
 tells_more : (old s t : ShelfState) (xs : List Answer) (a : Answer) → TellsOf old s xs → Later s t → failure_count t ≡ failure_count s + told_failures a
     → early_end_count t ≡ early_end_count s + told_early_ends a → TellsOf old t (xs ++ a ∷ [])
 tells_more old s t xs a so_far later failed ended = record {
+  paths_are = later.paths ∙ so_far.paths_are;
   lengths_are = later.lengths ∙ so_far.lengths_are;
   fixed_is = later.fixed ∙ so_far.fixed_is;
   failed = omega (arith, so_far.failed, failed, sum_after told_failures xs a);

@@ -17,6 +17,7 @@ told_early_ends answer.NoMemory = 0
 -- a shelf is the same but for what was read of it and for its counts: as many reads failed as
 -- answers tell of, and as many ended a file early
 pub record TellsOf (old new : ShelfState) (answers : List Answer) : Type 0 where
+  pub paths_are : new.paths ≡ old.paths
   pub lengths_are : new.lengths ≡ old.lengths
   pub fixed_is : new.fixed ≡ old.fixed
   pub failed : failure_count new ≡ failure_count old + sum (map told_failures answers)

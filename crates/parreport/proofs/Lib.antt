@@ -2,6 +2,7 @@ pub mod FindLaws
 pub mod ListingLaws
 pub mod RunLaws
 pub mod ContentLaws
+pub mod CostLaws
 pub mod LeaveLaws
 pub mod CountLaws
 pub mod LengthLaws

@@ -5,7 +5,7 @@ use Rattle.parshelf.specs.Reads.{ReadsOnly}
 use Rattle.parshelf.specs.SinkState.{SinkState, appended, refused, WritesPrefix, FailsAfterPrefix}
 use Rattle.parreport.specs.Faults.{listing_of, IsSearchFault, OnScannedFault}
 use Rattle.parreport.specs.FindText.{WritesLine}
-use Rattle.parreport.specs.Outcomes.{Answers, LeavesScanned, LeavesSink}
+use Rattle.parreport.specs.Outcomes.{Answers, TellsScanned, LeavesSink}
 use Rattle.parreport.specs.Report.{listed}
 use Rattle.parreport.specs.declared.text.faults.RunFault.{RunFault}
 use Rattle.parreport.specs.declared.text.faults.RunFault.TheVariants as fault
@@ -42,7 +42,7 @@ last_text line text (Err why) old mid new h front ends refuses = fault_text line
 
 -- a line that is written, or stopped by the sink or by want of memory, tells of no read that failed
 pub line_reads : (line : List ℕ) (result : Result (Unit {0}) RunFault) (old new : ShelfState) (before after : SinkState)
-    → WritesLine line result before after → ReadsOnly old new → LeavesScanned (listing_of result) old new
+    → WritesLine line result before after → ReadsOnly old new → TellsScanned (listing_of result) old new
 line_reads line (Ok done) old new before after h reads = reads
 line_reads line (Err fault.Write) old new before after h reads = reads
 line_reads line (Err fault.Memory) old new before after h reads = reads

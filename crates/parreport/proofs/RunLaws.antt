@@ -2,7 +2,7 @@
 -- mark of their list.
 use Rattle.std.proofs.Common.{◌≡◌, ◌∙◌, ℕ, Bool, List, [], Err, true, false, ap, refl, subst, sym, append-nil, length, inl, inr}
 use Rattle.std.proofs.lemmas.Bool.{cases_lt, lt-ltb, le-ltb, ltb-false}
-use Rattle.parreport.specs.Outcomes.{Answers, LeavesScanned}
+use Rattle.parreport.specs.Outcomes.{Answers, TellsScanned}
 use Rattle.parreport.specs.Report.{Report, report_after}
 use Rattle.parreport.specs.SetSearch.{has_too_many_tails, set_sought_of}
 use Rattle.parset.specs.RecoverySet.{SetView}
@@ -85,7 +85,7 @@ module _ (set : SetView) (mode own : Mode) (index : SliceSet) (is : index ≡ sl
       answers_unstarted A (set_sought_of set mode) report why s (subst (λ (sought : Sought). TellsTails {A = A} sought (Err why)) sought_is tells)
 
 -- where a search could not be started, nothing is read either
-pub unstarted_scanned : (why : StartFault) (s : ShelfState) → LeavesScanned (Err (start_fault_of why)) s s
+pub unstarted_scanned : (why : StartFault) (s : ShelfState) → TellsScanned (Err (start_fault_of why)) s s
 unstarted_scanned start_fault.TooManyTails s = refl
 unstarted_scanned start_fault.Memory s = ReadsOnly-refl s
 

@@ -11,7 +11,7 @@ use Rattle.std.proofs.lemmas.List.FromFn.{get_or-enumerate_from, length-enumerat
 use Rattle.parfield.specs.HashOrder.{id_cmp}
 use Rattle.parfield.specs.declared.hash16.Hash16.{Hash16}
 use Rattle.parset.specs.declared.recovery_set.SetSlice.{SetSlice}
-use Rattle.parset.specs.declared.recovery_set.SetFile.{SetFile}
+use Rattle.parset.specs.RecoverySet.{SetView}
 use Rattle.parshelf.specs.Shelf.{ShelfState}
 use Rattle.parwindow.specs.Index.{slice_passes, sums_of}
 use Rattle.parwindow.specs.Window.{window_at}
@@ -21,7 +21,8 @@ use Rattle.parfind.specs.Sightings.{Scan, content_of, is_seen, is_sighting, sigh
 use Rattle.parfind.specs.Surveys.{is_sighted, MarksSighted, IsAllMarked}
 use Rattle.parwindow.specs.Missing.{mark_of}
 use Rattle.parreport.specs.Contents.{ReadsCandidates}
-use Rattle.parreport.specs.Findings.{is_settled, can_be_found}
+use Rattle.parreport.specs.Findings.{is_in_intact_file, is_settled, can_be_found, NeedsNoSearch}
+use Rattle.parreport.specs.States.{NamedFile}
 
 -- ---- no sighting without sums
 none_of : {A : Type 0} (p q : A → Bool) → ((x : A) → q x ≡ true → p x ≡ false) → (xs : List A) → list_any q (filter p xs) ≡ false
@@ -124,14 +125,12 @@ all_settled whole slices was before all k within =
     let here : k < length slices = omega (arith, within, ap length before, sized) in
     ap (λ marks. mark_of marks k) before ∙ (get_or-map (is_settled whole) slices k no_slice false here ∙ all k no_slice here)
 
-or_true : (a b : Bool) → b ≡ true → (a || b) ≡ true
-or_true false b is = is
-or_true true b is = refl
-
--- where no slice has its sums, no search adds to what was asked for
-pub unsearched : (files : List SetFile) (whole : BTreeSet Hash16) (slices : List SetSlice) (old mid new : ShelfState)
-    → ReadsCandidates files old mid → (All (λ slice. IsTrue (is_settled whole slice)) slices → new ≡ mid)
-    → All (λ slice. IsTrue (is_none slice.sums)) slices → ReadsCandidates files old new
-unsearched files whole slices old mid new asked none all = λ file.
-    let kept = none (λ k slice within. or_true (contains id_cmp whole (get_or slices k slice).id) _ (all k slice within)) in
+-- where no slice needs a search, none adds to what was asked for
+pub unsearched : (set : SetView) (scanned : List NamedFile) (whole : BTreeSet Hash16) (old mid new : ShelfState)
+    → ReadsCandidates set.files old mid → (All (λ slice. IsTrue (is_settled whole slice)) set.slices → new ≡ mid)
+    → ((id : Hash16) → contains id_cmp whole id ≡ is_in_intact_file set scanned id)
+    → NeedsNoSearch set scanned → ReadsCandidates set.files old new
+unsearched set scanned whole old mid new asked none by_id needs = λ file.
+    let kept = none (λ k d within.
+    ap (λ b. b || is_none (get_or set.slices k d).sums) (by_id (get_or set.slices k d).id) ∙ needs k d within) in
     omega (arith, ap (λ (s : ShelfState). slice_index s.handed file) kept, asked file)

@@ -1,5 +1,4 @@
--- How much of the files is handed over while those are read whole that may be files of the set, and
--- by the search after it.
+-- How much of each file is handed over while those are read whole that may be files of the set.
 use Rattle.std.specs.Prelude.{◌≡◌, ◌≢◌, ◌+◌, ◌≤◌, ℕ, List, slice_index, if◌then◌else◌}
 use Rattle.parset.specs.declared.recovery_set.SetFile.{SetFile}
 use Rattle.parshelf.specs.Shelf.{ShelfState}
@@ -15,17 +14,12 @@ pub record HandsOnce (files : List SetFile) (old new : ShelfState) (file : ℕ) 
       ≤ slice_index old.handed file + checked_length_of files (slice_index old.lengths file)
   pub others : (k : ℕ) → k ≢ file → slice_index new.handed k ≡ slice_index old.handed k
 
--- each file hands over at most what it is checked by
+-- of each file, by its number, at most so many bytes were handed over
+abbrev pub HandsPerFile : (ℕ → ℕ) → ShelfState → ShelfState → Type 0
+HandsPerFile limit old new =
+    (file : ℕ) → slice_index new.handed file ≤ slice_index old.handed file + limit file
+
+-- of each file at most what it is checked by
 abbrev pub ReadsCandidates : List SetFile → ShelfState → ShelfState → Type 0
 ReadsCandidates files old new =
-    (file : ℕ)
-    → slice_index new.handed file
-    ≤ slice_index old.handed file + checked_length_of files (slice_index old.lengths file)
-
--- each file hands over at most what it is checked by, and its length once more
-abbrev pub ReadsCandidatesThenScans : List SetFile → ShelfState → ShelfState → Type 0
-ReadsCandidatesThenScans files old new =
-    (file : ℕ)
-    → slice_index new.handed file
-    ≤ slice_index old.handed file + checked_length_of files (slice_index old.lengths file)
-    + slice_index old.lengths file
+    HandsPerFile (λ file. checked_length_of files (slice_index old.lengths file)) old new

@@ -1,5 +1,5 @@
 -- What scanned files show of a recovery set: the state of each file, and which slices are found.
-use Rattle.std.specs.Prelude.{ℕ, ◌&&◌, ◌||◌, not, Bool, false, List, map, count_by, is_none, is_some, slice_get}
+use Rattle.std.specs.Prelude.{ℕ, ◌&&◌, ◌||◌, not, Bool, false, All, IsTrue, List, map, count_by, is_none, is_some, slice_get}
 use Rattle.std.specs.BTreeSet.{BTreeSet, contains}
 use Rattle.std.specs.List.{list_any, zip, enumerate_from}
 use Rattle.std.specs.Option.{option_map_or}
@@ -49,6 +49,11 @@ findings_of set mode scanned = record {
   states = map (state_of scanned) set.files;
   found = map (is_found set mode scanned) (enumerate_from 0 set.slices);
 }
+
+-- each slice is in a complete or renamed file, or has no sums to be found by
+abbrev pub NeedsNoSearch : SetView → List NamedFile → Type 0
+NeedsNoSearch set scanned =
+    All (λ slice. IsTrue (is_in_intact_file set scanned slice.id || is_none slice.sums)) set.slices
 
 -- how many slices are not found
 abbrev pub need_of : List Bool → ℕ

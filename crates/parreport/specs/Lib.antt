@@ -9,6 +9,7 @@ pub mod Report
 pub mod SetText
 pub mod VerifyText
 pub mod Contents
+pub mod Costs
 pub mod Files
 pub mod Findings
 pub mod States

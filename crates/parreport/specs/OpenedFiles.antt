@@ -42,7 +42,7 @@ pub record TellsRun (plan : Plan) (old new : RunState) (tells : End × Option (L
   pub nothing_written : IfErr answer (λ fault.
       may_follow_text plan.command (written old.out new.out) fault ≡ false → new.out ≡ old.out)
   pub packets_read : LeavesPackets answer old.packets new.packets
-  pub scanned_read : LeavesScanned answer old.scanned new.scanned
+  pub scanned_read : LeavesScanned plan answer new.packets old.scanned new.scanned
   pub sink : LeavesSink answer old.out new.out
   pub list : TellsList plan old.scanned.lengths answer
   pub untouched : reads_scanned plan.command ≡ false → new.scanned ≡ old.scanned

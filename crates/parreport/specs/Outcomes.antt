@@ -1,10 +1,14 @@
 -- What a run leaves: of its output, and of the files that it reads.
-use Rattle.std.specs.Prelude.{◌≡◌, ℕ, ◌+◌, ◌-◌, ◌&&◌, ◌||◌, not, nat_le, Bool, true, false, [], length, IsTrue, IsOkAnd, Result, Ok, Err, ⊤}
-use Rattle.parshelf.specs.Shelf.{ShelfState}
+use Rattle.std.specs.Prelude.{◌≡◌, ◌⊎◌, ℕ, ◌+◌, ◌-◌, ◌&&◌, ◌||◌, not, nat_le, Bool, true, false, List, [], length, IsTrue, IsOkAnd, Result, Ok, Err, ⊤}
+use Rattle.parshelf.specs.Shelf.{ShelfState, ReadsAs}
 use Rattle.parshelf.specs.Reads.{ReadsOnly, FaultsIn}
 use Rattle.parsalvage.specs.Kept.{kept_of_files}
 use Rattle.parset.specs.RecoverySet.{SetView, set_of}
 use Rattle.parset.specs.declared.recovery_set.SetFault.{SetFault}
+use Rattle.parreport.specs.Contents.{ReadsCandidates}
+use Rattle.parreport.specs.Costs.{HandsWithinSalvage, ScansWithin}
+use Rattle.parreport.specs.Findings.{NeedsNoSearch}
+use Rattle.parreport.specs.States.{named_files}
 use Rattle.parreport.specs.FindText.{find_search_of, WritesLinesBefore}
 use Rattle.parplan.specs.Commands.{is_find, reads_scanned}
 use Rattle.parreport.specs.Report.{Report, report_with_set, find_start_of}
@@ -69,19 +73,47 @@ MakesSet made (Err fault.Memory) = ⊤
 MakesSet made (Err _) = ⊥
 
 -- what an answer says of the shelf of packet files: a read fault is its one failure or early end
-abbrev pub LeavesPackets : {A : Type 0} → Result A RunFault → ShelfState → ShelfState → Type 0
-LeavesPackets (Err (fault.Read true file why)) old new = FaultsIn old new file why
-LeavesPackets _ old new = ReadsOnly old new
+abbrev pub TellsPackets : {A : Type 0} → Result A RunFault → ShelfState → ShelfState → Type 0
+TellsPackets (Err (fault.Read true file why)) old new = FaultsIn old new file why
+TellsPackets _ old new = ReadsOnly old new
 
 -- what it says of the shelf of scanned files: where no search begins, none of them is read
-abbrev pub LeavesScanned : Result Status RunFault → ShelfState → ShelfState → Type 0
-LeavesScanned (Err (fault.Read false file why)) old new = FaultsIn old new file why
-LeavesScanned (Err (fault.Read true file why)) old new = new ≡ old
-LeavesScanned (Err (fault.Set why)) old new = new ≡ old
-LeavesScanned (Err fault.OtherSet) old new = new ≡ old
-LeavesScanned (Err fault.OtherList) old new = new ≡ old
-LeavesScanned (Err fault.TooManyTails) old new = new ≡ old
-LeavesScanned _ old new = ReadsOnly old new
+abbrev pub TellsScanned : Result Status RunFault → ShelfState → ShelfState → Type 0
+TellsScanned (Err (fault.Read false file why)) old new = FaultsIn old new file why
+TellsScanned (Err (fault.Read true file why)) old new = new ≡ old
+TellsScanned (Err (fault.Set why)) old new = new ≡ old
+TellsScanned (Err fault.OtherSet) old new = new ≡ old
+TellsScanned (Err fault.OtherList) old new = new ≡ old
+TellsScanned (Err fault.TooManyTails) old new = new ≡ old
+TellsScanned _ old new = ReadsOnly old new
+
+-- what a run leaves of the packet files: no more of each is handed over than one salvage may be
+pub record LeavesPackets {A : Type 0} (answer : Result A RunFault) (old new : ShelfState)
+    : Type 0 where
+  pub faults : TellsPackets answer old new
+  pub handed : HandsWithinSalvage old new
+
+-- what a command over this set leaves of the scanned files: no more of each is handed over than its
+-- limit, and where no slice needs a search, `verify` reads each for its digest alone
+pub record ScansAsAsked (plan : Plan) (set : SetView) (old new : ShelfState) : Type 0 where
+  pub within : ScansWithin plan.command set old new
+  pub unsearched : (contents : List (List ℕ)) → ReadsAs new contents
+      → NeedsNoSearch set (named_files plan.scanned contents)
+      → is_find plan.command ≡ false → ReadsCandidates set.files old new
+
+-- there was a set, that of any packet files of which that was read, and over it the command left the
+-- scanned files so
+pub record ScansForSet (plan : Plan) (packets old new : ShelfState) : Type 0 where
+  pub set : SetView
+  pub made : (files : List (List ℕ)) → ReadsAs packets files
+      → set_of (kept_of_files files) plan.set ≡ Ok set
+  pub scanned : ScansAsAsked plan set old new
+
+-- what it leaves of the scanned files: none was read, or they were for a set
+pub record LeavesScanned (plan : Plan) (answer : Result Status RunFault)
+    (packets old new : ShelfState) : Type 0 where
+  pub faults : TellsScanned answer old new
+  pub handed : (new ≡ old) ⊎ ScansForSet plan packets old new
 
 -- what it says of the sink's failures: a write fault is the one
 abbrev pub LeavesSink : Result Status RunFault → SinkState → SinkState → Type 0

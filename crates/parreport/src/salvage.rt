@@ -2,7 +2,8 @@ ghost use Rattle.std.specs.Prelude.{◌≡◌, ℕ, List, IfOk, IfErr};
 ghost use Rattle.parshelf.specs.Shelf.{ReadsAs};
 ghost use Rattle.parsalvage.specs.Kept.{kept_of_files};
 ghost use Rattle.parreport.specs.Faults.{IsPacketFault};
-ghost use Rattle.parreport.specs.Outcomes.{LeavesPackets};
+ghost use Rattle.parreport.specs.Costs.{HandsWithinSalvage};
+ghost use Rattle.parreport.specs.Outcomes.{TellsPackets};
 
 use crate::text::RunFault;
 use parsalvage::{Kept, SalvageFault, salvage_file};
@@ -16,7 +17,8 @@ pub fn salvage_files<H: Shelf>(alloc: Global, shelf: &mut H) -> Result<Vec<Kept>
     ensures kept { (files : List (List ℕ)) → ReadsAs (H.state shelf.new) files
         → IfOk result (λ kept. kept.items ≡ kept_of_files files) }
     ensures fault { IfErr result IsPacketFault }
-    ensures reads { LeavesPackets result (H.state shelf.old) (H.state shelf.new) }
+    ensures reads { TellsPackets result (H.state shelf.old) (H.state shelf.new) }
+    ensures handed { HandsWithinSalvage (H.state shelf.old) (H.state shelf.new) }
 {
     let mut all = Vec::new(alloc);
     for file in 0..shelf.count() {

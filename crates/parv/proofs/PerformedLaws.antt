@@ -1,6 +1,5 @@
 -- What a run over the program's own files leaves of them and of its output.
 use Rattle.std.proofs.Common.{◌≡◌, ◌∙◌, ℕ, List, [], Option, Vec, Global, length, subst, sym, ap, refl}
-use Rattle.std.proofs.lemmas.List.{length-map}
 use Rattle.std.proofs.lemmas.Option.{slice_get-get_or}
 use Rattle.std.specs.Prelude.{Result, Ok, Err, IfOk, IfErr, IsOkAnd, MatchResult}
 use Rattle.parshelf.specs.Disk.{disk_state_of, unread_of, NamesPath}
@@ -9,7 +8,7 @@ use Rattle.parshelf.specs.SinkState.{SinkState, empty_sink}
 use Rattle.parshelf.specs.declared.shelves.disk.DiskShelf.{DiskShelf}
 use Rattle.parshelf.specs.declared.shelves.disk.OpenFault.{OpenFault}
 use Rattle.parshelf.specs.declared.shelves.disk.OpenFault.TheVariants.{CannotOpen, Memory}
-use Rattle.parplan.specs.Commands.{files_to_scan_of, scanned_paths_of}
+use Rattle.parplan.specs.Commands.{scanned_paths_of}
 use Rattle.parplan.specs.declared.command.Plan.{Plan}
 use Rattle.parreport.specs.Ends.{open_end_of, opened_of}
 use Rattle.parreport.specs.OpenedFiles.{RunState, TellsEnd, TellsRun}
@@ -17,26 +16,27 @@ use Rattle.parreport.specs.declared.ends.End.{End}
 use Rattle.parreport.proofs.LeaveLaws.{packets_later, scanned_later}
 use Rattle.parshelf.specs.WriterSink.{writer_sink_state}
 use Rattle.parv.specs.declared.program.Run.{Run}
-use Rattle.parv.specs.Performed.{NamesFile, AreUnread, TellsUnopened, RunsPlan, left_state_of, unread_state_of}
+use Rattle.parv.specs.Performed.{NamesFile, AreOpenedAt, AreUnread, TellsUnopened, RunsPlan, left_state_of, unread_state_of}
 
--- what opening files at so many paths gives
-abbrev pub Opens : ℕ → Result DiskShelf OpenFault → Type 0
-Opens n (Ok s) = (length (disk_state_of s).lengths ≡ n) × (disk_state_of s ≡ unread_of (disk_state_of s).lengths)
-Opens n (Err why) = NamesPath n why
+-- what opening files at these paths gives
+abbrev pub Opens : List (List ℕ) → Result DiskShelf OpenFault → Type 0
+Opens paths (Ok s) = AreOpenedAt paths s × AreUnread s
+Opens paths (Err why) = NamesPath (length paths) why
 
-pub opens : (n : ℕ) (files : Result DiskShelf OpenFault) → IfOk files (λ s. length (disk_state_of s).lengths ≡ n)
-    → IfOk files (λ s. disk_state_of s ≡ unread_of (disk_state_of s).lengths) → IfErr files (NamesPath n) → Opens n files
-opens n (Ok s) count unread named = (count, unread)
-opens n (Err why) count unread named = named
+pub opens : (paths : List (List ℕ)) (n : ℕ) (files : Result DiskShelf OpenFault) → n ≡ length paths
+    → IfOk files (AreOpenedAt paths) → IfOk files AreUnread → IfErr files (NamesPath n) → Opens paths files
+opens paths n (Ok s) counted at unread named = (at, unread)
+opens paths n (Err why) counted at unread named = subst (λ (k : ℕ). NamesPath k why) counted named
 
 -- where the packet files are opened, the others are tried, else they are not
-pub opens_same : (n : ℕ) (packets scanned other : Result DiskShelf OpenFault) → scanned ≡ other → Opens n other
-    → IfOk packets (λ _. Opens n scanned)
-opens_same n (Ok s) scanned other same opened = subst (Opens n) (sym same) opened
-opens_same n (Err why) scanned other same opened = tt
+pub opens_same : (paths : List (List ℕ)) (packets scanned other : Result DiskShelf OpenFault) → scanned ≡ other → Opens paths other
+    → IfOk packets (λ _. Opens paths scanned)
+opens_same paths (Ok s) scanned other same opened = subst (Opens paths) (sym same) opened
+opens_same paths (Err why) scanned other same opened = tt
 
-pub opens_none : (n : ℕ) (packets scanned : Result DiskShelf OpenFault) (why : OpenFault) → packets ≡ Err why → IfOk packets (λ _. Opens n scanned)
-opens_none n packets scanned why is = rw is tt
+pub opens_none : (paths : List (List ℕ)) (packets scanned : Result DiskShelf OpenFault) (why : OpenFault) → packets ≡ Err why
+    → IfOk packets (λ _. Opens paths scanned)
+opens_none paths packets scanned why is = rw is tt
 
 pub first_opened : (packets scanned : Result DiskShelf OpenFault) (s : DiskShelf) → packets ≡ Ok s → IfErr packets (λ why. scanned ≡ Err why)
 first_opened packets scanned s is = rw is tt
@@ -54,22 +54,28 @@ module _ (plan : Plan) (told : ℕ × Vec ℕ Global) where
   abbrev pub Tells : End × Option (List ℕ) → Type 0
   Tells why = TellsEnd why told.0 told.1.items
 
+  -- before it was read on, a shelf was one of which nothing was read
+  unread : (files left : DiskShelf) → AreUnread files → (disk_state_of left).paths ≡ (disk_state_of files).paths
+      → (disk_state_of left).lengths ≡ (disk_state_of files).lengths
+      → disk_state_of files ≡ unread_of (disk_state_of left).paths (disk_state_of left).lengths
+  unread files left new paths lengths =
+      new ∙ ap (λ at. unread_of at (disk_state_of files).lengths) (sym paths)
+      ∙ ap (unread_of (disk_state_of left).paths) (sym lengths)
+
   -- files that are opened, and run over
-  runs : (files left : DiskShelf × DiskShelf) (out out_left : SinkState) → Opens (length plan.packets) (Ok files.0)
-      → Opens (length (files_to_scan_of plan)) (Ok files.1) → out ≡ empty_sink
+  runs : (files left : DiskShelf × DiskShelf) (out out_left : SinkState) → Opens plan.packets (Ok files.0)
+      → Opens (scanned_paths_of plan) (Ok files.1) → out ≡ empty_sink
       → TellsRun plan (left_state_of files out) (left_state_of left out_left) Tells → RunsPlan plan left out_left told.0 told.1.items
   runs files left out out_left packets scanned empty run =
-      let packets_same = (packets_later run.answer (disk_state_of files.0) (disk_state_of left.0) run.packets_read).lengths in
-      let scanned_same = (scanned_later run.answer (disk_state_of files.1) (disk_state_of left.1) run.scanned_read).lengths in
+      let packets_on = packets_later run.answer (disk_state_of files.0) (disk_state_of left.0) run.packets_read in
+      let scanned_on = scanned_later run.answer (disk_state_of files.1) (disk_state_of left.1) run.scanned_read in
       let state = λ (p q : ShelfState) (o : SinkState). let s : RunState = record { packets = p; scanned = q; out = o } in s in
-      let start : left_state_of files out ≡ unread_state_of left
-      = ap (λ (p : ShelfState). state p (disk_state_of files.1) out) (packets.1 ∙ ap unread_of (sym packets_same))
-      ∙ (ap (λ (q : ShelfState). state (unread_of (disk_state_of left.0).lengths) q out) (scanned.1 ∙ ap unread_of (sym scanned_same))
-      ∙ ap (state (unread_of (disk_state_of left.0).lengths) (unread_of (disk_state_of left.1).lengths)) empty) in record {
-        packets_each = ap length packets_same ∙ packets.0;
-        scanned_each = ap length scanned_same ∙ scanned.0;
-        run = subst (λ (s : RunState). TellsRun plan s (left_state_of left out_left) Tells) start run;
-      }
+      let new = unread_state_of left in
+      let start : left_state_of files out ≡ new
+      = ap (λ (p : ShelfState). state p (disk_state_of files.1) out) (unread files.0 left.0 packets.1 packets_on.paths packets_on.lengths)
+      ∙ (ap (λ (q : ShelfState). state new.packets q out) (unread files.1 left.1 scanned.1 scanned_on.paths scanned_on.lengths)
+      ∙ ap (state new.packets new.scanned) empty) in
+      subst (λ (s : RunState). TellsRun plan s (left_state_of left out_left) Tells) start run
 
   abbrev pub DoneAs : Run → Result (DiskShelf × DiskShelf) (End × Option (List ℕ)) → Type 0
   DoneAs run opened =
@@ -91,7 +97,7 @@ module _ (plan : Plan) (told : ℕ × Vec ℕ Global) where
     }
 
     done : (packets packets_left scanned scanned_left : Result DiskShelf OpenFault) → packets_left ≡ run.packets → scanned_left ≡ run.scanned
-        → Opens (length plan.packets) packets → IfOk packets (λ _. Opens (length (files_to_scan_of plan)) scanned)
+        → Opens plan.packets packets → IfOk packets (λ _. Opens (scanned_paths_of plan) scanned)
         → IfOk (opened_of plan packets scanned) (λ files. IsOkAnd (opened_of plan packets_left scanned_left) (λ left.
         TellsRun plan (left_state_of files out) (left_state_of left (writer_sink_state run.out)) Tells))
         → IfErr (opened_of plan packets scanned) Tells → IfErr (opened_of plan packets scanned) (λ _. writer_sink_state run.out ≡ out)
@@ -103,12 +109,11 @@ module _ (plan : Plan) (told : ℕ × Vec ℕ Global) where
     done (Ok p) (Ok p_left) (Ok q) (Err why) mine yours packets scanned ran tells unwritten same also = absurd ran
     done (Ok p) (Err why) (Ok q) q_left mine yours packets scanned ran tells unwritten same also = absurd ran
     done (Ok p) p_left (Err why) q_left mine yours packets scanned ran tells unwritten same also =
-        let counted : length (scanned_paths_of plan) ≡ length (files_to_scan_of plan) = length-map (files_to_scan_of plan) (λ file. file.path) in
         let opened : run.packets ≡ Ok p = sym mine ∙ same in
         let unopened : run.scanned ≡ Err why = sym yours ∙ also in
         let unread : IfOk run.packets AreUnread = rw opened packets.1 in
         let told : TellsUnopened (open_end_of (scanned_paths_of plan) why) run told.0 told.1.items
-        = tells_unopened (scanned_paths_of plan) why (subst (λ (n : ℕ). NamesPath n why) (sym counted) scanned) unread unwritten tells in
+        = tells_unopened (scanned_paths_of plan) why scanned unread unwritten tells in
         subst (DoneAs run) (sym (ap (λ files. opened_of plan files run.scanned) opened ∙ ap (opened_of plan (Ok p)) unopened)) told
     done (Err why) p_left q q_left mine yours packets scanned ran tells unwritten same also =
         let unopened : run.packets ≡ Err why = sym mine ∙ same in
@@ -116,8 +121,8 @@ module _ (plan : Plan) (told : ℕ × Vec ℕ Global) where
         let told : TellsUnopened (open_end_of plan.packets why) run told.0 told.1.items = tells_unopened plan.packets why packets unread unwritten tells in
         subst (DoneAs run) (sym (ap (λ files. opened_of plan files run.scanned) unopened)) told
 
-    pub performed : (packets scanned : Result DiskShelf OpenFault) → Opens (length plan.packets) packets
-        → IfOk packets (λ _. Opens (length (files_to_scan_of plan)) scanned)
+    pub performed : (packets scanned : Result DiskShelf OpenFault) → Opens plan.packets packets
+        → IfOk packets (λ _. Opens (scanned_paths_of plan) scanned)
         → IfOk (opened_of plan packets scanned) (λ files. IsOkAnd (opened_of plan run.packets run.scanned) (λ left.
         TellsRun plan (left_state_of files out) (left_state_of left (writer_sink_state run.out)) Tells))
         → IfErr (opened_of plan packets scanned) Tells → IfErr (opened_of plan packets scanned) (λ _. writer_sink_state run.out ≡ out)
@@ -136,3 +141,19 @@ module _ (plan : Plan) (told : ℕ × Vec ℕ Global) where
     unopened_too (Ok p) (Err why) (Ok q) scanned_left first ran same also = absurd ran
     unopened_too (Ok p) packets_left (Err cause) scanned_left first ran same also = rw same tt
     unopened_too (Err why) packets_left scanned scanned_left first ran same also = rw same (also ∙ first)
+
+    -- the files that are there are still those at the plan's paths
+    pub still_opened : (packets packets_left scanned scanned_left : Result DiskShelf OpenFault) → Opens plan.packets packets
+        → IfOk packets (λ _. Opens (scanned_paths_of plan) scanned) → IfErr packets (λ why. scanned ≡ Err why)
+        → IfOk (opened_of plan packets scanned) (λ files. IsOkAnd (opened_of plan packets_left scanned_left) (λ left.
+        TellsRun plan (left_state_of files out) (left_state_of left out_left) Tells))
+        → IfErr (opened_of plan packets scanned) (λ _. packets_left ≡ packets) → IfErr (opened_of plan packets scanned) (λ _. scanned_left ≡ scanned)
+        → IfOk packets_left (AreOpenedAt plan.packets) × IfOk scanned_left (AreOpenedAt (scanned_paths_of plan))
+    still_opened (Ok p) (Ok p_left) (Ok q) (Ok q_left) packets scanned first ran same also = (
+      (packets_later ran.answer (disk_state_of p) (disk_state_of p_left) ran.packets_read).paths ∙ packets.0,
+      (scanned_later ran.answer (disk_state_of q) (disk_state_of q_left) ran.scanned_read).paths ∙ scanned.0,
+    )
+    still_opened (Ok p) (Ok p_left) (Ok q) (Err why) packets scanned first ran same also = absurd ran
+    still_opened (Ok p) (Err why) (Ok q) scanned_left packets scanned first ran same also = absurd ran
+    still_opened (Ok p) packets_left (Err why) scanned_left packets scanned first ran same also = (rw same packets.0, rw also tt)
+    still_opened (Err why) packets_left scanned scanned_left packets opened first ran same also = (rw same tt, rw (also ∙ first) tt)

@@ -1,10 +1,10 @@
 -- What the program does with the words behind its name.
-use Rattle.std.specs.Prelude.{◌≡◌, ℕ, List, length, Option, None, IsSome, Ok, Err, IfOk, IfErr, MatchOption, MatchResult, ⊤}
+use Rattle.std.specs.Prelude.{◌≡◌, ℕ, List, Option, None, IsSome, Ok, Err, IfOk, IfErr, MatchOption, MatchResult, ⊤}
 use Rattle.parshelf.specs.Disk.{disk_state_of, unread_of}
 use Rattle.parshelf.specs.SinkState.{SinkState, empty_sink}
 use Rattle.parshelf.specs.WriterSink.{writer_sink_state}
 use Rattle.parshelf.specs.declared.shelves.disk.DiskShelf.{DiskShelf}
-use Rattle.parplan.specs.Commands.{files_to_scan_of}
+use Rattle.parplan.specs.Commands.{scanned_paths_of}
 use Rattle.parplan.specs.Plans.{plan_of, AnswersPlan}
 use Rattle.parplan.specs.declared.command.Plan.{Plan}
 use Rattle.parplan.specs.declared.command.PlanFault.{PlanFault}
@@ -23,21 +23,19 @@ left_state_of files out = record {
   out = out;
 }
 
--- the same files, of which nothing was read, and an output to which nothing was written
+-- files of the same paths and lengths, of which nothing was read, and an output to which nothing was
+-- written
 abbrev pub unread_state_of : DiskShelf × DiskShelf → RunState
 unread_state_of files = record {
-  packets = unread_of (disk_state_of files.0).lengths;
-  scanned = unread_of (disk_state_of files.1).lengths;
+  packets = unread_of (disk_state_of files.0).paths (disk_state_of files.0).lengths;
+  scanned = unread_of (disk_state_of files.1).paths (disk_state_of files.1).lengths;
   out = empty_sink;
 }
 
--- the plan was run over these files, as many as it has paths, and the end of that run is told
-pub record RunsPlan
-    (plan : Plan) (files : DiskShelf × DiskShelf) (out : SinkState) (status : ℕ) (line : List ℕ)
-    : Type 0 where
-  pub packets_each : length (disk_state_of files.0).lengths ≡ length plan.packets
-  pub scanned_each : length (disk_state_of files.1).lengths ≡ length (files_to_scan_of plan)
-  pub run : TellsRun plan (unread_state_of files) (left_state_of files out) (λ end. TellsEnd end status line)
+-- the plan was run over these files, and the end of that run is told
+abbrev pub RunsPlan : Plan → DiskShelf × DiskShelf → SinkState → ℕ → List ℕ → Type 0
+RunsPlan plan files out status line =
+    TellsRun plan (unread_state_of files) (left_state_of files out) (λ end. TellsEnd end status line)
 
 -- where a file can't be opened, its path is told
 abbrev pub NamesFile : End × Option (List ℕ) → Type 0
@@ -46,7 +44,8 @@ NamesFile _ = ⊤
 
 -- nothing was read of these files
 abbrev pub AreUnread : DiskShelf → Type 0
-AreUnread files = disk_state_of files ≡ unread_of (disk_state_of files).lengths
+AreUnread files =
+    disk_state_of files ≡ unread_of (disk_state_of files).paths (disk_state_of files).lengths
 
 -- a file was not opened, or memory was wanted for it: that is told, with the path of the file, and
 -- nothing is read or written
@@ -58,12 +57,18 @@ pub record TellsUnopened
   pub nothing_read : IfOk run.packets AreUnread
   pub nothing_written : writer_sink_state run.out ≡ empty_sink
 
+-- these are files that were opened at these paths, one at each, in their order
+abbrev pub AreOpenedAt : List (List ℕ) → DiskShelf → Type 0
+AreOpenedAt paths files = (disk_state_of files).paths ≡ paths
+
 -- the words have a plan, which was run over its files, if they were all opened; where the packet files
--- were not, no other was
+-- were not, no other was. Whatever came, the files that are there are those at the plan's paths
 pub record PerformsPlan (words : List (List ℕ)) (run : Run) (status : ℕ) (line : List ℕ)
     : Type 0 where
   pub plan : Plan
   pub planned : plan_of words ≡ Ok plan
+  pub packets_opened : IfOk run.packets (AreOpenedAt plan.packets)
+  pub scanned_opened : IfOk run.scanned (AreOpenedAt (scanned_paths_of plan))
   pub packets_first : IfErr run.packets (λ why. run.scanned ≡ Err why)
   pub done : MatchResult (opened_of plan run.packets run.scanned)
       (λ files. RunsPlan plan files (writer_sink_state run.out) status line)

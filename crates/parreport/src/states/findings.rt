@@ -1,10 +1,11 @@
-ghost use Rattle.std.specs.Prelude.{◌≡◌, ℕ, List, length, is_none, All, IsTrue, IfOk, OnOk, IfErr};
+ghost use Rattle.std.specs.Prelude.{◌≡◌, ℕ, List, length, slice_index, IfOk, OnOk, IfErr};
 ghost use Rattle.parshelf.specs.Reads.{ReadsOnly};
 ghost use Rattle.parshelf.specs.Shelf.{ReadsAs};
-ghost use Rattle.parreport.specs.Contents.{ReadsCandidates, ReadsCandidatesThenScans};
+ghost use Rattle.parreport.specs.Contents.{HandsPerFile, ReadsCandidates};
+ghost use Rattle.parreport.specs.Costs.{verified_length_of};
 ghost use Rattle.parreport.specs.Files.{FilesLeave};
 ghost use Rattle.parreport.specs.States.{named_files};
-ghost use Rattle.parreport.specs.Findings.{findings_of};
+ghost use Rattle.parreport.specs.Findings.{findings_of, NeedsNoSearch};
 ghost use Rattle.parreport.specs.SetSearch.{set_sought_of};
 ghost use Rattle.parfind.specs.Sought.{HasFewTails};
 ghost use Rattle.parwindow.specs.Index.{slice_set_of};
@@ -60,13 +61,17 @@ pub(crate) fn findings_on<Q: Shelf>(
         → IfOk result (λ findings.
         findings ≡ findings_of set.now mode (named_files files.now contents)) }
 
+    // Where no slice needs a search, by what was read, there is none.
+    ensures unsearched { (contents : List (List ℕ)) → ReadsAs (Q.state shelf.new) contents
+        → NeedsNoSearch set.now (named_files files.now contents)
+        → ReadsCandidates set.now.files (Q.state shelf.old) (Q.state shelf.new) }
+
     // Whatever was read.
     ensures states { IfOk result (λ findings. length findings.states ≡ length set.now.files) }
     ensures slices { IfOk result (λ findings. length findings.found ≡ length set.now.slices) }
-    ensures handed { ReadsCandidatesThenScans set.now.files
+    ensures handed { HandsPerFile
+        (λ file. verified_length_of set.now (slice_index (Q.state shelf.old).lengths file))
         (Q.state shelf.old) (Q.state shelf.new) }
-    ensures unsearched { All (λ slice. IsTrue (is_none slice.sums)) set.now.slices →
-        ReadsCandidates set.now.files (Q.state shelf.old) (Q.state shelf.new) }
     ensures ok { OnOk result (ReadsOnly (Q.state shelf.old) (Q.state shelf.new)) }
     ensures fault { IfErr result (FilesLeave (Q.state shelf.old) (Q.state shelf.new)) }
 {

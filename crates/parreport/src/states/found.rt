@@ -1,4 +1,4 @@
-ghost use Rattle.std.specs.Prelude.{◌≡◌, ◌&&◌, ◌||◌, ℕ, List, map, length, All, EachIndex, IsTrue, IfOk, OnOk, IfErr};
+ghost use Rattle.std.specs.Prelude.{◌≡◌, ◌&&◌, ◌||◌, ℕ, List, map, length, slice_index, All, EachIndex, IsTrue, IfOk, OnOk, IfErr};
 ghost use Rattle.std.specs.BTreeSet.{contains};
 ghost use Rattle.std.specs.List.{enumerate_from, list_any};
 ghost use Rattle.std.specs.Str.{bytes_eq};
@@ -7,9 +7,10 @@ ghost use Rattle.parshelf.specs.Reads.{ReadsOnly};
 ghost use Rattle.parshelf.specs.Shelf.{ReadsAs};
 ghost use Rattle.parwindow.specs.Index.{slice_set_of};
 ghost use Rattle.parfind.specs.Sought.{HasFewTails};
-ghost use Rattle.parfind.specs.Handover.{HandsEachOnce};
 ghost use Rattle.parfind.specs.Surveys.{is_sighted, StopsOnceFound};
 ghost use Rattle.parwindow.specs.Missing.{mark_of};
+ghost use Rattle.parreport.specs.Contents.{HandsPerFile};
+ghost use Rattle.parreport.specs.Costs.{searched_length_of};
 ghost use Rattle.parreport.specs.Files.{FilesLeave};
 ghost use Rattle.parreport.specs.States.{is_intact};
 ghost use Rattle.parreport.specs.Findings.{need_of, is_settled, can_be_found, set_scan_of};
@@ -79,7 +80,9 @@ pub fn found_slices<Q: Shelf>(
 
     // Whatever was read.
     ensures slices { IfOk result (λ found. length found.items ≡ length set.now.slices) }
-    ensures handed { HandsEachOnce (Q.state shelf.old) (Q.state shelf.new) }
+    ensures handed { HandsPerFile
+        (λ file. searched_length_of set.now (slice_index (Q.state shelf.old).lengths file))
+        (Q.state shelf.old) (Q.state shelf.new) }
     ensures none { All (λ slice. IsTrue (is_settled whole.now slice)) set.now.slices →
         Q.state shelf.new ≡ Q.state shelf.old }
     ensures ok { OnOk result (ReadsOnly (Q.state shelf.old) (Q.state shelf.new)) }

@@ -1,8 +1,9 @@
 ghost use Rattle.std.specs.Prelude.{◌≡◌, ◌≢◌, ℕ, List, length, false, IfErr, IsOkAnd, Some};
 ghost use Rattle.parshelf.specs.Shelf.{ReadsAs};
+ghost use Rattle.parreport.specs.Costs.{ScansWithin};
 ghost use Rattle.parreport.specs.Faults.{OnScannedFault};
 ghost use Rattle.parreport.specs.FindText.{find_search_of, WritesLinesBefore};
-ghost use Rattle.parreport.specs.Outcomes.{is_packet_file_fault, written, may_follow_text, Answers, LeavesScanned, LeavesSink};
+ghost use Rattle.parreport.specs.Outcomes.{is_packet_file_fault, written, may_follow_text, Answers, TellsScanned, LeavesSink};
 ghost use Rattle.parreport.specs.OtherLists.{FitsList, is_for_files};
 ghost use Rattle.parreport.specs.Names.{list_of, names_of};
 ghost use Rattle.parreport.specs.Report.{find_report, find_start_of, start_of};
@@ -58,7 +59,9 @@ pub(crate) fn write_find<Q: Shelf, W: Sink>(
         may_follow_text (command.Find query.limit query.cursor query.tails)
         (written (W.state out.old) (W.state out.new)) fault ≡ false
         → W.state out.new ≡ W.state out.old) }
-    ensures scanned { LeavesScanned result (Q.state scanned.old) (Q.state scanned.new) }
+    ensures scanned { TellsScanned result (Q.state scanned.old) (Q.state scanned.new) }
+    ensures handed { ScansWithin (command.Find query.limit query.cursor query.tails) set.now
+        (Q.state scanned.old) (Q.state scanned.new) }
     ensures sink { LeavesSink result (W.state out.old) (W.state out.new) }
     ensures list { FitsList (is_for_files plan.now (Q.state scanned.old).lengths query.cursor) result }
 {

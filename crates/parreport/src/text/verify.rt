@@ -1,8 +1,12 @@
 ghost use Rattle.std.specs.Prelude.{◌≡◌, ℕ, List, length, Bool, false, Ok, IfErr};
 ghost use Rattle.parshelf.specs.Shelf.{ReadsAs};
+ghost use Rattle.parreport.specs.Contents.{ReadsCandidates};
+ghost use Rattle.parreport.specs.Costs.{ScansWithin};
+ghost use Rattle.parreport.specs.Findings.{NeedsNoSearch};
+ghost use Rattle.parreport.specs.States.{named_files};
 ghost use Rattle.parreport.specs.SetSearch.{mode_of};
 ghost use Rattle.parreport.specs.Names.{names_of};
-ghost use Rattle.parreport.specs.Outcomes.{is_packet_file_fault, is_read_fault, written, may_follow_text, Answers, LeavesScanned, LeavesSink};
+ghost use Rattle.parreport.specs.Outcomes.{is_packet_file_fault, is_read_fault, written, may_follow_text, Answers, TellsScanned, LeavesSink};
 ghost use Rattle.parreport.specs.Report.{verify_report};
 ghost use Rattle.parreport.specs.VerifyText.{status_of, findings_text};
 ghost use Rattle.parplan.specs.declared.command.Command.TheVariants as command;
@@ -45,7 +49,12 @@ pub(crate) fn write_verify<Q: Shelf, W: Sink>(
     ensures nothing_written { IfErr result (λ fault. may_follow_text (command.Verify quiet tails)
         (written (W.state out.old) (W.state out.new)) fault ≡ false
         → W.state out.new ≡ W.state out.old) }
-    ensures scanned { LeavesScanned result (Q.state scanned.old) (Q.state scanned.new) }
+    ensures scanned { TellsScanned result (Q.state scanned.old) (Q.state scanned.new) }
+    ensures handed { ScansWithin (command.Verify quiet tails) set.now
+        (Q.state scanned.old) (Q.state scanned.new) }
+    ensures unsearched { (files : List (List ℕ)) → ReadsAs (Q.state scanned.new) files
+        → NeedsNoSearch set.now (named_files plan.now.scanned files)
+        → ReadsCandidates set.now.files (Q.state scanned.old) (Q.state scanned.new) }
     ensures sink { LeavesSink result (W.state out.old) (W.state out.new) }
 {
     let index = Index::new(alloc, set)?;

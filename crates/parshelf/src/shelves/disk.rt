@@ -1,8 +1,8 @@
-ghost use Rattle.std.specs.Prelude.{◌≡◌, ◌<◌, ◌≤◌, ◌^◌, length, All, IfOk, IfErr, IfSome};
+ghost use Rattle.std.specs.Prelude.{◌≡◌, ◌<◌, ◌≤◌, ◌^◌, length, map, All, IfOk, IfErr, IfSome};
 
 use crate::shelves::shelf::Shelf;
 use crate::sinks::Failed;
-use parfield::{Counts, Readings};
+use parfield::{Counts, Readings, Transcript};
 use std::alloc::{AllocError, Global};
 use std::convert::AsStr;
 use std::fs::{File, Files};
@@ -24,9 +24,10 @@ pub struct DiskShelf {
     ghost handed_each: { length handed_by_file.counts ≡ length files.items },
 }
 
-// A file that is open.
+// A file that is open, and the path that it was opened at.
 #[derive(Drop)]
 struct Opened {
+    path: Transcript,
     file: File,
     length: u64,
 }
@@ -64,8 +65,9 @@ impl DiskShelf {
 
         ensures count { IfOk result (λ shelf.
             length (disk_state_of shelf).lengths ≡ length paths.now) }
+        ensures paths { IfOk result (λ shelf. (disk_state_of shelf).paths ≡ map S.text paths.now) }
         ensures state { IfOk result (λ shelf.
-            disk_state_of shelf ≡ unread_of (disk_state_of shelf).lengths) }
+            disk_state_of shelf ≡ unread_of (disk_state_of shelf).paths (disk_state_of shelf).lengths) }
         ensures fault { IfErr result (NamesPath (length paths.now)) }
     {
         let mut files = Vec::new(alloc);
@@ -91,19 +93,26 @@ impl DiskShelf {
 
 // The regular file at a path, or `None` where something else stands there or it is too long.
 fn open_regular<R: Files<File = File>>(rt: &R, path: &str) -> io::Result<Option<Opened>>
-    ensures { IfOk result (λ found. IfSome found (λ opened. opened.length < 2 ^ 63)) }
+    ensures path { IfOk result (λ found. IfSome found (λ opened. opened.path.bytes ≡ path.now)) }
+    ensures short { IfOk result (λ found. IfSome found (λ opened. opened.length < 2 ^ 63)) }
 {
     // Opening a pipe could wait for its writer.
     if !fs::metadata(rt, path)?.is_file() {
         return Ok(None);
     }
     let file = File::open(rt, path)?;
+    let mut opened_at = Transcript::new();
+    opened_at.append(path.as_bytes());
     let found = file.metadata()?;
     let length = found.len();
     if !found.is_file() || length > i64::MAX as u64 {
         return Ok(None);
     }
-    Ok(Some(Opened { file, length }))
+    Ok(Some(Opened {
+        path: opened_at,
+        file,
+        length,
+    }))
 }
 
 impl Shelf for DiskShelf {

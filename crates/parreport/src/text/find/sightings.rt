@@ -1,12 +1,15 @@
 ghost use Rattle.std.specs.Prelude.{◌≡◌, ◌≢◌, ℕ, List, length, IfErr, Some};
 ghost use Rattle.parshelf.specs.Shelf.{ReadsAs};
 ghost use Rattle.parfind.specs.Finders.{BelongsTo};
+ghost use Rattle.parfind.specs.OnePass.{room_of};
+ghost use Rattle.parfind.specs.Places.{place_at};
 ghost use Rattle.parwindow.specs.Index.{slice_set_of};
+ghost use Rattle.parreport.specs.Contents.{HandsPerFile};
 ghost use Rattle.parreport.specs.Faults.{listing_of, IsFindFault, IsSearchFault, OnScannedFault};
 ghost use Rattle.parreport.specs.SetSearch.{mode_of};
 ghost use Rattle.parreport.specs.declared.text.faults.RunFault.TheVariants as run_fault;
 ghost use Rattle.parreport.specs.FindText.{find_text, limit_left, find_search_of, WritesLinesBefore};
-ghost use Rattle.parreport.specs.Outcomes.{Answers, LeavesScanned, LeavesSink};
+ghost use Rattle.parreport.specs.Outcomes.{Answers, TellsScanned, LeavesSink};
 ghost use Rattle.parreport.specs.Report.{listed, search_report};
 
 use crate::modes::mode_of;
@@ -47,7 +50,9 @@ pub fn write_sightings<Q: Shelf, W: Sink>(
     ensures fault { IfErr result IsFindFault }
     ensures unopened { IfErr result (λ fault. fault ≡ run_fault.TooManyTails
         → W.state out.new ≡ W.state out.old) }
-    ensures reads { LeavesScanned (listing_of result) (Q.state shelf.old) (Q.state shelf.new) }
+    ensures reads { TellsScanned (listing_of result) (Q.state shelf.old) (Q.state shelf.new) }
+    ensures handed { HandsPerFile (room_of (Q.state shelf.old).lengths at)
+        (Q.state shelf.old) (Q.state shelf.new) }
     ensures sink { LeavesSink (listing_of result) (W.state out.old) (W.state out.new) }
 {
     let index = Index::new(alloc, set)?;
@@ -71,6 +76,7 @@ fn write_from<Q: Shelf, W: Sink>(
     requires index { index.now ≡ slice_set_of set.now.size set.now.slices }
     requires belongs { BelongsTo finder.old index.now (Q.state shelf.old) }
     requires mode { finder.old.mode ≡ mode_of query.tails }
+    requires fetched { finder.old.fetched ≡ place_at finder.old.cursor }
 
     ensures text { (contents : List (List ℕ)) → ReadsAs (Q.state shelf.new) contents
         → Answers (listed (find_text
@@ -81,7 +87,9 @@ fn write_from<Q: Shelf, W: Sink>(
         WritesLinesBefore (find_search_of files.now contents set.now finder.old.cursor query)
         file (W.state out.old) (W.state out.new))) }
     ensures fault { IfErr result IsSearchFault }
-    ensures reads { LeavesScanned (listing_of result) (Q.state shelf.old) (Q.state shelf.new) }
+    ensures reads { TellsScanned (listing_of result) (Q.state shelf.old) (Q.state shelf.new) }
+    ensures handed { HandsPerFile (room_of (Q.state shelf.old).lengths finder.old.cursor)
+        (Q.state shelf.old) (Q.state shelf.new) }
     ensures sink { LeavesSink (listing_of result) (W.state out.old) (W.state out.new) }
 {
     let mut left = query.limit;

@@ -1,8 +1,9 @@
-use Rattle.std.proofs.Common.{◌≡◌, Err, IfOk, IfErr, length}
+use Rattle.std.proofs.Common.{◌≡◌, Err, IfOk, IfErr, length, map, refl, sym}
+use Rattle.std.proofs.lemmas.List.{length-map, map-id}
 use Rattle.parshelf.specs.WriterSink.{writer_sink_state}
-use Rattle.parplan.specs.Commands.{files_to_scan_of}
+use Rattle.parplan.specs.Commands.{files_to_scan_of, scanned_paths_of}
 use Rattle.parv.specs.declared.program.Run.{Run}
-use Rattle.parv.proofs.PerformedLaws.{Opens, opens, opens_same, opens_none, first_opened, first_unopened, unopened_too, performed}
+use Rattle.parv.proofs.PerformedLaws.{Opens, opens, opens_same, opens_none, first_opened, first_unopened, unopened_too, performed, still_opened}
 use Rattle.parv.proofs.program.perform_words.Goals.{in-Ok-packets, in-Err-packets}
 use Rattle.parv.proofs.program.perform_words.Goals as goal
 
@@ -10,15 +11,17 @@ pub returns : goal.returns
 returns c =
     let plan = c.in-Ok.plan in
     let opened = rw c.as_slice.ensures at c.open-packets.ensures in
-    let packets : Opens (length plan.packets) c.open-packets.result
-    = opens (length plan.packets) c.open-packets.result opened.count opened.state opened.fault in
-    let scanned : IfOk c.open-packets.result (λ _. Opens (length (files_to_scan_of plan)) c.match-packets.scanned)
+    let packets : Opens plan.packets c.open-packets.result
+    = opens plan.packets (length plan.packets) c.open-packets.result refl (rw (map-id plan.packets) at opened.paths)
+    opened.state opened.fault in
+    let scanned : IfOk c.open-packets.result (λ _. Opens (scanned_paths_of plan) c.match-packets.scanned)
     = elim c.match-packets.branch [
       | in-Ok-packets w ↦
           let also = rw w.files_to_scan.ensures.files at w.open-scanned.ensures in
-          opens_same (length (files_to_scan_of plan)) c.open-packets.result c.match-packets.scanned w.open-scanned.result w.scanned-is
-          (opens (length (files_to_scan_of plan)) w.open-scanned.result also.count also.state also.fault)
-      | in-Err-packets w ↦ opens_none (length (files_to_scan_of plan)) c.open-packets.result c.match-packets.scanned _ w.in-Err-packets.is
+          opens_same (scanned_paths_of plan) c.open-packets.result c.match-packets.scanned w.open-scanned.result w.scanned-is
+          (opens (scanned_paths_of plan) (length (files_to_scan_of plan)) w.open-scanned.result
+          (sym (length-map (files_to_scan_of plan) (λ file. file.path))) also.paths also.state also.fault)
+      | in-Err-packets w ↦ opens_none (scanned_paths_of plan) c.open-packets.result c.match-packets.scanned _ w.in-Err-packets.is
     ] in
     let first : IfErr c.open-packets.result (λ why. c.match-packets.scanned ≡ Err why)
     = elim c.match-packets.branch [
@@ -26,9 +29,13 @@ returns c =
       | in-Err-packets w ↦ first_unopened c.open-packets.result _ _ w.in-Err-packets.is w.scanned-is
     ] in
     let out = writer_sink_state c.new-out.result in
-    let run : Run = record { packets = c.run_opened.new.packets; scanned = c.run_opened.new.scanned; out = c.run_opened.new.out } in record {
+    let run : Run = record { packets = c.run_opened.new.packets; scanned = c.run_opened.new.scanned; out = c.run_opened.new.out } in
+    let still = still_opened plan c.in_ok-told.told out (writer_sink_state run.out) c.open-packets.result run.packets c.match-packets.scanned
+    run.scanned packets scanned first c.in_ok-told.ensures.ran c.run_opened.ensures.packets c.run_opened.ensures.scanned in record {
       plan = plan;
       planned = c.in-Ok.ensures.plan;
+      packets_opened = still.0;
+      scanned_opened = still.1;
       packets_first = unopened_too plan c.in_ok-told.told out (writer_sink_state run.out) c.open-packets.result run.packets
           c.match-packets.scanned run.scanned first c.in_ok-told.ensures.ran c.run_opened.ensures.packets c.run_opened.ensures.scanned;
       done = performed plan c.in_ok-told.told out run c.new-out.ensures.state c.open-packets.result c.match-packets.scanned

@@ -8,7 +8,8 @@ use Rattle.parshelf.specs.Shelf.{ShelfState}
 use Rattle.parreport.specs.States.{named_files, checked_of, is_intact, state_of}
 use Rattle.parreport.specs.Contents.{ReadsCandidates}
 use Rattle.parshelf.proofs.ReadLaws.{ReadsOnly_more}
-use Rattle.parreport.proofs.LeaveLaws.{FilesLeave_more}
+use Rattle.parreport.proofs.CostLaws.{lengths_same, only_checked, checked_and_searched}
+use Rattle.parreport.proofs.LeaveLaws.{FilesLeave_more, FilesLeave_older}
 use Rattle.parreport.proofs.SumLaws.{unsearched}
 use Rattle.parreport.proofs.StateLaws.{contents_sized, findings_made, states_read}
 use Rattle.parreport.proofs.states.findings.findings_on.Goals as goal
@@ -33,20 +34,42 @@ returns-clause-findings g c = λ contents reads.
     (c.from_vec-2.ensures ∙ c.in_ok-found.ensures.found contents reads)
 
 pub returns-clause-unsearched : goal.returns-clause-unsearched
-returns-clause-unsearched g c =
+returns-clause-unsearched g c = λ contents reads needs.
+    let set = c.args.set.now in let files = c.args.files.now in
+    let state = state_of (named_files files contents) in
     let old : ShelfState = g.Q.Shelf.state c.args.shelf.now in
     let now : ShelfState = g.Q.Shelf.state c.contents.new.shelf in
-    unsearched c.args.set.now.files c.in_ok-whole.whole c.args.set.now.slices old now _
-    (subst (λ files. ReadsCandidates files old now) c.files-set_files.ensures.field c.in_ok-contents.ensures.bytes)
-    c.found_slices.ensures.none
+    let before = c.in_ok-found.ensures.ok.older contents reads in
+    let sized = contents_sized old files contents c.requires.named (c.in_ok-contents.ensures.ok.older contents before) in
+    let same = c.files-set_files.ensures.field in
+    let states = states_read files contents c.deref.result.now c.files-set_files.result.now set.files c.in_ok-states.states.items sized
+    c.in_ok-states.ensures
+    (c.deref.ensures.value ∙ (c.in_ok-contents.ensures.contents contents before ∙ ap (λ own. map (checked_of own) contents) same)) same in
+    let asked : c.as_slice.result.now ≡ map state c.files-set_files.result.now
+    = c.as_slice.ensures.value ∙ (states ∙ ap (map state) (sym c.files-set_files.ensures.field)) in
+    unsearched set (named_files files contents) c.in_ok-whole.whole old now (g.Q.Shelf.state c.found_slices.new.shelf)
+    (subst (λ files. ReadsCandidates files old now) same c.in_ok-contents.ensures.bytes) c.found_slices.ensures.none
+    (λ id. c.in_ok-whole.ensures state asked id
+    ∙ ap (list_any (λ (file : SetFile). bytes_eq file.id.0 id.0 && is_intact (state file))) same) needs
 
 pub returns-in_err-found-clause-unsearched : goal.returns-in_err-found-clause-unsearched
-returns-in_err-found-clause-unsearched g c =
+returns-in_err-found-clause-unsearched g c = λ contents reads needs.
+    let set = c.args.set.now in let files = c.args.files.now in
+    let state = state_of (named_files files contents) in
     let old : ShelfState = g.Q.Shelf.state c.args.shelf.now in
     let now : ShelfState = g.Q.Shelf.state c.contents.new.shelf in
-    unsearched c.args.set.now.files c.in_ok-whole.whole c.args.set.now.slices old now _
-    (subst (λ files. ReadsCandidates files old now) c.files-set_files.ensures.field c.in_ok-contents.ensures.bytes)
-    c.found_slices.ensures.none
+    let before = FilesLeave_older now (g.Q.Shelf.state c.found_slices.new.shelf) c.in_err-found.field-0.0 c.in_err-found.ensures.fault contents reads in
+    let sized = contents_sized old files contents c.requires.named (c.in_ok-contents.ensures.ok.older contents before) in
+    let same = c.files-set_files.ensures.field in
+    let states = states_read files contents c.deref.result.now c.files-set_files.result.now set.files c.in_ok-states.states.items sized
+    c.in_ok-states.ensures
+    (c.deref.ensures.value ∙ (c.in_ok-contents.ensures.contents contents before ∙ ap (λ own. map (checked_of own) contents) same)) same in
+    let asked : c.as_slice.result.now ≡ map state c.files-set_files.result.now
+    = c.as_slice.ensures.value ∙ (states ∙ ap (map state) (sym c.files-set_files.ensures.field)) in
+    unsearched set (named_files files contents) c.in_ok-whole.whole old now (g.Q.Shelf.state c.found_slices.new.shelf)
+    (subst (λ files. ReadsCandidates files old now) same c.in_ok-contents.ensures.bytes) c.found_slices.ensures.none
+    (λ id. c.in_ok-whole.ensures state asked id
+    ∙ ap (list_any (λ (file : SetFile). bytes_eq file.id.0 id.0 && is_intact (state file))) same) needs
 
 pub returns-in_err-contents-clause-findings : goal.returns-in_err-contents-clause-findings
 returns-in_err-contents-clause-findings g c = grind (arith, common_steps) steps 100000
@@ -58,10 +81,16 @@ pub returns-in_err-contents-clause-slices : goal.returns-in_err-contents-clause-
 returns-in_err-contents-clause-slices g c = grind (arith, common_steps) steps 100000
 
 pub returns-in_err-contents-clause-handed : goal.returns-in_err-contents-clause-handed
-returns-in_err-contents-clause-handed g c = grind (arith, common_steps) steps 1500000
+returns-in_err-contents-clause-handed g c =
+    let old : ShelfState = g.Q.Shelf.state c.args.shelf.now in
+    let now : ShelfState = g.Q.Shelf.state c.contents.new.shelf in
+    only_checked c.args.set.now old now (subst (λ files. ReadsCandidates files old now) c.files-set_files.ensures.field c.contents.ensures.bytes)
 
 pub returns-in_err-contents-clause-unsearched : goal.returns-in_err-contents-clause-unsearched
-returns-in_err-contents-clause-unsearched g c = grind (arith, common_steps) steps 1500000
+returns-in_err-contents-clause-unsearched g c = λ contents reads needs.
+    let old : ShelfState = g.Q.Shelf.state c.args.shelf.now in
+    let now : ShelfState = g.Q.Shelf.state c.contents.new.shelf in
+    subst (λ files. ReadsCandidates files old now) c.files-set_files.ensures.field c.contents.ensures.bytes
 
 pub returns-in_err-contents-clause-ok : goal.returns-in_err-contents-clause-ok
 returns-in_err-contents-clause-ok g c = grind (arith, common_steps) steps 100000
@@ -79,10 +108,16 @@ pub returns-in_err-states-clause-slices : goal.returns-in_err-states-clause-slic
 returns-in_err-states-clause-slices g c = grind (arith, common_steps) steps 100000
 
 pub returns-in_err-states-clause-handed : goal.returns-in_err-states-clause-handed
-returns-in_err-states-clause-handed g c = grind (arith, common_steps) steps 1500000
+returns-in_err-states-clause-handed g c =
+    let old : ShelfState = g.Q.Shelf.state c.args.shelf.now in
+    let now : ShelfState = g.Q.Shelf.state c.contents.new.shelf in
+    only_checked c.args.set.now old now (subst (λ files. ReadsCandidates files old now) c.files-set_files.ensures.field c.in_ok-contents.ensures.bytes)
 
 pub returns-in_err-states-clause-unsearched : goal.returns-in_err-states-clause-unsearched
-returns-in_err-states-clause-unsearched g c = grind (arith, common_steps) steps 1500000
+returns-in_err-states-clause-unsearched g c = λ contents reads needs.
+    let old : ShelfState = g.Q.Shelf.state c.args.shelf.now in
+    let now : ShelfState = g.Q.Shelf.state c.contents.new.shelf in
+    subst (λ files. ReadsCandidates files old now) c.files-set_files.ensures.field c.in_ok-contents.ensures.bytes
 
 pub returns-in_err-states-clause-ok : goal.returns-in_err-states-clause-ok
 returns-in_err-states-clause-ok g c = grind (arith, common_steps) steps 400000
@@ -103,10 +138,16 @@ pub returns-in_err-whole-clause-slices : goal.returns-in_err-whole-clause-slices
 returns-in_err-whole-clause-slices g c = grind (arith, common_steps) steps 400000
 
 pub returns-in_err-whole-clause-handed : goal.returns-in_err-whole-clause-handed
-returns-in_err-whole-clause-handed g c = grind (arith, common_steps) steps 1500000
+returns-in_err-whole-clause-handed g c =
+    let old : ShelfState = g.Q.Shelf.state c.args.shelf.now in
+    let now : ShelfState = g.Q.Shelf.state c.contents.new.shelf in
+    only_checked c.args.set.now old now (subst (λ files. ReadsCandidates files old now) c.files-set_files.ensures.field c.in_ok-contents.ensures.bytes)
 
 pub returns-in_err-whole-clause-unsearched : goal.returns-in_err-whole-clause-unsearched
-returns-in_err-whole-clause-unsearched g c = grind (arith, common_steps) steps 1500000
+returns-in_err-whole-clause-unsearched g c = λ contents reads needs.
+    let old : ShelfState = g.Q.Shelf.state c.args.shelf.now in
+    let now : ShelfState = g.Q.Shelf.state c.contents.new.shelf in
+    subst (λ files. ReadsCandidates files old now) c.files-set_files.ensures.field c.in_ok-contents.ensures.bytes
 
 pub returns-in_err-whole-clause-ok : goal.returns-in_err-whole-clause-ok
 returns-in_err-whole-clause-ok g c = grind (arith, common_steps) steps 400000
@@ -147,7 +188,17 @@ pub returns-clause-fault : goal.returns-clause-fault
 returns-clause-fault g c = grind (arith, common_steps) steps 100000
 
 pub returns-in_err-found-clause-handed : goal.returns-in_err-found-clause-handed
-returns-in_err-found-clause-handed g c = grind (arith, common_steps, g.met.Q.Shelf.well_formed)
+returns-in_err-found-clause-handed g c =
+    let old : ShelfState = g.Q.Shelf.state c.args.shelf.now in
+    let now : ShelfState = g.Q.Shelf.state c.contents.new.shelf in
+    checked_and_searched c.args.set.now old now (g.Q.Shelf.state c.found_slices.new.shelf) (lengths_same old now c.in_ok-contents.ensures.ok)
+    (subst (λ files. ReadsCandidates files old now) c.files-set_files.ensures.field c.in_ok-contents.ensures.bytes)
+    c.found_slices.ensures.handed
 
 pub returns-clause-handed : goal.returns-clause-handed
-returns-clause-handed g c = grind (arith, common_steps, g.met.Q.Shelf.well_formed)
+returns-clause-handed g c =
+    let old : ShelfState = g.Q.Shelf.state c.args.shelf.now in
+    let now : ShelfState = g.Q.Shelf.state c.contents.new.shelf in
+    checked_and_searched c.args.set.now old now (g.Q.Shelf.state c.found_slices.new.shelf) (lengths_same old now c.in_ok-contents.ensures.ok)
+    (subst (λ files. ReadsCandidates files old now) c.files-set_files.ensures.field c.in_ok-contents.ensures.bytes)
+    c.found_slices.ensures.handed

@@ -8,6 +8,7 @@ use Rattle.parfind.specs.Steps.{scan_of}
 use Rattle.parfind.specs.Surveys.{MarksSighted, StopsOnceFound, marked_at}
 use Rattle.parwindow.specs.Missing.{mark_of}
 use Rattle.parreport.specs.Findings.{is_settled, can_be_found, set_scan_of}
+use Rattle.parreport.proofs.CostLaws.{searched_once}
 use Rattle.parreport.proofs.LeaveLaws.{FilesLeave-survey}
 use Rattle.parreport.proofs.StateLaws.{take-all_back}
 use Rattle.parreport.proofs.SumLaws.{marks_found, all_settled}
@@ -75,7 +76,9 @@ pub returns-in_err-survey-clause-slices : goal.returns-in_err-survey-clause-slic
 returns-in_err-survey-clause-slices g c = grind (arith, common_steps) steps 1500000
 
 pub returns-in_err-survey-clause-handed : goal.returns-in_err-survey-clause-handed
-returns-in_err-survey-clause-handed g c = grind (arith, common_steps) steps 400000
+returns-in_err-survey-clause-handed g c =
+    searched_once c.args.set.now c.args.index.now c.deref_mut.result.now (g.Q.Shelf.state c.args.shelf.now) (g.Q.Shelf.state c.survey.new.shelf)
+    c.requires.index c.survey.ensures.handed c.survey.ensures.unfit
 
 pub returns-in_err-survey-clause-ok : goal.returns-in_err-survey-clause-ok
 returns-in_err-survey-clause-ok g c = grind (arith, common_steps) steps 1500000
@@ -93,7 +96,9 @@ pub returns-clause-slices : goal.returns-clause-slices
 returns-clause-slices g c = grind (arith, common_steps) steps 1500000
 
 pub returns-clause-handed : goal.returns-clause-handed
-returns-clause-handed g c = grind (arith, common_steps) steps 1500000
+returns-clause-handed g c =
+    searched_once c.args.set.now c.args.index.now c.deref_mut.result.now (g.Q.Shelf.state c.args.shelf.now) (g.Q.Shelf.state c.survey.new.shelf)
+    c.requires.index c.survey.ensures.handed c.survey.ensures.unfit
 
 pub returns-clause-ok : goal.returns-clause-ok
 returns-clause-ok g c = grind (arith, common_steps) steps 400000

@@ -97,3 +97,15 @@ returns-clause-scanned g c = grind (arith, common_steps)
 
 pub returns-clause-sink : goal.returns-clause-sink
 returns-clause-sink g c = grind (arith, common_steps)
+
+pub returns-in_err-findings-clause-handed : goal.returns-in_err-findings-clause-handed
+returns-in_err-findings-clause-handed g c = c.findings_on.ensures.handed
+
+pub returns-clause-handed : goal.returns-clause-handed
+returns-clause-handed g c = c.findings_on.ensures.handed
+
+pub returns-in_err-findings-clause-unsearched : goal.returns-in_err-findings-clause-unsearched
+returns-in_err-findings-clause-unsearched g c = rw c.as_slice-files.ensures at c.findings_on.ensures.unsearched
+
+pub returns-clause-unsearched : goal.returns-clause-unsearched
+returns-clause-unsearched g c = rw c.as_slice-files.ensures at c.findings_on.ensures.unsearched

@@ -10,7 +10,9 @@ use Rattle.parfind.specs.declared.searches.finder.Step.TheVariants.{Hit, Done}
 use Rattle.parreport.specs.FindText.{Search, find_search_of}
 use Rattle.parreport.specs.SetSearch.{mode_of}
 use Rattle.parshelf.specs.SinkState.{SinkState}
-use Rattle.parreport.proofs.FindLaws.{hands_none, hands_front, hands_one, hands_refused, ends_text, ends_refused, stops_text, stops_refused, keeps_after_fault, gives_of_set}
+use Rattle.parfind.proofs.FetchedLaws.{hands_none}
+use Rattle.parreport.proofs.CostLaws.{lengths_same, reads_on, reads_room, reads_room_on}
+use Rattle.parreport.proofs.FindLaws.{hands_none as hands_no_sighting, hands_front, hands_one, hands_refused, ends_text, ends_refused, stops_text, stops_refused, keeps_after_fault, gives_of_set}
 use Rattle.parreport.proofs.LineLaws.{fault_text, last_text, line_reads, line_sink, line_keeps, line_fault}
 use Rattle.parreport.proofs.RunLaws.{list_same}
 use Rattle.parreport.proofs.text.find.sightings.write_from.Goals as goal
@@ -27,6 +29,8 @@ loop-left-preserved-in-Ok-Hit g c =
       belongs = c.in-Ok-Hit.ensures.belongs;
       mode = c.in-Ok-Hit.ensures.along.mode_is ∙ so_far.mode;
       reads = ReadsOnly_more old mid next so_far.reads c.in-Ok-Hit.ensures.along.shelf;
+      ahead = reads_on old mid next c.args.finder.now.fetched c.loop-left.finder.fetched c.next.new.self.fetched
+          (lengths_same old mid so_far.reads) so_far.ahead c.in-Ok-Hit.ensures.along.reads;
       failures = rw line so_far.failures;
       handed = λ contents reads.
           let gives = gives_of_set c.args.set.now (mode_of c.args.query.tails) c.loop-left.finder.mode c.args.index.now contents
@@ -88,7 +92,7 @@ returns-clause-text g c = λ contents reads.
     let before : SinkState = g.W.Sink.state c.args.out.now in
     let mid : SinkState = g.W.Sink.state c.loop-left.out in
     let new : SinkState = g.W.Sink.state c.write_cursor.new.out in
-    let none : c.loop-left.left ≡ Some 0 = search rules in
+    let none : c.loop-left.left ≡ Some 0 = search (rules, c.loop-left-test.ensures) in
     let handed = rw none at (c.loop-left.invariant.handed contents reads) in
     let list = list_same c.list_mark-list.result s.names _ _ c.list_mark-list.ensures (sym reads.lengths) in
     let line = rw (c.id.ensures, c.cursor.ensures, list) at c.write_cursor.ensures in
@@ -138,10 +142,14 @@ pub returns-clause-lines : goal.returns-clause-lines
 returns-clause-lines g c = grind (arith, common_steps) steps 400000
 
 pub returns-clause-reads : goal.returns-clause-reads
-returns-clause-reads g c = grind (arith, common_steps) steps 1000000
+returns-clause-reads g c =
+    line_reads _ c.write_cursor.result (g.Q.Shelf.state c.args.shelf.now) (g.Q.Shelf.state c.loop-left.shelf)
+    (g.W.Sink.state c.loop-left.out) (g.W.Sink.state c.write_cursor.new.out) c.write_cursor.ensures c.loop-left.invariant.reads
 
 pub returns-clause-sink : goal.returns-clause-sink
-returns-clause-sink g c = grind (arith, common_steps) steps 1000000
+returns-clause-sink g c =
+    line_sink _ c.write_cursor.result (g.W.Sink.state c.args.out.now) (g.W.Sink.state c.loop-left.out) (g.W.Sink.state c.write_cursor.new.out)
+    c.write_cursor.ensures c.loop-left.invariant.failures
 
 pub returns-in-Ok-Done-clause-reads : goal.returns-in-Ok-Done-clause-reads
 returns-in-Ok-Done-clause-reads g c =
@@ -190,9 +198,10 @@ loop-left-init g c = record {
   belongs = c.requires.belongs;
   mode = c.requires.mode;
   reads = ReadsOnly-refl (g.Q.Shelf.state c.args.shelf.now);
+  ahead = hands_none (g.Q.Shelf.state c.args.shelf.now).lengths (g.Q.Shelf.state c.args.shelf.now).handed c.args.finder.now.fetched;
   failures = refl;
   handed = λ contents reads.
-      hands_none (find_search_of c.args.files.now contents c.args.set.now c.args.finder.now.cursor c.args.query)
+      hands_no_sighting (find_search_of c.args.files.now contents c.args.set.now c.args.finder.now.cursor c.args.query)
       (g.W.Sink.state c.args.out.now);
 }
 
@@ -206,3 +215,34 @@ returns-in-Ok-Done-clause-fault g c = line_fault _ c.write_end.result _ _ c.writ
 
 pub returns-clause-fault : goal.returns-clause-fault
 returns-clause-fault g c = line_fault _ c.write_cursor.result _ _ c.write_cursor.ensures
+
+pub returns-clause-handed : goal.returns-clause-handed
+returns-clause-handed g c =
+    let old : ShelfState = g.Q.Shelf.state c.args.shelf.now in
+    let so_far = c.loop-left.invariant in
+    reads_room c.args.finder.now.cursor old (g.Q.Shelf.state c.loop-left.shelf) c.args.finder.now.fetched c.loop-left.finder.fetched
+    c.requires.fetched (lengths_same old _ so_far.reads) so_far.ahead
+
+pub returns-in-Ok-Done-clause-handed : goal.returns-in-Ok-Done-clause-handed
+returns-in-Ok-Done-clause-handed g c =
+    let old : ShelfState = g.Q.Shelf.state c.args.shelf.now in
+    let mid : ShelfState = g.Q.Shelf.state c.loop-left.shelf in
+    reads_room_on c.args.finder.now.cursor old mid (g.Q.Shelf.state c.next.new.shelf) c.args.finder.now.fetched c.loop-left.finder.fetched
+    c.next.new.self.fetched c.requires.fetched (lengths_same old mid c.loop-left.invariant.reads) c.in-Ok-Done.ensures.reads.lengths_are
+    c.loop-left.invariant.ahead c.in-Ok-Done.ensures.along.reads
+
+pub returns-in-Err-clause-handed : goal.returns-in-Err-clause-handed
+returns-in-Err-clause-handed g c =
+    let old : ShelfState = g.Q.Shelf.state c.args.shelf.now in
+    let mid : ShelfState = g.Q.Shelf.state c.loop-left.shelf in
+    reads_room_on c.args.finder.now.cursor old mid (g.Q.Shelf.state c.next.new.shelf) c.args.finder.now.fetched c.loop-left.finder.fetched
+    c.next.new.self.fetched c.requires.fetched (lengths_same old mid c.loop-left.invariant.reads) c.in-Err.ensures.reads.lengths_are
+    c.loop-left.invariant.ahead c.in-Err.ensures.along.reads
+
+pub returns-in_err-write_sighting-in-Ok-Hit-clause-handed : goal.returns-in_err-write_sighting-in-Ok-Hit-clause-handed
+returns-in_err-write_sighting-in-Ok-Hit-clause-handed g c =
+    let old : ShelfState = g.Q.Shelf.state c.args.shelf.now in
+    let mid : ShelfState = g.Q.Shelf.state c.loop-left.shelf in
+    reads_room_on c.args.finder.now.cursor old mid (g.Q.Shelf.state c.next.new.shelf) c.args.finder.now.fetched c.loop-left.finder.fetched
+    c.next.new.self.fetched c.requires.fetched (lengths_same old mid c.loop-left.invariant.reads) c.in-Ok-Hit.ensures.reads.lengths_are
+    c.loop-left.invariant.ahead c.in-Ok-Hit.ensures.along.reads

@@ -58,3 +58,6 @@ returns-clause-reads g c = c.write_from.ensures.reads
 
 pub returns-clause-sink : goal.returns-clause-sink
 returns-clause-sink g c = c.write_from.ensures.sink
+
+pub returns-clause-handed : goal.returns-clause-handed
+returns-clause-handed g c = rw c.in_ok-finder.ensures.cursor at c.write_from.ensures.handed

@@ -1,5 +1,8 @@
-use Rattle.std.proofs.Common.{arith, rules}
+use Rattle.std.proofs.Common.{◌≡◌, ◌∙◌, List, [], ◌∷◌, ◌++◌, Option, Some, option_map, map, refl, sym, ap, arith, rules}
+use Rattle.std.specs.List.{slice_get}
+use Rattle.std.proofs.lemmas.Option.{slice_get-map, slice_get_read}
 use Rattle.std.proofs.lemmas.Grind.{common_steps}
+use Rattle.parshelf.proofs.OpenLaws.{opened_next}
 use Rattle.parshelf.proofs.shelves.disk.DiskShelf.open.Goals as goal
 
 pub returns-clause-count : goal.returns-clause-count
@@ -42,7 +45,21 @@ pub returns-in_default-clause-state : goal.returns-in_default-clause-state
 returns-in_default-clause-state g c = grind (arith, common_steps) steps 100000
 
 pub loop-index-preserved : goal.loop-index-preserved
-loop-index-preserved g c = grind (arith, common_steps)
+loop-index-preserved g c =
+    let opened = c.in-Ok-Some.opened in
+    let texts = map g.S.AsStr.text c.args.paths.now in
+    let pushed : c.push.new.self.items ≡ c.loop-index.files.items ++ opened ∷ [] = grind (arith, common_steps) in
+    let path : opened.path.bytes ≡ c.as_str.result.now = rw (c.in-Ok-Some.is, c.in-Ok-Some.field-0-is) at c.open_regular.ensures.path in
+    let next : slice_get texts c.loop-index.index ≡ Some opened.path.bytes =
+    slice_get-map g.S.AsStr.text c.args.paths.now c.loop-index.index
+    ∙ ap (λ (o : Option _). option_map g.S.AsStr.text o)
+    (slice_get_read c.args.paths.now _ c.loop-index.index _ refl c.loop-index-test.true c.index-paths-index.is)
+    ∙ ap Some (sym (path ∙ c.as_str.ensures)) in record {
+      one_each = grind (arith, common_steps);
+      at_path = ap (λ (files : List _). map (λ file. file.path.bytes) files) pushed
+          ∙ opened_next (λ file. file.path.bytes) c.loop-index.files.items opened texts c.loop-index.index c.loop-index.invariant.at_path next;
+      short = grind (arith, common_steps);
+    }
 
 pub returns-clause-state : goal.returns-clause-state
 returns-clause-state g c = grind (arith, common_steps) steps 100000

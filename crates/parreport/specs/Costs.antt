@@ -1,0 +1,49 @@
+-- What reading costs: how many bytes of each file a run may be handed.
+use Rattle.std.specs.Prelude.{ℕ, ◌+◌, List, Option, None, Some, slice_index, if◌then◌else◌}
+use Rattle.parshelf.specs.Shelf.{ShelfState, ReadsAs, file_of}
+use Rattle.parsalvage.specs.MagicPlaces.{salvage_limit}
+use Rattle.parset.specs.RecoverySet.{SetView}
+use Rattle.parwindow.specs.Index.{slice_set_of, set_has_fit}
+use Rattle.parfind.specs.Order.{origin}
+use Rattle.parfind.specs.OnePass.{room_of}
+use Rattle.parfind.specs.declared.cursors.cursor.Cursor.{Cursor}
+use Rattle.parfind.specs.declared.cursors.cursor_text.CursorText.{CursorText}
+use Rattle.parplan.specs.declared.command.Command.{Command}
+use Rattle.parplan.specs.declared.command.Command.TheVariants as command
+use Rattle.parreport.specs.Contents.{HandsPerFile, checked_length_of}
+
+-- of each packet file no more than one salvage of its bytes may be handed, in any files of which that
+-- was read
+abbrev pub HandsWithinSalvage : ShelfState → ShelfState → Type 0
+HandsWithinSalvage old new =
+    (files : List (List ℕ)) → ReadsAs new files
+    → HandsPerFile (λ file. salvage_limit (file_of files file)) old new
+
+-- the cursor that `find` is asked to begin at; the first of all where none is given
+abbrev pub cursor_asked_of : Option CursorText → Cursor
+cursor_asked_of None = origin
+cursor_asked_of (Some text) = text.at
+
+-- how many bytes of a file of this length may be searched for slices of a set: all, where a slice
+-- with sums fits into it, else none
+abbrev pub searched_length_of : SetView → ℕ → ℕ
+searched_length_of set n =
+    if set_has_fit (slice_set_of set.size set.slices) n then n else 0
+
+-- how many bytes of a file of this length `verify` may read for a set: what it is checked by, and
+-- what of it may be searched
+abbrev pub verified_length_of : SetView → ℕ → ℕ
+verified_length_of set n = checked_length_of set.files n + searched_length_of set n
+
+-- how many bytes of a scanned file, by the lengths of all and its number, a command over a set may be
+-- handed: `find` what is ahead of the cursor
+abbrev pub scanned_limit_of : Command → SetView → List ℕ → ℕ → ℕ
+scanned_limit_of (command.Find limit cursor tails) set lengths file =
+    room_of lengths (cursor_asked_of cursor) file
+scanned_limit_of (command.Verify quiet tails) set lengths file =
+    verified_length_of set (slice_index lengths file)
+scanned_limit_of _ set lengths file = 0
+
+-- of each scanned file no more than its limit
+abbrev pub ScansWithin : Command → SetView → ShelfState → ShelfState → Type 0
+ScansWithin asked set old new = HandsPerFile (scanned_limit_of asked set old.lengths) old new
