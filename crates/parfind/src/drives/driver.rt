@@ -56,6 +56,8 @@ pub fn drive<H: Shelf>(
             Call::Next => Answer::Step(finder.next(index, shelf)),
             Call::Reopen => {
                 let at = finder.cursor();
+                // Two windows at once would be one too many.
+                drop(finder);
                 match Finder::open(alloc, index, shelf, at, mode) {
                     Ok(next) => {
                         finder = next;

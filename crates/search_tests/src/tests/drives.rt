@@ -8,7 +8,9 @@ mod refused;
 mod tails;
 
 use crate::tests::fixtures::{cursor_of, field, is, must, number_of, part, search_of, step_named};
+use crate::tests::sets::index_of_files;
 use parfind::{Answer, Call, Cursor, Drive, Mode, drive};
+use parfixtures::shelf_of;
 use parshelf::{ReadFault, Shelf};
 use parwindow::Index;
 use std::alloc::{AllocError, Global};
@@ -221,4 +223,22 @@ fn a_reopening_reads_its_window_again(rt: HostRuntime) {
 fn no_call_reopens_unasked(rt: HostRuntime) {
     let script = "next 0:2:0\nnext 0:6:1\nreopen reopened\n";
     drives(&rt, "abcdefgh|XXabcdefgh|0:0:0|0:6:2|10", 64, &[], script);
+}
+
+// Under a limit on memory that has room for one window and a half this sees that a reopening gives
+// its window up first.
+#[test]
+fn a_reopening_holds_one_window(rt: HostRuntime) {
+    let index = must(&rt, index_of_files(rt.alloc(), 4_194_304, &[b"abcd"]));
+    let mut shelf = must(&rt, shelf_of(rt.alloc(), &[b"abcd"], 4, &[]));
+    let script = "reopen reopened\nreopen reopened\n";
+    let end = driven(
+        &rt,
+        &index,
+        &mut shelf,
+        cursor_of("0:0:0"),
+        Mode::Plain,
+        script,
+    );
+    is(&rt, &end, &cursor_of("0:0:0"));
 }
