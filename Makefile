@@ -11,7 +11,7 @@ CRATE ?= parv
 SIZE ?= small
 PARV = crates/parv/out/parv
 
-.PHONY: demo build test checks bench dist check try plant mustfail format install uninstall
+.PHONY: demo build test checks faults bench dist check try plant mustfail format install uninstall
 
 # Builds the proved program and runs it on a real damaged set. Its log is out/demo.log.
 demo:
@@ -38,6 +38,11 @@ test:
 checks: build
 	@echo "Checks the built program, a minute or two. The log is out/checks.log."
 	@set -o pipefail; tools/checks.sh | tee out/checks.log
+
+# Plants each fault of tools/faults in a copy of its own, and runs what must see it: two at a time, a
+# few minutes each. FAULTS names some. It is no test.
+faults:
+	@PYTHONDONTWRITEBYTECODE=1 tools/faults/run.py $(FAULTS)
 
 # Processor time of the program against that of par2's, case by case, on small sets or, with
 # SIZE=large, on those whose ratios count. It needs Debian's par2, keeps its sets in $PARV_BENCH

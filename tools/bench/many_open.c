@@ -1,7 +1,7 @@
 /* Preloaded into parv, to measure with more files than the system lets a process hold open: of a file whose
    name doesn't end in .par2, in letters of either case, only the name is kept. It is opened anew for each
    read and asked by its name for its kind and length, and that time and the names' memory are in what is
-   measured.
+   measured. Where PACKET_FILES_TOO is set, it is so of files of any name.
 
        gcc -shared -fPIC -O2 -o /tmp/many_open.so tools/bench/many_open.c
        LD_PRELOAD=/tmp/many_open.so parv verify FILES */
@@ -23,7 +23,7 @@ static int count;
 static int is_packet_file(const char *name)
 {
     size_t length = strlen(name);
-    return length >= 5 && strcasecmp(name + length - 5, ".par2") == 0;
+    return !getenv("PACKET_FILES_TOO") && length >= 5 && strcasecmp(name + length - 5, ".par2") == 0;
 }
 
 int open(const char *name, int flags, ...)

@@ -1,7 +1,7 @@
 #!/usr/bin/env bash
 # What a search costs, in processor time: sets whose slices are equal or nearly all filling, over files that are
-# full of them, a large set over 64 MiB in which nothing stands, beside md5sum, and tails of 60 KiB beside such of
-# 1 KiB.
+# full of them, a file of 1 TiB into which no slice fits, a large set over 64 MiB in which nothing stands, beside
+# md5sum, and tails of 60 KiB beside such of 1 KiB. Then what many words cost, and the states of many files.
 . "$(dirname "$0")/wants.sh"
 cd "$work" || exit 1
 
@@ -26,10 +26,17 @@ whole_set("equal.par2", 4, (b"zero", zeros), (b"one", ones), (b"four", b"abcd"))
 write("zero", zeros)
 write("one", ones)
 write("odd", (bytes(4) + b"x" * 2496 + b"\xff" * 4 + b"x" * 2496) * 100)
+write("ones", ones + ones)
+write("more", bytes(1 << 20))
 
 # A slice of zeros that is longer than the file, and one of two letters before as many.
 whole_set("tail.par2", 1 << 20, (b"zeros", bytes(1 << 20) + b"ab"))
 write("tail", b"x" * 5000 + bytes(60000))
+
+# A file whose slices have no checksums.
+write("bare.par2", set_of(main_body(64, [bytes(16)]), ("filedesc", desc_body(bytes(16), b"bare", b"", 64))))
+with open("hole", "wb") as out:
+    out.truncate(1 << 40)
 
 # 32,768 slices of 64 bytes, and others.
 chance = random.Random(1)
@@ -48,10 +55,21 @@ END
 ten=(sh -c 'ulimit -S -t 10 && exec "$0" "$@"' "$parv")
 wants "the verdict on many equal slices" 2 "need 1 have 0
 result impossible" "" "${ten[@]}" verify -q equal.par2 zero one odd
+# No scanned file is whole here, so no slice has its mark before the search.
+wants "the verdict on many equal slices in a run of them" 2 "need 16384 have 0
+result impossible" "" "${ten[@]}" verify -q equal.par2 more
+wants "the verdict on those that are found in other files" 2 "need 1 have 0
+result impossible" "" "${ten[@]}" verify -q equal.par2 ones more
 wants "the verdict on slices longer than a tail of zeros" 2 "need 2 have 0
 result impossible" "" "${ten[@]}" verify -q tail.par2 tail
+wants "no slice without checksums in 1 TiB" 0 end "" "${ten[@]}" find bare.par2 hole
 wants "no slice in a tail of zeros" 0 end "" "${ten[@]}" find tail.par2 tail
 wants "no slice in a tail of zeros, with --tails" 0 end "" "${ten[@]}" find --tails tail.par2 tail
+
+# Words that `packets` doesn't open are gone over once.
+words=()
+for at in {1..60000}; do words+=("n$at"); done
+wants "60,000 words" 0 "$("$parv" packets tail.par2)" "" sh -c 'ulimit -S -t 3 && exec "$0" "$@"' "$parv" packets tail.par2 "${words[@]}"
 
 # The least time of three, in milliseconds of the processor.
 TIMEFORMAT='%U %S'
@@ -76,9 +94,29 @@ for name in short long; do
 done
 short=$(least_of_three "${ten[@]}" find --tails short.par2 sixteen)
 long=$(least_of_three "${ten[@]}" find --tails long.par2 sixteen)
+if [ "$short" -le $((4 * hashed + 300)) ]; then
+    echo "ok: a search of 16 MiB for four tails takes $short ms, and the MD5 of 64 MiB $hashed ms"
+else
+    fails "a search of 16 MiB for four tails takes $short ms, and the MD5 of 64 MiB $hashed ms"
+fi
 if [ "$long" -le $((2 * short + 100)) ]; then
     echo "ok: a search of 16 MiB for four tails of 60 KiB takes $long ms, and for four of 1 KiB $short ms"
 else
     fails "a search of 16 MiB for four tails of 60 KiB takes $long ms, and for four of 1 KiB $short ms"
+fi
+
+# What is told of files that are missing is looked up: to a set of 32,768 files it makes little difference how many
+# others are scanned.
+"$tools/make/big_set.py" full 32768 1 > /dev/null
+mkdir others
+others=3000
+ulimit -S -n 3100 2> "$said/limit" || others=600
+for ((at = 0; at < others; at++)); do printf 'none' > "others/$at"; done
+few=$(least_of_three "$parv" verify -q full/*.par2 others/1)
+many=$(least_of_three "$parv" verify -q full/*.par2 others/*)
+if [ "$(tail -n 1 "$said/text")" = "result impossible" ] && [ "$many" -le $((3 * few / 2 + 50)) ]; then
+    echo "ok: the states of 32,768 files beside $others others take $many ms, and beside one $few ms"
+else
+    fails "the states of 32,768 files beside $others others take $many ms, and beside one $few ms: $(head -c 200 "$said/line")"
 fi
 exit $failed

@@ -179,12 +179,17 @@ pread 2 0 10 -1" find v.par2 x.bin y.bin
     sees "a failed read tried again"
     [ $number = 5 ] || sees "an interrupted read tried again"
 done
-export ERROR=5 FAIL_READ=3 SHORT=100
-asks "a read of a part that fails" 6 "" "parv: read fault in v.par2" "$(opening v.par2 1)
-pread 1 0 416 100
-pread 1 100 316 100
-pread 1 200 216 -1" packets v.par2
-sees "a failed read of a part forgotten" "a failed read tried again"
+# Of a file that is read in parts the second one may fail, or the third: what reads on by itself forgets one of them.
+export ERROR=5 FAIL_READ SHORT=100
+parts=$(opening v.par2 1)
+for FAIL_READ in 2 3; do
+    at=$((100 * FAIL_READ - 200))
+    parts+=$'\n'"pread 1 $at $((416 - at)) 100"
+    at=$((at + 100))
+    asks "a read of a part that fails, at $at" 6 "" "parv: read fault in v.par2" "$parts
+pread 1 $at $((416 - at)) -1" packets v.par2
+    sees "a failed read of a part forgotten" "a failed read tried again"
+done
 unset ERROR FAIL_READ
 asks "a file that is read in parts" 0 "$(lines=(0\ 92\ main 92\ 128\ filedesc 220\ 120\ ifsc 340\ 76\ recvslic)
 printf "v.par2 %s $set\n" "${lines[@]}"; echo packets 4)" "" "$(opening v.par2 1)

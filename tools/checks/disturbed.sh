@@ -73,6 +73,21 @@ for what in FAIL_OPEN FAIL_STAT; do
     done
     ERROR=12 names "" $what find v.par2 x.bin w.par2 y.bin
 done
+# Any error of a write is a fault too: one that was interrupted isn't made again.
+for number in 4 11 28; do
+    for words in "packets v.par2 w.par2" "find v.par2 x.bin y.bin"; do
+        # shellcheck disable=SC2086
+        ERROR=$number disturb FAIL_WRITE $words
+    done
+done
+# Texts of several blocks: where a block can't be written, none is behind it.
+"$tools/make/many_packets.py" 3500 blocks.par2 || exit 1
+for words in "packets blocks.par2" "packets v.par2 blocks.par2"; do
+    # shellcheck disable=SC2086
+    disturb FAIL_WRITE $words
+    # shellcheck disable=SC2086
+    disturb EMPTY_WRITE $words
+done
 disturb SHORT packets none.par2
 for words in "packets v.par2 w.par2" "set v.par2 w.par2" "find v.par2 x.bin y.bin" "verify v.par2 x.bin y.bin" \
     "find --cursor 2:$set:$list:0:2:1 v.par2 x.bin" "find --cursor $set:0:2:1 v.par2 x.bin" \

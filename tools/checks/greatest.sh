@@ -123,6 +123,11 @@ cursor 2:$set:$mark:65533:2:1" "" \
         "${many[@]}" find --limit 1 v.par2 "${others[@]}" x.bin
     wants "the last of 65,535 files, verified" 0 "$whole" "" "${many[@]}" verify v.par2 "${others[@]}" g.bin
     wants "65,536 files" 3 "" "parv: bad value" "${many[@]}" find v.par2 "${others[@]}" n x.bin
+    packets=("${others[@]/n/v.par2}" v.par2 v.par2)
+    wants "65,535 packet files" 2 "set $set size 4 slices 2
+missing g.bin 0/2
+need 2 have 0
+result impossible" "" env PACKET_FILES_TOO=1 "${many[@]}" verify "${packets[@]}"
 else
     echo "not run: 65,535 files: $(head -c 200 "$said/words")"
 fi

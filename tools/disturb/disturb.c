@@ -2,12 +2,13 @@
    and all later ones, fails the opening whose number stands in FAIL_OPEN, the question for a file's kind and
    length in FAIL_STAT and the read in FAIL_READ, lets the file end at the read in CUT_READ, and of the writes
    to standard output fails the one in FAIL_WRITE and takes nothing at the one in EMPTY_WRITE, each counted
-   from 1. ERROR is the error's number for an opening, a question or a read that fails (EIO). Where SHORT is a
-   number, no read and no write to standard output or standard error moves more bytes.
+   from 1. ERROR is the error's number for an opening, a question, a read or a write that fails (EIO). Where SHORT
+   is a number, no read and no write to standard output or standard error moves more bytes.
    As the program ends, the file that REPORT names gets one line of eight numbers: 1 where any of that was
    done (where an allocation is to be refused, 1 where it was), or 0; the allocations that were not given
    back; the files that were not closed; how many allocations there were; the reads behind the one that
-   failed or ended; the writes to standard output; the openings for more than reading; and the reads.
+   failed or ended, and the reads and writes behind the write that failed or took nothing; the writes to
+   standard output; the openings for more than reading; and the reads.
    The file that CALLS names gets a line for each call on a file, as it is made: `statx PATH FLAGS` or
    `statx NUMBER FLAGS`, `open PATH FLAGS NUMBER`, `pread NUMBER OFFSET SIZE GIVEN` and `close NUMBER`. NUMBER
    is that of the opening, from 1 (0: none); FLAGS are hexadecimal; SIZE is what was asked for, and GIVEN what
@@ -28,6 +29,7 @@ static int error;                               /* the number of a fault */
 static long allocations, opens, stats, reads, writes, done; /* how many there were, and whether one was met */
 static long live, opened;                       /* what is taken and not yet given back */
 static long changing;                           /* openings for more than reading */
+static long reads_before;                       /* the reads before the write that was disturbed */
 static char early[4096];                        /* dlsym itself asks for a little */
 static int calls = -1;                          /* the file that gets the calls */
 static long numbers[1 << 17];                   /* the number of the opening of each open file */
@@ -246,11 +248,13 @@ ssize_t write(int file, const void *place, size_t size)
         writes++;
         if (writes == full) {
             met();
-            errno = EIO;
+            reads_before = reads;
+            errno = error;
             return -1;
         }
         if (writes == empty) {
             met();
+            reads_before = reads;
             return 0;
         }
     }
@@ -294,8 +298,11 @@ __attribute__((destructor)) static void end(void)
     long left = live, unclosed = opened, changed = changing, taken = allocations;
     long disturbed = failing ? failing : cut;
     long behind = disturbed && reads > disturbed ? reads - disturbed : 0;
+    long unwritten = full ? full : empty;
     const char *name = getenv("REPORT");
     FILE *file;
+    if (unwritten && writes >= unwritten)
+        behind += writes - unwritten + reads - reads_before;
     refused = later = 0;
     calls = -1;
     if (name && (file = fopen(name, "w"))) {

@@ -1,7 +1,7 @@
 #!/usr/bin/env bash
 # Disturbs a run of the built program once at each place in turn: REFUSE refuses an allocation, FAIL_OPEN
-# fails an opening, FAIL_STAT a question for a file's kind and length and FAIL_READ a read (by the error
-# ERROR), CUT_READ ends the file at a read, FAIL_WRITE fails a write and EMPTY_WRITE takes nothing at one.
+# fails an opening, FAIL_STAT a question for a file's kind and length, FAIL_READ a read and FAIL_WRITE a write
+# (by the error ERROR), CUT_READ ends the file at a read, and EMPTY_WRITE takes nothing at a write.
 # The run must end with 8, or with 6 and its line, and what it wrote must be a beginning of the undisturbed
 # text; after a refusal it may also be the undisturbed run, where room was only asked for ahead and then had
 # one by one. Past the last place it is the undisturbed run. Each run gives back every allocation and closes
@@ -35,7 +35,7 @@ run() {
     [ -s "$work/report" ] || fail "status $status, and no report"
     read -r met live opened _ behind _ changing _ < "$work/report"
     [ "$changing" = 0 ] || fail "$changing files opened for more than reading"
-    [ "$behind" = 0 ] || fail "$behind reads behind the one that was disturbed"
+    [ "$behind" = 0 ] || fail "$behind reads and writes behind the one that was disturbed"
     [ "$live $opened" = "0 0" ] || fail "$live allocations not given back, $opened files not closed, status $status"
 }
 

@@ -1,5 +1,6 @@
 mod salvage;
 mod set;
+mod texts;
 
 use parfixtures::{joined, packet_of};
 use std::fmt::Debug;

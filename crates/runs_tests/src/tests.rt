@@ -12,6 +12,7 @@ mod reads;
 mod resuming;
 mod surface;
 mod tails;
+mod told;
 mod verifying;
 mod whole_rows;
 mod words;

@@ -108,3 +108,15 @@ fn a_packet_behind_each_beginning_of_one_is_found(rt: HostRuntime) {
         behind_beginning(&rt, size);
     }
 }
+
+// A mebibyte of magics: each is refused by its header, and what lies behind it isn't hashed, which
+// would be 32 GiB and more.
+#[test]
+fn magics_alone_are_not_hashed(rt: HostRuntime) {
+    let mut bytes = Vec::new(rt.alloc());
+    for _ in 0..131_072 {
+        must(&rt, bytes.extend_from_slice(b"PAR2\0PKT"));
+    }
+    let found = must(&rt, salvage(rt.alloc(), &bytes));
+    holds(&rt, &"magics", found.is_empty());
+}

@@ -1,0 +1,219 @@
+#!/usr/bin/env bash
+# What hashing and searching cost, counted: how many blocks of 64 bytes go through MD5 in a run, how many digests are
+# taken of a window, how many indexes are made, and how often a search goes on. Each number is worked out from the
+# files, by the definitions of the formats and of MD5.
+. "$(dirname "$0")/wants.sh"
+cd "$work" || exit 1
+gcc -O1 -Wall -Wextra -o entries "$tools/digests/entries.c" || exit 1
+nm "$parv" > symbols || exit 1
+
+# place NAME FUNCTION: NAME is counted where this function of the program begins, whatever types it is made for.
+places=()
+place() {
+    local found
+    found=$(awk -v name="$2" '{ address = $1; sub(/^[0-9a-f]+ [tT] /, ""); sub(/::<.*/, "") }
+        $0 == name { printf "%s%s", between, address; between = "," }' symbols)
+    if [ -z "$found" ]; then
+        fails "$1 can't be counted: the program has no function $2"
+    else
+        places+=("$1=$found")
+    fi
+}
+place blocks md5::compress::compress
+place digests parwindow::window::Window::hash
+place windows parwindow::window::Window::with_tails
+place indexes parwindow::index::Index::of
+place turns parfind::tracks::track::Track::slide_until_crc
+place halves parwindow::zero_run::ZeroRun::new
+place marks parshelf::shelves::names::list_mark
+[ $failed -eq 0 ] || exit 1
+
+PYTHONPATH=$tools python3 - << 'END' || exit 1
+import hashlib
+import zlib
+from make.damage import flip
+from make.packets import NO_ID, desc_body, ids_of, ifsc_body, main_body, md5, packet, set_of
+
+def write(name, *parts):
+    with open(name, "wb") as out:
+        out.write(b"".join(parts))
+
+def junk(name, size):
+    return hashlib.shake_256(name.encode()).digest(size)
+
+def stepped(register):
+    for _ in range(8):
+        register = register >> 1 ^ (0xEDB88320 if register & 1 else 0)
+    return register
+
+def with_crc(front, crc):
+    """These bytes and four more, by which all have this CRC-32."""
+    table = [stepped(byte) for byte in range(256)]
+    steps, after = [], crc ^ 0xFFFFFFFF
+    for _ in range(4):
+        step = next(byte for byte in range(256) if table[byte] >> 24 == after >> 24)
+        steps.insert(0, step)
+        after = (after ^ table[step]) << 8 & 0xFFFFFFFF
+    register, more = zlib.crc32(front) ^ 0xFFFFFFFF, bytearray()
+    for step in steps:
+        more.append(step ^ register & 0xFF)
+        register = register >> 8 ^ table[step]
+    assert zlib.crc32(front + more) == crc
+    return front + more
+
+# Packets: two that are whole, one whose last byte is another, one over the end of the first piece of a file, one that
+# is longer than its file, and one within another.
+small, large = packet(NO_ID, "creator", bytes(40)), packet(NO_ID, "creator", bytes(20000))
+damaged = bytearray(large)
+flip(damaged, len(damaged) - 1)
+write("two.par2", small, large)
+write("wrong.par2", damaged)
+write("late.par2", bytes(65000), large, bytes(5000))
+write("cut.par2", large[:-4])
+write("inner.par2", packet(NO_ID, "creator", bytes(100) + small + bytes(20)))
+
+# Three files in slices of 8,192 bytes, whose last ones have 3,616, 3,000 and 1,696.
+size = 8192
+contents = {name: junk(name, length) for name, length in [("a", 20000), ("b", 3000), ("c", 100000)]}
+ids = ids_of(3, 1)
+main = main_body(size, ids)
+descs = [("filedesc", desc_body(owner, name.encode(), contents[name])) for owner, name in zip(ids, contents)]
+sums = [("ifsc", ifsc_body(owner, content, size)) for owner, content in zip(ids, contents.values())]
+write("s.par2", set_of(main, *descs, *sums))
+write("n.par2", set_of(main, *descs))
+write("s.id", md5(main).hex().encode())
+for name, content in contents.items():
+    write(name, content)
+changed = bytearray(contents["c"])
+flip(changed, 50000)
+write("cc", changed)
+# In place of the seventh slice stand bytes that have its CRC-32 alone.
+seventh = contents["c"][6 * size:7 * size]
+forged = with_crc(junk("forged", size - 4), zlib.crc32(seventh))
+assert len(forged) == size and forged != seventh
+write("cf", contents["c"][:6 * size], forged, contents["c"][7 * size:])
+write("other", junk("other", 20000))
+
+# Files of one slice of 64 bytes each.
+def short_set(name, *slices):
+    owners = ids_of(len(slices), 2)
+    write(name, set_of(main_body(64, owners),
+                       *(pair for owner, content in zip(owners, slices)
+                         for pair in (("filedesc", desc_body(owner, owner[:1].hex().encode(), content)),
+                                      ("ifsc", ifsc_body(owner, content, 64))))))
+
+short_set("zero.par2", bytes(64), b"x" * 64)
+short_set("twins.par2", b"y" * 64, b"y" * 64)
+write("zeros", bytes(10000))
+write("twin", b"y" * 64 + b"z")
+END
+set=$(< s.id)
+
+# blocks_of LENGTH..: how many blocks MD5 makes of messages of these lengths: a byte at least and the length of eight
+# stand behind each.
+blocks_of() {
+    local all=0 length
+    for length; do
+        all=$((all + (length + 8) / 64 + 1))
+    done
+    echo $all
+}
+
+# costs NAME WORDS LAST NUMBER..: the run of these words ends with this line, and each NUMBER holds of it: NAME=COUNT,
+# or NAME<=COUNT where the formats and what is promised give a bound alone.
+costs() {
+    local name=$1 words=$2 last=$3 number of count wrong=
+    shift 3
+    rm -f counts
+    # shellcheck disable=SC2086
+    ./entries counts "${places[@]}" -- "$parv" $words > text 2> line < /dev/null
+    [ "$(tail -n 1 text)" = "$last" ] || wrong="$(tail -n 1 text)$(head -c 200 line), "
+    for number; do
+        of=${number%%[<=]*}
+        count=$(awk -v of="$of" '$1 == of { print $2 }' counts)
+        case $number in
+        *"<="*) [ "${count:-x}" -le "${number#*<=}" ] 2> line ;;
+        *) [ "$count" = "${number#*=}" ] ;;
+        esac || wrong+="$of ${count:-not counted} and not ${number#"$of"}, "
+    done
+    if [ -z "$wrong" ]; then
+        echo "ok: $name: $*"
+    else
+        fails "$name: ${wrong%, }: parv $words"
+    fi
+}
+
+# A packet is hashed once, from the ID of its set on, which is all but its first 32 bytes.
+costs "each packet once" "packets two.par2" "packets 2" "blocks=$(blocks_of 72 20032)"
+costs "a packet whose last byte is another once" "packets wrong.par2" "packets 0" "blocks=$(blocks_of 20032)"
+costs "a packet over the end of a piece once" "packets late.par2" "packets 1" "blocks=$(blocks_of 20032)"
+costs "nothing of a packet longer than its file" "packets cut.par2" "packets 0" blocks=0
+costs "a packet within another, and the other" "packets inner.par2" "packets 2" "blocks=$(blocks_of 72 256)"
+costs "a file that is named twice twice" "packets two.par2 two.par2" "packets 4" "blocks=$(blocks_of 72 20032 72 20032)"
+
+# The set has a Main body of 60 bytes, three descriptions of 60 with their names, and checksums of 3, 1 and 13 slices.
+# The ID of a set is the MD5 of its Main body, which is hashed where a Main packet is chosen, and again of each Main
+# packet of the set where it is told which ones are put aside.
+bare=$(blocks_of 92 92 92 92)
+packets=$((bare + $(blocks_of 108 68 308)))
+main=$(blocks_of 60)
+costs "the packets of a set" "packets s.par2" "packets 7" blocks=$packets digests=0 windows=0
+costs "a set, whose Main body is hashed twice" "set s.par2" "have 0" blocks=$((packets + 2 * main)) digests=0 windows=0
+costs "its packets twice" "set s.par2 s.par2" "have 0" blocks=$((2 * packets + 3 * main))
+base=$((packets + 2 * main))
+
+# Of scanned files those that have the length of a file of the set are hashed once, and nothing else where all are
+# complete, or no slice that is missing has its checksums.
+whole=$((base + $(blocks_of 20000 3000 100000)))
+costs "files that are complete" "verify s.par2 a b c" "result complete" blocks=$whole digests=0 windows=0 \
+    indexes=1 turns=0
+costs "another file of the length of one, and one of no such length" "verify s.par2 a other b zeros c" \
+    "result complete" "blocks=$((whole + $(blocks_of 20000)))" digests=0 windows=0 turns=0
+costs "one of them twice" "verify s.par2 a a b c" "result complete" "blocks=$((whole + $(blocks_of 20000)))"
+costs "the same with --tails" "verify --tails s.par2 a b c" "result complete" blocks=$whole digests=0 windows=0 turns=0
+costs "files without checksums of slices" "verify n.par2 a cc" "result impossible" \
+    "blocks=$((bare + 2 * main + $(blocks_of 20000 100000)))" digests=0 windows=0 turns=0
+
+# Where some slices have a mark and others none, a second index has those that are missing.
+# A window is hashed once at each place where a slice that is missing has its CRC-32: the 12 of 13 slices of `c` that
+# are left, and one that has the CRC-32 alone. `find` looks for all, wherever they are.
+slice=$(blocks_of 8192)
+for tails in "" --tails; do
+    with=${tails:+, with $tails}
+    costs "a byte is another$with" "verify -q $tails s.par2 a b cc" "result impossible" \
+        blocks=$((whole + 12 * slice)) digests=12 windows=1 indexes=2
+    costs "no file is whole$with" "verify -q $tails s.par2 cc" "result impossible" digests=12 windows=1 indexes=1
+    costs "a slice that has its CRC-32 alone$with" "verify -q $tails s.par2 a b cf" "result impossible" \
+        blocks=$((whole + 13 * slice)) digests=13 windows=1
+    costs "a file that isn't there$with" "verify -q $tails s.par2 a b" "result impossible" \
+        "blocks=$((base + $(blocks_of 20000 3000)))" digests=0 windows=1
+    costs "what is found, 3 slices, 1 and 13$with" "find $tails s.par2 a b c" end \
+        blocks=$((base + 17 * slice)) digests=17 windows=1
+    costs "one of them by its CRC-32 alone$with" "find $tails s.par2 a b cf" end \
+        blocks=$((base + 17 * slice)) digests=17 windows=1
+    costs "nothing$with" "find $tails s.par2 other" end blocks=$base digests=0 windows=1
+done
+costs "two slices of the same bytes at one place" "find twins.par2 twin" end digests=1 windows=1
+
+# The mark of a list of files, here of one name and length in 17 bytes, is made for each cursor that is read or written.
+mark=$(blocks_of 17)
+list=$(printf '\001\0\0\0\0\0\0\0c\240\206\001\0\0\0\0\0' | md5sum)
+at=2:$set:${list%% *}:0
+costs "no mark where no cursor is written" "find s.par2 c" end blocks=$((base + 13 * slice)) marks=0
+costs "a mark where a limit ends it" "find --limit 2 s.par2 c" "cursor $at:8192:6" \
+    blocks=$((base + 2 * slice + mark)) digests=2 marks=1
+costs "a mark where it begins at a cursor" "find --cursor $at:8192:6 s.par2 c" end \
+    blocks=$((base + 12 * slice + mark)) marks=1
+
+# At the first window of zeros the slice of zeros gets its mark; at the next one no slice of its CRC-32 is missing, so
+# that none of the others is hashed.
+costs "a run of equal windows" "verify -q zero.par2 zeros" "result impossible" digests=1
+
+# A search goes on by what is read ahead of it, 4,096 bytes at most, so in five pieces of a file of 20,000 bytes, and in
+# more only where a slice is met.
+costs "a search by pieces" "find s.par2 other" end "turns<=5"
+costs "the same for a missing file" "verify -q s.par2 a b other" "result impossible" "turns<=14"
+
+# What zeros behind a window make of a register is worked out by halves of their number: of 8,192, of one more, of 1.
+costs "tables by halves" "find s.par2 other" end "halves<=$((15 + 15 + 2))"
+exit $failed
