@@ -1,29 +1,58 @@
 #!/usr/bin/env bash
-# Checks every PAR2 set below a folder and prints a line for each, as cron may do on a backup.
-# Usage: check_tree.sh [-j N] [-q] [--tails] FOLDER
-# A set is one set ID in one folder: so a folder may have several sets, and a copy in another folder is a
-# set of its own. It is called by its folder and by what the name of its first packet file has before
-# .par2, or .vol0+1.par2 and the like. Packet files in which no packet is left belong to the set that is
-# called like them, and are a set of their own where there is none.
+# usage: check_tree.sh [-j N] [-q] [--tails] FOLDER
 #
-# A set is verified with the files in its folder, and with those in subfolders that its names have; links
-# aren't followed, and a name that is no plain path below the folder is told and looked at nowhere.
-# Each line has the exit status, the set ID, what is needed and there, and the name, as FORMATS.md shows
-# names: `1 <ID> need 5 have 8 photos/2019`; where there is no verdict or no ID, a dash. Lines stand in
-# the order of folders and names. From status 3 on a line on standard error says why.
+# Checks every PAR2 set below a folder and prints a line for each, as cron may do
+# on a backup. It writes nothing there.
 #
-# -j checks N sets side by side; -q leaves out the lines of sets that are complete; --tails finds short
-# slices before other bytes too. The exit status is the greatest of all: 0 each set is complete, 1 for one
-# a repair can be tried, 2 for one not enough is left; 3 wrong words, or no packet file at all; 4 packet
-# files without a set; 6 a file or folder can't be read; 8 no memory. PARV names the program.
+#   -j N       checks N sets side by side
+#   -q         leaves out the lines of sets that are complete
+#   --tails    finds short slices before other bytes too
+#
+# A line has the exit status of the set, its ID, what is needed and what is there,
+# and its folder and name:
+#   1 589c76e09f0580b9203c5b64963b8957 need 5 have 8 2019/photos
+# Where there is no verdict or no ID, a dash stands. Names are shown as parv shows
+# them. Lines stand in the order of folders and names. From status 3 on a line on
+# standard error says why.
+#
+# Lost packet files change no status while all data is whole, and -q says nothing
+# then. So keep the lines of a run without it, and compare the next ones with
+# them. A line that is gone is a set without any packet file, and a smaller number
+# behind `have` says that recovery slices are lost:
+#   check_tree.sh FOLDER > new; diff old new
+#
+# From a line go to its folder, and ask there for each file:
+#   parv verify -B . ./*
+#   slice_map.py -B . ./*
+# Where the folder has several sets, --set and the ID of the line take the one.
+#
+# A set is one set ID in one folder: so a folder may have several sets, and a copy
+# in another folder is a set of its own. It is called by its folder and by what
+# the name of its first packet file has before .par2, or .vol0+1.par2 and the
+# like. Packet files in which no packet is left belong to the set that is called
+# like them. Where there is none, they are a set of their own.
+#
+# A set is verified with the files in its folder, and with those in subfolders
+# that its names have. Links aren't followed. A name that is no plain path below
+# the folder is told and looked at nowhere.
+#
+# The exit status is the greatest of all:
+#   0  each set is complete
+#   1  of one a repair can be tried
+#   2  of one not enough is left
+#   3  wrong words, or no packet file at all
+#   4  packet files without a set
+#   6  a file or folder can't be read, or parv can't be run
+#   8  no memory
+# PARV names the program, where it isn't in PATH.
 set -uo pipefail
 export LC_ALL=C
-usage='usage: check_tree.sh [-j N] [-q] [--tails] FOLDER'
+usage=$(sed -n '2s/^# //p' "$0")
 sides=1 quiet='' tails=()
 while [[ ${1-} == -* ]]; do
     case $1 in
     -h | --help)
-        echo "$usage"
+        sed -n '2,/^set /s/^# \{0,1\}//p' "$0"
         exit 0
         ;;
     -j)
@@ -65,6 +94,10 @@ show() {
 }
 
 parv=${PARV:-parv}
+command -v -- "$parv" > /dev/null || {
+    printf 'check_tree.sh: cannot run %q: put parv in PATH, or name it by PARV\n' "$parv" >&2
+    exit 6
+}
 case $parv in
 [!/]*/*) parv=$PWD/$parv ;;
 esac

@@ -3,26 +3,46 @@
 
 usage: extract_found.py [-h] [--tails] [--set ID] FOLDER FILES
 
-FILES are packet files of the set and files to be searched, as `parv find` takes them. FOLDER, which
-is made, or is empty, or was filled by this script, gets each file of the set of which a slice is
-found by its name in the set: every slice at its place, and holes where one is missing. At the end a
-line tells of each file, `complete`, `damaged` with a line `hole OFFSET LENGTH NAME` for each hole,
-`wrong`, `missing` or `refused`, and the last one how many slices are there. A file whose checksums
-aren't known is missing, as its slices can't be seen.
+For an image of a disc call it with --tails:
+  extract_found.py --tails saved photos.par2 disc.img
+Without it the last slice of a file, mostly a short one, is found only where the
+image ends behind it, or goes on with zeros. Whole files may be told as damaged
+or missing then.
 
-A slice is written where its bytes have its MD5 still; a file is complete where all its slices are
-there and the MD5 of the file, read again, is that of the set. What was written stands in
-FOLDER/.extract_found, so a run that was stopped goes on where it was, when it is called again; with
-other FILES it looks there for what is missing. A set in which a slice of zeros is, or another one
-that is seen at each offset of an image, is searched on without what is there already.
+FILES are packet files of the set and files to be searched, as `parv find` takes
+them; they are only read. FOLDER is made, or is empty, or was filled by this
+script. It gets each file of the set of which a slice is found, by its name in
+the set: every slice at its place, and holes where one is missing.
 
-A file of the set is refused where its name could lead out of FOLDER, where something stands in its
-place that this script hasn't made, and where a link is on the way to it. Nothing is overwritten.
+At the end a line tells of each file: `complete`, `damaged`, `wrong`, `missing`
+or `refused`. Behind that of a damaged one a line `hole OFFSET LENGTH NAME`
+tells of each hole. A hole is whole slices: at each of its ends up to a slice
+less a byte may still stand in the image. The last line says how many slices are
+there. A file whose checksums aren't known is missing, as its slices can't be
+seen.
 
-With --tails the last slice of a file, mostly a short one, is found before other bytes too. PARV
-names the program. The exit status is 0 where each file of the set is complete, else 1; from 3 on
-that of parv, 3 also where FOLDER is of another set or no folder of this script, and 6 where a file
-can't be read or written.
+A slice is written where its bytes have its MD5 still. A file is complete where
+all its slices are there and the MD5 of the file, read again, is that of the
+set. It is wrong where its MD5 is another one.
+
+What was written stands in FOLDER/.extract_found. So a run that was stopped goes
+on where it was, when it is called again. A run with --tails may go on behind
+one without, in the same FOLDER; so may one with other FILES, which looks there
+for what is missing. A set that has a slice which is seen at each offset of an
+image, as one of zeros, is searched on without what is there already.
+
+A file of the set is refused where its name could lead out of FOLDER. So it is
+where something stands in its place that this script hasn't made, and where a
+link is on the way to it. Nothing is overwritten.
+
+The exit status:
+  0  each file of the set is complete
+  1  not each is
+  3  wrong words, no packet file, or FOLDER is of another set or not of this script
+  4  no set in the packet files, or with --tails too many lengths
+  6  a file can't be read or written, or parv can't be run
+  8  no memory
+PARV names the program, where it isn't in PATH.
 """
 
 import argparse
@@ -32,6 +52,7 @@ import fcntl
 import hashlib
 import os
 import re
+import shutil
 import stat
 import subprocess
 import sys
@@ -39,7 +60,7 @@ import tempfile
 import time
 from typing import NamedTuple, Optional
 
-PARV = os.environ.get("PARV", "parv")
+PARV = os.environ.get("PARV") or "parv"
 RECORD = ".extract_found"
 MAGIC = b"PAR2\0PKT"
 IFSC = b"PAR 2.0\0IFSC\0\0\0\0"
@@ -714,6 +735,8 @@ def is_set_id(text):
 def ended(run, asked):
     """The exit status of a run, with a line on standard error for what ended it."""
     try:
+        if shutil.which(PARV) is None:
+            raise Fault(6, f"cannot run {shown(os.fsencode(PARV))}: put parv in PATH, or name it by PARV")
         status = run(asked)
         sys.stdout.flush()
         return status

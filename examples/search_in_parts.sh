@@ -1,22 +1,46 @@
 #!/usr/bin/env bash
-# Searches large files for the slices of a PAR2 set, a part of LIMIT sightings at a time, and writes
-# all sightings at the end. Each part is a file in the folder PARTS, so a search that was stopped
-# goes on behind the last part that is whole, when it is called again with the same words.
-# Usage: search_in_parts.sh [--tails] PARTS LIMIT FILES, the packet files among them
-# With --tails the last slice of a file, mostly a short one, is found before other bytes too.
-# Its exit status is that of parv: 3 where a scanned file has another length than at the part before,
-# since the cursor is then one of other files; 3 also where PARTS is of a search with other words.
+# usage: search_in_parts.sh [--tails] PARTS LIMIT FILES
+#
+# Searches large files for the slices of a PAR2 set, a part of LIMIT sightings at
+# a time, and writes all sightings at the end. The packet files are among FILES.
+#
+#   --tails    finds short slices before other bytes too
+#
+# Each part is a file in the folder PARTS, which is made. So a search that was
+# stopped goes on behind the last part that is whole, when it is called again with
+# the same words. It changes nothing else.
+#
+# The exit status is that of parv:
+#   0  all sightings were written
+#   3  wrong words, or PARTS is of a search with other words
+#   3  also where a scanned file has another length than at the part before, since
+#      the cursor is then one of other files
+#   4  no set in the packet files, or with --tails too many lengths
+#   6  a file can't be read or written, or parv can't be run
+#   8  no memory
+# PARV names the program, where it isn't in PATH.
 set -euo pipefail
-parv=${PARV:-parv}
+usage=$(sed -n '2s/^# //p' "$0")
 tails=()
-if [ "${1-}" = --tails ]; then
+case ${1-} in
+-h | --help)
+    sed -n '2,/^set /s/^# \{0,1\}//p' "$0"
+    exit 0
+    ;;
+--tails)
     tails=(--tails)
     shift
-fi
+    ;;
+esac
 if [ $# -lt 3 ]; then
-    echo "usage: search_in_parts.sh [--tails] PARTS LIMIT FILES" >&2
+    echo "$usage" >&2
     exit 3
 fi
+parv=${PARV:-parv}
+command -v -- "$parv" > /dev/null || {
+    printf 'search_in_parts.sh: cannot run %q: put parv in PATH, or name it by PARV\n' "$parv" >&2
+    exit 6
+}
 parts=${1%/}
 limit=$2
 shift 2

@@ -3,22 +3,36 @@
 
 usage: slice_map.py [-h] [--tails] [--set ID] [-B DIR] [--width N] [--html FILE] [--svg FILE] FILES
 
-FILES are packet files of the set and files to be scanned, and -B takes a folder off their names, all
-as for `parv verify`. A slice is in place where a scanned file of its file's name has it at its
-offset; moved where it is seen at another offset alone or in another file; else it is missing. Of a
-file whose checksums aren't known the slices are in place where it is complete, moved where it is
-renamed, and else not known.
+In the folder of the files:
+  slice_map.py -B . ./*
 
-The picture is text, as wide as the terminal or N characters: one for each slice, or, where a file
-has more than four lines of them, for several in turn, of which the worst is shown: missing, not
-known, moved, in place. It has colours on a terminal, unless NO_COLOR is set. --html FILE writes a
-page of it, with more cells and with what each stands for, and where moved slices stand; --svg FILE
-a picture to show elsewhere. Cells there show the worst of their slices too. Neither writes over a
-file that is there.
+FILES are packet files of the set and files to be scanned, and -B takes a folder
+off their names, all as for `parv verify`. A slice is in place where a scanned
+file of its file's name has it at its offset. It is moved where it is seen at
+another offset alone or in another file; else it is missing. Of a file whose
+checksums aren't known the slices are in place where it is complete, moved where
+it is renamed, and else not known.
 
-With --tails short last slices are seen before other bytes too. PARV names the program. The exit
-status is 0 whatever is seen; from 3 on that of parv, and 6 where a file can't be read or written.
-It needs extract_found.py beside it.
+The picture is text, as wide as the terminal or N characters. A sign is one
+slice, or several in turn where a file would take more than four lines. Of
+several the worst is shown: missing, not known, moved, in place. It has colours
+on a terminal, unless NO_COLOR is set.
+
+--html FILE writes a page of it. It has more cells, tells what each stands for,
+and where moved slices stand. --svg FILE writes a picture to show elsewhere.
+Cells there show the worst of their slices too. Neither writes over a file that
+is there, and nothing else is written.
+
+With --tails short last slices are seen before other bytes too, as in the image
+of a disc. It needs extract_found.py beside it.
+
+The exit status:
+  0  whatever is seen
+  3  wrong words, or no packet file
+  4  no set in the packet files, or with --tails too many lengths
+  6  a file can't be read or written, or parv can't be run
+  8  no memory
+PARV names the program, where it isn't in PATH.
 """
 
 import hashlib

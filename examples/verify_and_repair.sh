@@ -1,28 +1,45 @@
 #!/usr/bin/env bash
-# Makes the files of a PAR2 set complete: verifies a folder, gives renamed files their names back, has
-# `par2 repair` make those that are damaged or missing, and verifies again. Where that can't be done,
-# all is left as it was, and a line on standard error says why.
-# Usage: verify_and_repair.sh [--dry-run] [--remove-backups] [--set ID] FOLDER
-# It takes the packet files in FOLDER, and the files in it and in those of its subfolders that names of
-# the set have; links aren't followed. A set with a name that is no plain path below FOLDER is refused,
-# and so is one where a link or the like stands at a name. --dry-run tells what would be done, and
-# writes nothing. Where FOLDER has packet files of several sets, --set says which.
+# usage: verify_and_repair.sh [--dry-run] [--remove-backups] [--set ID] FOLDER
 #
-# par2 works on links to the files, in FOLDER/.verify_and_repair; where it fails, that folder alone
-# goes. Where it sees less than parv, it is given the slices that parv has found. Files get their names
-# once all are complete, by moves that overwrite nothing. What is damaged stays beside the new file, as
-# name.1, as par2 leaves it; --remove-backups removes those of this run. Where two files of the set have
-# one content, of which one copy is there, the other is made; an empty file is made and never renamed.
+# Makes the files of a PAR2 set complete: verifies a folder, gives renamed files
+# their names back, has `par2 repair` make those that are damaged or missing, and
+# verifies again. Its last word is then `complete`. Where that can't be done, all
+# is left as it was, and a line on standard error says why.
 #
-# SIGINT, SIGTERM and SIGHUP end it once all moves are undone. After any other end the list of moves is
-# still in FOLDER, and the next run undoes them before it does anything else.
+#   --dry-run           tells what would be done, and writes nothing
+#   --remove-backups    removes the damaged files that this run has kept
+#   --set ID            says which set, where FOLDER has several
 #
-# Exit status: 0 each file is complete; 1 a repair can be tried, by --dry-run; 2 not enough is left for
-# one; 3 wrong words, no packet file, or several sets; 4 no set, or one that is refused; 5 par2 has
-# failed; 6 a file can't be read, made or moved; 8 no memory. PARV and PAR2 name the programs.
+# It takes the packet files in FOLDER, and the files in it and in those of its
+# subfolders that names of the set have. Links aren't followed. A set with a name
+# that is no plain path below FOLDER is refused. So is one where a link or the
+# like stands at a name.
+#
+# Files get their names once all are complete, by moves that overwrite nothing,
+# also where names were exchanged. What is damaged stays beside the new file, as
+# NAME.1; once all is complete you may remove it. Where two files of the set have
+# one content, of which one copy is there, the other is made. An empty file is
+# made and never renamed.
+#
+# par2 works on links to the files, in FOLDER/.verify_and_repair; where it fails,
+# that folder alone goes. Where it sees less than parv, it is given the slices
+# that parv has found. SIGINT, SIGTERM and SIGHUP end it once all moves are
+# undone. After any other end the list of moves is still in FOLDER, and the next
+# run undoes them before it does anything else.
+#
+# The exit status:
+#   0  each file is complete
+#   1  a repair can be tried, by --dry-run
+#   2  not enough is left for one
+#   3  wrong words, no packet file, or several sets
+#   4  no set, or one that is refused
+#   5  par2 has failed
+#   6  a file can't be read, made or moved, or parv can't be run
+#   8  no memory
+# PARV and PAR2 name the programs, where they aren't in PATH.
 set -uo pipefail
 export LC_ALL=C
-usage='usage: verify_and_repair.sh [--dry-run] [--remove-backups] [--set ID] FOLDER'
+usage=$(sed -n '2s/^# //p' "$0")
 stage=.verify_and_repair
 
 say() {
@@ -38,7 +55,7 @@ dry='' purge='' chosen=''
 while [[ ${1-} == -* ]]; do
     case $1 in
     -h | --help)
-        echo "$usage"
+        sed -n '2,/^set /s/^# \{0,1\}//p' "$0"
         exit 0
         ;;
     --dry-run) dry=1 ;;
@@ -56,6 +73,11 @@ if [ $# -ne 1 ] || [ -z "$1" ] || [[ $1 == --* ]]; then
     echo "$usage" >&2
     exit 3
 fi
+parv=${PARV:-parv}
+command -v -- "$parv" > /dev/null || {
+    printf 'verify_and_repair.sh: cannot run %q: put parv in PATH, or name it by PARV\n' "$parv" >&2
+    exit 6
+}
 
 # Sets `shown` to a name as parv shows it.
 show() {
@@ -81,7 +103,7 @@ program() {
     *) printf '%s\n' "$1" ;;
     esac
 }
-parv=$(program "${PARV:-parv}")
+parv=$(program "$parv")
 par2=$(program "${PAR2:-par2}")
 show "$1"
 folder=$shown

@@ -1,22 +1,44 @@
 #!/usr/bin/env bash
-# Checks a folder into which the files of a PAR2 set still come, again and again, until each file of
-# the set is complete, and prints a line for each check.
-# Usage: watch_folder.sh [--tails] FOLDER [SECONDS [CHECKS]]
-# It waits SECONDS (60) between two checks and ends after CHECKS of them, if that is given. With
-# --tails the last slice of a file, mostly a short one, is found before other bytes too. Its exit
-# status is that of the last check: 0 complete, 1 a repair can be tried, 2 slices are missing for
-# one, 3 no packet file, 4 no set in the packet files, 6 a file can't be read; 8, no memory, ends
-# it. Each check reads all files of the folder.
+# usage: watch_folder.sh [--tails] FOLDER [SECONDS [CHECKS]]
+#
+# Checks a folder into which the files of a PAR2 set still come, again and again,
+# until each file of the set is complete. It prints a line for each check and
+# changes nothing. Each check reads all files of the folder.
+#
+#   --tails    finds short slices before other bytes too
+#   SECONDS    what it waits between two checks, else 60
+#   CHECKS     after how many it ends, where that is given
+#
+# The exit status is that of the last check:
+#   0  complete
+#   1  a repair can be tried
+#   2  slices are missing for one
+#   3  no packet file
+#   4  no set in the packet files
+#   6  a file can't be read, or parv can't be run
+#   8  no memory, which ends it
+# PARV names the program, where it isn't in PATH.
 set -uo pipefail
-parv=${PARV:-parv}
+usage=$(sed -n '2s/^# //p' "$0")
 tails=()
-if [ "${1-}" = --tails ]; then
+case ${1-} in
+-h | --help)
+    sed -n '2,/^set /s/^# \{0,1\}//p' "$0"
+    exit 0
+    ;;
+--tails)
     tails=(--tails)
     shift
-fi
-folder=${1:?usage: watch_folder.sh [--tails] FOLDER [SECONDS [CHECKS]]}
+    ;;
+esac
+folder=${1:?$usage}
 seconds=${2:-60}
 checks=${3:-}
+parv=${PARV:-parv}
+command -v -- "$parv" > /dev/null || {
+    printf 'watch_folder.sh: cannot run %q: put parv in PATH, or name it by PARV\n' "$parv" >&2
+    exit 6
+}
 if ! cd -- "$folder" 2> /dev/null; then
     echo "watch_folder.sh: cannot open $folder" >&2
     exit 6

@@ -1,7 +1,7 @@
 #!/bin/sh
 # usage: ./install.sh [PREFIX]
 # Installs parv with its manual page, completions, formats and scripts below PREFIX, or /usr/local.
-# DESTDIR goes before it. It needs no toolchain.
+# DESTDIR goes before it. It needs no toolchain. Then PREFIX/bin has to be in PATH, for man too.
 set -eu
 case ${1-} in
 -*) sed -n 's/^# //p' "$0" | sed 1,3!d; exit 3 ;;
@@ -14,4 +14,13 @@ for file in bin/* $(find share -type f); do
     case $file in bin/* | *.sh | *.py) mode=755 ;; esac
     install -D -m "$mode" "$file" "${DESTDIR-}$prefix/$file"
 done
-echo "parv is installed below $prefix."
+case $prefix in
+/*) ;;
+*) prefix=$PWD/$prefix ;;
+esac
+prefix=${prefix%/}
+case :$PATH: in
+*":$prefix/bin:"*) ;;
+*) echo "PATH has no $prefix/bin yet, by which the shell finds parv and man its page." ;;
+esac
+echo "parv is installed in $prefix/bin, and its scripts in $prefix/share/doc/parv/examples."

@@ -11,7 +11,11 @@ demo=$top/demo
 photos=589c76e09f0580b9203c5b64963b8957
 
 usage='usage: check_tree.sh [-j N] [-q] [--tails] FOLDER'
-wants "the words" 0 "$usage" "" "$script" -h
+# Its help is its head comment, with each option at the beginning of a line, and with each exit status.
+help=$(awk 'NR > 1 { if (!/^#/) exit; sub(/^# ?/, ""); print }' "$script")
+[ "${help%%$'\n'*}" = "$usage" ] || fails "its help begins with ${help%%$'\n'*}"
+for word in -j -q --tails 0 1 2 3 4 6 8; do grep -q -- "^  $word  *[a-zN]" <<< "$help" || fails "its help has no $word"; done
+for word in -h --help; do wants "its help by $word" 0 "$help" "" "$script" $word; done
 for words in '' '--wrong tree' 'tree tree' '-j 0 tree' '-j' '-j x tree'; do
     # shellcheck disable=SC2086
     wants "wrong words: $words" 3 "" "$usage" "$script" $words
@@ -56,6 +60,20 @@ rm tree/a/tower.raw
 wants "a repair can be tried by --tails" 1 "1 $photos need 5 have 14 a/photos" "" "$script" -q --tails tree
 cp "$demo"/tower.raw tree/a
 wants "nothing to tell" 0 "" "" "$script" -q tree
+# Protection that is lost alone: with -q nothing tells it, and a comparison of the lines does.
+"$script" tree > before
+mv tree/a/photos.vol* .
+mv tree/b/c/*.[pP]* .
+wants "lost volumes, and a lost set, with -q" 0 "" "" "$script" -q tree
+# shellcheck disable=SC2016
+wants "lost volumes, and a lost set, by a comparison" 1 "1c1
+< 0 $photos need 0 have 14 a/photos
+---
+> 0 $photos need 0 have 0 a/photos
+3d2
+< 0 $photos need 0 have 9 b/c/Photos of summer" "" bash -c '"$1" tree > now; diff before now' - "$script"
+mv photos.vol* tree/a
+mv ./*.VOL* other.par2 tree/b/c
 { cat "$demo/notes.txt"; echo more; } > tree/b/c/notes.txt
 wants "without --tails" 1 "1 $photos need 1 have 9 b/c/Photos of summer" "" "$script" -q tree
 wants "with --tails" 1 "1 $photos need 0 have 9 b/c/Photos of summer" "" "$script" -q --tails tree
@@ -161,8 +179,15 @@ truncate -s 1T endless
 chmod +x ends long
 PARV=$work/ends wants "parv is ended" 137 "137 $id need - have - set/set" \
     "check_tree.sh: set/set: parv has ended with status 137" "$script" tree
-PARV=./none wants "no parv" 127 "127 - need - have - set/set" \
-    "check_tree.sh: set/set: parv has ended with status 127" "$script" tree
+# No parv is told once, ahead of all else.
+mkdir path
+for tool in bash sed; do ln -s "$(command -v $tool)" path; done
+for folder in tree none; do
+    wants "no parv, and the folder $folder" 6 "" "check_tree.sh: cannot run ./none: put parv in PATH, or name it by PARV" \
+        env PARV=./none "$script" $folder
+    wants "no parv in PATH, and the folder $folder" 6 "" \
+        "check_tree.sh: cannot run parv: put parv in PATH, or name it by PARV" env -u PARV PATH="$work/path" "$script" $folder
+done
 rm tree/set/sub/bad.txt
 PARV=$work/long "$script" tree > text 2> line &
 for _ in $(seq 100); do [ -s pid ] && break; sleep 0.1; done

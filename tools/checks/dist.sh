@@ -37,6 +37,18 @@ if env -i PATH="$path" "$room/install.sh" "$work/a place" > said 2>&1 \
 else
     fails "the archive doesn't install: $(head -c 300 said)"
 fi
+last="parv is installed in $work/a place/bin, and its scripts in $work/a place/share/doc/parv/examples."
+if [ "$(cat said)" = "PATH has no $work/a place/bin yet, by which the shell finds parv and man its page.
+$last" ]; then
+    echo "ok: it says where parv and its scripts are, and that PATH has no such folder"
+else
+    fails "it says: $(head -c 300 said)"
+fi
+wants "where PATH has the folder it says no more of that" 0 "$last" "" \
+    env -i PATH="$path:$work/a place/bin" "$room/install.sh" "$work/a place/"
+wants "a folder below that of the archive is told whole" 0 "${last//"$work/a place"/"$work/$room/below"}" "" \
+    env -i PATH="$path:$work/$room/below/bin" "$room/install.sh" below
+rm -r "$room/below"
 wants "what the archive installs runs" 0 "$("$parv" packets "$top/demo/photos.par2")" "" \
     "a place/bin/parv" packets "$top/demo/photos.par2"
 printf x >> "$room/bin/parv"

@@ -207,9 +207,18 @@ wants "a FIFO to be searched" 6 "" "$me: cannot open fifo.img: no regular file" 
 wants "a folder to be searched" 6 "" "$me: cannot open names: no regular file" "$extract" new names.par2 names
 odd=$'\xff.img'
 wants "a name that isn't UTF-8" 3 "" "$me: \\xff.img: parv takes no name that isn't UTF-8" "$extract" new names.par2 "$odd"
-PARV=./none wants "no program" 6 "" "$me: cannot run ./none: No such file or directory" "$extract" new names.par2
+for name in ./none parv-that-is-not-there; do
+    wants "no program: $name" 6 "" "$me: cannot run $name: put parv in PATH, or name it by PARV" \
+        env PARV=$name "$extract" new names.par2
+done
 [ ! -e new ] || fails "a folder was made for nothing"
 wants "a full device" 6 "" "$me: cannot write standard output: No space left on device" \
     bash -c '"$@" > /dev/full' - "$extract" full "$top/demo/photos.par2" "$top/demo/notes.txt"
-if "$extract" -h | grep -qxF "$usage"; then echo "ok: its usage is told"; else fails "its usage isn't told"; fi
+# Its help has its usage first, each option, each exit status, and --tails for an image.
+help=$("$extract" -h)
+[ "${help%%$'\n'*}" = "$usage" ] || fails "its help begins with ${help%%$'\n'*}"
+for word in --tails --set 0 1 3 4 6 8 'extract_found.py --tails saved'; do
+    grep -q -- "^  $word " <<< "$help" || fails "its help has no $word"
+done
+for word in -h --help; do wants "its help by $word" 0 "$help" "" "$extract" $word; done
 exit $failed

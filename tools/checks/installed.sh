@@ -13,7 +13,8 @@ $(cd "$top/examples" && ls | LC_ALL=C sort | sed 's|^|/usr/share/doc/parv/exampl
 room="$work/a room"
 path=$work/path
 mkdir "$path"
-for tool in bash make install rm test; do ln -s "$(command -v $tool)" "$path"; done
+for tool in bash make install rm test sed; do ln -s "$(command -v $tool)" "$path"; done
+ln -s "$(python3 -c 'import sys; print(sys.executable)')" "$path/python3"
 
 # make with a PATH that has no rt, and nothing else from outside.
 made() {
@@ -41,6 +42,22 @@ if cmp -s "$parv" "$room/usr/bin/parv" && [ -x "$room/usr/bin/parv" ] \
 else
     fails "what is installed is another"
 fi
+# Each script tells its help, and where there is no parv, that alone.
+for script in "$room"/usr/share/doc/parv/examples/*; do
+    name=${script##*/}
+    env -i PATH="$path" "$script" -h > "$work/help" 2> "$work/line"
+    got=$?
+    if [ $got -eq 0 ] && [ ! -s "$work/line" ] && head -n 1 "$work/help" | grep -q "^usage: $name .*[A-Z]" \
+        && grep -q "^  6  .*parv can't be run$" "$work/help" && [ "$(wc -l < "$work/help")" -gt 15 ]; then
+        echo "ok: the help of $name"
+    else
+        fails "the help of $name: status $got, $(head -c 300 "$work/help" "$work/line")"
+    fi
+    words=(verify 1 x.par2)
+    case $name in check_tree.sh | verify_and_repair.sh) words=("$work") ;; esac
+    wants "$name without parv" 6 "" "$name: cannot run parv: put parv in PATH, or name it by PARV" \
+        env -i PATH="$path" "$script" "${words[@]}"
+done
 touch "$room/usr/bin/other"
 if made uninstall && [ "$(standing)" = /usr/bin/other ]; then
     echo "ok: what is removed is what was installed"

@@ -38,6 +38,26 @@ while IFS= read -r message; do
 done < messages
 [ "$(wc -l < messages)" -eq 14 ] || fails "there are $(wc -l < messages) messages"
 
+# Each script is told of, and what is named of those installed is there.
+for script in "$top"/examples/*; do
+    grep -q "^\.Pa ${script##*/}$" "$page" || fails "the page doesn't tell of ${script##*/}"
+done
+grep -o '/usr/local/share/doc/parv/[A-Za-z_./]*' "$page" | sed 's|^/usr/local/share/doc/parv/||' > paths
+[ "$(wc -l < paths)" -ge 4 ] || fails "the page names $(wc -l < paths) paths of what is installed"
+while IFS= read -r path; do
+    [ -e "$top/$path" ] || [ -e "$top/docs/$path" ] || fails "the page names $path, which isn't there"
+done < paths
+# Its line for cron, of a folder that is whole and of one that has lost a file.
+sed -n 's/^17 3 \* \* \* //p' "$page" > cron
+[ "$(wc -l < cron)" -eq 1 ] || fails "the page has no line for cron"
+sed -i "s|/usr/local/bin/parv|$parv|; s|/usr/local/share/doc/parv|$top|; s|/srv|$work|" cron
+mkdir -p backup/2019
+cp "$top"/demo/{photos.par2,photos.vol07+8.par2,*.raw,notes.txt} backup/2019
+wants "the line for cron, where all is whole" 0 "" "" env -i PATH=/usr/bin:/bin sh cron
+rm backup/2019/tower.raw
+wants "the line for cron, where a file is lost" 1 "1 589c76e09f0580b9203c5b64963b8957 need 5 have 8 2019/photos" "" \
+    env -i PATH=/usr/bin:/bin sh cron
+
 # Each example is a file: its commands without `$ `, as bash reads them.
 mkdir examples
 awk '/^\.Sh /{ here = $2 == "EXAMPLES" } here && /^\.Bd/{ n++; text = 1; next } /^\.Ed/{ text = 0 }

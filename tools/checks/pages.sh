@@ -1,6 +1,6 @@
 #!/usr/bin/env bash
-# The pages: links and paths in them lead somewhere, README is short and its example and its ways to
-# install do what it says, and each clause that PROVED names stands in the sources.
+# The pages: links and paths in them lead somewhere, README is short and its example, its calls of
+# scripts and its ways to install do what it says, and each clause that PROVED names stands in the sources.
 . "$(dirname "$0")/wants.sh"
 cd "$work" || exit 1
 
@@ -86,6 +86,32 @@ cd "$top/demo" || exit 1
 [ "$(wc -l < "$work/example")" -ge 7 ] || fails "README has no example"
 # shellcheck disable=SC2086
 wants "the example of README" 1 "$(sed 1d "$work/example")" "" "$parv" $words
+
+# Its calls of scripts, each in a folder with what it names: how it ends, and its last line.
+cd "$work" || exit 1
+mkdir -p download backup/whole
+cp "$top"/demo/{photos.par2,*.raw,notes.txt} backup/whole
+cp backup/whole/* download
+cp backup/whole/photos.par2 .
+mv download/harbour.raw download/port.raw
+{ head -c 5000 /dev/zero; cat backup/whole/*.raw backup/whole/notes.txt; printf 'more'; } > disc.img
+wanted=("1 a repair can be tried: need 0 have 0" "0 complete" "0 slices 38/38, copied now 38" "0 " "0 result complete"
+    "0 38 in place; need 0 have 0")
+sed -nE 's/^    ([a-z_]+\.(sh|py) .*)/\1/p' "$top/README.md" > calls
+[ "$(wc -l < calls)" -eq ${#wanted[@]} ] || fails "README has $(wc -l < calls) calls of scripts"
+number=0
+while IFS= read -r call; do
+    place=.
+    [[ $call != *" ./*" ]] || place=download
+    got=$(cd "$place" && env -u PARV PATH="$top/examples:$(dirname "$parv"):$PATH" timeout 60 \
+        bash -c "${call/\/srv/$work}" 2> "$work/line" < /dev/null > "$work/text"; echo $?)
+    if [ "$got $(tail -n 1 text)" = "${wanted[number]-}" ] && [ ! -s line ]; then
+        echo "ok: README's $call"
+    else
+        fails "README's $call: status $got, $(tail -n 1 text) $(cat line)"
+    fi
+    number=$((number + 1))
+done < calls
 
 # Its ways to install, but for sudo.
 cd "$top" || exit 1

@@ -331,5 +331,16 @@ wants "a file that isn't there" 6 "" "$me: cannot open none.raw: No such file or
 wants "a FIFO" 6 "" "$me: cannot open fifo: no regular file" "$map" photos.par2 fifo
 wants "a full device" 6 "" "$me: cannot write standard output: No space left on device" \
     bash -c '"$@" > /dev/full' - "$map" photos.par2
-if "$map" -h | grep -qxF "$usage"; then echo "ok: its usage is told"; else fails "its usage isn't told"; fi
+# No parv is told ahead of all else.
+for name in ./none parv-that-is-not-there; do
+    wants "no program: $name" 6 "" "$me: cannot run $name: put parv in PATH, or name it by PARV" \
+        env PARV=$name "$map" --svg drawing.svg photos.par2 none.raw
+done
+# Its help has its usage first, each option, and each exit status.
+help=$("$map" -h)
+[ "${help%%$'\n'*}" = "$usage" ] || fails "its help begins with ${help%%$'\n'*}"
+for word in --tails --set -B --width --html --svg 0 3 4 6 8; do
+    grep -q -- "^  $word " <<< "$help" || fails "its help has no $word"
+done
+for word in -h --help; do wants "its help by $word" 0 "$help" "" "$map" $word; done
 exit $failed

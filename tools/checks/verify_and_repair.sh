@@ -67,13 +67,28 @@ whole_now() {
 usage='usage: verify_and_repair.sh [--dry-run] [--remove-backups] [--set ID] FOLDER'
 say='verify_and_repair.sh: room:'
 named="$say the name"
-wants "the words" 0 "$usage" "" "$script" -h
+# Its help is its head comment, with each option at the beginning of a line, and with each exit status.
+help=$(awk 'NR > 1 { if (!/^#/) exit; sub(/^# ?/, ""); print }' "$script")
+[ "${help%%$'\n'*}" = "$usage" ] || fails "its help begins with ${help%%$'\n'*}"
+for word in --dry-run --remove-backups '--set ID' 0 1 2 3 4 5 6 8; do
+    grep -q -- "^  $word  *[a-z]" <<< "$help" || fails "its help has no $word"
+done
+for word in -h --help; do wants "its help by $word" 0 "$help" "" "$script" $word; done
 for words in '' '--wrong room' 'room room' '--set'; do
     # shellcheck disable=SC2086
     wants "wrong words: $words" 3 "" "$usage" "$script" $words
 done
 wants "a folder that isn't there" 6 "" "verify_and_repair.sh: cannot open none\\x0a" "$script" $'none\n'
-mkdir room
+mkdir room path
+for tool in bash sed; do ln -s "$(command -v $tool)" path; done
+# No parv is told once, ahead of all else.
+for folder in room none; do
+    wants "no parv, and the folder $folder" 6 "" \
+        "verify_and_repair.sh: cannot run ./none: put parv in PATH, or name it by PARV" env PARV=./none "$script" $folder
+    wants "no parv in PATH, and the folder $folder" 6 "" \
+        "verify_and_repair.sh: cannot run parv: put parv in PATH, or name it by PARV" \
+        env -u PARV PATH="$work/path" "$script" $folder
+done
 ends "a folder without packet files" 3 "" "$say no packet file"
 printf 'damaged' > room/a.par2
 ends "a packet file without a packet" 4 "" "$say no usable set: no main"

@@ -1,0 +1,114 @@
+#!/usr/bin/env bash
+# examples/progress.sh: the words, output and exit status of parv, and on a terminal alone what was read so far.
+. "$(dirname "$0")/wants.sh"
+cd "$work" || exit 1
+export LC_ALL=C
+export PARV=$parv
+script=$top/examples/progress.sh
+demo=$top/demo
+
+usage='usage: progress.sh find|verify [options] FILES'
+# Its help is its head comment.
+help=$(awk 'NR > 1 { if (!/^#/) exit; sub(/^# ?/, ""); print }' "$script")
+[ "${help%%$'\n'*}" = "$usage" ] || fails "its help begins with ${help%%$'\n'*}"
+for word in 3 6; do grep -q "^  $word  [a-z]" <<< "$help" || fails "its help has no $word"; done
+for word in -h --help; do wants "its help by $word" 0 "$help" "" "$script" $word; done
+for words in '' 'set' 'packets demo.par2' '-q verify'; do
+    # shellcheck disable=SC2086
+    wants "wrong words: $words" 3 "" "$usage" "$script" $words
+done
+mkdir path
+for tool in bash sed; do ln -s "$(command -v $tool)" path; done
+wants "no parv" 6 "" "progress.sh: cannot run ./none: put parv in PATH, or name it by PARV" \
+    env PARV=./none "$script" verify x.par2
+wants "no parv in PATH" 6 "" "progress.sh: cannot run parv: put parv in PATH, or name it by PARV" \
+    env -u PARV PATH="$work/path" "$script" verify x.par2
+
+# Where no terminal is, it is parv, to the byte.
+cp "$demo"/* .
+same() {
+    local name=$1
+    shift
+    "$parv" "$@" > wanted 2> line < /dev/null
+    gives "$name" $? wanted "$(cat line)" "$script" "$@"
+}
+same "verify" verify photos.par2 ./*.raw notes.txt
+same "verify, quiet" verify -q photos.par2 beach.raw
+same "find" find --limit 3 photos.par2 beach.raw
+same "no set" verify notes.txt
+same "a file that isn't there" verify photos.par2 none
+
+# On a terminal, with a program that reads 3,000,000 bytes, and ends once a file says so.
+cat > slow << 'END'
+#!/usr/bin/env bash
+trap 'touch stopped; exit 9' TERM
+read -rN 3000000 _ < "${@: -1}"
+touch began
+until [ -e go ]; do sleep 0.05; done
+echo "the text of $1"
+echo "the line" >&2
+exit 2
+END
+chmod +x slow
+head -c 5000000 /dev/zero | tr '\0' a > five.bin
+head -c 1000000 /dev/zero | tr '\0' a > one.PAR2
+
+# on_terminal NAME MOST TEXT WORDS..: what was read is shown, of so many MiB at most, then what the program says.
+on_terminal() {
+    local name=$1 most=$2 text=$3
+    shift 3
+    rm -f go
+    PARV=./slow timeout 60 script -qefc "$script $*" terminal > /dev/null 2>&1 < /dev/null &
+    for _ in $(seq 300); do
+        grep -qa "2 MiB of at most $most MiB, [0-9]* MiB/s" terminal 2> /dev/null && break
+        sleep 0.1
+    done
+    touch go
+    wait $!
+    local got=$?
+    if [ $got -eq 2 ] && grep -qa "2 MiB of at most $most MiB, [0-9]* MiB/s" terminal \
+        && [ "$(tr -d '\r' < terminal | tr '\033' '\n' | sed -n 's/^\[K\(the text.*\)/\1/p')" = "$text" ] \
+        && grep -qa "^the line" terminal; then
+        echo "ok: $name"
+    else
+        fails "$name: status $got, $(tail -c 300 terminal | cat -v)"
+    fi
+}
+on_terminal "verify on a terminal" 13 "the text of verify" verify one.PAR2 five.bin
+
+# `find` shows nothing beside its own lines, and something where they go to a file.
+touch go
+PARV=./slow timeout 60 script -qefc "$script find one.PAR2 five.bin" terminal > /dev/null 2>&1 < /dev/null
+if grep -qa "^the text of find" terminal && ! grep -qa "at most" terminal; then
+    echo "ok: find on a terminal"
+else
+    fails "find on a terminal: $(cat -v terminal)"
+fi
+rm go
+PARV=./slow timeout 60 script -qefc "$script find one.PAR2 five.bin > lines" terminal > /dev/null 2>&1 < /dev/null &
+for _ in $(seq 300); do grep -qa "of at most 8 MiB" terminal 2> /dev/null && break; sleep 0.1; done
+touch go
+wait $!
+if grep -qa "of at most 8 MiB" terminal && [ "$(cat lines)" = "the text of find" ]; then
+    echo "ok: find into a file"
+else
+    fails "find into a file: $(cat -v terminal)"
+fi
+
+# A signal ends the program too.
+for signal in INT:130 TERM:143 HUP:129; do
+    rm -f go began stopped
+    PARV=./slow timeout 60 env --default-signal=INT,HUP script -qefc "exec $script verify one.PAR2 five.bin" terminal \
+        > /dev/null 2>&1 < /dev/null &
+    for _ in $(seq 300); do [ -e began ] && break; sleep 0.1; done
+    pkill -"${signal%:*}" -f "bash $script verify one.PAR2 five.bin"
+    wait $!
+    got=$?
+    for _ in $(seq 300); do [ -e stopped ] && break; sleep 0.1; done
+    if [ $got -eq "${signal#*:}" ] && [ -e stopped ]; then
+        echo "ok: SIG${signal%:*} ends both"
+    else
+        fails "SIG${signal%:*}: status $got"
+    fi
+done
+exit $failed
