@@ -29,26 +29,4 @@ search_tests|one||OutOfMemory before the first call,NoMemory told at a reopening
 search_tests|later|equal_slices
 search_tests|later|many_lengths|all found without Memory,all marked without Memory,too many lengths told without Memory,none marked without Memory
 END
-
-# A reopening gives its window up before it takes another: one of 4 MiB, with the room of 6 MiB beside what a
-# small test takes.
-tests=$top/crates/search_tests/out/search_tests_tests
-if [ -x "$tests" ]; then
-    test=$("$tests" --list | sed -n 's/: test$//p' | grep 'a_reopening_holds_one_window$')
-    least=1000
-    small=$("$tests" --list | sed -n 's/: test$//p' | head -n 1)
-    until (ulimit -v $least && exec "$tests" "$small") > "$work/text" 2>&1; do
-        least=$((least + 1024))
-        [ $least -lt 60000 ] || break
-    done
-    for room in 6144 2048; do
-        (ulimit -v $((least + room)) && exec "$tests" "$test") > "$work/text" 2>&1
-        echo "$room $?"
-    done > "$work/told"
-    if [ -n "$test" ] && [ "$(cut -d ' ' -f 1,2 "$work/told" | head -n 1)" = "6144 0" ] && ! grep -q '^2048 0$' "$work/told"; then
-        echo "ok: a reopening holds one window: $(tr '\n' ' ' < "$work/told")"
-    else
-        fails "a reopening holds one window: $(tr '\n' ' ' < "$work/told") $(tail -n 3 "$work/text")"
-    fi
-fi
 exit $failed
