@@ -59,6 +59,15 @@ result complete" "" "$parv" verify that.par2 "$name"
     rm "$name"
 done
 
+# Behind a base a file has another name than its word, and the word is opened.
+mkdir folder
+printf 'abcdefgh' > folder/g.bin
+printf 'other' > g.bin
+wants "what a word names, and not what its name behind the base does" 0 "set $(one_file g.bin) size 4 slices 2
+complete g.bin
+need 0 have 0
+result complete" "" "$parv" verify -B folder that.par2 folder/g.bin
+
 "$tools/make/packet_files.py" sets > made || exit 1
 : > $'../g\n.bin'
 wants "an empty file whose name has a line feed is missing" 1 \
