@@ -16,9 +16,9 @@ names=$("$tests" --list | sed -n 's/: test$//p')
 small=$(head -n 1 <<< "$names")
 test=$(grep 'a_reopening_holds_one_window$' <<< "$names")
 
-# Whether a test passes with so many KiB of address space.
+# Whether a test passes with so many KiB of address space. (That one is ended is told by the shell.)
 passes() {
-    (ulimit -v "$2" && exec "$tests" "$1") > "$work/text" 2>&1
+    { (ulimit -v "$2" && exec "$tests" "$1") > "$work/text" 2>&1; } 2> "$said/line"
 }
 
 least=1000
