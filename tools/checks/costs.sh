@@ -8,11 +8,8 @@ cd "$work" || exit 1
 PYTHONPATH=$tools python3 - << 'END'
 import random
 from bench.search_cost import packets_with_tails
+from make.content import write
 from make.packets import desc_body, ids_of, ifsc_body, main_body, set_of
-
-def write(name, data):
-    with open(name, "wb") as out:
-        out.write(data)
 
 def whole_set(name, size, *files):
     ids = ids_of(len(files), 1)

@@ -29,17 +29,10 @@ place marks parshelf::shelves::names::list_mark
 [ $failed -eq 0 ] || exit 1
 
 PYTHONPATH=$tools python3 - << 'END' || exit 1
-import hashlib
 import zlib
+from make.content import noise, write
 from make.damage import flip
 from make.packets import NO_ID, desc_body, ids_of, ifsc_body, main_body, md5, packet, set_of
-
-def write(name, *parts):
-    with open(name, "wb") as out:
-        out.write(b"".join(parts))
-
-def junk(name, size):
-    return hashlib.shake_256(name.encode()).digest(size)
 
 def stepped(register):
     for _ in range(8):
@@ -74,7 +67,7 @@ write("inner.par2", packet(NO_ID, "creator", bytes(100) + small + bytes(20)))
 
 # Three files in slices of 8,192 bytes, whose last ones have 3,616, 3,000 and 1,696.
 size = 8192
-contents = {name: junk(name, length) for name, length in [("a", 20000), ("b", 3000), ("c", 100000)]}
+contents = {name: noise(name, length) for name, length in [("a", 20000), ("b", 3000), ("c", 100000)]}
 ids = ids_of(3, 1)
 main = main_body(size, ids)
 descs = [("filedesc", desc_body(owner, name.encode(), contents[name])) for owner, name in zip(ids, contents)]
@@ -89,10 +82,10 @@ flip(changed, 50000)
 write("cc", changed)
 # In place of the seventh slice stand bytes that have its CRC-32 alone.
 seventh = contents["c"][6 * size:7 * size]
-forged = with_crc(junk("forged", size - 4), zlib.crc32(seventh))
+forged = with_crc(noise("forged", size - 4), zlib.crc32(seventh))
 assert len(forged) == size and forged != seventh
 write("cf", contents["c"][:6 * size], forged, contents["c"][7 * size:])
-write("other", junk("other", 20000))
+write("other", noise("other", 20000))
 
 # Files of one slice of 64 bytes each.
 def short_set(name, *slices):

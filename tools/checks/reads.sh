@@ -48,16 +48,9 @@ salvages() {
 }
 
 PYTHONPATH=$tools python3 - << 'END' || exit 1
-import hashlib
+from make.content import noise, write
 from make.damage import flip
 from make.packets import NO_ID, TYPES, desc_body, ids_of, ifsc_body, main_body, md5, packet, recvslic_body, set_of
-
-def write(name, *parts):
-    with open(name, "wb") as out:
-        out.write(b"".join(parts))
-
-def junk(name, size):
-    return hashlib.shake_256(name.encode()).digest(size)
 
 # A file of zeros with one packet in it.
 def at(name, place, data, size):
@@ -94,7 +87,7 @@ write("limit.par2", packet(NO_ID, "creator", bytes(1048576)))
 write("above.par2", packet(NO_ID, "creator", bytes(1048580)))
 
 # Three files in slices of 8,192 bytes, whose last ones have 3,616, 3,000 and 1,696.
-contents = {name: junk(name, size) for name, size in [("a", 20000), ("b", 3000), ("c", 100000)]}
+contents = {name: noise(name, size) for name, size in [("a", 20000), ("b", 3000), ("c", 100000)]}
 ids = ids_of(3, 1)
 main = main_body(8192, ids)
 descs = [("filedesc", desc_body(owner, name.encode(), contents[name])) for owner, name in zip(ids, contents)]
@@ -107,10 +100,10 @@ for name, content in contents.items():
 damaged = bytearray(contents["c"])
 flip(damaged, 50000)
 write("cc", damaged)
-write("j", junk("before", 10000), contents["c"], junk("behind", 50000))
-write("k", junk("before", 5000), contents["b"], bytes(20000))
+write("j", noise("before", 10000), contents["c"], noise("behind", 50000))
+write("k", noise("before", 5000), contents["b"], bytes(20000))
 for size in 1695, 1696, 20000:
-    write(f"other{size}", junk("other", size))
+    write(f"other{size}", noise("other", size))
 
 # A slice of zeros, which stands at each place of ten thousand zeros but the last.
 owner = bytes(16)

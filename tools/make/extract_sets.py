@@ -8,20 +8,15 @@ files themselves stand below FOLDER/NAME, but for those whose names lead elsewhe
 is in FOLDER. Slices have 1024 bytes.
 """
 
-import hashlib
 import os
 import sys
 
 sys.path[0] = os.path.dirname(os.path.dirname(os.path.realpath(__file__)))  # tools/, where imports begin
 
+from make.content import noise
 from make.packets import desc_body, file_id, ifsc_body, main_body, set_of
 
 SIZE = 1024
-
-
-def noise(name, length):
-    """Bytes that no other name has."""
-    return hashlib.shake_256(name).digest(length)
 
 
 def set_of_files(files, without_sums=()):
