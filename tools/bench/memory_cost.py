@@ -1,5 +1,6 @@
 #!/usr/bin/env python3
-"""Compares the greatest resident size of runs with the formulas of docs/MEMORY.md, at two sizes of each input.
+"""Compares the greatest resident size of runs with the formulas of docs/MEMORY.md, at two sizes of each input,
+and once with most of them together.
 
 usage: memory_cost.py
 
@@ -16,20 +17,32 @@ import sys
 sys.path[0] = os.path.dirname(os.path.dirname(os.path.realpath(__file__)))  # tools/, where imports begin
 
 from hostile.runs import PARV, TOOLS, Runner, as_text
-from make.packets import NO_ID, desc_body, ids_of, ifsc_body, main_body, md5, packet, set_of
+from make.packets import NO_ID, desc_body, ids_of, ifsc_body, main_body, md5, packet, recvslic_body, set_of
 
 KIB, MIB = 1 << 10, 1 << 20
 MARGIN = MIB
-PACKET, FILE, SLICE, NAMED, SHOWN = 200, 930, 180, 560, 5  # bytes for each
+PACKET, UNNAMED, FILE, SLICE, TAIL, NAMED, SHOWN = 200, 150, 910, 180, 4500, 560, 5  # bytes for each
+SLICE_AGAIN, INDEX_AGAIN = 100, 512 * KIB  # where some slices are found by whole files and others are not
+OF_A_LENGTH = 80  # in verify, for each scanned file of a length of the set
 COMMANDS = ["packets", "set", "find", "verify"]
 SEARCHES = COMMANDS[2:]
 EMPTY = main_body(4, [])
 
 
+def no_sums(owner, pairs):
+    """Kind and body of sums that nothing has."""
+    return "ifsc", owner + b"".join(md5(b"%d" % at) + at.to_bytes(4, "big") for at in range(pairs))
+
+
 def one_file(size, length, pairs):
     """The set of a file with sums that nothing has."""
-    sums = b"".join(md5(b"%d" % at) + at.to_bytes(4, "big") for at in range(pairs))
-    return set_of(main_body(size, [NO_ID]), ("filedesc", desc_body(NO_ID, b"a", b"", length)), ("ifsc", NO_ID + sums))
+    return set_of(main_body(size, [NO_ID]), ("filedesc", desc_body(NO_ID, b"a", b"", length)), no_sums(NO_ID, pairs))
+
+
+def files_of_one_slice(count, names=7, length=lambda at: 4):
+    """Kinds and bodies of the packets of files with names of so many bytes and sums that nothing has."""
+    return [body for at, owner in enumerate(ids_of(count))
+            for body in (("filedesc", desc_body(owner, b"%0*d" % (names, at), b"", length(at))), no_sums(owner, 1))]
 
 
 class Costs:
@@ -65,18 +78,41 @@ class Costs:
 
 
 def cost_of_packets(costs):
+    """Of each kind. In a set, descriptions, sums and Main packets are put aside here: they are too short."""
+    kinds = [("Creator packets", "creator", b"", 0), ("recovery slices", "recvslic", recvslic_body(1, b"abcd"), 0),
+             ("descriptions", "filedesc", b"abcd", 4), ("sums", "ifsc", b"abcd", 4),
+             ("Main packets", "main", b"abcd", 4), ("packets of no known kind", b"PAR 2.0\0Unknown\0", b"abcd", 0)]
     for count in 20_000, 200_000:
         for owner, whose in (NO_ID, "others"), (md5(EMPTY), "a set"):
-            costs.write("p.par2", set_of(EMPTY) + packet(owner, "creator", b"") * count)
-            costs.within(f"{count} packets of {whose}", PACKET * count, COMMANDS)
+            for name, kind, body, held in kinds:
+                costs.write("p.par2", set_of(EMPTY) + packet(owner, kind, body) * count)
+                costs.within(f"{count} {name} of {whose}", (PACKET + held) * count, COMMANDS)
+
+
+def cost_of_descriptions(costs):
+    """Those of files that Main does not name, each with an ID of its own."""
+    for count, names in (20_000, 8), (100_000, 8), (2_000, 4_000), (8_000, 400):
+        bodies = [("filedesc", desc_body(owner, b"%0*d" % (names, at), b"", 4))
+                  for at, owner in enumerate(ids_of(count, 1))]
+        costs.write("p.par2", set_of(EMPTY, *bodies))
+        allowed = (PACKET + UNNAMED + len(bodies[0][1]) + names) * count
+        costs.within(f"{count} descriptions that Main does not name, with {names} bytes of name", allowed, COMMANDS)
 
 
 def cost_of_bodies(costs):
-    """Of which the last alone is shown, each byte by four."""
-    for count in 8, 64:
-        bodies = packet(md5(EMPTY), "filedesc", bytes(MIB)) * (count - 1) + packet(md5(EMPTY), "creator", b"\n" * MIB)
-        costs.write("p.par2", set_of(EMPTY) + bodies)
-        costs.within(f"{count} bodies of 1 MiB", (count + SHOWN) * MIB, COMMANDS)
+    """Beside a text of which each byte is shown by four. The Main packets and the sums of a set are usable."""
+    owner = md5(EMPTY)
+    for mib, shown in (7, MIB // 4), (63, MIB):
+        for name, made in (("descriptions", lambda: packet(owner, "filedesc", bytes(MIB)) * mib),
+                           ("sums", lambda: b"".join(packet(owner, *no_sums(file, 32768)) for file in ids_of(mib))),
+                           ("sums of others", lambda: packet(NO_ID, "ifsc", bytes(MIB)) * mib),
+                           ("Main packets", lambda: packet(owner, "main", EMPTY + bytes(MIB - len(EMPTY))) * mib),
+                           ("Main packets of others",
+                            lambda: b"".join(set_of(main_body(8 + 4 * at, ids_of(32768))) for at in range(mib)))):
+            bodies = made()
+            costs.write("p.par2", set_of(EMPTY) + bodies + packet(owner, "creator", b"\n" * shown))
+            costs.within(f"{len(bodies) // KIB} KiB of bodies of {name}, and {shown // KIB} KiB that are shown",
+                         len(bodies) + (1 + SHOWN) * shown, COMMANDS)
 
 
 def cost_of_recovery_data(costs):
@@ -86,12 +122,11 @@ def cost_of_recovery_data(costs):
 
 
 def cost_of_files(costs):
-    for count in 4096, 32768:
-        bodies = [body for at, owner in enumerate(ids_of(count))
-                  for body in (("filedesc", desc_body(owner, b"%07d" % at, b"", 4)),
-                               ("ifsc", ifsc_body(owner, b"%04d" % (at % 10000), 4)))]
-        costs.write("p.par2", set_of(main_body(4, ids_of(count)), *bodies))
-        costs.within(f"{count} files of one slice each", FILE * count, COMMANDS)
+    """The description of each holds its name once, and what is read and kept of it twice more."""
+    for count, names in (4096, 7), (32768, 7), (2_000, 4_000), (8_000, 400):
+        costs.write("p.par2", set_of(main_body(4, ids_of(count)), *files_of_one_slice(count, names)))
+        costs.within(f"{count} files of one slice each, with {names} bytes of name", (FILE + 3 * names) * count,
+                     COMMANDS)
 
 
 def cost_of_slices(costs):
@@ -99,6 +134,26 @@ def cost_of_slices(costs):
     for count in 4096, 32768:
         costs.write("p.par2", one_file(4, 4 * count, count))
         costs.within(f"{count} slices of a file", SLICE * count, COMMANDS, ["p.par2", "z"])
+
+
+def cost_of_slices_that_are_found(costs):
+    """One is found by the MD5 of its file, and then the others are looked for."""
+    costs.write("z", b"zzzz")
+    for count in 4096, 32767:
+        whole, other = ids_of(2)
+        costs.write("p.par2", set_of(main_body(4, [whole, other]), ("filedesc", desc_body(whole, b"z", b"zzzz")),
+                                     ("ifsc", ifsc_body(whole, b"zzzz", 4)),
+                                     ("filedesc", desc_body(other, b"a", b"", 4 * count)), no_sums(other, count)))
+        costs.within(f"a file that is whole, and {count} slices of another",
+                     (SLICE + SLICE_AGAIN) * count + INDEX_AGAIN, ["verify"], ["p.par2", "z"])
+
+
+def cost_of_tails(costs):
+    costs.write("z", b"z" * 5000)
+    for count in 64, 256:
+        costs.write("p.par2", set_of(main_body(1024, ids_of(count)),
+                                     *files_of_one_slice(count, length=lambda at: at + 1)))
+        costs.within(f"{count} tails", (FILE + TAIL) * count, ["find --tails", "verify --tails"], ["p.par2", "z"])
 
 
 def cost_of_slice_size(costs):
@@ -124,11 +179,18 @@ def cost_of_lengths(costs):
 
 def cost_of_scanned_files(costs):
     """Those that may not be open at once are held open by many_open.c, whose names are counted too."""
-    costs.write("z", b"z" * 100)
-    costs.write("p.par2", one_file(4, 4, 1))
-    for count in 8_000, 65_000:
-        costs.within(f"{count} files to scan", NAMED * count, SEARCHES, ["p.par2", *["z"] * count],
-                     ["env", f"LD_PRELOAD={costs.held}"])
+    for count, size in (8_000, 8), (65_000, 8), (2_000, 120), (10_000, 120):
+        names = [f"{at:0{size}}" for at in range(count)]
+        costs.runner.clear()
+        costs.write("p.par2", one_file(4, 8, 2))
+        for length, more in (9, 0), (8, OF_A_LENGTH):
+            for name in names:
+                costs.write(name, name[-8:].encode().ljust(length))
+            for command, of_a_length in ("find", 0), ("verify", more):
+                costs.within(f"{count} files to scan of {length} bytes, with {size} bytes of name",
+                             (NAMED + 4 * size + of_a_length) * count, [command], ["p.par2", *names],
+                             ["env", f"LD_PRELOAD={costs.held}"])
+    costs.runner.clear()
 
 
 def cost_of_packet_files(costs):
@@ -138,10 +200,30 @@ def cost_of_packet_files(costs):
         costs.within(f"{count} packet files", (NAMED + 3 * PACKET) * count, COMMANDS, ["p.par2"] * count)
 
 
+def cost_of_most(costs):
+    """A set with most of these; one of its files is whole, and is named three hundred times."""
+    whole, ids = b"w" * 16, ids_of(1_000)
+    size, pairs, packets, bodies, scanned = 16 * KIB, 8, 20_000, 8, 300
+    files = [body for at, owner in enumerate(ids)
+             for body in (("filedesc", desc_body(owner, b"%0100d" % at, b"", pairs * size - at % 256)),
+                          no_sums(owner, pairs))]
+    costs.write("z", b"zzzz")
+    main = main_body(size, [*ids, whole])
+    costs.write("p.par2", set_of(main, ("filedesc", desc_body(whole, b"z", b"zzzz")),
+                                 ("ifsc", ifsc_body(whole, b"zzzz", size)), *files)
+                + packet(md5(main), "creator", b"") * packets + packet(md5(main), "filedesc", bytes(MIB)) * bodies)
+    # What is reckoned for a file has one of its slices.
+    allowed = ((FILE + 3 * 100 + (pairs - 1) * SLICE) * len(ids) + PACKET * packets + bodies * MIB + size + 256 * TAIL
+               + (NAMED + 4) * scanned)
+    for command, again in ("find --tails", 0), ("verify --tails", SLICE_AGAIN * pairs * len(ids) + INDEX_AGAIN):
+        costs.within("most of these", allowed + again, [command], ["p.par2", *["z"] * scanned])
+
+
 def main():
     costs = Costs()
-    for cost in (cost_of_packets, cost_of_bodies, cost_of_recovery_data, cost_of_files, cost_of_slices,
-                 cost_of_slice_size, cost_of_lengths, cost_of_scanned_files, cost_of_packet_files):
+    for cost in (cost_of_packets, cost_of_descriptions, cost_of_bodies, cost_of_recovery_data, cost_of_files,
+                 cost_of_slices, cost_of_slices_that_are_found, cost_of_tails, cost_of_slice_size, cost_of_lengths,
+                 cost_of_scanned_files, cost_of_packet_files, cost_of_most):
         cost(costs)
     costs.runner.close()
     return 1 if costs.failed else 0

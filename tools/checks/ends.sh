@@ -67,7 +67,7 @@ for is_default in True, False:
     print(f"{ran.returncode} {ran.stdout}".strip())
 print(open("limited").read(), end="")' "$parv"
 
-# Words and the environment lie on the stack too.
+# Words and the environment lie on the stack too, so there are few and none here.
 for words in "packets v.par2" "set v.par2" "find v.par2 x.bin" "find --tails v.par2 x.bin" "verify v.par2 g.bin"; do
     # shellcheck disable=SC2086
     "$parv" $words > "$said/alone"
