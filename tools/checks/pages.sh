@@ -1,6 +1,7 @@
 #!/usr/bin/env bash
 # The pages: links and paths in them lead somewhere, README is short and its example, its calls of
-# scripts and its ways to install do what it says, and each clause that PROVED names stands in the sources.
+# scripts and its ways to install do what it says, and each clause that a row of PROVED names stands at
+# a call of a name in this row, or in a file that has a type in it.
 . "$(dirname "$0")/wants.sh"
 cd "$work" || exit 1
 
@@ -59,19 +60,44 @@ if size <= 10 * 1024:
 else:
     fails("README has %d bytes" % size)
 
-sources = "".join(open(path).read() for path in glob.glob("crates/*/src/**/*.rt", recursive=True))
-clauses = set(re.findall(r"\bensures (\w+) \{", sources)) | {"from_gives"}
-words = set(re.findall(r"\b\w+\b", sources))
-named = 0
+
+def clauses_by_name(paths):
+    """The clauses of the functions of each name. Under the name of a type or a trait stand those of all functions of
+    a file that declares it or implements something for it, and the ghost members there."""
+    found = {}
+    for path in paths:
+        source = open(path).read()
+        here = set(re.findall(r"^ *ghost (\w+) = \{", source, re.M))
+        # A signature goes up to the line that opens or ends the body.
+        for name, signature in re.findall(r"\bfn (\w+)(.*?(?:^ *\{\}?$|;$|(?<!record) \{$))", source, re.M | re.S):
+            clauses = set(re.findall(r"\bensures (\w+) \{", signature))
+            found.setdefault(name, set()).update(clauses)
+            here |= clauses
+        for name in re.findall(r"^ *(?:pub(?:\(crate\))? )?(?:struct|enum|trait) (\w+)"
+                               r"|^impl(?:<.*?>)? (?:\w+.* for )?(\w+)", source, re.M):
+            found.setdefault("".join(name), set()).update(here)
+    return found
+
+
+# A row of three cells names functions or types, and last their clauses. One of "the same" goes on with those before.
+clauses = clauses_by_name(sorted(glob.glob("crates/*/src/**/*.rt", recursive=True)))
+of_any = set().union(*clauses.values())
+meant, named = set(), 0
 for row in re.findall(r"^\|.*\|$", open("docs/PROVED.md").read(), re.M):
     cells = [cell.strip() for cell in re.split(r"(?<!\\)\|", row)[1:-1]]
-    if len(cells) == 3 and "," in cells[2] + ",":
-        for name in re.findall(r"`(\w+)`", cells[2]):
-            named += 1
-            if name not in clauses and name not in words:
-                fails("PROVED names the clause %s, which isn't there" % name)
+    if len(cells) != 3:
+        continue
+    calls = re.findall(r"`([^`]*)`", cells[0] + cells[1]) + re.findall(r"`(\w+)`:", cells[2])
+    here = {name for call in calls for name in re.findall(r"\w+", call) if name in clauses}
+    meant = here | meant if cells[0].startswith("the same") else here
+    for name in re.findall(r"`(\w+)`(?!:)", cells[2]):
+        named += name in of_any
+        if name in of_any and not any(name in clauses[one] for one in meant):
+            fails("PROVED names the clause %s of %s, which has none of this name" % (name, cells[0]))
+        elif name not in of_any and name not in clauses:
+            fails("PROVED names the clause %s, which isn't there" % name)
 if not failed and named > 150:
-    print("ok: PROVED names %d clauses, each in the sources" % named)
+    print("ok: PROVED names %d clauses, each at a call or a type of its row" % named)
 elif not failed:
     fails("PROVED names %d clauses" % named)
 sys.exit(failed)
