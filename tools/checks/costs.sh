@@ -1,7 +1,8 @@
 #!/usr/bin/env bash
 # What a search costs, in processor time: sets whose slices are equal or nearly all filling, over files that are
-# full of them, a file of 1 TiB into which no slice fits, a large set over 64 MiB in which nothing stands, beside
-# md5sum, and tails of 60 KiB beside such of 1 KiB. Then what many words cost, and the states of many files.
+# full of them, a file of 1 TiB for a set whose slices have no checksums, a large set over 64 MiB in which nothing
+# stands, beside md5sum, and tails of 60 KiB beside such of 1 KiB. Then what many words cost, and the states of many
+# files.
 . "$(dirname "$0")/wants.sh"
 cd "$work" || exit 1
 

@@ -1,7 +1,7 @@
 #!/usr/bin/env bash
 # What hashing and searching cost, counted: how many blocks of 64 bytes go through MD5 in a run, how many digests are
 # taken of a window, how many indexes are made, and how often a search goes on. Each number is worked out from the
-# files, by the definitions of the formats and of MD5.
+# files, by the definitions of the formats and of MD5, but for turns and tables of zeros, which have a bound.
 . "$(dirname "$0")/wants.sh"
 cd "$work" || exit 1
 gcc -O1 -Wall -Wextra -o entries "$tools/digests/entries.c" || exit 1

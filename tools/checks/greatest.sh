@@ -1,7 +1,8 @@
 #!/usr/bin/env bash
-# Each call that takes memory once at its greatest input: long names, texts and words, bodies at their limit, a
-# million packets, the greatest slice size, lengths and offsets behind 2^32 and at the end of the longest file, and
-# as many files as words may name. Each run has its text and status: none ends with 8, for want of memory.
+# Each call of the program that takes memory once at its greatest input: long names, texts and words, bodies at
+# their limit, a million packets, the greatest slice size, lengths and offsets behind 2^32 and at the end of the
+# longest file, and as many files as words may name. Each run has its text and status: none ends with 8, for want of
+# memory.
 . "$(dirname "$0")/wants.sh"
 export most=600
 cd "$work" || exit 1
@@ -100,7 +101,7 @@ wants "a scanned file's argument of 131,071 bytes in a message" 6 "" "parv: cann
     "$parv" find v.par2 "aaaaa$long"
 wants "an option's value of 131,071 bytes" 3 "" "parv: bad value" "$parv" find --cursor "aaaaa$long" v.par2 x.bin
 
-# As many words as the system takes, of which at most 65,535 may be files.
+# 100,000 words, of which at most 65,535 may be files.
 words=()
 for _ in $(seq 100000); do words+=(-q); done
 if env true "${words[@]}" 2> "$said/words"; then

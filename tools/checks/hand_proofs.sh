@@ -1,6 +1,6 @@
 #!/usr/bin/env bash
-# A proof by hand can claim anything of the data that only contracts see: those that hand_proofs.txt
-# lists were read, as they are, with the clauses that they prove, the definitions that these name
+# A proof by hand can claim of the data that only contracts see whatever no clause forbids: those that
+# hand_proofs.txt lists were read, as they are, with the clauses that they prove, the definitions that these name
 # (`added_at` and `Reading`) and the module through which their words come; and there is no other at any depth of a
 # crate's proofs.
 cd "$(dirname "$0")/../.." || exit 1

@@ -1,5 +1,5 @@
 #!/usr/bin/env bash
-# What is installed: the program, its page and its completions in their places and nothing else,
+# What is installed: the program, its pages, its completions and its scripts in their places and nothing else,
 # without a toolchain, and nothing of them behind the removal.
 . "$(dirname "$0")/wants.sh"
 

@@ -1,6 +1,6 @@
 #!/usr/bin/env bash
-# Allocations of runs that are refused in turn, at every kind of end, also where an opening, a read or a write
-# fails too; each end leaves nothing behind. (More sets: refused_sets.sh.)
+# Allocations of runs that are refused in turn, at most kinds of end, also where an opening, a read or a write
+# fails too; each end leaves nothing behind. (More sets: refused_sets.sh, refused_tails.sh.)
 . "$(dirname "$0")/disturbing.sh"
 head -c 92 v.par2 > main.par2
 mkdir grown

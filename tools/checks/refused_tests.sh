@@ -1,7 +1,7 @@
 #!/usr/bin/env bash
-# Each allocation of each test of parwindow and parfind, and of some tests of others, is refused in turn: a test
-# passes, or it fails by want of memory, and where what it says then is named, some test says it. With `later`
-# all that come behind are refused too.
+# Each allocation of each test of parwindow and parfind, and of some tests of others, is refused in turn, or some
+# hundred of them where a test makes more than a thousand: a test passes, or it fails by want of memory, and where what
+# it says then is named, some test says it. With `later` all that come behind are refused too.
 # A crate of tests has its own name before the _tests of its program. The gate leaves these programs; elsewhere
 # there may be none, and then nothing is run. The other tests, whose refusals are tried on the built program, give
 # back what they take.

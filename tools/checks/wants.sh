@@ -1,4 +1,5 @@
-# Read by each check: the built program, a folder to work in, and what compares a run to what it must print.
+# Read by each check that runs something: the built program, a folder to work in, and what compares a run to what it
+# must print.
 # Each comparison prints a line that begins with 'ok: ' or 'FAILED: '. A check ends by `exit $failed`.
 set -uo pipefail
 tools=$(cd "$(dirname "${BASH_SOURCE[0]}")/.." && pwd)
