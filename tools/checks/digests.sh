@@ -1,22 +1,28 @@
 #!/usr/bin/env bash
 # What hashing and searching cost, counted: how many blocks of 64 bytes go through MD5 in a run, how many digests are
-# taken of a window, how many indexes are made, and how often a search goes on. Each number is worked out from the
-# files, by the definitions of the formats and of MD5, but for turns and tables of zeros, which have a bound.
+# taken of a window, how many indexes are made, how often a search goes on, and how often tails that slide are stopped.
+# Each number is worked out from the files, by the definitions of the formats and of MD5, but for turns, slides and
+# tables of zeros, which have a bound.
 . "$(dirname "$0")/wants.sh"
 cd "$work" || exit 1
 gcc -O1 -Wall -Wextra -o entries "$tools/digests/entries.c" || exit 1
 nm "$parv" > symbols || exit 1
 
-# place NAME FUNCTION: NAME is counted where this function of the program begins, whatever types it is made for.
+# place NAME FUNCTION..: NAME is counted where the first of these functions that the program has begins, whatever types
+# it is made for. (What is built another way may have one inside another.)
 places=()
 place() {
-    local found
-    found=$(awk -v name="$2" '{ address = $1; sub(/^[0-9a-f]+ [tT] /, ""); sub(/::<.*/, "") }
-        $0 == name { printf "%s%s", between, address; between = "," }' symbols)
+    local name=$1 function found=
+    shift
+    for function; do
+        found=$(awk -v name="$function" '{ address = $1; sub(/^[0-9a-f]+ [tT] /, ""); sub(/::<.*/, "") }
+            $0 == name { printf "%s%s", between, address; between = "," }' symbols)
+        [ -z "$found" ] || break
+    done
     if [ -z "$found" ]; then
-        fails "$1 can't be counted: the program has no function $2"
+        fails "$name can't be counted: the program has no function $*"
     else
-        places+=("$1=$found")
+        places+=("$name=$found")
     fi
 }
 place blocks md5::compress::compress
@@ -26,10 +32,12 @@ place indexes parwindow::index::Index::of
 place turns parfind::tracks::track::Track::slide_until_crc
 place halves parwindow::zero_run::ZeroRun::new
 place marks parshelf::shelves::names::list_mark
+place slides parwindow::in_turn::slide_piece parwindow::stream::Stream::piece_from
 [ $failed -eq 0 ] || exit 1
 
 PYTHONPATH=$tools python3 - << 'END' || exit 1
 import zlib
+from bench.search_cost import packets_with_tails
 from make.content import noise, write
 from make.damage import flip
 from make.packets import NO_ID, desc_body, ids_of, ifsc_body, main_body, md5, packet, set_of
@@ -99,6 +107,10 @@ short_set("zero.par2", bytes(64), b"x" * 64)
 short_set("twins.par2", b"y" * 64, b"y" * 64)
 write("zeros", bytes(10000))
 write("twin", b"y" * 64 + b"z")
+
+# Four tails of about 1,000 bytes, of which none stands in this file.
+write("tails.par2", packets_with_tails(4096, [(1000 + at, at) for at in range(4)]))
+write("long", noise("long", 65536))
 END
 set=$(< s.id)
 
@@ -206,6 +218,10 @@ costs "a run of equal windows" "verify -q zero.par2 zeros" "result impossible" d
 # more only where a slice is met.
 costs "a search by pieces" "find s.par2 other" end "turns<=5"
 costs "the same for a missing file" "verify -q s.par2 a b other" "result impossible" "turns<=14"
+
+# Four tails slide over up to 512 bytes in one go, and are stopped where the register of one may be a slice's, which is
+# so nearly nowhere: far less often than at each fourth place.
+costs "four tails in turn" "find --tails tails.par2 long" end "slides<=$((65536 / 4))"
 
 # What zeros behind a window make of a register is worked out by halves of their number: of 8,192, of one more, of 1.
 costs "tables by halves" "find s.par2 other" end "halves<=$((15 + 15 + 2))"
