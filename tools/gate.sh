@@ -8,7 +8,7 @@ mkdir -p out
 log=out/gate.log
 tee "$log" << END
 The gate: every proof from nothing, every wrong body and test, then checks of the built program.
-It takes up to an hour on four processors. The log is $log.
+From nothing it takes up to two hours on four processors. The log is $log.
 END
 
 # What an earlier run left would be taken for what was proved now.
