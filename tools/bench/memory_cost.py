@@ -100,7 +100,7 @@ def cost_of_descriptions(costs):
 
 
 def cost_of_bodies(costs):
-    """Beside a text of which each byte is shown by four. The Main packets and the sums of a set are usable."""
+    """Beside a text of which each byte is shown by four. Sums of the set and Main packets of others are usable."""
     owner = md5(EMPTY)
     for mib, shown in (7, MIB // 4), (63, MIB):
         for name, made in (("descriptions", lambda: packet(owner, "filedesc", bytes(MIB)) * mib),
