@@ -4,7 +4,8 @@
 usage: one_set.py FILE SIZE RECOVERY FOLDER [OLD NEW]..
 
 FILE gets the set of all files below FOLDER, by their paths from there, in slices of SIZE bytes, with so
-many recovery slices, which hold zeros. The file OLD stands there as NEW, whatever that is.
+many recovery slices. The first is right, so one slice can be repaired by it; the others hold zeros. The file
+OLD stands there as NEW, whatever that is.
 """
 
 import os
@@ -12,7 +13,7 @@ import sys
 
 sys.path[0] = os.path.dirname(os.path.dirname(os.path.realpath(__file__)))  # tools/, where imports begin
 
-from make.packets import desc_body, file_id, ifsc_body, main_body, recvslic_body, set_of
+from make.packets import desc_body, file_id, filled, ifsc_body, main_body, recvslic_body, set_of, slices
 
 
 def files_below(folder):
@@ -26,6 +27,14 @@ def files_below(folder):
     return found
 
 
+def first_recovery_slice(contents, size):
+    """The recovery data of the exponent 0: all slices, xored."""
+    total = 0
+    for piece in (piece for content in contents for piece in slices(content, size)):
+        total ^= int.from_bytes(filled(piece, size), "little")
+    return total.to_bytes(size, "little")
+
+
 def main():
     out, size, recovery, folder = sys.argv[1], int(sys.argv[2]), int(sys.argv[3]), sys.argv[4]
     words = list(map(os.fsencode, sys.argv[5:]))
@@ -34,7 +43,9 @@ def main():
     ids = [file_id(name, data) for name, data in files]
     bodies = [(kind, body) for owner, (name, data) in zip(ids, files)
               for kind, body in [("filedesc", desc_body(owner, name, data)), ("ifsc", ifsc_body(owner, data, size))]]
-    bodies += [("recvslic", recvslic_body(exponent, bytes(size))) for exponent in range(recovery)]
+    first = first_recovery_slice([data for _, data in files], size)
+    bodies += [("recvslic", recvslic_body(exponent, bytes(size) if exponent else first))
+               for exponent in range(recovery)]
     with open(out, "wb") as file:
         file.write(set_of(main_body(size, ids), *bodies))
 

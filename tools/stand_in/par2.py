@@ -4,11 +4,13 @@
 usage: par2.py repair -q FILE..
 
 The packet files among FILES and the others are read by the models of models/, in the folder where it is
-run; names as par2cmdline 0.8.1 reads them: a backslash as a slash, a control character as % and two digits.
-The set is that of the first packet of the first packet file. It ends with 2 where more slices are needed
-than there are recovery slices, a short one being seen where a file ends; else it does what par2 does: moves
-a damaged file to name.1, renames one that is another, and writes the rest, which it takes from the folder
-ORIGINALS. GIVEN is a file to which it adds a line for each file that it sees, with the file's MD5.
+run; names as par2cmdline 0.8.1 reads them: a backslash as a slash, a control character and two dots before
+a slash as % and two digits. The set is that of the first packet of the first packet file. It ends with 2
+where more slices are needed than there are recovery slices, a short one being seen where a file ends; else
+it does what par2 does: moves a damaged file to name.1, renames one that is another, for which it makes no
+folder, and writes the rest, which it takes from the folder ORIGINALS. If the set has an empty file, it ends
+with 5 whatever it has done. GIVEN is a file to which it adds a line for each file that it sees, with the
+file's MD5.
 
 WRONG is how it goes wrong, once something is to be repaired: `fails` with half of a file written, `lies`
 by writing other bytes and ending with 0, or the name of a signal, which then ends what has called it.
@@ -34,7 +36,8 @@ WRONG = os.environ.get("WRONG", "")
 
 def name_there(name):
     """The path by which par2 looks for a file of the set."""
-    return re.sub(rb"[\0-\x1f]", lambda found: b"%%%02X" % found[0][0], name.replace(b"\\", b"/"))
+    name = name.replace(b"\\", b"/").replace(b"../", b"%2E%2E/")
+    return re.sub(rb"[\0-\x1f]", lambda found: b"%%%02X" % found[0][0], name)
 
 
 def end(status, text):
@@ -76,8 +79,10 @@ def repair(file, name, scanned, moved):
         os.rename(file.name, moved[file.name])
     other = moved.get(other, other)
     if state == "renamed" and os.path.lexists(other):
-        os.makedirs(os.path.dirname(file.name) or b".", exist_ok=True)
-        os.rename(other, file.name)
+        try:
+            os.rename(other, file.name)
+        except FileNotFoundError:
+            end(6, f"{os.fsdecode(other)} cannot be renamed to {os.fsdecode(file.name)}")
         return
     with open(os.path.join(os.fsencode(os.environ["ORIGINALS"]), name), "rb") as whole:
         data = whole.read()
@@ -108,6 +113,8 @@ def main():
     moved = {}
     for file, original in zip(files, found.files):
         repair(file, original.name, scanned, moved)
+    if any(file.length == 0 for file in files):
+        end(5, "Repair Failed.")
     end(0, "Repair complete.")
 
 
