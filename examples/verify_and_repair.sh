@@ -25,7 +25,9 @@
 # that folder alone goes. Where it sees less than parv, it is given the slices
 # that parv has found. SIGINT, SIGTERM and SIGHUP end it once all moves are
 # undone. After any other end the list of moves is still in FOLDER, and the next
-# run undoes them before it does anything else.
+# run undoes them before it does anything else, unless all were made. A file that
+# you have changed or added since then is kept, if need be as NAME.1, and that
+# next run removes no backups.
 #
 # The exit status:
 #   0  each file is complete
@@ -42,8 +44,10 @@ export LC_ALL=C
 usage=$(sed -n '2s/^# //p' "$0")
 stage=.verify_and_repair
 
+# (A signal may come while standard error is that of a program.)
+exec {messages}>&2 || exec {messages}> /dev/null
 say() {
-    printf 'verify_and_repair.sh: %s\n' "$*" >&2
+    printf 'verify_and_repair.sh: %s\n' "$*" >&"$messages" || return 0
 }
 
 stop() {
@@ -73,17 +77,37 @@ if [ $# -ne 1 ] || [ -z "$1" ] || [[ $1 == --* ]]; then
     echo "$usage" >&2
     exit 3
 fi
-parv=${PARV:-parv}
-command -v -- "$parv" > /dev/null || {
-    printf 'verify_and_repair.sh: cannot run %q: put parv in PATH, or name it by PARV\n' "$parv" >&2
+
+# Sets `program` to the absolute path of a program, or to a name of which PATH has none. It is looked up here, and not in
+# the folder that this script goes into, which may have come from anyone. For the same reason relative parts of PATH go.
+find_program() {
+    program=$(type -P -- "$1" && echo .) || program=$1
+    program=${program%$'\n'.}
+    [[ $program != */* || $program == /* ]] || program=$PWD/$program
+    [ -x "$program" ]
+}
+find_program "${PARV:-parv}" || {
+    printf 'verify_and_repair.sh: cannot run %q: put parv in PATH, or name it by PARV\n' "${PARV:-parv}" >&2
     exit 6
 }
+parv=$program
+find_program "${PAR2:-par2}"
+par2=$program
+parts=$PATH:
+PATH=
+while [ -n "$parts" ]; do
+    [[ $parts != /* ]] || PATH+=${PATH:+:}${parts%%:*}
+    parts=${parts#*:}
+done
+PATH=${PATH:-/usr/bin:/bin}
+[[ ${TMPDIR:-/} == /* ]] || TMPDIR=$PWD/$TMPDIR
 
-# Sets `shown` to a name as parv shows it.
+# Sets `shown` to a name as parv shows it: as parv has shown it, if it is a name of the set.
+declare -A shown_by_parv=()
 show() {
     local at byte code
-    shown=$1
-    [[ $1 == *[!\ -~]* || $1 == *\\* ]] || return 0
+    shown=${shown_by_parv[/$1]-$1}
+    [[ $shown == "$1" ]] && [[ $1 == *[!\ -~]* || $1 == *\\* ]] || return 0
     shown=
     for ((at = 0; at < ${#1}; at++)); do
         byte=${1:at:1}
@@ -96,15 +120,6 @@ show() {
     done
 }
 
-# The folder is left for another, so programs and folders are named from there.
-program() {
-    case $1 in
-    [!/]*/*) printf '%s/%s\n' "$PWD" "$1" ;;
-    *) printf '%s\n' "$1" ;;
-    esac
-}
-parv=$(program "$parv")
-par2=$(program "${PAR2:-par2}")
 show "$1"
 folder=$shown
 [[ $1 == /* ]] || set -- "./$1"
@@ -129,11 +144,14 @@ leave() {
     rm -rf "$work"
     exit $status
 }
+take_signals() {
+    trap 'exit 129' HUP
+    trap 'exit 130' INT
+    trap 'exit 143' TERM
+}
 trap leave EXIT
-trap 'exit 129' HUP
-trap 'exit 130' INT
 trap 'exit 141' PIPE
-trap 'exit 143' TERM
+take_signals
 
 # Runs a program that ends with the script.
 run() {
@@ -159,24 +177,39 @@ is_clear() {
     while [ -n "$rest" ]; do
         path+=${path:+/}${rest%%/*}
         rest=${rest#*/}
-        show "$path"
         if [ -L "./$path" ]; then
-            obstacle="$shown is a link"
+            obstacle='a link'
         elif [ ! -e "./$path" ]; then
             return 0
         elif [ -n "$rest" ] && [ ! -d "./$path" ]; then
-            obstacle="$shown is no folder"
+            obstacle='no folder'
         elif [ -z "$rest" ] && [ ! -f "./$path" ]; then
-            obstacle="$shown is no regular file"
+            obstacle='no regular file'
         else
             continue
         fi
+        show "$path"
+        obstacle="$shown is $obstacle"
         return 1
     done
 }
 
-inode() {
-    stat -c %i -- "./$1" 2> /dev/null
+# The inode of a file, when it was made (an inode may be given again), its length and when its content was last changed.
+node_format='%i/%.9W %s %.9Y'
+node_of() {
+    stat -c "$node_format" -- "./$1" 2> /dev/null
+}
+
+# Whether the file with this node is at a path, also if its content was changed since. (Version 0.4.0 noted inodes
+# only.)
+is_at() {
+    local now
+    now=$(node_of "$2") && [[ ${now%% *} == "${1%% *}" || ${now%%/*} == "$1" ]]
+}
+
+# Whether this script has made what was at a path, and nobody else.
+is_made() {
+    [[ $1 == $stage/files/* || $1 == $stage/made/* ]]
 }
 
 # Moves a file to a path where nothing is.
@@ -190,40 +223,131 @@ move() {
     return 1
 }
 
-# Undoes the moves of the list, the last one first: of the file with an inode, from a path, to another. Then each
-# file must stand where it stood. A folder that was made has neither inode nor path from which it was moved.
-undo() {
-    local -a moves
-    local at left=0
-    [ -e $stage/moves ] || return 0
-    mapfile -d '' -t moves < $stage/moves || return 1
-    for ((at = ${#moves[@]} / 3 * 3 - 3; at >= 0; at -= 3)); do
-        if [ -z "${moves[at]}" ]; then
-            is_below "${moves[at + 2]}" && is_clear "${moves[at + 2]}/x" && rmdir -- "./${moves[at + 2]}" 2> /dev/null
-        elif [ "$(inode "${moves[at + 2]}")" = "${moves[at]}" ]; then
-            move "${moves[at + 2]}" "${moves[at + 1]}" || left=1
-        fi
+# Sets `free` to a name beside a path, at which nothing is, was or is to be.
+declare -A is_name is_listed moved_from is_stuck stays used leaves taken asides
+free_name() {
+    local base=${1##*/} n=0
+    while :; do
+        n=$((n + 1))
+        free=${1:0:${#1} - ${#base}}${base:0:254 - ${#n}}.$n
+        [ -e "./$free" ] || [ -L "./$free" ] || [ -n "${is_name[/$free]-}${is_listed[/$free]-}${taken[/$free]-}" ] \
+            || return 0
     done
-    for ((at = 0; at < ${#moves[@]} / 3 * 3; at += 3)); do
-        [[ -n ${moves[at]} && ${moves[at + 1]} != "$stage/"* ]] || continue
-        if [ "$(inode "${moves[at + 1]}")" != "${moves[at]}" ]; then
-            show "${moves[at + 1]}"
-            say "$folder: $shown isn't where it was"
-            left=1
-        fi
-    done
-    [ $left -eq 0 ] && rm $stage/moves
 }
 
-# Removes the stage, once nothing that was moved stands there.
-clear_stage() {
-    local said
+# Gives a file that has changed or come since the moves a free name.
+keep() {
+    local kept
+    free_name "$1"
+    show "$free"
+    kept=$shown
+    move "$1" "$free" || return 1
+    show "$1"
+    say "$folder: $shown has changed since, and is kept as $kept"
+}
+
+# Whether a file is at a path to which a move has brought it. In the stage nobody else puts one there, so there it is also
+# in a copy of the folder, in which inodes differ.
+is_brought() {
+    is_at "$1" "$2" || { [[ $2 == $stage/aside/* ]] && [ -f "./$2" ]; }
+}
+
+# Whether the file that was moved away from a path can go back there: one move or two have brought it to a known place.
+can_return() {
+    local at=${moved_from[/$1]-}
+    [ -n "$at" ] || return 1
+    ! is_brought "${moves[at]}" "${moves[at + 2]}" || return 0
+    at=${moved_from[/${moves[at + 2]}]-}
+    [ -n "$at" ] && is_brought "${moves[at]}" "${moves[at + 2]}"
+}
+
+# Moves a file back. A file that this script has made goes back to the stage, and so is removed. But it is kept if
+# somebody has written to it, and it stays if the file that was there can't return. Another file makes way, unless it
+# couldn't be moved back itself.
+undo_move() {
+    local node=$1 from=$2 to=$3
+    is_brought "$node" "$to" || return 0
+    if is_made "$from"; then
+        # (A plain `return` would have the status from before a signal.)
+        [ "$(node_of "$to")" = "$node" ] || { keep "$to" && return 0 || return 1; }
+        [ -z "${moved_from[/$to]-}" ] || can_return "$to" || return 0
+    fi
+    if is_below "$from" && is_clear "$from"; then
+        [ -z "${is_stuck[/$from]-}" ] || return 1
+        [ ! -e "./$from" ] || keep "$from" || return 1
+        [[ $from != */* ]] || mkdir -p -- "./${from%/*}" 2> /dev/null
+    fi
+    move "$to" "$from"
+}
+
+# Sets `moves` to the list of moves, and what is looked up in it.
+read_moves() {
+    local at
+    mapfile -d '' -t moves < $stage/moves || return 1
+    moves=("${moves[@]:0:${#moves[@]} / 3 * 3}")
+    is_listed=() moved_from=()
+    for ((at = 0; at < ${#moves[@]}; at += 3)); do
+        is_listed[/${moves[at + 1]}]=1 is_listed[/${moves[at + 2]}]=1
+        [ -z "${moves[at]}" ] || moved_from[/${moves[at + 1]}]=$at
+    done
+}
+
+# Whether all moves of the list were made, as was noted then.
+is_done() {
+    local -a moves
+    local at
+    [ -e $stage/all ] && read_moves || return 1
+    for ((at = 0; at < ${#moves[@]}; at += 3)); do
+        [[ ${moves[at + 1]} != $stage/* ]] || [ ! -e "./${moves[at + 1]}" ] || return 1
+    done
+}
+
+# Undoes the moves of the list, the last one first: of the file with a node, from a path, to another. A folder that was
+# made has neither node nor path from which it was moved. A file that is at no place of the list any more was moved or
+# removed by somebody else, and isn't asked for.
+undo() {
+    local -a moves
+    local at path left=0
+    read_moves && rm -rf $stage/all || return 1
+    is_stuck=()
+    for ((at = ${#moves[@]} - 3; at >= 0; at -= 3)); do
+        path=${moves[at + 2]}
+        if [ -n "${moves[at]}" ]; then
+            undo_move "${moves[@]:at:3}" || left=1 is_stuck[/$path]=1
+        elif is_below "$path" && is_clear "$path/x"; then
+            rmdir -- "./$path" 2> /dev/null
+        fi
+    done
+    for ((at = 0; at < ${#moves[@]}; at += 3)); do
+        path=${moves[at + 1]}
+        [[ -z ${moves[at]} || $path == $stage/* ]] || [ -e "./$path" ] || {
+            show "$path"
+            say "$folder: $shown isn't where it was"
+        }
+    done
+    [ $left -eq 0 ]
+}
+
+# Whether the stage and its list of moves are what this script makes; else `said` says what they are.
+is_stage() {
     if [ -L $stage ] || [ -L $stage/moves ] || [ -L $stage/aside ]; then
         said="$stage is a link, or has one"
-    elif undo; then
+    elif [ -e $stage/moves ] && [ ! -f $stage/moves ]; then
+        said="$stage/moves is no regular file"
+    else
+        return 0
+    fi
+    return 1
+}
+
+# Removes the stage, once its moves are undone, or if they are to stay.
+clear_stage() {
+    local said=''
+    if is_stage && { [ -n "${1-}" ] || [ ! -e $stage/moves ] || undo; }; then
+        # (The list goes once no file is there that only the list has the name of.)
         said=$({
-            { [ ! -e $stage/aside ] || rmdir $stage/aside; } && rm -rf $stage/files $stage/made $stage/list \
-                && rmdir $stage
+            { [ ! -e $stage/aside ] || rmdir $stage/aside; } && rm -rf $stage/moves && rm -rf $stage/files $stage/made \
+                $stage/list $stage/all && rmdir $stage
         } 2>&1) && return 0
     fi
     say "$folder: $stage stays, for what is to be undone${said:+: $said}"
@@ -232,10 +356,22 @@ clear_stage() {
 
 exec {lock}< . || exit 6
 flock -n "$lock" || stop 6 "$folder: another run is at work"
-if [ -e $stage ] || [ -L $stage ]; then
+said=''
+if { [ -e $stage ] || [ -L $stage ]; } && { [ -z "$dry" ] || ! is_stage || [ ! -e $stage/moves ] || ! is_done; }; then
     [ -z "$dry" ] || stop 6 "$folder: a run was ended here, and is undone by the next without --dry-run"
-    clear_stage || exit 6
-    say "$folder: a run was ended here, and is undone"
+    trap '' HUP INT TERM
+    if is_stage && [ -e $stage/moves ] && is_done; then
+        clear_stage stays || exit 6
+        say "$folder: a run was ended here after its moves, which stay"
+    else
+        clear_stage || exit 6
+        say "$folder: a run was ended here, and is undone"
+    fi
+    take_signals
+    is_listed=() moved_from=()
+    # (A backup may be what somebody has written since.)
+    [ -z "$purge" ] || say "$folder: so --remove-backups removes nothing"
+    purge=''
 fi
 
 # Sets `listed` to what is of this kind in these folders.
@@ -303,7 +439,6 @@ fi
 
 # What the set says of its files: names as they are and as they are shown, IDs and lengths.
 names=() shows=() ids=() lengths=()
-declare -A is_name
 run "$parv" set --set "$chosen" "${packets[@]}" > "$work/set" 2> "$work/said" || refuse $?
 while IFS= read -r line; do
     [[ $line =~ ^file\ ([0-9a-f]+)\ ([0-9]+)\ [0-9]+\ [a-z]+\ (.*)$ ]] || continue
@@ -313,6 +448,7 @@ while IFS= read -r line; do
     printf -v line %b "${BASH_REMATCH[3]}"
     names+=("$line")
     is_name[/$line]=1
+    shown_by_parv[/$line]=${BASH_REMATCH[3]}
 done < "$work/set"
 read -r set_line < "$work/set"
 size=${set_line#* size }
@@ -336,7 +472,7 @@ declare -A there
 
 # look TAILS FILE..: sets `sources` to what has the content of each file of the set, `counts` and `verdict`.
 look() {
-    local i tails=$1
+    local i front tails=$1
     local -a lines
     shift
     words=() sources=()
@@ -349,7 +485,8 @@ look() {
     counts=${lines[-2]}
     for i in "${!names[@]}"; do
         path=
-        [[ ${lines[i + 1]} != renamed\ * ]] || path_of "${lines[i + 1]#"renamed ${shows[i]} from "}"
+        front="renamed ${shows[i]} from "
+        [[ ${lines[i + 1]} != renamed\ * ]] || path_of "${lines[i + 1]:${#front}}"
         sources[i]=$path
     done
 }
@@ -408,23 +545,43 @@ done
 
 # stage_link PATH NAME: makes a link in the stage to a path from here.
 stage_link() {
-    [[ $2 != */* ]] || mkdir -p "$stage/files/${2%/*}" && ln -s "$here/$1" "$stage/files/$2" && return
-    show "$2"
+    { [[ $2 != */* ]] || mkdir -p "$stage/files/${2%/*}"; } && ln -s "$here/$1" "$stage/files/$2"
+}
+
+refuse_link() {
+    show "$1"
     stop 6 "$folder: cannot make a link for $shown"
 }
 
 # Has par2 see a file under a number.
 stage_number() {
-    stage_link "$1" "verify_and_repair.${#numbered[@]}"
-    numbered+=("verify_and_repair.${#numbered[@]}")
+    local number=verify_and_repair.${#numbered[@]}
+    stage_link "$1" "$number" || refuse_link "$number"
+    numbered+=("$number")
     seen[/$1]=1
 }
 
+# Sets `name` to a name as par2 0.8.1 writes it: a backslash as a slash, `..` before a slash and control characters by
+# their digits. A file must be there already: when par2 renames one that it has found elsewhere, it makes no folder.
+par2_name() {
+    local at byte rest=${1//\\//}
+    rest=${rest//..\//%2E%2E/}
+    name=$rest
+    [[ $rest == *[$'\x01'-$'\x1f']* ]] || return 0
+    name=
+    for ((at = 0; at < ${#rest}; at++)); do
+        byte=${rest:at:1}
+        [[ $byte != [$'\x01'-$'\x1f'] ]] || printf -v byte '%%%02X' "'$byte"
+        name+=$byte
+    done
+}
+
 # stage_links FILE..: puts links where par2 looks: under the names of the set to their `contents`, and to packet
-# files and these files under numbers. Of names it takes a backslash for a slash, and other unusual bytes in ways
-# of its own, so what has these gets a number too. Its set is that of the first packet that it reads.
+# files and these files under numbers. Another par2 may write an unusual name in another way, so what has one gets a
+# number too, which is enough if par2 has one spelling for two names, or a too long one. Its set is that of the first
+# packet that it reads.
 stage_links() {
-    local i
+    local i name
     local -A seen=()
     local -a behind=()
     rm -rf $stage/files
@@ -432,14 +589,19 @@ stage_links() {
     numbered=() volumes=()
     for i in "${!names[@]}"; do
         [ -n "${contents[i]}" ] || continue
-        stage_link "${contents[i]}" "${names[i]//\\//}"
+        par2_name "${names[i]}"
         seen[/${contents[i]}]=1
-        [[ ${names[i]} != *[!A-Za-z0-9._/\\\ -]* ]] || stage_number "${contents[i]}"
+        if [[ $name == *[!A-Za-z0-9._/\ -]* ]]; then
+            stage_link "${contents[i]}" "$name" 2> /dev/null
+            stage_number "${contents[i]}"
+        else
+            stage_link "${contents[i]}" "$name" || refuse_link "$name"
+        fi
     done
     for path; do [ -n "${seen[/$path]-}" ] || stage_number "$path"; done
     for i in "${!packets[@]}"; do
         path_of "${packets[i]}"
-        stage_link "$path" "verify_and_repair.$i.par2"
+        stage_link "$path" "verify_and_repair.$i.par2" || refuse_link "$path"
         show "${packets[i]}"
         grep -qxF "first $chosen $shown" "$work/sets" && volumes+=("verify_and_repair.$i.par2") \
             || behind+=("verify_and_repair.$i.par2")
@@ -448,19 +610,20 @@ stage_links() {
     volumes+=("${behind[@]}")
 }
 
-# Has par2 repair what is staged; sets `sources` then, unless it fails.
+# Has par2 repair what is staged; sets `sources` then, unless it fails. par2 0.8.1 ends with 5 whatever it has done if
+# the set has an empty file, so what is there then decides.
 repair() {
     local status i
     run env -C $stage/files "$par2" repair -q "${volumes[@]}" "${numbered[@]}" > "$work/par2" 2>&1
     status=$?
     show "$(tr '\r' '\n' < "$work/par2" | grep -av '^$' | tail -n 1)"
     failure="par2 repair has failed with status $status: $shown"
-    [ $status -eq 0 ] || return $status
+    [ $status -eq 0 ] || [ $status -eq 5 ] || return $status
     mapfile -d '' -t listed < <(find $stage/files ! -type d ! -name 'verify_and_repair.*.par2' -print0 | sort -z)
     look '' "${listed[@]}"
     [ $verdict -le 2 ] || refuse $verdict
     for i in "${!names[@]}"; do
-        failure="par2 repair has ended, but ${shows[i]} isn't complete"
+        [ $status -ne 0 ] || failure="par2 repair has ended, but ${shows[i]} isn't complete"
         [ -n "${sources[i]}" ] || return 5
         [ -L "${sources[i]}" ] || continue
         path=$(readlink -n -- "${sources[i]}" && echo .)
@@ -514,8 +677,11 @@ put_slices() {
 }
 
 if [ -z "$dry" ]; then
-    mkdir -m 700 $stage 2> /dev/null || stop 6 "$folder: cannot write there"
     staged=1
+    mkdir -m 700 $stage 2> /dev/null || {
+        staged=''
+        stop 6 "$folder: cannot write there"
+    }
     mkdir $stage/files $stage/made $stage/aside || exit 6
     for path in "${sources[@]}"; do [[ $path != $stage/* ]] || : > "$path"; done
 fi
@@ -537,7 +703,6 @@ fi
 
 # The moves: where a file is now, from where it is moved and to where, in turn; of a folder to be made the last alone.
 moves=() told=() backups=() origins=() copied=()
-declare -A stays used taken asides
 add_move() {
     moves+=("$1" "$2" "$3")
     taken[/$3]=1
@@ -584,28 +749,29 @@ decide() {
         tell copy "$source" to "$name"
     fi
     origins[$1]=$source
-    if ! is_spare "$source"; then
+    if is_spare "$source"; then
+        leaves[/$source]=1
+    else
         copied[$1]=$source
         origins[$1]=$stage/made/$1.copy
     fi
     used[/$source]=1
 }
 
-# What stands at the name of a file goes first: by way of the stage where it gets another one, else to a free name.
+# A file that has the name of another one makes way first: by way of the stage if it is to be renamed, else to a free
+# name.
 make_way() {
-    local name=${names[$1]} n=1
+    local name=${names[$1]}
     [ -e "./$name" ] || return 0
-    if [ -n "${used[/$name]-}" ]; then
+    if [ -n "${leaves[/$name]-}" ]; then
         add_move "$name" "$name" "$stage/aside/$1"
         asides[/$name]=$stage/aside/$1
         return
     fi
-    while [ -e "./$name.$n" ] || [ -L "./$name.$n" ] || [ -n "${taken[/$name.$n]-}${is_name[/$name.$n]-}" ]; do
-        n=$((n + 1))
-    done
-    add_move "$name" "$name" "$name.$n"
-    backups+=("$name.$n")
-    tell keep "$name" as "$name.$n"
+    free_name "$name"
+    add_move "$name" "$name" "$free"
+    backups+=("$free")
+    tell keep "$name" as "$free"
 }
 
 # The folders of a name that are to be made, and the move to the name.
@@ -636,19 +802,27 @@ fi
 for i in "${!copied[@]}"; do
     run cp --reflink=auto -pT -- "./${copied[i]}" "${origins[i]}" || stop 6 "$folder: cannot copy to ${shows[i]}"
 done
-# The list has inodes. Within one file system a move is whole, or hasn't begun.
+# Within one file system a move is whole, or hasn't begun. What was made is on the disc before it gets its name.
 device=$(stat -c %d .)
-listed=()
+listed=() made=()
 for ((at = 0; at < ${#moves[@]}; at += 3)); do
-    node=
+    noted=
     if [ -n "${moves[at]}" ]; then
-        node=$(inode "${moves[at]}")
-        [ "$(stat -c %d -- "./${moves[at]}")" = "$device" ] || stop 6 "$folder: it reaches into another file system"
+        path=./${moves[at + 2]}
+        while [ ! -e "$path" ]; do path=${path%/*}; done
+        mapfile -t nodes < <(stat -c "%d $node_format" -- "./${moves[at]}" "$path" 2> /dev/null)
+        [ ${#nodes[@]} -eq 2 ] || stop 6 "$folder: it has changed meanwhile"
+        [ "${nodes[0]%% *} ${nodes[1]%% *}" = "$device $device" ] || stop 6 "$folder: it reaches into another file system"
+        noted=${nodes[0]#* }
+        ! is_made "${moves[at]}" || made+=("./${moves[at]}")
     fi
-    listed+=("$node" "${moves[@]:at + 1:2}")
+    listed+=("$noted" "${moves[@]:at + 1:2}")
 done
-printf '%s\0' "${listed[@]}" > $stage/list
-if ! { sync $stage/list && mv -T $stage/list $stage/moves && sync $stage; }; then
+if ! {
+    { [ ${#made[@]} -eq 0 ] || printf '%s\0' "${made[@]}" | xargs -0 sync --; } \
+        && printf '%s\0' "${listed[@]}" > $stage/list \
+        && sync $stage/list && mv -T $stage/list $stage/moves && sync $stage
+} 2> /dev/null; then
     stop 6 "$folder: cannot write there"
 fi
 for ((at = 0; at < ${#listed[@]}; at += 3)); do
@@ -658,13 +832,17 @@ for ((at = 0; at < ${#listed[@]}; at += 3)); do
         mkdir -- "./${listed[at + 2]}" || exit 6
     fi
 done
+: > $stage/all || stop 6 "$folder: cannot write there"
 
 gather
 look '' "${files[@]}"
 [ $verdict -le 2 ] || refuse $verdict
 settle
 is_complete || stop 5 "$folder: it isn't complete after the repair: $counts"
-sync -f . && rm $stage/moves && sync $stage || exit 6
+sync -f . || exit 6
+# It is done, whatever comes now.
+trap '' HUP INT TERM
+rm $stage/moves && sync $stage || exit 6
 for path in ${purge:+"${backups[@]}"}; do
     rm -f -- "./$path" && tell remove "$path"
 done

@@ -2,33 +2,12 @@
 # examples/verify_and_repair.sh on real damage, with a stand-in for par2: what becomes of each file, that nothing is
 # overwritten or lost, that all is left as it was where it fails, is interrupted or refuses a name, and why.
 . "$(dirname "$0")/wants.sh"
+. "$tools/checks/rooms.sh"
 cd "$work" || exit 1
 export LC_ALL=C
 export PARV=$parv PAR2=$tools/stand_in/par2.py ORIGINALS=$work/whole GIVEN=$work/given
 script=$top/examples/verify_and_repair.sh
 one_set=$tools/make/one_set.py
-
-# The paths, kinds and contents of all below a folder, a line each.
-listed() {
-    (cd "$1" && find . -type f -exec md5sum -- {} + | sort
-        find . ! -type f -printf '%y %p %l\n' | sort)
-}
-
-# A folder `room` with the set of these files, which stand in `whole` too: furnish SIZE RECOVERY NAME CONTENT..
-furnish() {
-    local size=$1 recovery=$2
-    shift 2
-    rm -rf whole room
-    mkdir whole room
-    while [ $# -gt 0 ]; do
-        mkdir -p "whole/$(dirname -- "$1")"
-        printf '%s' "$2" > "whole/$1"
-        shift 2
-    done
-    cp -r whole/. room
-    "$one_set" room/set.par2 "$size" "$recovery" whole || exit 1
-    : > given
-}
 
 # ends NAME STATUS TEXT LINE WORDS..: the script over `room` ends so.
 ends() {
@@ -39,29 +18,7 @@ ends() {
 fails_with() {
     listed room > before
     ends "$@"
-    if cmp -s before <(listed room); then
-        echo "ok: all is as it was: $1"
-    else
-        fails "it isn't as it was: $1: $(diff before <(listed room) | head -5 | tr '\n' ';')"
-    fi
-}
-
-# whole_now NAME MORE..: `room` has the files of `whole`, the packet file and these, each with its content, and no others.
-whole_now() {
-    local name=$1
-    shift
-    rm -rf wanted_room
-    cp -r whole wanted_room
-    cp room/*.par2 wanted_room
-    while [ $# -gt 0 ]; do
-        printf '%s' "$2" > "wanted_room/$1"
-        shift 2
-    done
-    if cmp -s <(listed room) <(listed wanted_room); then
-        echo "ok: each file is whole, and nothing is lost: $name"
-    else
-        fails "$name: $(diff <(listed room) <(listed wanted_room) | tr '\n' ';')"
-    fi
+    as_before "$1"
 }
 
 usage='usage: verify_and_repair.sh [--dry-run] [--remove-backups] [--set ID] FOLDER'
@@ -293,6 +250,20 @@ for number in 1 2 3 4 5 6; do
         fails "a place that is taken at move $number: status $status, $(cat text line)"
     fi
 done
+# The moves that undo six are ended too.
+for number in 1 2 3 4 5 6; do
+    for end in 'kills before' 'kills behind'; do
+        moving 6 'kills behind' KILL 2> "$said/ended"
+        moving $number "$end" KILL 2> "$said/ended"
+        [ $status -eq 137 ] || fails "SIGKILL $end move $number that undoes: status $status"
+        WRONG=fails "$script" room > text 2> line
+        if [ $? -eq 5 ] && [ "$(head -n 1 line)" = "$again" ] && cmp -s before <(listed room); then
+            echo "ok: undone by the next run where SIGKILL $end move $number that undoes"
+        else
+            fails "behind SIGKILL $end move $number that undoes: $(cat text line; diff before <(listed room))"
+        fi
+    done
+done
 moving 7 'kills behind' KILL
 if [ $status -eq 0 ] && [ "$(< calls)" -eq 6 ] && [ ! -s line ] && [ "$(< text)" = "repair third.txt
 repair first.txt
@@ -330,6 +301,7 @@ moves "to elsewhere" ../taken x "$say x: cannot move it
 $say ../taken isn't where it was"
 moves "from elsewhere" y ../outside "$say ../outside: cannot move it
 $say y isn't where it was"
+moves "to a file elsewhere" ../outside x "$say x: cannot move it"
 moves "by the whole path" "$work/taken" x "$say x: cannot move it
 $say $work/taken isn't where it was"
 ln -s ../folder room/link

@@ -1,0 +1,279 @@
+#!/usr/bin/env bash
+# A repair that was ended by force after its files had got their names, and what people do before the next one: nothing
+# that they have written since is lost. The same with a list of moves that can't be written, and with a planted one.
+. "$(dirname "$0")/wants.sh"
+. "$tools/checks/commands.sh"
+. "$tools/checks/rooms.sh"
+cd "$work" || exit 1
+export PAR2=$tools/stand_in/par2.py ORIGINALS=$work/whole GIVEN=$work/given
+
+# When it is to verify a folder in which the file PLACED is again, it does in that folder what MEANWHILE says, and ends what
+# has called it by a signal.
+cat > ends << 'END'
+#!/usr/bin/env bash
+if [ "$1" = verify ] && [ -e "$PLACED" ]; then
+    eval "$MEANWHILE"
+    kill -s "$SIGNAL" $PPID
+    exit 1
+fi
+exec "$REAL" "$@"
+END
+chmod +x ends
+export REAL=$parv
+
+# ended NAME FILE SIGNAL MEANWHILE: a run over `room` that ends by this signal when this file is at its place, once
+# people have done this.
+ended() {
+    local status wanted=137
+    [ "$3" = KILL ] || wanted=143
+    PLACED=$work/room/$2 SIGNAL=$3 MEANWHILE=$4 PARV=$work/ends "${repair[@]}" room > text 2> line
+    status=$?
+    [ $status -eq $wanted ] && [ ! -s text ] || fails "no run was ended: $1: status $status, $(cat text line)"
+    # (A program that it has called may hold the folder for a moment.)
+    for _ in $(seq 100); do flock -n room true && break; sleep 0.1; done
+} 2> "$said/ended"
+
+# has NAME TEXT: some file of `room` has this text, and nothing else.
+has() {
+    local file
+    while IFS= read -r -d '' file; do
+        [ "$(tr -d '\0' < "$file")" != "$2" ] || return 0
+    done < <(find room -path "room/$repair_stage" -prune -o -type f -size "${#2}c" -print0)
+    fails "$1: '$2' stands nowhere: $(cat text line; listed room)"
+}
+
+# goes_on NAME LINE WORDS..: the next run completes the set, and may say this.
+goes_on() {
+    local name=$1 wanted=$2 status
+    shift 2
+    "${repair[@]}" "$@" room > text 2> line
+    status=$?
+    diff -r whole room > differ
+    if [ $status -eq 0 ] && [ "$(tail -n 1 text)" = complete ] && [ ! -e room/$repair_stage ] \
+        && ! grep -qv '^Only in room[:/]' differ && [ "$(< line)" = "$wanted" ]; then
+        echo "ok: $name"
+    else
+        fails "$name: status $status, $(cat text line differ)"
+    fi
+}
+say="$repair_says room:"
+stay="$say a run was ended here after its moves, which stay"
+
+# people NAME MEANWHILE TEXT..: whatever they do once all files have their places, and however the run ends then, these
+# texts are still there afterwards. Of the set one file was missing, one damaged, two had each other's names, one had
+# another name, and one is a copy of that.
+people() {
+    local name=$1 meanwhile=$2 signal text
+    shift 2
+    for signal in KILL TERM; do
+        furnish 4 20 report.doc 'the report' notes.txt 'some notes' left 'left hand' right 'right hand' one 'same same' \
+            two 'same same' in/fine 'fine'
+        rm room/report.doc room/two
+        printf 'some nXtes' > room/notes.txt
+        mv room/left room/x
+        mv room/right room/left
+        mv room/x room/right
+        mv room/one room/in/stray
+        ended "$name" report.doc $signal "$meanwhile"
+        if [ $signal = TERM ] && [ -e room/$repair_stage ]; then fails "not undone: $name: $(cat line)"; fi
+        for text; do has "$name, then SIG$signal" "$text"; done
+        if [ $signal = KILL ]; then goes_on "$name, then SIGKILL" "$stay"; else goes_on "$name, then SIGTERM" ""; fi
+        for text; do has "$name, then SIG$signal, then another run" "$text"; done
+    done
+}
+people "nothing" "" 'some nXtes'
+people "they write to a repaired file" "printf ', a week later' >> report.doc" 'the report, a week later' 'some nXtes'
+people "they write over a repaired file" "printf 'the REPORT' > report.doc" 'the REPORT'
+people "they write over a repaired file within a second" \
+    'at=$(stat -c %.9Y report.doc); printf "the REPORT" > report.doc; touch -d "@${at%?}$(((${at: -1} + 5) % 10))" report.doc' \
+    'the REPORT'
+people "they write to a repaired file, and set its time back" \
+    'at=$(stat -c %.9Y report.doc); printf "!" >> report.doc; touch -d "@$at" report.doc' 'the report!'
+people "they write to a file that was damaged" "printf '!' >> notes.txt" 'some notes!' 'some nXtes'
+people "they write to a copy" "printf '!' >> two" 'same same!'
+people "they replace a repaired file" "printf 'another report' > new; mv new report.doc" 'another report'
+people "they replace a file that was damaged" "printf 'other notes' > new; mv new notes.txt" 'other notes' 'some nXtes'
+people "they write to a file with an exchanged name" "printf ' and more' >> left" 'left hand and more'
+people "they write to a renamed file" "printf ', changed' >> one" 'same same, changed'
+people "they replace a renamed file" "printf 'another one' > new; mv new one" 'another one'
+people "they remove the file that was damaged" "rm notes.txt.1" 'some notes'
+people "they remove it, and write to the repaired one" "rm notes.txt.1; printf '!' >> notes.txt" 'some notes!'
+people "they add files with the names of kept ones" \
+    "printf '!' >> report.doc; printf mine > report.doc.1; ln -s nothing report.doc.2" 'the report!' 'mine'
+people "they make a file at a place that a renamed file has left" "printf 'a new one' > in/stray" 'a new one'
+people "they make a file at two such places" "printf 'a new one' > in/stray; printf 'newer' > new; mv new right" 'a new one' 'newer'
+people "they remove a file" "rm left" 'right hand'
+people "they rename a file" "mv one elsewhere" 'same same'
+people "they exchange two files once more" "mv left new; mv right left; mv new right" 'left hand' 'right hand'
+people "they put the damaged file back" "mv notes.txt.1 notes.txt" 'some nXtes'
+people "they rename a file as it was" "mv one in/stray" 'same same'
+people "they remove the damaged file, and replace the repaired one" \
+    "rm notes.txt.1; printf mine > new; mv new notes.txt" 'mine'
+
+# An empty file that was made, which needs no repair.
+for signal in KILL TERM; do
+    furnish 4 0 one 'same same' empty ''
+    rm room/empty
+    mv room/one room/stray
+    ended "they write to an empty file that was made" one $signal "printf 'not empty' > empty"
+    has "they write to an empty file that was made, then SIG$signal" 'not empty'
+    goes_on "they write to an empty file that was made, then SIG$signal" "$([ $signal = TERM ] || echo "$stay")"
+    has "they write to an empty file that was made, then SIG$signal, then another run" 'not empty'
+done
+
+# What people have written isn't taken for a backup that may go.
+furnish 4 20 report.doc 'the report' report.doc.1 'the first report'
+rm room/report.doc
+ended "backups that aren't removed" report.doc KILL "rm report.doc.1; printf ', a week later' >> report.doc"
+goes_on "backups that aren't removed" "$stay
+$say so --remove-backups removes nothing" --remove-backups
+has "backups that aren't removed" 'the report, a week later'
+
+# A folder that a file has left is removed.
+for signal in KILL TERM; do
+    furnish 4 20 report.doc 'the report' in/fine 'fine' one 'same same'
+    rm room/report.doc
+    mv room/one room/in/stray
+    ended "a folder that was removed" report.doc $signal "rm -r in"
+    has "a folder that was removed, then SIG$signal" 'same same'
+    [ $signal = KILL ] || [ -e room/in/stray ] || fails "a folder that was removed isn't there again"
+    goes_on "a folder that was removed, then SIG$signal" "$([ $signal = TERM ] || echo "$stay")"
+done
+
+# A name that is as long as one may be.
+long=$(printf 'n%.0s' $(seq 255))
+furnish 4 20 "$long" 'the report'
+rm "room/$long"
+ended "a long name" "$long" TERM "printf ', a week later' >> '$long'"
+has "a long name" 'the report, a week later'
+goes_on "a long name" ""
+has "a long name, then another run" 'the report, a week later'
+
+# A run that is ended while two files with exchanged names are in its folder, of which a copy is made then: no inode is
+# as it was. (The third move is the first one out of it.)
+mkdir bin
+ln -s "$tools/stand_in/mv" bin
+export CALLS=$work/calls
+furnish 4 0 left 'left hand' right 'right hand' one 'same same'
+mv room/left room/x
+mv room/right room/left
+mv room/x room/right
+mv room/one room/stray
+for copies in no yes; do
+    cp -a room saved
+    echo 0 > calls
+    { MV_AT='3 kills before' SIGNAL=KILL PATH="$work/bin:$PATH" "${repair[@]}" room > text; } 2> "$said/ended"
+    [ "$(find room/$repair_stage -type f ! -name moves | wc -l)" -eq 2 ] || fails "no two files were in the stage"
+    if [ $copies = yes ]; then
+        cp -a room copy
+        rm -rf room
+        mv copy room
+    fi
+    goes_on "two files in the stage, a copy: $copies" "$say a run was ended here, and is undone"
+    rm -rf room
+    mv saved room
+done
+
+# People move files where the list was written, and nothing moved yet.
+echo 0 > calls
+{ MV_AT='1 kills before' SIGNAL=KILL PATH="$work/bin:$PATH" "${repair[@]}" room > text; } 2> "$said/ended"
+[ -e room/$repair_list ] || fails "no list of moves was left"
+mv room/stray room/one
+"${repair[@]}" room > text 2> line || fails "a file that was moved to its place by hand: $(cat text line)"
+whole_now "a file that was moved to its place by hand"
+
+# The repaired file can't be made again: it stays after SIGKILL, whatever people do with the others.
+for meanwhile in 'rm notes.txt.1; printf mine > new; mv new notes.txt' 'mv notes.txt.1 notes.txt' 'mv one stray' 'rm report.doc.1'; do
+    furnish 16 2 report.doc 'the report' notes.txt 'some notes' one 'same same'
+    printf 'the rXport' > room/report.doc
+    printf 'some nXtes' > room/notes.txt
+    mv room/one room/stray
+    ended "a repair that can't be made again" report.doc.1 KILL "$meanwhile"
+    WRONG=fails "${repair[@]}" room > text 2> line
+    if [ "$(cat room/report.doc)" = 'the report' ]; then
+        echo "ok: a repaired file stays after $meanwhile"
+    else
+        fails "a repaired file after $meanwhile: $(cat text line; listed room)"
+    fi
+done
+
+# A folder comes to the place of a moved file: that one isn't taken for a file of somebody else while it is there.
+furnish 4 20 report.doc 'the report' notes.txt 'some notes' one 'same same'
+printf 'the rXport' > room/report.doc
+printf 'some nXtes' > room/notes.txt
+mv room/one room/stray
+listed room > before
+echo 0 > calls
+{ MV_AT='4 kills before' SIGNAL=KILL PATH="$work/bin:$PATH" "${repair[@]}" room > text; } 2> "$said/ended"
+for name in report.doc notes.txt stray; do [ -e room/$name ] || mkdir room/$name; done
+"${repair[@]}" room > text 2> line
+status=$?
+find room -mindepth 1 -maxdepth 1 -type d ! -name ${repair_stage} -exec rmdir {} +
+WRONG=fails "${repair[@]}" room > text 2> line
+if [ $status -eq 6 ] && cmp -s before <(listed room); then
+    echo "ok: folders at the places of moved files, until they go"
+else
+    fails "folders at the places of moved files: status $status, $(cat text line; diff before <(listed room))"
+fi
+
+# One that was moved away, of many, takes no time of its own: a planted list has each of 2,000 files that isn't there.
+furnish 4 0 one 'same same' two 'two'
+mv room/one room/stray
+mkdir -p room/$repair_stage/aside
+{
+    printf '%s\0' "$(stat -c %i room/two)" two elsewhere
+    for number in $(seq 2000); do printf '%s\0' "$number" "gone$number" "elsewhere$number"; done
+} > room/$repair_list
+bash -c 'ulimit -t 30 && exec "$@"' - "${repair[@]}" room > text 2> line
+status=$?
+if [ $status -eq 0 ]; then echo "ok: a list of 2,000 files that are gone"; else fails "a list of 2,000 files: status $status"; fi
+whole_now "a list of 2,000 files that are gone"
+
+# The list of moves, which has the folders too that are to be made, is longer than a file may be; nothing else is.
+long=$(printf 'n%.0s' $(seq 60))
+words=()
+for number in $(seq 10 29); do words+=("$number$long/$number$long/$number$long" "content $number"); done
+furnish 16 0 "${words[@]}"
+for number in $(seq 10 29); do mv "room/$number$long/$number$long/$number$long" room/$number; done
+rm -r room/*"$long"
+listed room > before
+limited 6 "${repair[@]}" room > text 2> line
+status=$?
+if [ $status -eq 6 ] && [ ! -s text ] && [ "$(wc -l < line)" -eq 1 ]; then
+    echo "ok: a list of moves that can't be written ends the run"
+else
+    fails "a list of moves that can't be written: status $status, $(cat text line)"
+fi
+as_before "a list of moves that can't be written"
+[ ! -e room/$repair_stage ] || fails "something stays of a list of moves that can't be written"
+"${repair[@]}" room > text 2> line || fails "a run once the list can be written: $(cat text line)"
+whole_now "a list of moves that can be written then"
+
+# What was planted in place of the list is no file that could be read.
+furnish 4 5 first.txt abcdefgh second.txt ijklmnop
+mv room/first.txt room/x
+mkdir room/$repair_stage
+planted() {
+    listed room > before
+    (ulimit -v 4000000 && exec timeout -k 1 20 "${repair[@]}" room) > text 2> line
+    status=$?
+    if [ $status -eq 6 ] && [ ! -s text ] && grep -q 'no regular file' line; then
+        echo "ok: a list of moves that is $1 is refused"
+    else
+        fails "a list of moves that is $1: status $status, $(cat text line)"
+    fi
+    as_before "a list of moves that is $1"
+    rm -r room/${repair_list:?}
+}
+mkfifo room/$repair_list
+planted "a FIFO"
+mkdir room/$repair_list
+planted "a folder"
+if mknod room/$repair_list c 1 5 2> "$said/node"; then
+    planted "a device"
+else
+    echo "not run: a list of moves that is a device: making one isn't allowed here"
+fi
+"${repair[@]}" room > text 2> line || fails "a run once the planted list has gone: $(cat text line)"
+whole_now "a planted list that has gone"
+exit $failed

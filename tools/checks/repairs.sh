@@ -1,0 +1,110 @@
+#!/usr/bin/env bash
+# Sets that a repair once failed at, or took too long for: two sets that share names, an empty file, names that par2
+# writes in other ways, many long names of unprintable bytes, and a subfolder on another file system.
+. "$(dirname "$0")/wants.sh"
+. "$tools/checks/commands.sh"
+. "$tools/checks/rooms.sh"
+cd "$work" || exit 1
+export ORIGINALS=$work/whole GIVEN=$work/given
+one_set=$tools/make/one_set.py
+stand_in=$tools/stand_in/par2.py
+real=$(type -P par2) || echo "not run: repairs by par2 itself: it isn't installed"
+
+# ends NAME STATUS LAST WORDS..: a command over `room` ends so, with this last line, and no other message.
+ends() {
+    local name=$1 status=$2 last=$3
+    shift 3
+    "$@" room > text 2> line
+    local got=$?
+    if [ $got -eq "$status" ] && [ "$(tail -n 1 text)" = "$last" ] && [ ! -s line ]; then
+        echo "ok: $name"
+    else
+        fails "$name: status $got, $(cat text line)"
+    fi
+}
+
+# Two sets of logs that were rotated in between: log.1 of the first week is log.2 of the second.
+rm -rf room week1 week2
+mkdir room week1 week2
+printf 'the first week' > week1/log.1
+printf 'the week before it' > week1/log.2
+printf 'the second week' > week2/log.1
+cp week1/log.1 week2/log.2
+"$one_set" room/week1.par2 8 0 week1
+"$one_set" room/week2.par2 8 0 week2
+cp week2/* room
+cp week1/log.2 room/old
+cp -r week1 whole
+id=$("$parv" set room/week1.par2 | sed -n 's/^set \([0-9a-f]*\) .*/\1/p')
+ends "a name of another set: a file that is copied and makes way" 0 complete "${repair_set[@]}" "$id"
+whole_now "a name of another set: a file that is copied and makes way" log.1.1 'the second week' log.2.1 'the first week'
+ends "once more" 0 complete "${repair_set[@]}" "$id"
+ends "once more, as a trial" 0 complete "${repair_set_dry[@]}" "$id"
+
+# repaired NAME FILE WORDS..: of `room`, in which this file of `whole` is damaged, all is complete then.
+repaired() {
+    local name=$1 file=$2 par2
+    for par2 in "$stand_in" ${real:+"$real"}; do
+        rm -rf room
+        cp -r whole room
+        "$one_set" room/set.par2 1024 1 whole
+        printf 'X' | dd of="room/$file" bs=1 seek=100 conv=notrunc status=none
+        cp "room/$file" damaged
+        ends "a trial of a repair with $name" 1 "a repair can be tried: need 1 have 1" "${repair_dry[@]}"
+        PAR2=$par2 ends "a repair with $name by ${par2##*/}" 0 complete "${repair[@]}"
+        cp "room/$file.1" kept 2> "$said/kept"
+        rm -f "room/$file.1"
+        whole_now "a repair with $name by ${par2##*/}"
+        cmp damaged kept || fails "what was damaged isn't kept: a repair with $name by ${par2##*/}"
+    done
+}
+rm -rf whole
+mkdir whole
+head -c 3000 "$parv" > whole/damaged.bin
+head -c 6000 "$parv" | tail -c 2500 > whole/other.bin
+: > whole/empty
+repaired "an empty file" damaged.bin
+rm whole/empty
+for folder in 'Wait...' $'a\tb' $'a\nb' $'\x01' 'a../b' 'a..\b' 'back\slash' 'in/a' 'a:b' $'\x7f\xff'; do
+    mkdir -p "whole/$folder"
+    tail -c 4000 "$parv" > "whole/$folder/one.mp3"
+    repaired "a folder ${folder@Q}" damaged.bin
+    rm -r whole/"${folder%%/*}"
+done
+mkdir 'whole/Wait...'
+tail -c 4000 "$parv" > 'whole/Wait.../one.mp3'
+repaired "a damaged file below a folder 'Wait...'" 'Wait.../one.mp3'
+
+# 40 names of 3.8 KB of unprintable bytes, 20 folders deep; a second of the processor is plenty for one.
+rm -rf room
+mkdir room
+PYTHONPATH=$tools python3 - << 'END'
+from make.packets import desc_body, file_id, main_body, set_of
+deep = b"\xff" * 200 + b"/" + (b"\xfe" * 200 + b"/") * 18
+names = [deep + b"%05d" % number for number in range(40)]
+ids = [file_id(name, b"") for name in names]
+with open("room/set.par2", "wb") as out:
+    out.write(set_of(main_body(1024, sorted(ids, key=lambda each: each[::-1])),
+                     *[("filedesc", desc_body(owner, name)) for owner, name in zip(ids, names)]))
+END
+ends "long names of unprintable bytes" 0 complete bash -c 'ulimit -t 40 && exec "$@"' - "${repair[@]}"
+[ "$(find room -type f -empty | wc -l)" -eq 40 ] || fails "long names of unprintable bytes: not each file was made"
+ends "long names of unprintable bytes that are there" 0 complete bash -c 'ulimit -t 40 && exec "$@"' - "${repair[@]}"
+
+# A subfolder that is another file system: a file that is moved there would be copied.
+if can_mount "a subfolder on another file system"; then
+    furnish 4 0 sub/first.txt abcdefgh second.txt ijklmnop
+    mv room/sub/first.txt room/stray
+    mv room/second.txt room/other
+    listed room > before
+    mounting bash -c 'mount -t tmpfs -o size=1m tmpfs room/sub && "$@" room
+        echo "$? $(find room -type f -printf "%P ")"' - "${repair[@]}" > text 2> line
+    if [ "$(cut -d ' ' -f 2- text | tr ' ' '\n' | sort | tr '\n' ' ')" = " other set.par2 stray " ] \
+        && [ "$(cut -d ' ' -f 1 text)" = 6 ] && [ "$(< line)" = "$repair_says room: it reaches into another file system" ]; then
+        echo "ok: a subfolder on another file system is refused, and nothing was moved"
+    else
+        fails "a subfolder on another file system: $(cat text line)"
+    fi
+    as_before "a subfolder on another file system"
+fi
+exit $failed
