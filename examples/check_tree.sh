@@ -93,14 +93,22 @@ show() {
     done
 }
 
-parv=${PARV:-parv}
-command -v -- "$parv" > /dev/null || {
-    printf 'check_tree.sh: cannot run %q: put parv in PATH, or name it by PARV\n' "$parv" >&2
+# The absolute path of parv. It is looked up here, and not in the folders that this script goes into, which may have
+# come from anyone. For the same reason relative parts of PATH go.
+parv=$(type -P -- "${PARV:-parv}" && echo .) || {
+    printf 'check_tree.sh: cannot run %q: put parv in PATH, or name it by PARV\n' "${PARV:-parv}" >&2
     exit 6
 }
-case $parv in
-[!/]*/*) parv=$PWD/$parv ;;
-esac
+parv=${parv%$'\n'.}
+[[ $parv == /* ]] || parv=$PWD/$parv
+parts=$PATH:
+PATH=
+while [ -n "$parts" ]; do
+    [[ $parts != /* ]] || PATH+=${PATH:+:}${parts%%:*}
+    parts=${parts#*:}
+done
+PATH=${PATH:-/usr/bin:/bin}
+[[ ${TMPDIR:-/} == /* ]] || TMPDIR=$PWD/$TMPDIR
 show "$1"
 root=$shown
 [[ $1 == /* ]] || set -- "./$1"
@@ -163,11 +171,19 @@ words_of() {
         word=./$path
         if { [ -z "$end" ] && is_packet_file "$path"; } || { [ -z "$all" ] && ! takes "$word"; }; then
             word=$work/link$BASHPID.${#linked[@]}$end
-            ln -s "$PWD/$path" "$word" || exit 6
+            if ! ln -s "$PWD/$path" "$word" 2> /dev/null; then
+                why="cannot make a link in $work"
+                return 6
+            fi
             linked[/$word]=$path
         fi
         words+=("$word")
     done
+}
+
+# Writes the paths of a list in order, and an empty one once that was all.
+sorted() {
+    sort -z "$1" && printf '\0'
 }
 
 # Runs a program that ends with the job.
@@ -183,7 +199,7 @@ run() {
 
 # Sets `files` to those of the folder and of the subfolders that the set names, by its lines on standard input.
 gather() {
-    local name path
+    local name path ended
     local -A folders=([.]=1) names=()
     while IFS= read -r name; do
         [[ $name =~ ^file\ [0-9a-f]+\ [0-9]+\ [0-9]+\ [a-z]+\ (.*)$ ]] || continue
@@ -199,13 +215,16 @@ gather() {
     done
     if ! find "${!folders[@]}" -maxdepth 1 -type f -print0 > "$work/$job.files" 2> "$work/$job.said"; then
         why=$(sed 's/^find: //' "$work/$job.said")
-        return 6
+        return 1
     fi
-    files=()
+    files=() ended=''
     while IFS= read -r -d '' path; do
+        [ -n "$path" ] || ended=1
         path=${path#./}
-        is_packet_file "$path" && [ -z "${names[/$path]-}" ] || files+=("$path")
-    done < <(sort -z "$work/$job.files")
+        [ -z "$path" ] || { is_packet_file "$path" && [ -z "${names[/$path]-}" ]; } || files+=("$path")
+    done < <(sorted "$work/$job.files")
+    [ -n "$ended" ] || why='cannot sort its files'
+    [ -n "$ended" ]
 }
 
 # Whether each file is complete, though parv got some by links, under which they aren't.
@@ -219,7 +238,7 @@ is_complete() {
             name=${line#"renamed $shown from "}
             [ "$name" != "$line" ] || continue
             printf -v name %b "$name"
-            cmp -s -- "${linked[/$name]-$name}" "./$path" && continue 2
+            run cmp -s -- "${linked[/$name]-$name}" "./$path" && continue 2
         done
         return 1
     done < "$work/$job.text"
@@ -230,16 +249,23 @@ verify() {
     local id=$1 status
     local -a packets
     shift
-    words_of .par2 "$@"
+    words_of .par2 "$@" || return 6
     packets=("${words[@]}")
     linked=()
-    run "$parv" set --set "$id" "${packets[@]}" > "$work/$job.text" 2> "$work/$job.said" || return
-    gather < "$work/$job.text" || return
-    words_of '' "${files[@]}"
+    run "$parv" set --set "$id" "${packets[@]}" > "$work/$job.text" 2> "$work/$job.said"
+    status=$?
+    [ $status -eq 0 ] || return $((status > 2 ? status : 6))
+    gather < "$work/$job.text" || return 6
+    words_of '' "${files[@]}" || return 6
     run "$parv" verify "${tails[@]}" --set "$id" -B . "${packets[@]}" "${words[@]}" \
         > "$work/$job.text" 2> "$work/$job.said"
     status=$?
-    [ $status -gt 2 ] || counts=$(grep '^need [0-9]* have [0-9]*$' "$work/$job.text" | tail -n 1)
+    # (If the text could not be written, the status may be any.)
+    if [ $status -le 2 ] && ! counts=$(grep '^need [0-9]* have [0-9]*$' "$work/$job.text" | tail -n 1); then
+        counts='need - have -'
+        why="cannot write in $work"
+        return 6
+    fi
     [ $status -ne 1 ] || [ ${#linked[@]} -eq 0 ] || ! is_complete || status=0
     return $status
 }
@@ -248,7 +274,8 @@ verify() {
 check() {
     local job=$1 called=$2 id=$3 status counts='need - have -' said why=''
     trap - EXIT
-    trap '[ -z "$child" ] || kill "$child"; exit 143' TERM
+    # (Ctrl-C comes to the job, and not to parv, which is started with SIGINT ignored.)
+    trap 'trap "" HUP INT TERM; kill $(jobs -p); wait; exit 143' HUP INT TERM
     {
         verify "$id" "${@:4}"
         status=$?
@@ -258,76 +285,112 @@ check() {
             say "$called: ${said:-parv has ended with status $status}"
         fi
     } 2> "$work/$job.messages"
-    mv "$work/$job.messages" "$work/$job.errors"
-    printf '%s\n' "$status $id $counts $called" > "$work/$job.line"
-    echo $status > "$work/$job.status"
+    {
+        mv "$work/$job.messages" "$work/$job.errors" \
+            && printf '%s\n' "$status $id $counts $called" > "$work/$job.line" && echo $status > "$work/$job.status"
+    } 2> /dev/null
+}
+
+count=0 told=0 running=0 greatest=0
+# By number: the name of a set, its ID, and of packet files of which no set is known the status and the reason.
+called_as=() ids_of=() without=() reasons_of=()
+
+# Has the status of this script be this one, or a greater one.
+has_status() {
+    [ "$1" -le "$greatest" ] || greatest=$1
+}
+
+# Prints the next line, and the messages of its set.
+tell_next() {
+    local status line
+    told=$((told + 1))
+    status=${without[told]-}
+    line="${ids_of[told]} need - have - ${called_as[told]}"
+    if [ -n "$status" ]; then
+        say "${called_as[told]}: ${reasons_of[told]}"
+        line="$status $line"
+    elif [ -s "$work/$told.status" ]; then
+        status=$(< "$work/$told.status")
+        line=$(< "$work/$told.line")
+        cat "$work/$told.errors" >&2
+        # (A message that couldn't be written.)
+        [ "$status" -le 2 ] || [ -s "$work/$told.errors" ] || say "${called_as[told]}: it ended with status $status"
+    else
+        status=6
+        say "${called_as[told]}: nothing is known: the check was ended, or can't write in $work"
+        line="6 $line"
+    fi
+    [[ -n $quiet && $status -eq 0 ]] || printf '%s\n' "$line" || has_status 6
+    has_status "$status"
+    rm -f "$work/$told".*
 }
 
 # Prints what jobs have left, as far as all before them have.
-count=0 told=0 running=0 greatest=0
 tell() {
-    local status
-    while [ $told -lt $count ] && [ -s "$work/$((told + 1)).status" ]; do
-        told=$((told + 1))
-        status=$(< "$work/$told.status")
-        cat "$work/$told.errors" >&2
-        [[ -n $quiet && $status -eq 0 ]] || cat "$work/$told.line"
-        [ "$status" -le "$greatest" ] || greatest=$status
-        rm "$work/$told".*
+    while [ $told -lt $count ] && { [ -s "$work/$((told + 1)).status" ] || [ -n "${without[told + 1]-}" ]; }; do
+        tell_next
     done
 }
 
 # start NAME ID FILE..: the job for a set, once there is room for it.
 start() {
     count=$((count + 1))
+    called_as[count]=$1 ids_of[count]=$2
     if [ $running -ge "$sides" ]; then
         wait -n
         running=$((running - 1))
     fi
-    # It leaves this where it is ended.
-    printf '%s\n' "6 $2 need - have - $1" > "$work/$count.line"
-    say "$1: the check was ended" 2> "$work/$count.errors"
     check $count "$@" &
     running=$((running + 1))
     tell
 }
 
-# without NAME STATUS REASON: the line of packet files of which no set is known.
-without() {
+# start_without NAME STATUS REASON: the line of packet files of which no set is known.
+start_without() {
     count=$((count + 1))
-    say "$1: $3" 2> "$work/$count.errors"
-    printf '%s\n' "$2 - need - have - $1" > "$work/$count.line"
-    echo "$2" > "$work/$count.status"
+    called_as[count]=$1 ids_of[count]=- without[count]=$2 reasons_of[count]=$3
     tell
+}
+
+# Sets `found` to the IDs of the packets in a file, and `status` and `said` to what parv says of it.
+ids_in() {
+    local why='' list
+    found=() said=''
+    if words_of .par2 "$1"; then
+        run "$parv" packets "${words[@]}" > "$work/packets" 2> "$work/said"
+        status=$?
+        # (The last line counts them, or isn't whole.)
+        list=$(awk 'NR > 1 && !(id in seen) { seen[id]; print id } { id = $NF }' "$work/packets") || status=6
+        mapfile -t found < <(printf %s "${list:+"$list"$'\n'}")
+        said=$(sed -n 's/^parv: //p' "$work/said")
+        [ $status -eq 0 ] || [ $status -gt 2 ] || status=6
+    else
+        status=6
+    fi
+    said=${said:-${why:-parv has ended with status $status}}
 }
 
 # Starts a job for each set of a folder with these packet files.
 sets_in() {
     local folder=$1 path id name status said reason
-    local -a ids=() lost=()
-    local -A called=() files_of=() reasons=() named=()
+    local -a ids=() lost=() found
+    local -A called=() files_of=() failed=() named=()
     shift
     if ! cd "$top/$folder"; then
-        greatest=6
+        has_status 6
         return
     fi
     for path; do
         name_of "$path"
-        words_of .par2 "$path"
-        "$parv" packets "${words[@]}" > "$work/packets" 2> "$work/said"
-        status=$?
-        if [ $status -ne 0 ]; then
-            said=$(sed -n 's/^parv: //p' "$work/said")
-            reasons[/$name]="$status ${said:-parv has ended with status $status}"
-        fi
-        sed '$d' "$work/packets" | awk '!($NF in seen) { seen[$NF]; print $NF }' > "$work/ids"
-        [ -s "$work/ids" ] || lost+=("$path")
-        while read -r id; do
+        ids_in "$path"
+        [ $status -eq 0 ] || failed[/$path]="$status $said"
+        [ ${#found[@]} -gt 0 ] || lost+=("$path")
+        for id in "${found[@]}"; do
             [ -n "${files_of[$id]-}" ] || ids+=("$id")
             called[$id]=${called[$id]-$name} named[/$name]=1
             # (No name has a slash.)
             files_of[$id]+=$path/
-        done < "$work/ids"
+        done
     done
     for id in "${ids[@]}"; do
         mapfile -d / -t listed < <(printf %s "${files_of[$id]}")
@@ -342,9 +405,19 @@ sets_in() {
         name_of "$path"
         [ -z "${named[/$name]-}" ] || continue
         named[/$name]=1
-        reason=${reasons[/$name]-4 no usable set: no main}
+        reason=${failed[/$path]-}
+        reason=${reason:-4 no usable set: no main}
+        failed[/$path]=
         show "${folder:+$folder/}$name"
-        without "$shown" "${reason%% *}" "${reason#* }"
+        start_without "$shown" "${reason%% *}" "${reason#* }"
+    done
+    # Of the other files some sets may not have been seen.
+    for path; do
+        reason=${failed[/$path]-}
+        [ -n "$reason" ] || continue
+        show "${folder:+$folder/}$path"
+        say "$shown: ${reason#* }"
+        has_status "${reason%% *}"
     done
 }
 
@@ -353,23 +426,28 @@ if ! find . -name .verify_and_repair -prune -o -type f -iname '*.par2' -print0 >
     greatest=6
 fi
 declare -A files_in
-below=()
+below=() ended=''
 while IFS= read -r -d '' path; do
+    if [ -z "$path" ]; then
+        ended=1
+        continue
+    fi
     path=${path#./}
     folder=${path%"${path##*/}"}
     [ -n "${files_in[/$folder]-}" ] || below+=("$folder")
     files_in[/$folder]+=${path##*/}/
-done < <(sort -z "$work/found")
+done < <(sorted "$work/found")
+if [ -z "$ended" ]; then
+    say "$root: not all packet files are known: cannot sort their names"
+    greatest=6
+fi
 for folder in "${below[@]}"; do
     mapfile -d / -t listed < <(printf %s "${files_in[/$folder]}")
     sets_in "${folder%/}" "${listed[@]}"
 done
 cd "$top" || exit 6
 wait
-for ((job = told + 1; job <= count; job++)); do
-    [ -s "$work/$job.status" ] || echo 6 > "$work/$job.status"
-done
-tell
+while [ $told -lt $count ]; do tell_next; done
 if [ $count -eq 0 ] && [ "$greatest" -eq 0 ]; then
     say "$root: no packet file"
     exit 3

@@ -179,6 +179,19 @@ truncate -s 1T endless
 chmod +x ends long
 PARV=$work/ends wants "parv is ended" 137 "137 $id need - have - set/set" \
     "check_tree.sh: set/set: parv has ended with status 137" "$script" tree
+# A packet file at which parv failed once is told, also if the others of its name are a set that is complete.
+mkdir -p once/set
+cp "$demo"/{*.raw,notes.txt,photos.par2} once/set
+cp v.par2 once/set/photos.vol0+1.par2
+for status in 1 6 8 137; do
+    # shellcheck disable=SC2016
+    printf '#!/bin/sh\n[ "$1 $2" != "packets ./photos.vol0+1.par2" ] || exit %s\nexec "%s" "$@"\n' $status "$parv" > fails
+    chmod +x fails
+    told=$status
+    [ $status -gt 2 ] || told=6
+    PARV=$work/fails wants "a packet file at which parv ends with $status" $told "0 $photos need 0 have 0 set/photos" \
+        "check_tree.sh: set/photos.vol0+1.par2: parv has ended with status $told" "$script" once
+done
 # No parv is told once, ahead of all else.
 mkdir path
 for tool in bash sed; do ln -s "$(command -v $tool)" path; done

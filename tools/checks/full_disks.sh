@@ -1,0 +1,71 @@
+#!/usr/bin/env bash
+# Where temporary files can't be written, a tree of damaged sets isn't told as a whole one, and no line of it is lost
+# without a word.
+. "$(dirname "$0")/wants.sh"
+. "$tools/checks/commands.sh"
+. "$tools/checks/rooms.sh"
+cd "$work" || exit 1
+
+# Five sets in five folders, of which one is whole, and one folder with two sets in one packet file.
+for number in 1 2 3 4 5; do
+    furnish 8 1 "a file of set $number" "$(seq $number 60)"
+    mkdir -p tree/$number
+    mv room/* tree/$number
+    [ $number -eq 5 ] || rm "tree/$number/a file of set $number"
+done
+mkdir tree/two
+cat tree/1/set.par2 tree/5/set.par2 > tree/two/both.par2
+cp "tree/5/a file of set 5" tree/two
+"${tree[@]}" tree > lines 2> line
+status=$?
+[ $status -eq 2 ] && [ "$(wc -l < lines)" -eq 7 ] && [ "$(grep -c '^[12] ' lines)" -eq 5 ] && [ ! -s line ] \
+    || fails "with room: status $status, $(cat lines line)"
+
+# told NAME COMMAND..: each set that isn't whole has its line, and the status is that of the worst; or it is 6, and a
+# message says why.
+told() {
+    local name=$1 status id set lost=0
+    "${@:2}" 2>&1 | cat > text
+    status=${PIPESTATUS[0]}
+    while read -r _ id _ _ _ _ set; do
+        grep -q "^[126] $id need .* $set$" text || lost=$((lost + 1))
+    done < <(grep '^[12] ' lines)
+    if { [ "$status" -eq 6 ] && grep -q "^$tree_says " text; } || { [ "$status" -eq 2 ] && [ $lost -eq 0 ]; }; then
+        echo "ok: $name: status $status, $lost lines lost"
+    else
+        fails "$name: status $status, $lost lines lost, $(cat text)"
+    fi
+}
+for words in "one by one" "side by side"; do
+    command=("${tree_quiet[@]}" tree)
+    [ "$words" != "side by side" ] || command=("${tree_beside[@]}" 3 tree)
+    for kib in 0 1 2; do
+        told "files of $kib KiB at most, $words" limited $kib "${command[@]}"
+    done
+    if can_mount "a full folder for temporary files, $words"; then
+        mkdir -p full
+        for kib in 4 8 12 16 20 24 28 32 48; do
+            # shellcheck disable=SC2016
+            TMPDIR=$work/full told "$kib KiB for temporary files, $words" mounting bash -c \
+                'mount -t tmpfs -o size='$kib'k tmpfs "$TMPDIR" && exec "$@"' - "${command[@]}"
+        done
+    fi
+done
+# A program that the command calls may fail in the middle too.
+for name in sort awk find grep; do
+    rm -rf bin
+    mkdir bin
+    printf '#!/bin/sh\n%q "$@" | head -c 30\nexit 2\n' "$(type -P $name)" > bin/$name
+    chmod +x bin/$name
+    told "$name fails in the middle" env PATH="$work/bin:$PATH" "${tree_quiet[@]}" tree
+done
+# Nor is it, when the lines themselves can't be written.
+"${tree[@]}" tree > /dev/full 2> line
+status=$?
+[ $status -eq 6 ] && echo "ok: lines before a full device" || fails "lines before a full device: status $status, $(cat line)"
+rm -r tree/[1-4] tree/two
+"${tree[@]}" tree > /dev/full 2> line
+status=$?
+[ $status -eq 6 ] && echo "ok: a line of a whole set before a full device" \
+    || fails "a line of a whole set before a full device: status $status, $(cat line)"
+exit $failed
