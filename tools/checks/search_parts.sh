@@ -1,0 +1,199 @@
+#!/usr/bin/env bash
+# A search in parts: a folder that has other files is left as it is, a part that a loss of power has cut isn't taken for
+# a whole one, one run at a time works in a folder, and what isn't parv is told.
+. "$(dirname "$0")/wants.sh"
+. "$tools/checks/commands.sh"
+. "$tools/checks/rooms.sh"
+cd "$work" || exit 1
+cp "$top/demo/photos.par2" .
+cat "$top/demo/"*.raw > image
+words=(photos.par2 image)
+"$tools/models/find_slices.py" "${words[@]}" | sed '$d' > wanted
+[ "$(wc -l < wanted)" -gt 30 ] || fails "there is little to find"
+
+# refuses NAME FOLDER: a search in this folder ends with 3 and one line, and all below `room` is as it was.
+refuses() {
+    listed room > before
+    "${search[@]}" "$2" 100 "${words[@]}" > found 2> told
+    local status=$?
+    if [ $status -eq 3 ] && [ ! -s found ] && [ "$(wc -l < told)" -eq 1 ]; then
+        echo "ok: refused: $1"
+    else
+        fails "$1: status $status, $(head -c 300 found; cat told)"
+    fi
+    as_before "$1"
+}
+mkdir -p room/novel room/link room/part room/elsewhere
+printf 'my novel' > room/novel/new
+refuses "a folder with a file \`new\`" room/novel
+printf 'my thesis' > room/elsewhere/thesis
+ln -s ../elsewhere/thesis room/link/new
+refuses "a folder with a link \`new\`" room/link
+printf 'my part' > room/part/1
+refuses "a folder with a file \`1\`" room/part
+refuses "a folder with folders" room
+refuses "no name of a folder" ''
+(cd room/novel && ln -s "$work"/{photos.par2,image} . && "${search[@]}" '' 100 "${words[@]}") > found 2> told
+status=$?
+if [ $status -eq 3 ] && [ "$(cat room/novel/new)" = 'my novel' ]; then
+    echo "ok: no name isn't the current folder"
+else
+    fails "no name: status $status, $(cat room/novel/* told)"
+fi
+# (By one who may not write there.)
+user=()
+[ "$(id -u)" -ne 0 ] || user=(setpriv --reuid 65534 --regid 65534 --clear-groups)
+mkdir public
+chmod 711 .
+cp "$parv" "${search[0]}" "${words[@]}" public
+(cd public && wants "the root folder" 3 "" "$search_says / has other files" env PARV="$work/public/${parv##*/}" \
+    "${user[@]}" "./${search[0]##*/}" "${search[@]:1}" / 100 "${words[@]}") || failed=1
+printf 'a file' > room/file
+"${search[@]}" room/file 100 "${words[@]}" > found 2> told
+status=$?
+if [ $status -eq 6 ] && [ "$(cat room/file)" = 'a file' ]; then
+    echo "ok: a file is no folder for parts"
+else
+    fails "a file as a folder for parts: status $status, $(cat told)"
+fi
+
+# whole NAME FOLDER LIMIT: a search there finds what the independent search finds, once each.
+whole() {
+    "${search[@]}" "$2" "$3" "${words[@]}" > found 2> told
+    local status=$?
+    if [ $status -eq 0 ] && cmp -s found wanted; then
+        echo "ok: $1"
+    else
+        fails "$1: status $status, $(wc -l < found) lines of $(wc -l < wanted), $(cat told)"
+    fi
+}
+mkdir empty
+whole "a folder that is empty" empty 5
+whole "a folder whose name ends in a slash" empty/ 5
+mkdir planted
+ln -s "$work/room/elsewhere/words" planted/words
+whole "a folder with a link \`words\` alone, to nothing" planted 5
+[ ! -e room/elsewhere/words ] || fails "what a link leads to was made"
+cp -r empty linked
+rm linked/3 linked/[4-9]
+ln -sf "$work/room/elsewhere/thesis" linked/new
+whole "a link \`new\` among parts" linked 5
+[ "$(cat room/elsewhere/thesis)" = 'my thesis' ] || fails "what a link leads to is written"
+[ -f linked/3 ] && [ ! -L linked/3 ] || fails "a part is a link"
+
+# What a loss of power leaves of a part: nothing, a beginning of a line, or whole lines.
+last=$(find empty -name '[0-9]*' | wc -l)
+for part in 1 3 "$last"; do
+    for length in 0 5 200 -1; do
+        rm -rf cut
+        cp -r empty cut
+        truncate -s "$([ $length -ge 0 ] && echo $length || echo $(($(stat -c %s "empty/$part") - 1)))" cut/$part
+        whole "part $part is cut to $length bytes" cut 5
+        # Once more, with parts that were longer than those before.
+        cp -r empty/. cut
+        truncate -s "$([ $length -ge 0 ] && echo $length || echo $(($(stat -c %s "empty/$part") - 1)))" cut/$part
+        whole "part $part is cut to $length bytes, and parts are longer then" cut 11
+        whole "once more, and all is there" cut 11
+    done
+done
+# One part is gone, and a run with longer parts is ended after its first.
+cp -r empty gap
+rm gap/3
+cat > once << 'END'
+#!/usr/bin/env bash
+[ ! -e "$BEGUN" ] || { kill -KILL $PPID; exit 1; }
+: > "$BEGUN"
+exec "$REAL" "$@"
+END
+chmod +x once
+export REAL=$parv BEGUN=$work/begun
+{ PARV=$work/once "${search[@]}" gap 11 "${words[@]}" > found; } 2> told
+for _ in $(seq 100); do flock -n gap true && break; sleep 0.1; done
+rm begun
+whole "a part that is gone, and a run that was ended" gap 11
+# The words are cut, and so are they where parts are there already.
+for length in 0 1 20; do
+    rm -rf cut
+    mkdir cut
+    head -c $length empty/words > cut/words
+    whole "words that were cut to $length bytes" cut 5
+done
+cp -r empty other
+printf 'other' > other/words
+refuses "words of another search" other
+(
+    cd room && rm -rf ./* && cp "$work"/{photos.par2,image} .
+    for name in -n -- '* ?' $'line\nfeed' ' '; do "${search[@]}" "$name" 9 "${words[@]}" 2> ../told | cmp - ../wanted || exit 1; done
+)
+status=$?
+if [ $status -eq 0 ]; then echo "ok: odd names of the folder"; else fails "odd names of the folder: $(cat told)"; fi
+POSIXLY_CORRECT=1 whole "a shell that is asked for POSIX" posix 9
+"${search[@]}" progress 9 "${words[@]}" > found 2> /dev/full
+status=$?
+if [ $status -eq 0 ] && cmp -s found wanted; then echo "ok: no line of its progress can be written"; else
+    fails "no line of its progress can be written: status $status"
+fi
+cp -r empty mine
+printf 'my own' > "mine/$((last + 1))"
+whole "a number after the last part" mine 5
+[ "$(cat "mine/$((last + 1))")" = 'my own' ] || fails "a file after the last part has gone"
+
+# Two runs in one folder: the first one waits before its second part until the other has ended.
+cat > waits << 'END'
+#!/usr/bin/env bash
+"$REAL" "$@"
+status=$?
+[ -e "$BEGUN" ] || { : > "$BEGUN"; for _ in $(seq 300); do [ ! -e "$BEGUN.over" ] || break; sleep 0.1; done; }
+exit $status
+END
+chmod +x waits
+PARV=$work/waits "${search[@]}" two 4 "${words[@]}" > first 2> told &
+for _ in $(seq 300); do [ ! -e begun ] || break; sleep 0.1; done
+"${search[@]}" two 7 "${words[@]}" > second 2> line
+status=$?
+: > begun.over
+wait $!
+other=$?
+if [ $status -eq 3 ] && [ ! -s second ] && [ "$(wc -l < line)" -eq 1 ] && [ $other -eq 0 ] && cmp -s first wanted; then
+    echo "ok: one run at a time in a folder"
+else
+    fails "two runs in a folder: $status and $other, $(wc -l < first) and $(wc -l < second) lines, $(cat told line)"
+fi
+whole "the same folder once one run has ended" two 7
+
+# One that is ended leaves no parv, and its folder to the next.
+truncate -s 1T endless
+"${search[@]}" ended 5 photos.par2 image endless > found 2> told &
+for _ in $(seq 300); do [ ! -e ended/8 ] || break; sleep 0.1; done
+kill $!
+wait $!
+status=$?
+for _ in $(seq 100); do flock -n ended true && break; sleep 0.1; done
+if [ $status -eq 143 ] && flock -n ended true; then
+    echo "ok: a search that is ended leaves its folder to the next"
+else
+    fails "a search that is ended: status $status, $(cat told)"
+fi
+
+# No part comes of a program that writes no last line.
+for program in true echo false; do
+    PARV=$(type -P $program) timeout 20 "${search[@]}" "no$program" 5 "${words[@]}" > found 2> told
+    status=$?
+    if [ $status -eq 6 ] && [ ! -s found ] && [ ! -e "no$program/1" ]; then
+        echo "ok: in place of parv: $program"
+    else
+        fails "in place of parv: $program: status $status, $(find "no$program" | wc -l) files, $(cat told)"
+    fi
+done
+"${search[@]}" full 5 "${words[@]}" > /dev/full 2> told
+status=$?
+[ $status -eq 6 ] && echo "ok: a full device" || fails "a full device: status $status, $(cat told)"
+limited 0 "${search[@]}" none 5 "${words[@]}" > found 2> told
+status=$?
+if [ $status -eq 6 ] && [ ! -s found ]; then
+    echo "ok: a folder on a full disk"
+else
+    fails "a folder on a full disk: status $status, $(cat told)"
+fi
+whole "the same folder once there is room" none 5
+exit $failed
