@@ -53,6 +53,7 @@ import hashlib
 import os
 import re
 import shutil
+import signal
 import stat
 import subprocess
 import sys
@@ -71,6 +72,7 @@ WASTE = 1 << 24     # how many bytes may be seen again in vain, each sighting be
 LINE = 4096
 PAUSE = 4           # seconds at least from one entry into the record to the next
 MANY = 64           # files that are brought to the disc one by one
+SIGNALS = [signal.SIGHUP, signal.SIGINT, signal.SIGTERM]    # that end the script
 
 
 class Fault(Exception):
@@ -83,6 +85,53 @@ class Fault(Exception):
 
 class Refused(Exception):
     """Why a file of the set isn't written."""
+
+
+class Ended(BaseException):
+    """A signal has ended the script."""
+
+    def __init__(self, number):
+        super().__init__(number)
+        self.status = 128 + number
+
+
+def end(number, _):
+    """Ends the script by a signal, once: a further one doesn't end what is done on the way out."""
+    for each in SIGNALS:
+        signal.signal(each, signal.SIG_IGN)
+    raise Ended(number)
+
+
+def take_signals():
+    """Has signals end the script by an exception, so that parv and what is temporary end with it. What nohup has the
+    script ignore is ignored still."""
+    for number in SIGNALS:
+        if signal.getsignal(number) != signal.SIG_IGN:
+            signal.signal(number, end)
+
+
+@contextlib.contextmanager
+def no_signal():
+    """Puts signals off until what is begun meanwhile is known, and so can be ended."""
+    before = signal.pthread_sigmask(signal.SIG_BLOCK, SIGNALS)
+    try:
+        yield
+    finally:
+        signal.pthread_sigmask(signal.SIG_SETMASK, before)
+
+
+@contextlib.contextmanager
+def temporary_folder():
+    """The path of a folder for temporary files, which goes however the script is ended."""
+    folder = None
+    try:
+        with no_signal():
+            folder = tempfile.TemporaryDirectory()
+        yield folder.name
+    finally:
+        with no_signal():
+            if folder is not None:
+                folder.cleanup()
 
 
 @contextlib.contextmanager
@@ -131,14 +180,18 @@ def listed(command, words, answers=(0,)):
 @contextlib.contextmanager
 def running(command, words):
     """A command of parv that runs, and doesn't afterwards."""
-    with faults_of("run", PARV):
-        process = subprocess.Popen([PARV, command, *words], stdin=subprocess.DEVNULL, stdout=subprocess.PIPE)
+    process = None
     try:
+        with faults_of("run", PARV), no_signal():
+            process = subprocess.Popen([PARV, command, *words], stdin=subprocess.DEVNULL, stdout=subprocess.PIPE,
+                                       preexec_fn=lambda: signal.pthread_sigmask(signal.SIG_UNBLOCK, SIGNALS))
         yield process
     finally:
-        process.kill()
-        process.stdout.close()
-        process.wait()
+        with no_signal():
+            if process is not None:
+                process.kill()
+                process.stdout.close()
+                process.wait()
 
 
 def ends_well(process, answers=(0,)):
@@ -266,7 +319,7 @@ class Search:
     def sightings(self):
         """The number of a scanned file, an offset and the number of a slice, for each sighting of one
         that is wanted; behind it the search stands once the next one is asked for."""
-        with tempfile.TemporaryDirectory() as folder:
+        with temporary_folder() as folder:
             packets = os.path.join(folder, "wanted.par2")
             while self.wanted and self.at[0] < len(self.scanned):
                 with open(packets, "wb") as out:
@@ -530,9 +583,10 @@ class Writer:
     def place_of(self, file):
         if file.id in self.record.made:
             return self.folder.open(file)
-        place = self.folder.make(file)
-        self.record.made.add(file.id)
-        self.record.write(f"made {file.id}\n")
+        with no_signal():       # a file that isn't in the record would be refused by the next run
+            place = self.folder.make(file)
+            self.record.made.add(file.id)
+            self.record.write(f"made {file.id}\n")
         return place
 
     def takes(self, file, number, data):
@@ -733,6 +787,15 @@ def is_set_id(text):
 
 
 def ended(run, asked):
+    """The exit status of a run, with a line on standard error for what ended it, if that was no signal."""
+    try:
+        take_signals()
+        return answered(run, asked)
+    except Ended as by:
+        return by.status
+
+
+def answered(run, asked):
     """The exit status of a run, with a line on standard error for what ended it."""
     try:
         if shutil.which(PARV) is None:
@@ -749,8 +812,6 @@ def ended(run, asked):
         os.dup2(os.open(os.devnull, os.O_WRONLY), sys.stdout.fileno())
         says(f"cannot write standard output: {fault.strerror}")
         return 6
-    except KeyboardInterrupt:
-        return 130
 
 
 def main():

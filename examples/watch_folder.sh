@@ -34,12 +34,23 @@ esac
 folder=${1:?$usage}
 seconds=${2:-60}
 checks=${3:-}
-parv=${PARV:-parv}
-command -v -- "$parv" > /dev/null || {
-    printf 'watch_folder.sh: cannot run %q: put parv in PATH, or name it by PARV\n' "$parv" >&2
+# The absolute path of parv. It is looked up here, and not in the folder that this script goes into, which may have
+# come from anyone. For the same reason relative parts of PATH go.
+parv=$(type -P -- "${PARV:-parv}" && echo .) || {
+    printf 'watch_folder.sh: cannot run %q: put parv in PATH, or name it by PARV\n' "${PARV:-parv}" >&2
     exit 6
 }
-if ! cd -- "$folder" 2> /dev/null; then
+parv=${parv%$'\n'.}
+[[ $parv == /* ]] || parv=$PWD/$parv
+parts=$PATH:
+PATH=
+while [ -n "$parts" ]; do
+    [[ $parts != /* ]] || PATH+=${PATH:+:}${parts%%:*}
+    parts=${parts#*:}
+done
+PATH=${PATH:-/usr/bin:/bin}
+[[ $folder == /* ]] || set -- "./$folder"
+if ! CDPATH='' cd -- "$1" 2> /dev/null; then
     echo "watch_folder.sh: cannot open $folder" >&2
     exit 6
 fi
