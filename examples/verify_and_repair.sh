@@ -81,10 +81,11 @@ fi
 # Sets `program` to the absolute path of a program, or to a name of which PATH has none. It is looked up here, and not in
 # the folder that this script goes into, which may have come from anyone. For the same reason relative parts of PATH go.
 find_program() {
-    program=$(type -P -- "$1" && echo .) || program=$1
+    local status=0
+    program=$(type -P -- "$1" && echo .) || program=$1 status=1
     program=${program%$'\n'.}
     [[ $program != */* || $program == /* ]] || program=$PWD/$program
-    [ -x "$program" ]
+    return $status
 }
 find_program "${PARV:-parv}" || {
     printf 'verify_and_repair.sh: cannot run %q: put parv in PATH, or name it by PARV\n' "${PARV:-parv}" >&2
@@ -280,6 +281,18 @@ undo_move() {
     move "$to" "$from"
 }
 
+# Whether the stage and its list of moves are what this script makes; else `said` says what they are.
+is_stage() {
+    if [ -L $stage ] || [ -L $stage/moves ] || [ -L $stage/aside ]; then
+        said="$stage is a link, or has one"
+    elif [ -e $stage/moves ] && [ ! -f $stage/moves ]; then
+        said="$stage/moves is no regular file"
+    else
+        return 0
+    fi
+    return 1
+}
+
 # Sets `moves` to the list of moves, and what is looked up in it.
 read_moves() {
     local at
@@ -292,11 +305,11 @@ read_moves() {
     done
 }
 
-# Whether all moves of the list were made, as was noted then.
+# Whether a run was ended here after all its moves, as it has noted then.
 is_done() {
     local -a moves
     local at
-    [ -e $stage/all ] && read_moves || return 1
+    is_stage && [ -e $stage/done ] && read_moves || return 1
     for ((at = 0; at < ${#moves[@]}; at += 3)); do
         [[ ${moves[at + 1]} != $stage/* ]] || [ ! -e "./${moves[at + 1]}" ] || return 1
     done
@@ -308,7 +321,7 @@ is_done() {
 undo() {
     local -a moves
     local at path left=0
-    read_moves && rm -rf $stage/all || return 1
+    read_moves && rm -rf $stage/done || return 1
     is_stuck=()
     for ((at = ${#moves[@]} - 3; at >= 0; at -= 3)); do
         path=${moves[at + 2]}
@@ -328,18 +341,6 @@ undo() {
     [ $left -eq 0 ]
 }
 
-# Whether the stage and its list of moves are what this script makes; else `said` says what they are.
-is_stage() {
-    if [ -L $stage ] || [ -L $stage/moves ] || [ -L $stage/aside ]; then
-        said="$stage is a link, or has one"
-    elif [ -e $stage/moves ] && [ ! -f $stage/moves ]; then
-        said="$stage/moves is no regular file"
-    else
-        return 0
-    fi
-    return 1
-}
-
 # Removes the stage, once its moves are undone, or if they are to stay.
 clear_stage() {
     local said=''
@@ -347,7 +348,7 @@ clear_stage() {
         # (The list goes once no file is there that only the list has the name of.)
         said=$({
             { [ ! -e $stage/aside ] || rmdir $stage/aside; } && rm -rf $stage/moves && rm -rf $stage/files $stage/made \
-                $stage/list $stage/all && rmdir $stage
+                $stage/list $stage/done && rmdir $stage
         } 2>&1) && return 0
     fi
     say "$folder: $stage stays, for what is to be undone${said:+: $said}"
@@ -356,11 +357,12 @@ clear_stage() {
 
 exec {lock}< . || exit 6
 flock -n "$lock" || stop 6 "$folder: another run is at work"
-said=''
-if { [ -e $stage ] || [ -L $stage ]; } && { [ -z "$dry" ] || ! is_stage || [ ! -e $stage/moves ] || ! is_done; }; then
-    [ -z "$dry" ] || stop 6 "$folder: a run was ended here, and is undone by the next without --dry-run"
+if [ -n "$dry" ]; then
+    { [ ! -e $stage ] && [ ! -L $stage ]; } || is_done \
+        || stop 6 "$folder: a run was ended here, and is undone by the next without --dry-run"
+elif [ -e $stage ] || [ -L $stage ]; then
     trap '' HUP INT TERM
-    if is_stage && [ -e $stage/moves ] && is_done; then
+    if is_done; then
         clear_stage stays || exit 6
         say "$folder: a run was ended here after its moves, which stay"
     else
@@ -832,7 +834,7 @@ for ((at = 0; at < ${#listed[@]}; at += 3)); do
         mkdir -- "./${listed[at + 2]}" || exit 6
     fi
 done
-: > $stage/all || stop 6 "$folder: cannot write there"
+: > $stage/done || stop 6 "$folder: cannot write there"
 
 gather
 look '' "${files[@]}"

@@ -74,7 +74,9 @@ people() {
         mv room/right room/left
         mv room/x room/right
         mv room/one room/in/stray
+        listed room > before
         ended "$name" report.doc $signal "$meanwhile"
+        [ -n "$meanwhile" ] || [ $signal = KILL ] || as_before "a run that SIGTERM has ended after its moves"
         if [ $signal = TERM ] && [ -e room/$repair_stage ]; then fails "not undone: $name: $(cat line)"; fi
         for text; do has "$name, then SIG$signal" "$text"; done
         if [ $signal = KILL ]; then goes_on "$name, then SIGKILL" "$stay"; else goes_on "$name, then SIGTERM" ""; fi

@@ -75,6 +75,20 @@ for name in tools/par2 ./tools/par2 nopar2; do
         fails "no par2, and a file $name in the set: status $status, $(cat text line)"
     fi
 done
+# A program beside the caller that no part of PATH has isn't parv.
+printf '#!/bin/sh\nexit 0\n' > parv
+chmod +x parv
+for name in repair tree watch; do
+    declare -n command=$name
+    env -u PARV PATH=/usr/bin:/bin "${command[@]}" room > text 2> line
+    status=$?
+    if [ $status -eq 6 ] && grep -q 'cannot run parv: put parv in PATH' line; then
+        echo "ok: no parv in PATH, and one beside the caller: $name"
+    else
+        fails "no parv in PATH, and one beside the caller: $name: status $status, $(cat text line)"
+    fi
+done
+rm parv
 over_it "a tree" 1 "1 $id need 1 have 5 set" "${tree[@]}" room
 over_it "a folder that is watched" 1 "a repair can be tried: need 1 have 5" "${watch[@]}" room 0 1
 exit $failed
