@@ -9,7 +9,8 @@ use std::fs::{File, Files};
 use std::os::unix::fs::FileExt;
 use std::{fs, io};
 
-/// Regular files on disk, with the lengths that they had as they were opened.
+/// Regular files on disk, with the lengths that they had as they were opened. If one grows, nothing
+/// past its noted length is read.
 #[derive(Drop)]
 pub struct DiskShelf {
     files: Vec<Opened>,
@@ -130,7 +131,11 @@ impl Shelf for DiskShelf {
 
     #[tactic(auto, using(parfield::specs::Added::added))]
     fn read_at(&mut self, file: u32, offset: u64, buf: &mut [u8]) -> Result<usize, Failed> {
-        match self.files[file as usize].file.read_at(buf, offset) {
+        // A file may have grown since it was opened.
+        let left = self.length(file).saturating_sub(offset);
+        let room = left.min(buf.len() as u64) as usize;
+        let opened = &self.files[file as usize];
+        match opened.file.read_at(&mut buf[..room], offset) {
             Ok(size) => {
                 self.readings.add(file, offset, buf.len(), &buf[..size]);
                 if size == 0 && !buf.is_empty() && offset < self.length(file) {

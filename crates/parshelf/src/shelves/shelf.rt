@@ -1,4 +1,4 @@
-ghost use Rattle.std.specs.Prelude.{◌≡◌, ◌<◌, ◌≤◌, ◌^◌, length, take, slice_index, IfOk, OnErr};
+ghost use Rattle.std.specs.Prelude.{◌≡◌, ◌-◌, ◌<◌, ◌≤◌, ◌^◌, length, take, slice_index, IfOk, OnErr};
 ghost use Rattle.parshelf.specs.Shelf.{ShelfState, IsShelf, after_read, after_failure};
 
 use crate::sinks::Failed;
@@ -28,7 +28,10 @@ pub trait Shelf {
             ≡ after_read (state self.old) file offset (length buf.old) (take n buf.new)) }
         ensures failed { OnErr result (state self.new ≡ after_failure (state self.old) file) }
 
-        ensures bound { IfOk result (λ n. n ≤ length buf.old) };
+        ensures bound { IfOk result (λ n. n ≤ length buf.old) }
+
+        // No byte comes that lies past the file's noted length, even if the file has grown.
+        ensures within { IfOk result (λ n. n ≤ slice_index (state self.old).lengths file - offset) };
 
     /// What holds of every shelf.
     ghost well_formed: { (shelf : Self) → IsShelf (state shelf) };

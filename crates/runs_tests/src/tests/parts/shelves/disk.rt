@@ -109,13 +109,16 @@ fn sparse_file(rt: &(impl Abort + AllocGlobal + Files<File = File>), own: u32) -
     must(rt, opened(rt, &[path.as_str()]))
 }
 
-// Reads of that file: offsets, the answers, and what is then in a buffer of four. The system
-// refuses the last offset, which is no file's.
-static SPARSE: [(u64, Result<usize, Failed>, [u8; 4]); 7] = [
+// Reads of that file: offsets, the answers, and what is then in a buffer of four. After three of
+// the offsets there is a power of two of bytes. The system refuses the last offset, which is no file's.
+static SPARSE: [(u64, Result<usize, Failed>, [u8; 4]); 10] = [
     (0, Ok(4), *b"firs"),
     ((1 << 32) - 4, Ok(4), *b"abcd"),
     ((1 << 32) - 2, Ok(4), *b"cdef"),
     (1 << 32, Ok(4), *b"efgh"),
+    (LONG - (1 << 42), Ok(4), *b"\0\0\0\0"),
+    (LONG - (1 << 40), Ok(4), *b"\0\0\0\0"),
+    (LONG - (1 << 32), Ok(4), *b"\0\0\0\0"),
     (LONG - 4, Ok(4), *b"\0\0\0\0"),
     (LONG, Ok(0), *b"????"),
     (1 << 63, Err(Failed), *b"????"),
@@ -140,4 +143,33 @@ fn a_file_above_4_gib_is_read_at_each_offset(rt: HostRuntime) {
     for row in &SPARSE {
         gives(&rt, &mut shelf, row.0, row.1, row.2);
     }
+}
+
+// Reads of a file of three bytes that has grown to six since it was opened: offsets, the answers, and
+// what is then in a buffer of four.
+static GROWN: [(u64, Result<usize, Failed>, [u8; 4]); 5] = [
+    (0, Ok(3), *b"abc?"),
+    (1, Ok(2), *b"bc??"),
+    (2, Ok(1), *b"c???"),
+    (3, Ok(0), *b"????"),
+    (5, Ok(0), *b"????"),
+];
+
+// The shelf of a file of the letters `abc`, after which `def` is written once it is open.
+fn grown_file(rt: &(impl Abort + AllocGlobal + Files<File = File>), own: u32) -> DiskShelf {
+    let path = written(rt, own, 'g', b"abc");
+    let file = must(rt, File::options().write(true).open(rt, path.as_str()));
+    let shelf = must(rt, opened(rt, &[path.as_str()]));
+    must(rt, file.write_all_at(b"def", 3));
+    is(rt, &must(rt, file.metadata()).len(), &6);
+    shelf
+}
+
+#[test]
+fn a_file_that_has_grown_is_read_up_to_its_noted_length(rt: HostRuntime) {
+    let mut shelf = grown_file(&rt, process::id(rt.process()));
+    for row in &GROWN {
+        gives(&rt, &mut shelf, row.0, row.1, row.2);
+    }
+    is(&rt, &digested(&rt, &mut shelf, 0), &(3, Ok(OF_ABC)));
 }
