@@ -84,6 +84,9 @@ for words in "packets v.par2" "set v.par2" "verify v.par2 x.bin"; do
     wants "a full device: $words" 6 "" "parv: write fault" sh -c "\"\$0\" $words > /dev/full" "$parv"
 done
 wants "a closed output" 6 "" "parv: write fault" sh -c '"$0" packets v.par2 >&-' "$parv"
+# A status alone is nothing to write, so these outputs aren't asked.
+wants "a full device and nothing to write" 0 "" "" sh -c '"$0" verify -qq v.par2 g.bin > /dev/full' "$parv"
+wants "a closed output and nothing to write" 0 "" "" sh -c '"$0" verify -qq v.par2 g.bin >&-' "$parv"
 wants "a reader that takes one line alone" 6 "x.bin 2 e345eacbe656c0e6fd20ed63cb7b062c 0" "parv: write fault" \
     bash -c 'many=$(yes x.bin | head -2000); { "$0" find --limit 100000 v.par2 $many; exit $?; } | { head -1; }; exit ${PIPESTATUS[0]}' "$parv"
 wants "a closed line for faults" 6 "" "" sh -c '"$0" packets none.par2 2>&-' "$parv"

@@ -1,4 +1,4 @@
-ghost use Rattle.std.specs.Prelude.{◌≡◌, ◌+◌, ◌<◌, ◌≤◌, ◌↔◌, min, length, take, IfOk, OnErr, IsErr, false, vec_len};
+ghost use Rattle.std.specs.Prelude.{◌≡◌, ◌+◌, ◌<◌, ◌≤◌, ◌↔◌, min, length, take, Ok, IfOk, OnErr, IsErr, false, vec_len};
 
 use crate::sinks::sink::{Failed, Sink};
 use parfield::Tally;
@@ -57,6 +57,7 @@ impl Sink for MemSink {
         ensures taken { IfOk result (λ n. 0 < n
             → memory_sink_state self.new
             ≡ appended (memory_sink_state self.old) (take n part.now)) }
+        ensures empty { length part.now ≡ 0 → result ≡ Ok 0 }
         ensures nothing { IfOk result (λ _. length part.now ≡ 0
             → memory_sink_state self.new ≡ memory_sink_state self.old) }
         ensures full { IfOk result (λ n. n ≡ 0 → 0 < length part.now

@@ -1,4 +1,4 @@
-ghost use Rattle.std.specs.Prelude.{◌≡◌, ◌<◌, ◌≤◌, length, take, IfOk, OnErr};
+ghost use Rattle.std.specs.Prelude.{◌≡◌, ◌<◌, ◌≤◌, length, take, Ok, IfOk, OnErr};
 ghost use Rattle.parshelf.specs.SinkState.{SinkState, appended, refused};
 
 /// A read or a write that failed.
@@ -16,7 +16,8 @@ pub trait Sink {
         ensures taken { IfOk result (λ n. 0 < n
             → state self.new ≡ appended (state self.old) (take n part.now)) }
 
-        // Nothing is taken of an empty part; nothing taken of another is a failure.
+        // An empty part never fails, and nothing is taken of it; nothing taken of another is a failure.
+        ensures empty { length part.now ≡ 0 → result ≡ Ok 0 }
         ensures nothing { IfOk result (λ _. length part.now ≡ 0 → state self.new ≡ state self.old) }
         ensures full { IfOk result (λ n. n ≡ 0 → 0 < length part.now
             → state self.new ≡ refused (state self.old)) }

@@ -1,10 +1,10 @@
-ghost use Rattle.std.specs.Prelude.{◌≡◌, ℕ, ◌<◌, ◌≤◌, length, take, IfOk, OnErr};
+ghost use Rattle.std.specs.Prelude.{◌≡◌, ℕ, ◌<◌, ◌≤◌, length, take, Ok, IfOk, OnErr};
 
 use crate::sinks::sink::{Failed, Sink};
 use parfield::{Tally, Transcript};
 use std::io::Write;
 
-/// A sink over a writer: a `put` is one `write`, and an error is `Failed`.
+/// A sink over a writer: a `put` of some bytes is one `write`, and an error is `Failed`.
 #[derive(Drop)]
 pub struct WriteSink<W> {
     writer: W,
@@ -36,12 +36,13 @@ impl<W: Write> Sink for WriteSink<W> {
 
     ghost state = { writer_sink_state };
 
-    /// One `write` of the writer; an error of it is `Failed`.
+    /// One `write` of the writer, or none if the part is empty; an error of it is `Failed`.
     fn put(&mut self, part: &[u8]) -> Result<usize, Failed>
         ensures bound { IfOk result (λ n. n ≤ length part.now) }
         ensures taken { IfOk result (λ n. 0 < n
             → writer_sink_state self.new
             ≡ appended (writer_sink_state self.old) (take n part.now)) }
+        ensures empty { length part.now ≡ 0 → result ≡ Ok 0 }
         ensures nothing { IfOk result (λ _. length part.now ≡ 0
             → writer_sink_state self.new ≡ writer_sink_state self.old) }
         ensures full { IfOk result (λ n. n ≡ 0 → 0 < length part.now
@@ -53,8 +54,12 @@ impl<W: Write> Sink for WriteSink<W> {
         ensures writer { WriteAppends (W.contents (writer_of self.old))
             (W.contents (writer_of self.new)) result part.now }
     {
+        // The system may refuse even a write of no byte.
+        if part.is_empty() {
+            return Ok(0);
+        }
         match self.writer.write(part) {
-            Ok(0) if !part.is_empty() => {
+            Ok(0) => {
                 self.failures.add(1);
                 Ok(0)
             }
