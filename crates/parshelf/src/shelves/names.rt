@@ -1,4 +1,4 @@
-ghost use Rattle.std.specs.Prelude.{◌≡◌, ℕ, List, ◌++◌, length, map};
+ghost use Rattle.std.specs.Prelude.{◌≡◌, ℕ, List, ◌++◌, length, map, string_bytes};
 ghost use Rattle.md5.specs.Md5.{Holds};
 ghost use Rattle.parshelf.specs.FileList.{listed_file, mark_of_list};
 
@@ -21,6 +21,14 @@ impl Named for Text {
 
     fn name(&self) -> &str {
         self.as_str()
+    }
+}
+
+impl Named for String {
+    ghost name = { string_bytes };
+
+    fn name(&self) -> &str {
+        String::as_str(self)
     }
 }
 

@@ -68,13 +68,21 @@ static LISTS: [(&str, &str, Hash16); 12] = [
 ];
 
 // The names of a row.
-fn names_of(rt: &(impl Abort + AllocGlobal), words: &str) -> Vec<Text> {
+fn names_of(rt: &(impl Abort + AllocGlobal), words: &str) -> Vec<String> {
     let mut names = Vec::new(rt.alloc());
     for word in words.split_whitespace() {
-        let name = must(rt, format!(in rt.alloc(); "{word}"));
-        must(rt, names.push(Text::from_string(name)));
+        must(rt, names.push(must(rt, format!(in rt.alloc(); "{word}"))));
     }
     names
+}
+
+// The same as texts.
+fn texts_of(rt: &(impl Abort + AllocGlobal), words: &str) -> Vec<Text> {
+    let mut texts = Vec::new(rt.alloc());
+    for name in names_of(rt, words) {
+        must(rt, texts.push(Text::from_string(name)));
+    }
+    texts
 }
 
 // The bytes that a word stands for.
@@ -91,12 +99,17 @@ fn files_of(rt: &(impl Abort + AllocGlobal), words: &str) -> MemShelf {
     must(rt, shelf_of(rt.alloc(), &files, 64, &[]))
 }
 
-// Wants this mark of the files of a row.
-fn is_marked(rt: &(impl Abort + AllocGlobal), names: &str, files: &str, mark: &Hash16) {
-    let names = names_of(rt, names);
-    let shelf = files_of(rt, files);
+// Wants this mark of the files of a row, which have these names.
+fn has_mark<N: Named>(rt: &impl Abort, shelf: &MemShelf, names: &[N], mark: &Hash16) {
     assert!(rt; shelf.count() as usize == names.len());
-    is(rt, &list_mark(&shelf, &names), mark);
+    is(rt, &list_mark(shelf, names), mark);
+}
+
+// The same of names that are strings, and of texts.
+fn is_marked(rt: &(impl Abort + AllocGlobal), names: &str, files: &str, mark: &Hash16) {
+    let shelf = files_of(rt, files);
+    has_mark(rt, &shelf, &names_of(rt, names), mark);
+    has_mark(rt, &shelf, &texts_of(rt, names), mark);
 }
 
 #[test]
