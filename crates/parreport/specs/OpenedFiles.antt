@@ -5,7 +5,7 @@ use Rattle.parplan.specs.Commands.{reads_scanned}
 use Rattle.parreport.specs.RunFiles.{RunFiles, AreReadAs}
 use Rattle.parreport.specs.Ends.{run_end_of, exit_status_of, message_of, error_line_of}
 use Rattle.parreport.specs.Faults.{OnScannedFault}
-use Rattle.parreport.specs.Outcomes.{Answers, ReadFaultLeaves, LeavesPackets, LeavesScanned, LeavesSink, written, may_follow_text}
+use Rattle.parreport.specs.Outcomes.{Answers, ReadFaultLeaves, LeavesPackets, LeavesScanned, LeavesSink, ReadsNoneForCause, written, may_follow_text}
 use Rattle.parreport.specs.OtherLists.{TellsList}
 use Rattle.parreport.specs.Report.{report_of}
 use Rattle.parshelf.specs.SinkState.{SinkState}
@@ -43,6 +43,7 @@ pub record TellsRun (plan : Plan) (old new : RunState) (tells : End × Option (L
       may_follow_text plan.command (written old.out new.out) fault ≡ false → new.out ≡ old.out)
   pub packets_read : LeavesPackets answer old.packets new.packets
   pub scanned_read : LeavesScanned plan answer new.packets old.scanned new.scanned
+  pub cause : ReadsNoneForCause plan new.packets old.scanned new.scanned
   pub sink : LeavesSink answer old.out new.out
   pub list : TellsList plan old.scanned.lengths answer
   pub untouched : reads_scanned plan.command ≡ false → new.scanned ≡ old.scanned

@@ -1,5 +1,5 @@
 -- What a run leaves: of its output, and of the files that it reads.
-use Rattle.std.specs.Prelude.{◌≡◌, ◌⊎◌, ℕ, ◌+◌, ◌-◌, ◌&&◌, ◌||◌, not, nat_le, Bool, true, false, List, [], length, IsTrue, IsOkAnd, Result, Ok, Err, ⊤}
+use Rattle.std.specs.Prelude.{◌≡◌, ◌⊎◌, ℕ, ◌+◌, ◌-◌, ◌&&◌, ◌||◌, not, nat_le, Bool, true, false, List, [], length, map, IsTrue, IsOkAnd, Result, Ok, Err, ⊤}
 use Rattle.parshelf.specs.Shelf.{ShelfState, ReadsAs}
 use Rattle.parshelf.specs.Reads.{ReadsOnly, FaultsIn}
 use Rattle.parsalvage.specs.Kept.{kept_of_files}
@@ -11,7 +11,7 @@ use Rattle.parreport.specs.Findings.{NeedsNoSearch}
 use Rattle.parreport.specs.States.{named_files}
 use Rattle.parreport.specs.FindText.{find_search_of, WritesLinesBefore}
 use Rattle.parplan.specs.Commands.{is_find, reads_scanned}
-use Rattle.parreport.specs.Report.{Report, report_with_set, find_start_of}
+use Rattle.parreport.specs.Report.{Report, IsCause, report_of, report_with_set, find_start_of}
 use Rattle.parreport.specs.RunFiles.{RunFiles}
 use Rattle.parreport.specs.Blocks.{block}
 use Rattle.parshelf.specs.SinkState.{SinkState, appended, WritesPrefix, FailsAfterPrefix}
@@ -114,6 +114,18 @@ pub record LeavesScanned (plan : Plan) (answer : Result Status RunFault)
     (packets old new : ShelfState) : Type 0 where
   pub faults : TellsScanned answer old new
   pub handed : (new ≡ old) ⊎ ScansForSet plan packets old new
+
+-- if the report over scanned files of these lengths is a cause, nothing was read of the shelf. Their
+-- bytes don't matter to that, so any may be taken
+abbrev pub ReadsNoneOnCause : (List (List ℕ) → Report) → ShelfState → ShelfState → Type 0
+ReadsNoneOnCause report old new =
+    (scanned : List (List ℕ)) → map length scanned ≡ old.lengths → IsCause (report scanned) → new ≡ old
+
+-- the same of the report of a plan over any packet files that fit what was read
+abbrev pub ReadsNoneForCause : Plan → ShelfState → ShelfState → ShelfState → Type 0
+ReadsNoneForCause plan packets old new =
+    (files : List (List ℕ)) → ReadsAs packets files
+    → ReadsNoneOnCause (λ scanned. report_of plan (record { packets = files; scanned = scanned })) old new
 
 -- what it says of the sink's failures: a write fault is the one
 abbrev pub LeavesSink : Result Status RunFault → SinkState → SinkState → Type 0

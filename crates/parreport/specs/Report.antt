@@ -1,5 +1,5 @@
 -- What a run writes and answers, over whole files, where nothing comes between.
-use Rattle.std.specs.Prelude.{ℕ, List, [], map, length, Option, None, Some, Result, Ok, Err, if◌then◌else◌}
+use Rattle.std.specs.Prelude.{ℕ, List, [], map, length, Option, None, Some, Result, Ok, Err, IsErr, if◌then◌else◌}
 use Rattle.parfield.specs.declared.hash16.Hash16.{Hash16}
 use Rattle.parfind.specs.CursorText.{cursor_for}
 use Rattle.parfind.specs.Order.{origin}
@@ -34,6 +34,10 @@ use Rattle.parreport.specs.declared.text.status.Status.TheVariants.{Listed}
 pub record Report : Type 0 where
   pub text : List ℕ
   pub answer : Result Status RunFault
+
+-- the report is a cause, and has no text
+abbrev pub IsCause : Report → Type 0
+IsCause report = IsErr report.answer
 
 -- a text that lists
 abbrev pub listed : List ℕ → Report

@@ -4,7 +4,7 @@ ghost use Rattle.parset.specs.RecoverySet.{set_of};
 ghost use Rattle.parplan.specs.Commands.{reads_scanned, LimitIsNotZero};
 ghost use Rattle.parreport.specs.RunFiles.{RunFiles, AreReadAs, ReadsAsFor};
 ghost use Rattle.parreport.specs.Faults.{OnScannedFault};
-ghost use Rattle.parreport.specs.Outcomes.{is_packet_file_fault, written, may_follow_text, Answers, ReadFaultLeaves, LeavesPackets, LeavesScanned, ScansAsAsked, TellsScanned, LeavesSink, MakesSet};
+ghost use Rattle.parreport.specs.Outcomes.{is_packet_file_fault, written, may_follow_text, Answers, ReadFaultLeaves, LeavesPackets, LeavesScanned, ReadsNoneForCause, ReadsNoneOnCause, ScansAsAsked, TellsScanned, LeavesSink, MakesSet};
 ghost use Rattle.parreport.specs.OtherLists.{TellsList};
 ghost use Rattle.parreport.specs.Report.{report_of, command_report};
 
@@ -45,6 +45,8 @@ pub fn run<P: Shelf, Q: Shelf, W: Sink>(
         → W.state out.new ≡ W.state out.old) }
     ensures packets { LeavesPackets result (P.state packets.old) (P.state packets.new) }
     ensures scanned { LeavesScanned plan.now result (P.state packets.new)
+        (Q.state scanned.old) (Q.state scanned.new) }
+    ensures cause { ReadsNoneForCause plan.now (P.state packets.new)
         (Q.state scanned.old) (Q.state scanned.new) }
     ensures sink { LeavesSink result (W.state out.old) (W.state out.new) }
     ensures list { TellsList plan.now (Q.state scanned.old).lengths result }
@@ -92,6 +94,8 @@ fn run_over_set<Q: Shelf, W: Sink>(
         → W.state out.new ≡ W.state out.old) }
     ensures scanned { TellsScanned result (Q.state scanned.old) (Q.state scanned.new)
         × ScansAsAsked plan.now set.now (Q.state scanned.old) (Q.state scanned.new) }
+    ensures cause { ReadsNoneOnCause (λ files. command_report plan.now.command plan.now files set.now)
+        (Q.state scanned.old) (Q.state scanned.new) }
     ensures sink { LeavesSink result (W.state out.old) (W.state out.new) }
     ensures list { TellsList plan.now (Q.state scanned.old).lengths result }
     ensures untouched { reads_scanned plan.now.command ≡ false

@@ -3,7 +3,7 @@ ghost use Rattle.parshelf.specs.Shelf.{ReadsAs};
 ghost use Rattle.parreport.specs.Costs.{ScansWithin};
 ghost use Rattle.parreport.specs.Faults.{OnScannedFault};
 ghost use Rattle.parreport.specs.FindText.{find_search_of, WritesLinesBefore};
-ghost use Rattle.parreport.specs.Outcomes.{is_packet_file_fault, written, may_follow_text, Answers, TellsScanned, LeavesSink};
+ghost use Rattle.parreport.specs.Outcomes.{is_packet_file_fault, written, may_follow_text, Answers, ReadsNoneOnCause, TellsScanned, LeavesSink};
 ghost use Rattle.parreport.specs.OtherLists.{FitsList, is_for_files};
 ghost use Rattle.parreport.specs.Names.{list_of, names_of};
 ghost use Rattle.parreport.specs.Report.{find_report, find_start_of, start_of};
@@ -60,6 +60,8 @@ pub(crate) fn write_find<Q: Shelf, W: Sink>(
         (written (W.state out.old) (W.state out.new)) fault ≡ false
         → W.state out.new ≡ W.state out.old) }
     ensures scanned { TellsScanned result (Q.state scanned.old) (Q.state scanned.new) }
+    ensures cause { ReadsNoneOnCause (λ files. find_report plan.now query files set.now)
+        (Q.state scanned.old) (Q.state scanned.new) }
     ensures handed { ScansWithin (command.Find query.limit query.cursor query.tails) set.now
         (Q.state scanned.old) (Q.state scanned.new) }
     ensures sink { LeavesSink result (W.state out.old) (W.state out.new) }

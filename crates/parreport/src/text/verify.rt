@@ -6,7 +6,7 @@ ghost use Rattle.parreport.specs.Findings.{NeedsNoSearch};
 ghost use Rattle.parreport.specs.States.{named_files};
 ghost use Rattle.parreport.specs.SetSearch.{mode_of};
 ghost use Rattle.parreport.specs.Names.{names_of};
-ghost use Rattle.parreport.specs.Outcomes.{is_packet_file_fault, is_read_fault, written, may_follow_text, Answers, TellsScanned, LeavesSink};
+ghost use Rattle.parreport.specs.Outcomes.{is_packet_file_fault, is_read_fault, written, may_follow_text, Answers, ReadsNoneOnCause, TellsScanned, LeavesSink};
 ghost use Rattle.parreport.specs.Report.{verify_report};
 ghost use Rattle.parreport.specs.VerifyText.{status_of, findings_text};
 ghost use Rattle.parplan.specs.declared.command.Command.TheVariants as command;
@@ -50,6 +50,9 @@ pub(crate) fn write_verify<Q: Shelf, W: Sink>(
         (written (W.state out.old) (W.state out.new)) fault ≡ false
         → W.state out.new ≡ W.state out.old) }
     ensures scanned { TellsScanned result (Q.state scanned.old) (Q.state scanned.new) }
+    ensures cause { ReadsNoneOnCause
+        (λ files. verify_report plan.now quiet (mode_of tails) files set.now)
+        (Q.state scanned.old) (Q.state scanned.new) }
     ensures handed { ScansWithin (command.Verify quiet tails) set.now
         (Q.state scanned.old) (Q.state scanned.new) }
     ensures unsearched { (files : List (List ℕ)) → ReadsAs (Q.state scanned.new) files

@@ -14,6 +14,7 @@ returns g c =
       nothing_written = ran.nothing_written;
       packets_read = ran.packets;
       scanned_read = ran.scanned;
+      cause = ran.cause;
       sink = ran.sink;
       list = ran.list;
       untouched = ran.untouched;

@@ -1,4 +1,4 @@
-ghost use Rattle.std.specs.Prelude.{◌≡◌, ◌≢◌, ℕ, List, length, IfErr, Some};
+ghost use Rattle.std.specs.Prelude.{◌≡◌, ◌≢◌, ℕ, List, length, true, IfErr, Some};
 ghost use Rattle.parshelf.specs.Shelf.{ReadsAs};
 ghost use Rattle.parfind.specs.Finders.{BelongsTo};
 ghost use Rattle.parfind.specs.OnePass.{room_of};
@@ -6,7 +6,7 @@ ghost use Rattle.parfind.specs.Places.{place_at};
 ghost use Rattle.parwindow.specs.Index.{slice_set_of};
 ghost use Rattle.parreport.specs.Contents.{HandsPerFile};
 ghost use Rattle.parreport.specs.Faults.{listing_of, IsFindFault, IsSearchFault, OnScannedFault};
-ghost use Rattle.parreport.specs.SetSearch.{mode_of};
+ghost use Rattle.parreport.specs.SetSearch.{mode_of, has_too_many_tails, set_sought_of};
 ghost use Rattle.parreport.specs.declared.text.faults.RunFault.TheVariants as run_fault;
 ghost use Rattle.parreport.specs.FindText.{find_text, limit_left, find_search_of, WritesLinesBefore};
 ghost use Rattle.parreport.specs.Outcomes.{Answers, TellsScanned, LeavesSink};
@@ -51,6 +51,8 @@ pub fn write_sightings<Q: Shelf, W: Sink>(
     ensures unopened { IfErr result (λ fault. fault ≡ run_fault.TooManyTails
         → W.state out.new ≡ W.state out.old) }
     ensures reads { TellsScanned (listing_of result) (Q.state shelf.old) (Q.state shelf.new) }
+    ensures too_many { has_too_many_tails (set_sought_of set.now (mode_of query.tails)) ≡ true
+        → Q.state shelf.new ≡ Q.state shelf.old }
     ensures handed { HandsPerFile (room_of (Q.state shelf.old).lengths at)
         (Q.state shelf.old) (Q.state shelf.new) }
     ensures sink { LeavesSink (listing_of result) (W.state out.old) (W.state out.new) }
