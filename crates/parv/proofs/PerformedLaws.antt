@@ -1,22 +1,21 @@
 -- What a run over the program's own files leaves of them and of its output.
-use Rattle.std.proofs.Common.{◌≡◌, ◌∙◌, ℕ, List, [], Option, Vec, Global, length, subst, sym, ap, refl}
+use Rattle.std.proofs.Common.{◌≡◌, ◌∙◌, ℕ, List, [], Option, length, subst, sym, ap, refl}
 use Rattle.std.proofs.lemmas.Option.{slice_get-get_or}
 use Rattle.std.specs.Prelude.{Result, Ok, Err, IfOk, IfErr, IsOkAnd, MatchResult}
 use Rattle.parshelf.specs.Disk.{disk_state_of, unread_of, NamesPath}
 use Rattle.parshelf.specs.Shelf.{ShelfState}
-use Rattle.parshelf.specs.SinkState.{SinkState, empty_sink}
+use Rattle.parshelf.specs.SinkState.{SinkState}
 use Rattle.parshelf.specs.declared.shelves.disk.DiskShelf.{DiskShelf}
 use Rattle.parshelf.specs.declared.shelves.disk.OpenFault.{OpenFault}
 use Rattle.parshelf.specs.declared.shelves.disk.OpenFault.TheVariants.{CannotOpen, Memory}
 use Rattle.parplan.specs.Commands.{scanned_paths_of}
 use Rattle.parplan.specs.declared.command.Plan.{Plan}
 use Rattle.parreport.specs.Ends.{open_end_of, opened_of}
-use Rattle.parreport.specs.OpenedFiles.{RunState, TellsEnd, TellsRun}
+use Rattle.parreport.specs.OpenedFiles.{RunState, TellsRun}
 use Rattle.parreport.specs.declared.ends.End.{End}
 use Rattle.parreport.proofs.LeaveLaws.{packets_later, scanned_later}
-use Rattle.parshelf.specs.WriterSink.{writer_sink_state}
 use Rattle.parv.specs.declared.program.Run.{Run}
-use Rattle.parv.specs.Performed.{NamesFile, AreOpenedAt, AreUnread, TellsUnopened, RunsPlan, left_state_of, unread_state_of}
+use Rattle.parv.specs.Performed.{Outcome, NamesFile, AreOpenedAt, AreUnread, TellsOutcome, TellsUnopened, RunsPlan, left_state_of, unread_state_of}
 
 -- what opening files at these paths gives
 abbrev pub Opens : List (List ℕ) → Result DiskShelf OpenFault → Type 0
@@ -50,9 +49,9 @@ open_end_names : (paths : List (List ℕ)) (why : OpenFault) → NamesPath (leng
 open_end_names paths (CannotOpen index) within = rw (slice_get-get_or paths index [] within) refl
 open_end_names paths Memory named = tt
 
-module _ (plan : Plan) (told : ℕ × Vec ℕ Global) where
+module _ (plan : Plan) (came : Outcome) where
   abbrev pub Tells : End × Option (List ℕ) → Type 0
-  Tells why = TellsEnd why told.0 told.1.items
+  Tells = TellsOutcome came
 
   -- before it was read on, a shelf was one of which nothing was read
   unread : (files left : DiskShelf) → AreUnread files → (disk_state_of left).paths ≡ (disk_state_of files).paths
@@ -63,97 +62,93 @@ module _ (plan : Plan) (told : ℕ × Vec ℕ Global) where
       ∙ ap (unread_of (disk_state_of left).paths) (sym lengths)
 
   -- files that are opened, and run over
-  runs : (files left : DiskShelf × DiskShelf) (out out_left : SinkState) → Opens plan.packets (Ok files.0)
-      → Opens (scanned_paths_of plan) (Ok files.1) → out ≡ empty_sink
-      → TellsRun plan (left_state_of files out) (left_state_of left out_left) Tells → RunsPlan plan left out_left told.0 told.1.items
-  runs files left out out_left packets scanned empty run =
+  runs : (files left : DiskShelf × DiskShelf) → Opens plan.packets (Ok files.0) → Opens (scanned_paths_of plan) (Ok files.1)
+      → TellsRun plan (left_state_of files came.before) (left_state_of left came.after) Tells → RunsPlan plan left came
+  runs files left packets scanned run =
       let packets_on = packets_later run.answer (disk_state_of files.0) (disk_state_of left.0) run.packets_read in
       let scanned_on = scanned_later run.answer (disk_state_of files.1) (disk_state_of left.1) run.scanned_read in
       let state = λ (p q : ShelfState) (o : SinkState). let s : RunState = record { packets = p; scanned = q; out = o } in s in
-      let new = unread_state_of left in
-      let start : left_state_of files out ≡ new
-      = ap (λ (p : ShelfState). state p (disk_state_of files.1) out) (unread files.0 left.0 packets.1 packets_on.paths packets_on.lengths)
-      ∙ (ap (λ (q : ShelfState). state new.packets q out) (unread files.1 left.1 scanned.1 scanned_on.paths scanned_on.lengths)
-      ∙ ap (state new.packets new.scanned) empty) in
-      subst (λ (s : RunState). TellsRun plan s (left_state_of left out_left) Tells) start run
+      let new = unread_state_of left came.before in
+      let start : left_state_of files came.before ≡ new
+      = ap (λ (p : ShelfState). state p (disk_state_of files.1) came.before) (unread files.0 left.0 packets.1 packets_on.paths packets_on.lengths)
+      ∙ ap (λ (q : ShelfState). state new.packets q came.before) (unread files.1 left.1 scanned.1 scanned_on.paths scanned_on.lengths) in
+      subst (λ (s : RunState). TellsRun plan s (left_state_of left came.after) Tells) start run
 
   abbrev pub DoneAs : Run → Result (DiskShelf × DiskShelf) (End × Option (List ℕ)) → Type 0
   DoneAs run opened =
-      MatchResult opened (λ files. RunsPlan plan files (writer_sink_state run.out) told.0 told.1.items)
-      (λ why. TellsUnopened why run told.0 told.1.items)
+      MatchResult opened (λ files. RunsPlan plan files came) (λ why. TellsUnopened why run came)
 
   abbrev pub Done : Run → Type 0
   Done run = DoneAs run (opened_of plan run.packets run.scanned)
 
-  module _ (out : SinkState) (run : Run) (empty : out ≡ empty_sink) where
+  module _ (run : Run) where
     -- files that are not opened
     tells_unopened : (paths : List (List ℕ)) (why : OpenFault) → NamesPath (length paths) why → IfOk run.packets AreUnread
-        → writer_sink_state run.out ≡ out → Tells (open_end_of paths why) → TellsUnopened (open_end_of paths why) run told.0 told.1.items
+        → came.after ≡ came.before → Tells (open_end_of paths why) → TellsUnopened (open_end_of paths why) run came
     tells_unopened paths why named unread same tells = record {
       told = tells;
       named = open_end_names paths why named;
       nothing_read = unread;
-      nothing_written = same ∙ empty;
+      nothing_written = same;
     }
 
     done : (packets packets_left scanned scanned_left : Result DiskShelf OpenFault) → packets_left ≡ run.packets → scanned_left ≡ run.scanned
         → Opens plan.packets packets → IfOk packets (λ _. Opens (scanned_paths_of plan) scanned)
         → IfOk (opened_of plan packets scanned) (λ files. IsOkAnd (opened_of plan packets_left scanned_left) (λ left.
-        TellsRun plan (left_state_of files out) (left_state_of left (writer_sink_state run.out)) Tells))
-        → IfErr (opened_of plan packets scanned) Tells → IfErr (opened_of plan packets scanned) (λ _. writer_sink_state run.out ≡ out)
+        TellsRun plan (left_state_of files came.before) (left_state_of left came.after) Tells))
+        → IfErr (opened_of plan packets scanned) Tells → IfErr (opened_of plan packets scanned) (λ _. came.after ≡ came.before)
         → IfErr (opened_of plan packets scanned) (λ _. packets_left ≡ packets) → IfErr (opened_of plan packets scanned) (λ _. scanned_left ≡ scanned)
         → Done run
     done (Ok p) (Ok p_left) (Ok q) (Ok q_left) mine yours packets scanned ran tells unwritten same also =
         subst (DoneAs run) (ap (λ files. opened_of plan files (Ok q_left)) mine ∙ ap (opened_of plan run.packets) yours)
-        (runs (p, q) (p_left, q_left) out (writer_sink_state run.out) packets scanned empty ran)
+        (runs (p, q) (p_left, q_left) packets scanned ran)
     done (Ok p) (Ok p_left) (Ok q) (Err why) mine yours packets scanned ran tells unwritten same also = absurd ran
     done (Ok p) (Err why) (Ok q) q_left mine yours packets scanned ran tells unwritten same also = absurd ran
     done (Ok p) p_left (Err why) q_left mine yours packets scanned ran tells unwritten same also =
         let opened : run.packets ≡ Ok p = sym mine ∙ same in
         let unopened : run.scanned ≡ Err why = sym yours ∙ also in
         let unread : IfOk run.packets AreUnread = rw opened packets.1 in
-        let told : TellsUnopened (open_end_of (scanned_paths_of plan) why) run told.0 told.1.items
+        let told : TellsUnopened (open_end_of (scanned_paths_of plan) why) run came
         = tells_unopened (scanned_paths_of plan) why scanned unread unwritten tells in
         subst (DoneAs run) (sym (ap (λ files. opened_of plan files run.scanned) opened ∙ ap (opened_of plan (Ok p)) unopened)) told
     done (Err why) p_left q q_left mine yours packets scanned ran tells unwritten same also =
         let unopened : run.packets ≡ Err why = sym mine ∙ same in
         let unread : IfOk run.packets AreUnread = rw unopened tt in
-        let told : TellsUnopened (open_end_of plan.packets why) run told.0 told.1.items = tells_unopened plan.packets why packets unread unwritten tells in
+        let told : TellsUnopened (open_end_of plan.packets why) run came = tells_unopened plan.packets why packets unread unwritten tells in
         subst (DoneAs run) (sym (ap (λ files. opened_of plan files run.scanned) unopened)) told
 
     pub performed : (packets scanned : Result DiskShelf OpenFault) → Opens plan.packets packets
         → IfOk packets (λ _. Opens (scanned_paths_of plan) scanned)
         → IfOk (opened_of plan packets scanned) (λ files. IsOkAnd (opened_of plan run.packets run.scanned) (λ left.
-        TellsRun plan (left_state_of files out) (left_state_of left (writer_sink_state run.out)) Tells))
-        → IfErr (opened_of plan packets scanned) Tells → IfErr (opened_of plan packets scanned) (λ _. writer_sink_state run.out ≡ out)
+        TellsRun plan (left_state_of files came.before) (left_state_of left came.after) Tells))
+        → IfErr (opened_of plan packets scanned) Tells → IfErr (opened_of plan packets scanned) (λ _. came.after ≡ came.before)
         → IfErr (opened_of plan packets scanned) (λ _. run.packets ≡ packets) → IfErr (opened_of plan packets scanned) (λ _. run.scanned ≡ scanned)
         → Done run
     performed packets scanned = done packets run.packets scanned run.scanned refl refl
 
-  module _ (out out_left : SinkState) where
-    -- no other file is opened where the packet files are not
-    pub unopened_too : (packets packets_left scanned scanned_left : Result DiskShelf OpenFault) → IfErr packets (λ why. scanned ≡ Err why)
-        → IfOk (opened_of plan packets scanned) (λ files. IsOkAnd (opened_of plan packets_left scanned_left) (λ left.
-        TellsRun plan (left_state_of files out) (left_state_of left out_left) Tells))
-        → IfErr (opened_of plan packets scanned) (λ _. packets_left ≡ packets) → IfErr (opened_of plan packets scanned) (λ _. scanned_left ≡ scanned)
-        → IfErr packets_left (λ why. scanned_left ≡ Err why)
-    unopened_too (Ok p) (Ok p_left) (Ok q) scanned_left first ran same also = tt
-    unopened_too (Ok p) (Err why) (Ok q) scanned_left first ran same also = absurd ran
-    unopened_too (Ok p) packets_left (Err cause) scanned_left first ran same also = rw same tt
-    unopened_too (Err why) packets_left scanned scanned_left first ran same also = rw same (also ∙ first)
+  -- no other file is opened where the packet files are not
+  pub unopened_too : (packets packets_left scanned scanned_left : Result DiskShelf OpenFault) → IfErr packets (λ why. scanned ≡ Err why)
+      → IfOk (opened_of plan packets scanned) (λ files. IsOkAnd (opened_of plan packets_left scanned_left) (λ left.
+      TellsRun plan (left_state_of files came.before) (left_state_of left came.after) Tells))
+      → IfErr (opened_of plan packets scanned) (λ _. packets_left ≡ packets) → IfErr (opened_of plan packets scanned) (λ _. scanned_left ≡ scanned)
+      → IfErr packets_left (λ why. scanned_left ≡ Err why)
+  unopened_too (Ok p) (Ok p_left) (Ok q) scanned_left first ran same also = tt
+  unopened_too (Ok p) (Err why) (Ok q) scanned_left first ran same also = absurd ran
+  unopened_too (Ok p) packets_left (Err cause) scanned_left first ran same also = rw same tt
+  unopened_too (Err why) packets_left scanned scanned_left first ran same also = rw same (also ∙ first)
 
-    -- the files that are there are still those at the plan's paths
-    pub still_opened : (packets packets_left scanned scanned_left : Result DiskShelf OpenFault) → Opens plan.packets packets
-        → IfOk packets (λ _. Opens (scanned_paths_of plan) scanned) → IfErr packets (λ why. scanned ≡ Err why)
-        → IfOk (opened_of plan packets scanned) (λ files. IsOkAnd (opened_of plan packets_left scanned_left) (λ left.
-        TellsRun plan (left_state_of files out) (left_state_of left out_left) Tells))
-        → IfErr (opened_of plan packets scanned) (λ _. packets_left ≡ packets) → IfErr (opened_of plan packets scanned) (λ _. scanned_left ≡ scanned)
-        → IfOk packets_left (AreOpenedAt plan.packets) × IfOk scanned_left (AreOpenedAt (scanned_paths_of plan))
-    still_opened (Ok p) (Ok p_left) (Ok q) (Ok q_left) packets scanned first ran same also = (
-      (packets_later ran.answer (disk_state_of p) (disk_state_of p_left) ran.packets_read).paths ∙ packets.0,
-      (scanned_later ran.answer (disk_state_of q) (disk_state_of q_left) ran.scanned_read).paths ∙ scanned.0,
-    )
-    still_opened (Ok p) (Ok p_left) (Ok q) (Err why) packets scanned first ran same also = absurd ran
-    still_opened (Ok p) (Err why) (Ok q) scanned_left packets scanned first ran same also = absurd ran
-    still_opened (Ok p) packets_left (Err why) scanned_left packets scanned first ran same also = (rw same packets.0, rw also tt)
-    still_opened (Err why) packets_left scanned scanned_left packets opened first ran same also = (rw same tt, rw (also ∙ first) tt)
+  -- the files that are there are still those at the plan's paths
+  pub still_opened : (packets packets_left scanned scanned_left : Result DiskShelf OpenFault) → Opens plan.packets packets
+      → IfOk packets (λ _. Opens (scanned_paths_of plan) scanned) → IfErr packets (λ why. scanned ≡ Err why)
+      → IfOk (opened_of plan packets scanned) (λ files. IsOkAnd (opened_of plan packets_left scanned_left) (λ left.
+      TellsRun plan (left_state_of files came.before) (left_state_of left came.after) Tells))
+      → IfErr (opened_of plan packets scanned) (λ _. packets_left ≡ packets) → IfErr (opened_of plan packets scanned) (λ _. scanned_left ≡ scanned)
+      → IfOk packets_left (AreOpenedAt plan.packets) × IfOk scanned_left (AreOpenedAt (scanned_paths_of plan))
+  still_opened (Ok p) (Ok p_left) (Ok q) (Ok q_left) packets scanned first ran same also = (
+    (packets_later ran.answer (disk_state_of p) (disk_state_of p_left) ran.packets_read).paths ∙ packets.0,
+    (scanned_later ran.answer (disk_state_of q) (disk_state_of q_left) ran.scanned_read).paths ∙ scanned.0,
+  )
+  still_opened (Ok p) (Ok p_left) (Ok q) (Err why) packets scanned first ran same also = absurd ran
+  still_opened (Ok p) (Err why) (Ok q) scanned_left packets scanned first ran same also = absurd ran
+  still_opened (Ok p) packets_left (Err why) scanned_left packets scanned first ran same also = (rw same packets.0, rw also tt)
+  still_opened (Err why) packets_left scanned scanned_left packets opened first ran same also = (rw same tt, rw (also ∙ first) tt)

@@ -1,11 +1,10 @@
 -- What the program does with the words behind its name.
 use Rattle.std.specs.Prelude.{◌≡◌, ℕ, List, Option, None, IsSome, Ok, Err, IfOk, IfErr, MatchOption, MatchResult, ⊤}
 use Rattle.parshelf.specs.Disk.{disk_state_of, unread_of}
-use Rattle.parshelf.specs.SinkState.{SinkState, empty_sink}
-use Rattle.parshelf.specs.WriterSink.{writer_sink_state}
+use Rattle.parshelf.specs.SinkState.{SinkState}
 use Rattle.parshelf.specs.declared.shelves.disk.DiskShelf.{DiskShelf}
 use Rattle.parplan.specs.Commands.{scanned_paths_of}
-use Rattle.parplan.specs.Plans.{plan_of, AnswersPlan}
+use Rattle.parplan.specs.Plans.{plan_of}
 use Rattle.parplan.specs.declared.command.Plan.{Plan}
 use Rattle.parplan.specs.declared.command.PlanFault.{PlanFault}
 use Rattle.parreport.specs.Ends.{opened_of}
@@ -23,19 +22,29 @@ left_state_of files out = record {
   out = out;
 }
 
--- files of the same paths and lengths, of which nothing was read, and an output to which nothing was
--- written
-abbrev pub unread_state_of : DiskShelf × DiskShelf → RunState
-unread_state_of files = record {
+-- files of the same paths and lengths, of which nothing was read, and this output
+abbrev pub unread_state_of : DiskShelf × DiskShelf → SinkState → RunState
+unread_state_of files out = record {
   packets = unread_of (disk_state_of files.0).paths (disk_state_of files.0).lengths;
   scanned = unread_of (disk_state_of files.1).paths (disk_state_of files.1).lengths;
-  out = empty_sink;
+  out = out;
 }
 
+-- what came of words, and an output before it and after
+pub record Outcome : Type 0 where
+  pub performed : Performed
+  pub before : SinkState
+  pub after : SinkState
+
+-- if memory for a line wasn't refused, the status and the line are those of this end, about this
+-- argument
+abbrev pub TellsOutcome : Outcome → End × Option (List ℕ) → Type 0
+TellsOutcome came end = IfOk came.performed.told (λ told. TellsEnd end told.0 told.1.items)
+
 -- the plan was run over these files, and the end of that run is told
-abbrev pub RunsPlan : Plan → DiskShelf × DiskShelf → SinkState → ℕ → List ℕ → Type 0
-RunsPlan plan files out status line =
-    TellsRun plan (unread_state_of files) (left_state_of files out) (λ end. TellsEnd end status line)
+abbrev pub RunsPlan : Plan → DiskShelf × DiskShelf → Outcome → Type 0
+RunsPlan plan files came =
+    TellsRun plan (unread_state_of files came.before) (left_state_of files came.after) (TellsOutcome came)
 
 -- where a file can't be opened, its path is told
 abbrev pub NamesFile : End × Option (List ℕ) → Type 0
@@ -49,39 +58,42 @@ AreUnread files =
 
 -- a file was not opened, or memory was wanted for it: that is told, with the path of the file, and
 -- nothing is read or written
-pub record TellsUnopened
-    (why : End × Option (List ℕ)) (run : Run) (status : ℕ) (line : List ℕ)
-    : Type 0 where
-  pub told : TellsEnd why status line
+pub record TellsUnopened (why : End × Option (List ℕ)) (run : Run) (came : Outcome) : Type 0 where
+  pub told : TellsOutcome came why
   pub named : NamesFile why
   pub nothing_read : IfOk run.packets AreUnread
-  pub nothing_written : writer_sink_state run.out ≡ empty_sink
+  pub nothing_written : came.after ≡ came.before
 
 -- these are files that were opened at these paths, one at each, in their order
 abbrev pub AreOpenedAt : List (List ℕ) → DiskShelf → Type 0
 AreOpenedAt paths files = (disk_state_of files).paths ≡ paths
 
 -- the words have a plan, which was run over its files, if they were all opened; where the packet files
--- were not, no other was. Whatever came, the files that are there are those at the plan's paths
-pub record PerformsPlan (words : List (List ℕ)) (run : Run) (status : ℕ) (line : List ℕ)
-    : Type 0 where
+-- were not, no other shelf is given. Whatever came, the files that are there are those at the plan's
+-- paths
+pub record PerformsPlan (words : List (List ℕ)) (run : Run) (came : Outcome) : Type 0 where
   pub plan : Plan
   pub planned : plan_of words ≡ Ok plan
   pub packets_opened : IfOk run.packets (AreOpenedAt plan.packets)
   pub scanned_opened : IfOk run.scanned (AreOpenedAt (scanned_paths_of plan))
   pub packets_first : IfErr run.packets (λ why. run.scanned ≡ Err why)
   pub done : MatchResult (opened_of plan run.packets run.scanned)
-      (λ files. RunsPlan plan files (writer_sink_state run.out) status line)
-      (λ why. TellsUnopened why run status line)
+      (λ files. RunsPlan plan files came)
+      (λ why. TellsUnopened why run came)
 
--- the words have no plan, or memory was wanted for it, and that is told
-pub record RefusesWords (words : List (List ℕ)) (status : ℕ) (line : List ℕ) : Type 0 where
+-- the words have no plan by this fault, and that is told
+pub record TellsFault (words : List (List ℕ)) (status : ℕ) (line : List ℕ) : Type 0 where
   pub fault : PlanFault
-  pub refused : AnswersPlan (plan_of words) (Err fault)
+  pub refused : plan_of words ≡ Err fault
   pub told : TellsEnd (end.Plan fault, None) status line
 
+-- there is no run: the words have no plan, and that is told, unless memory was refused; and nothing is
+-- written
+pub record RefusesWords (words : List (List ℕ)) (came : Outcome) : Type 0 where
+  pub told : IfOk came.performed.told (λ told. TellsFault words told.0 told.1.items)
+  pub nothing_written : came.after ≡ came.before
+
 -- what came of words: their plan was run, or they are refused
-abbrev pub Performs : List (List ℕ) → Performed → Type 0
-Performs words performed =
-    MatchOption performed.run (RefusesWords words performed.told.0 performed.told.1.items)
-    (λ run. PerformsPlan words run performed.told.0 performed.told.1.items)
+abbrev pub Performs : List (List ℕ) → Outcome → Type 0
+Performs words came =
+    MatchOption came.performed.run (RefusesWords words came) (λ files. PerformsPlan words files came)

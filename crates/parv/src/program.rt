@@ -1,31 +1,29 @@
-ghost use Rattle.std.specs.Prelude.{map, string_bytes, IfOk};
+ghost use Rattle.std.specs.Prelude.{map, string_bytes};
 ghost use Rattle.parv.specs.Performed.{Performs};
 
 use parplan::{plan, words_after_program};
-use parreport::{End, PlanFault, WriteSink, ending, files_to_scan, run_opened};
+use parreport::{End, PlanFault, Sink, WriteSink, ending, files_to_scan, run_opened};
 use parshelf::{DiskShelf, OpenFault};
 use std::alloc::AllocError;
-use std::rt::Stdout;
+use std::fs::{File, Files};
 use std::{env, io};
 
 /// What came of words.
 #[derive(Drop)]
 pub struct Performed {
-    /// The exit status, and the line for standard error.
-    pub told: (u8, Vec<u8>),
-    /// What their plan was run over, where they have one.
+    /// The exit status and the line for standard error, unless memory for them was refused.
+    pub told: Result<(u8, Vec<u8>), AllocError>,
+    /// The files that their plan was run over, if they have a plan.
     pub run: Option<Run>,
 }
 
-/// The files that a plan was run over, or why they were not opened, and its output.
+/// The files that a plan was run over, or why they were not opened.
 #[derive(Drop)]
 pub struct Run {
     /// The packet files.
     pub packets: Result<DiskShelf, OpenFault>,
     /// The files that are scanned; where the packet files were not opened, the same cause.
     pub scanned: Result<DiskShelf, OpenFault>,
-    /// Standard output.
-    pub out: WriteSink<Stdout>,
 }
 
 /// Does what the command line asks for, and gives the exit status and the line for standard error.
@@ -36,20 +34,31 @@ pub fn perform(rt: &HostRuntime) -> Result<(u8, Vec<u8>), AllocError> {
         Err(_) => return ending(rt.alloc(), &End::Plan(PlanFault::Usage), ""),
     };
     let args: Vec<String> = args.collect(rt.alloc())?;
-    let performed = perform_words(rt, words_after_program(&args))?;
-    Ok(performed.told)
+    let mut out = WriteSink::new(rt.stdout());
+    let performed = perform_words(rt, words_after_program(&args), &mut out);
+    performed.told
 }
 
-// Does what the words behind the program's name ask for.
-fn perform_words(rt: &HostRuntime, words: &[String]) -> Result<Performed, AllocError>
-    ensures { IfOk result (Performs (map string_bytes words.now)) }
+// Does what the words after the program's name ask for. By its bounds `rt` gives files and memory,
+// and no standard output.
+fn perform_words<R: AllocGlobal + Files<File = File>, W: Sink>(
+    rt: &R,
+    words: &[String],
+    out: &mut W,
+) -> Performed
+    ensures { Performs (map string_bytes words.now)
+        (record { performed = result; before = W.state out.old; after = W.state out.new }) }
 {
     let alloc = rt.alloc();
     let plan = match plan(alloc, words) {
         Ok(plan) => plan,
+        Err(PlanFault::Memory) => {
+            let told = Err(AllocError);
+            return Performed { told, run: None };
+        }
         Err(fault) => {
-            let told = ending(alloc, &End::Plan(fault), "")?;
-            return Ok(Performed { told, run: None });
+            let told = ending(alloc, &End::Plan(fault), "");
+            return Performed { told, run: None };
         }
     };
     let mut packets = DiskShelf::open(rt, alloc, plan.packets.as_slice());
@@ -58,12 +67,7 @@ fn perform_words(rt: &HostRuntime, words: &[String]) -> Result<Performed, AllocE
         Ok(_) => DiskShelf::open(rt, alloc, files_to_scan(&plan)),
         Err(why) => Err(*why),
     };
-    let mut out = WriteSink::new(rt.stdout());
-    let told = run_opened(alloc, &plan, &mut packets, &mut scanned, &mut out)?;
-    let run = Some(Run {
-        packets,
-        scanned,
-        out,
-    });
-    Ok(Performed { told, run })
+    let told = run_opened(alloc, &plan, &mut packets, &mut scanned, out);
+    let run = Some(Run { packets, scanned });
+    Performed { told, run }
 }
