@@ -207,7 +207,7 @@ fn reading_stops_once_each_slice_without_a_mark_is_found(rt: HostRuntime) {
 
 // How many bytes a read gives at most, the numbers of the first and the last read of which each
 // fails in turn, and what comes of it.
-static FAILURES: [(usize, u64, u64, &str); 7] = [
+static FAILURES: [(usize, u64, u64, &str); 8] = [
     (1, 1, 4, "abcdefghijkl|abcd,XXefghijkl|---|---|0"),
     (1, 5, 10, "abcdefghijkl|abcd,XXefghijkl|---|+--|1"),
     (1, 11, 14, "abcdefghijkl|abcd,XXefghijkl|---|++-|1"),
@@ -215,13 +215,16 @@ static FAILURES: [(usize, u64, u64, &str); 7] = [
     (64, 1, 1, "abcdefghijkl|abcd,XXefghijkl|---|---|0"),
     (64, 2, 2, "abcdefghijkl|abcd,XXefghijkl|---|+--|1"),
     (64, 3, 3, "abcdefghijkl|abcd,XXefghijkl|---|+++|"),
+    // Once each slice is found, the byte after the last one isn't read.
+    (1, 9, 9, "abcdefgh|abcdefghX|--|++|"),
 ];
 
 // Surveys by a row, in each run another read failing.
 fn fails_in_turn(rt: &(impl Abort + AllocGlobal), row: &str, piece: usize, first: u64, last: u64) {
     for failing in first..=last {
-        let marked = marks(rt, row, piece, failing, In::UsedWindow, Mode::Plain);
-        must(rt, marked);
+        for way in [In::UsedWindow, In::OwnWindow] {
+            must(rt, marks(rt, row, piece, failing, way, Mode::Plain));
+        }
     }
 }
 
