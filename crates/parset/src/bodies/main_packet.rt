@@ -55,7 +55,7 @@ pub(crate) fn main_reason(
     if let Some(reason) = early_main_reason(body) {
         return Ok(Some(reason));
     }
-    if repeats(alloc, file_ids(body))? {
+    if has_repeat(alloc, file_ids(body))? {
         return Ok(Some(Aside::IdTwice));
     }
     if Md5::digest(body) != set.0 {
@@ -110,7 +110,7 @@ fn is_large_main(body: &[u8]) -> bool
 }
 
 // Whether an ID stands twice.
-fn repeats(alloc: Global, ids: &[[u8; 16]]) -> Result<bool, AllocError>
+fn has_repeat(alloc: Global, ids: &[[u8; 16]]) -> Result<bool, AllocError>
     ensures { IfOk result (λ found. found ≡ has_repeat (map hash_of ids.now)) }
 {
     let mut sorted = Vec::from_slice(alloc, ids)?;

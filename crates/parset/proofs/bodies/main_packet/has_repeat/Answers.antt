@@ -5,7 +5,7 @@ use Rattle.std.specs.Ordering.{is_lt, is_some_and}
 use Rattle.std.specs.Cmp.Lexicographic.{slice_partial_cmp, lists_agrees}
 use Rattle.std.proofs.lemmas.List.Sorted.{answers_always}
 use Rattle.parset.proofs.RepeatLaws.{order, has_repeat-sorted}
-use Rattle.parset.proofs.bodies.main_packet.repeats.Goals as goal
+use Rattle.parset.proofs.bodies.main_packet.has_repeat.Goals as goal
 
 pub returns : goal.returns
 returns c =
