@@ -187,14 +187,10 @@ module _ (set : SliceSet) (s : ShelfState) (f : FinderState) (at : IsThere set s
           (omega (arith, same, at.stands.file_is))
           (λ _. passes.offset_is ∙ ap (λ (o : ℕ). o + n) at.stands.offset_is)
 
--- what holds of a finder holds of it in the same mode
-in_mode : (P : FinderState → Type 0) (g : FinderState) (mode : Mode) → mode ≡ g.mode → P g → P (record g { mode = mode })
-in_mode P g mode same h = subst (λ (m : Mode). P (record g { mode = m })) (sym same) h
-
--- the same of the finder that a call was handed, which it sees from inside, and leaves in the same mode
+-- the same of the finder that a call was handed, which it sees from inside
 module _ (set : SliceSet) (s : ShelfState) (f handed : FinderState) (is : f ≡ handed) (there : IsThere set s handed)
     (left : Option ℕ) (some : left ≢ Some 0) (rest : ℕ) (found : Option ℕ) (w : WindowState) (kept : List (Option Hash16))
-    (looked : Looked set s f rest found w kept) (mode : Mode) (in_same : mode ≡ f.mode) where
+    (looked : Looked set s f rest found w kept) where
   at : IsThere set s f
   at = subst (IsThere set s) (sym is) there
 
@@ -202,27 +198,26 @@ module _ (set : SliceSet) (s : ShelfState) (f handed : FinderState) (is : f ≡ 
   abbrev pub TryLeaves : ShelfState → Result Visit ReadFault → FinderState → Type 0
   TryLeaves t tried g = BelongsTo g set t × Tried (sought_for set handed) left s t handed g tried
 
-  leaves_as : (t : ShelfState) (tried : Result Visit ReadFault) (g : FinderState) → g.mode ≡ f.mode → BelongsTo g set t
-      → Tried (sought_for set f) left s t f g tried → TryLeaves t tried (record g { mode = mode })
-  leaves_as t tried g same belongs gives =
-      in_mode (TryLeaves t tried) g mode (in_same ∙ sym same)
+  leaves_as : (t : ShelfState) (tried : Result Visit ReadFault) (g : FinderState) → BelongsTo g set t
+      → Tried (sought_for set f) left s t f g tried → TryLeaves t tried g
+  leaves_as t tried g belongs gives =
       (belongs, subst (λ (y : FinderState). Tried (sought_for set y) left s t y g tried) is gives)
 
   pub hit_inside : (n : ℕ) → found ≡ Some n → n < length set.slices
       → let x : Sighting = record { file = f.cursor.file; offset = f.cursor.offset; slice = n } in
-      TryLeaves s (Ok (Hit x)) (record (with_window f (cursor_after x) w f.track kept) { mode = mode })
+      TryLeaves s (Ok (Hit x)) (with_window f (cursor_after x) w f.track kept)
   hit_inside n hit few =
       let x : Sighting = record { file = f.cursor.file; offset = f.cursor.offset; slice = n } in
-      leaves_as s (Ok (Hit x)) (with_window f (cursor_after x) w f.track kept) refl
+      leaves_as s (Ok (Hit x)) (with_window f (cursor_after x) w f.track kept)
       (at_belongs set s f at left some rest found w kept looked (n + 1))
       (hit_tried set s f at left some rest found w kept looked n hit few)
 
   module _ (t : ShelfState) (v : WindowState) (a : Track) (tied : IsTied t v a) (window : v ≡ record w { content = v.content })
       (reads : ReadsUpTo s t (fetched_of f.track) (fetched_of a)) where
     pub fault_inside : (fault : ReadFault) → FaultsIn s t f.track.file fault → SameTrack f.track a → v ≡ w
-        → TryLeaves t (Err fault) (record (with_window f f.cursor v a kept) { mode = mode })
+        → TryLeaves t (Err fault) (with_window f f.cursor v a kept)
     fault_inside fault faults same still =
-        leaves_as t (Err fault) (with_window f f.cursor v a kept) refl
+        leaves_as t (Err fault) (with_window f f.cursor v a kept)
         (fault_belongs set s f at left some rest found w kept looked t v a tied window reads fault faults same still)
         (fault_tried set s f at left some rest found w kept looked t v a tied window reads fault faults same still)
 
@@ -231,11 +226,11 @@ module _ (set : SliceSet) (s : ShelfState) (f handed : FinderState) (is : f ≡ 
         → most ≤ unwrap_or left 18446744073709551615
         → ((m : Mode) → IsWindowFor (sought_of set m) w → (files : List (List ℕ)) → ReadsAs t files
         → HaveNoLookedCrc (sought_of set m) (file_of files f.track.file) f.track.window_offset n)
-        → TryLeaves t (Ok (Passed n)) (record (with_window f (cursor_on f.cursor n) v a none_kept) { mode = mode })
+        → TryLeaves t (Ok (Passed n)) (with_window f (cursor_on f.cursor n) v a none_kept)
     pass_inside n most none_kept none_is only same passes miss budget none =
         let is_none : none_kept ≡ replicate (length (looked_lengths (sought_for set f))) None =
         none_is ∙ ap (λ (k : ℕ). replicate k None) looked.keeps.room in
-        leaves_as t (Ok (Passed n)) (with_window f (cursor_on f.cursor n) v a none_kept) refl
+        leaves_as t (Ok (Passed n)) (with_window f (cursor_on f.cursor n) v a none_kept)
         (pass_belongs set s f at left some rest found w kept looked t v a tied window reads n most none_kept is_none only same passes)
         (pass_tried set s f at left some rest found w kept looked t v a tied window reads n most none_kept is_none only same passes
         miss budget (none f.mode (made set s f at left some rest found w kept looked)))

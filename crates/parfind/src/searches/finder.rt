@@ -16,7 +16,7 @@ ghost use Rattle.parfind.specs.Steps.{StepGives, StepSees, scan_of};
 use crate::cursors::{Cursor, Sighting};
 use crate::searches::places::{next_place, rest_of};
 use crate::searches::start_fault::StartFault;
-use crate::tracks::{Look, MOST_TAILS, Mode, Track, shorter_lengths};
+use crate::tracks::{Digests, MOST_TAILS, Mode, Sought, Track};
 use parshelf::{ReadFault, Shelf};
 use parwindow::{Index, Window};
 use std::alloc::Global;
@@ -52,7 +52,8 @@ pub struct Finder {
     cursor: Cursor,
     window: Window,
     track: Track,
-    look: Look,
+    mode: Mode,
+    digests: Digests,
 }
 
 impl Model for Finder {
@@ -66,10 +67,10 @@ impl Model for Finder {
       opening = f.opening;
       fetched = fetched_of f.track;
       digests = f.window.digests;
-      mode = f.look.mode;
+      mode = f.mode;
       window = f.window;
       track = f.track;
-      kept = f.look.kept.items;
+      kept = f.digests.kept.items;
     } };
 }
 
@@ -92,7 +93,8 @@ impl Finder {
     {
         // Only the contract speaks of it.
         let _ = shelf;
-        let tails = shorter_lengths(index, mode);
+        let sought = Sought { index, mode };
+        let tails = sought.shorter_lengths();
         if tails.len() > MOST_TAILS {
             return Err(StartFault::TooManyTails);
         }
@@ -102,7 +104,8 @@ impl Finder {
             cursor: at,
             window,
             track: Track::new(at.file, at.offset),
-            look: Look::new(alloc, index, mode)?,
+            mode,
+            digests: Digests::new(alloc, &sought)?,
         })
     }
 
@@ -322,7 +325,7 @@ impl Finder {
         if at.file == self.track.file() && self.window.is_full() {
             return Ok(());
         }
-        self.look.forget();
+        self.digests.forget();
         self.track.enter_file(&mut self.window, at.file, at.offset);
         self.track.fill(&mut self.window, shelf)
     }
@@ -355,9 +358,13 @@ impl Finder {
     {
         let at = self.cursor;
         let rest = rest_of(shelf, at);
+        let sought = Sought {
+            index,
+            mode: self.mode,
+        };
         if let Some(slice) = self
-            .look
-            .first_seen(&mut self.window, index, rest, at.slice)
+            .digests
+            .first_seen(&mut self.window, &sought, rest, at.slice)
         {
             self.cursor.slice = slice + 1;
             let sighting = Sighting {
@@ -371,7 +378,7 @@ impl Finder {
         let count = self
             .track
             .slide_until_crc(&mut self.window, index, shelf, most)?;
-        self.look.forget();
+        self.digests.forget();
         self.cursor = Cursor {
             file: at.file,
             offset: at.offset + count,

@@ -14,7 +14,7 @@ ghost use Rattle.parfind.specs.Sought.{HasFewTails, IsWindowFor, sought_of};
 ghost use Rattle.parfind.specs.declared.surveys.surveying.SurveyFault.TheVariants.{Memory};
 
 use crate::surveys::marking::Exhausted;
-use crate::tracks::{MOST_TAILS, Mode, Track, shorter_lengths};
+use crate::tracks::{MOST_TAILS, Mode, Sought, Track};
 use parshelf::{ReadFault, Shelf};
 use parwindow::{Index, Window};
 use std::alloc::{AllocError, Global};
@@ -68,46 +68,50 @@ pub fn survey<H: Shelf>(
         (H.state shelf.old) (H.state shelf.new) }
     ensures none { IsAllMarked found.old → H.state shelf.new ≡ H.state shelf.old }
 {
-    if shorter_lengths(index, mode).len() > MOST_TAILS {
+    let sought = Sought { index, mode };
+    if sought.shorter_lengths().len() > MOST_TAILS {
         return Err(SurveyFault::TooManyTails);
     }
     if next_missing(found, 0) == found.len() {
         return Ok(());
     }
     if !has_mark(found) {
-        return survey_few_tails(alloc, index, shelf, found, mode);
+        return survey_few_tails(alloc, &sought, shelf, found);
     }
     let missing = index.missing(alloc, found)?;
-    survey_few_tails(alloc, &missing, shelf, found, mode)
+    let others = Sought {
+        index: &missing,
+        mode,
+    };
+    survey_few_tails(alloc, &others, shelf, found)
 }
 
 // Marks each slice of the set that has a sighting, where there are no more tails than a window may
 // have.
 fn survey_few_tails<H: Shelf>(
     alloc: Global,
-    index: &Index,
+    sought: &Sought,
     shelf: &mut H,
     found: &mut [bool],
-    mode: Mode,
 ) -> Result<(), SurveyFault>
-    requires each { length found.old ≡ length index.now.slices }
-    requires few { HasFewTails (sought_of index.now mode) }
+    requires each { length found.old ≡ length sought.now.set.slices }
+    requires few { HasFewTails sought.now }
     ensures found { (files : List (List ℕ)) → ReadsAs (H.state shelf.new) files →
-        SurveyMarks (scan_of (sought_of index.now mode) files) found.old found.new result }
+        SurveyMarks (scan_of sought.now files) found.old found.new result }
     ensures stops { (files : List (List ℕ)) → ReadsAs (H.state shelf.new) files →
-        StopsOnceFound (scan_of (sought_of index.now mode) files)
+        StopsOnceFound (scan_of sought.now files)
         (H.state shelf.old) (H.state shelf.new) found.old }
     ensures kept { KeepsMarks found.old found.new }
     ensures leaves { SurveyLeaves (marked_at (H.state shelf.old) found.old)
         (marked_at (H.state shelf.new) found.new) result }
-    ensures tails { SurveyTellsTails (sought_of index.now mode) result }
+    ensures tails { SurveyTellsTails sought.now result }
     ensures handed { HandsEachOnce (H.state shelf.old) (H.state shelf.new) }
-    ensures unfit { SkipsUnfit index.now (H.state shelf.old) (H.state shelf.new) }
+    ensures unfit { SkipsUnfit sought.now.set (H.state shelf.old) (H.state shelf.new) }
     ensures none { IsAllMarked found.old → H.state shelf.new ≡ H.state shelf.old }
 {
-    let tails = shorter_lengths(index, mode);
-    let mut window = Window::with_tails(alloc, index.size() as usize, tails)?;
-    match survey_in(index, shelf, &mut window, found, mode) {
+    let size = sought.index.size() as usize;
+    let mut window = Window::with_tails(alloc, size, sought.shorter_lengths())?;
+    match survey_in(sought.index, shelf, &mut window, found, sought.mode) {
         Ok(()) => Ok(()),
         Err((file, fault)) => Err(SurveyFault::Read(file, fault)),
     }
@@ -157,7 +161,8 @@ pub fn survey_in<H: Shelf>(
     prove!(window.size() as u64 == size);
     window.clear();
     let mut track = Track::new(0, 0);
-    match survey_files(index, shelf, window, &mut track, found, mode) {
+    let sought = Sought { index, mode };
+    match survey_files(&sought, shelf, window, &mut track, found) {
         Ok(()) => Ok(()),
         Err(fault) => Err((track.file(), fault)),
     }
@@ -165,19 +170,18 @@ pub fn survey_in<H: Shelf>(
 
 // Goes from the beginning of all files on, until each slice has its mark.
 fn survey_files<H: Shelf>(
-    index: &Index,
+    sought: &Sought,
     shelf: &mut H,
     window: &mut Window,
     track: &mut Track,
     found: &mut [bool],
-    mode: Mode,
 ) -> Result<(), ReadFault>
-    requires made { IsWindowFor (sought_of index.now mode) window.old }
-    requires each { length found.old ≡ length index.now.slices }
+    requires made { IsWindowFor sought.now window.old }
+    requires each { length found.old ≡ length sought.now.set.slices }
     requires small { window.old.capacity ≤ slice_size_limit }
     requires empty { window.old.content ≡ [] }
     requires unread { IsUnread 0 0 track.old }
-    ensures ends { SurveyEnds (sought_of index.now mode)
+    ensures ends { SurveyEnds sought.now
         (survey_at (H.state shelf.old) window.old found.old track.old)
         (survey_at (H.state shelf.new) window.new found.new track.new) result }
     ensures shelf { ReadsFile track.new.file (H.state shelf.old) (H.state shelf.new) result }
@@ -191,19 +195,19 @@ fn survey_files<H: Shelf>(
     let mut missing = next_missing(found, 0);
     while missing < found.len() && track.file() < shelf.count() {
         let left = track.rest(shelf);
-        if left == 0 || !index.fits(left) {
+        if left == 0 || !sought.index.fits(left) {
             let next = track.file() + 1;
             track.enter_file(window, next, 0);
             exhausted.forget();
             continue;
         }
         track.fill(window, shelf)?;
-        exhausted.mark_seen(window, index, mode, left, found);
+        exhausted.mark_seen(window, sought, left, found);
         missing = next_missing(found, missing);
         if missing == found.len() {
             break;
         }
-        track.slide_until_crc(window, index, shelf, u64::MAX)?;
+        track.slide_until_crc(window, sought.index, shelf, u64::MAX)?;
     }
     Ok(())
 }

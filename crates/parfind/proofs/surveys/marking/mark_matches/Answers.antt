@@ -1,12 +1,12 @@
 use Rattle.std.proofs.Common.{arith, slice_index}
 use Rattle.parwindow.specs.Index.{slice_passes}
 use Rattle.parfind.specs.Fitting.{is_fitting_match}
-use Rattle.parfind.specs.Sought.{is_looked, looked_lengths, sought_of}
+use Rattle.parfind.specs.Sought.{is_looked, looked_lengths}
 use Rattle.parfind.proofs.MarkingLaws.{below_more}
 use Rattle.parfind.proofs.surveys.marking.mark_matches.Goals as goal
 
 pub loop-slice-preserved : goal.loop-slice-preserved
 loop-slice-preserved c =
-    let sought = sought_of c.args.index.now c.args.mode in
-    below_more (slice_passes c.args.index.now.slices (is_looked sought (slice_index (looked_lengths sought) c.args.k) (is_fitting_match c.args.sums c.args.left)))
+    let sought = c.args.sought.now in
+    below_more (slice_passes c.args.sought.now.set.slices (is_looked sought (slice_index (looked_lengths sought) c.args.k) (is_fitting_match c.args.sums c.args.left)))
     c.args.found.now c.loop-slice.found c.loop-slice.from c.in-Some.slice c.in-Some.ensures.first (omega (arith, c.in-Some.ensures.there, c.requires.each)) c.loop-slice.invariant

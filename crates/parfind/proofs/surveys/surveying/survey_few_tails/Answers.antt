@@ -24,7 +24,7 @@ pub returns-in-Ok-clause-found : goal.returns-in-Ok-clause-found
 returns-in-Ok-clause-found g c = grind (arith, common_steps)
 
 pub returns-in-Ok-clause-stops : goal.returns-in-Ok-clause-stops
-returns-in-Ok-clause-stops g c = grind (arith, common_steps) steps 100000
+returns-in-Ok-clause-stops g c = rw (← c.sought.view_is) c.survey_in.ensures.stops
 
 pub returns-in-Ok-clause-kept : goal.returns-in-Ok-clause-kept
 returns-in-Ok-clause-kept g c = grind (arith, common_steps) steps 100000
@@ -33,7 +33,7 @@ pub returns-in-Ok-clause-handed : goal.returns-in-Ok-clause-handed
 returns-in-Ok-clause-handed g c = grind (arith, common_steps) steps 100000
 
 pub returns-in-Ok-clause-unfit : goal.returns-in-Ok-clause-unfit
-returns-in-Ok-clause-unfit g c = grind (arith, common_steps) steps 100000
+returns-in-Ok-clause-unfit g c = rw (← c.sought.view_is) c.survey_in.ensures.unfit
 
 pub returns-in-Ok-clause-none : goal.returns-in-Ok-clause-none
 returns-in-Ok-clause-none g c = grind (arith, common_steps) steps 100000
@@ -42,7 +42,7 @@ pub returns-clause-found : goal.returns-clause-found
 returns-clause-found g c = grind (arith, common_steps)
 
 pub returns-clause-stops : goal.returns-clause-stops
-returns-clause-stops g c = grind (arith, common_steps) steps 100000
+returns-clause-stops g c = rw (← c.sought.view_is) c.survey_in.ensures.stops
 
 pub returns-clause-kept : goal.returns-clause-kept
 returns-clause-kept g c = grind (arith, common_steps) steps 100000
@@ -51,7 +51,7 @@ pub returns-clause-handed : goal.returns-clause-handed
 returns-clause-handed g c = grind (arith, common_steps) steps 100000
 
 pub returns-clause-unfit : goal.returns-clause-unfit
-returns-clause-unfit g c = grind (arith, common_steps) steps 100000
+returns-clause-unfit g c = rw (← c.sought.view_is) c.survey_in.ensures.unfit
 
 pub returns-clause-none : goal.returns-clause-none
 returns-clause-none g c = grind (arith, common_steps) steps 100000

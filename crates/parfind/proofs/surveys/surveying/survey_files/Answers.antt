@@ -3,7 +3,7 @@ use Rattle.std.proofs.lemmas.Result.{err_from_is_err_and}
 use Rattle.parshelf.specs.Shelf.{ShelfState}
 use Rattle.parshelf.proofs.ReadLaws.{ReadsOnly_more, FaultsIn_more}
 use Rattle.parwindow.specs.Index.{set_has_fit}
-use Rattle.parfind.specs.Sought.{Sought, sought_of, IsWindowFor}
+use Rattle.parfind.specs.Sought.{Sought, IsWindowFor}
 use Rattle.parwindow.specs.Window.{WindowState}
 use Rattle.parfind.specs.Surveying.{SurveyState, survey_at}
 use Rattle.parfind.proofs.SoFarLaws.{begins, ends_all, never_all}
@@ -18,12 +18,12 @@ pub loop-missing-init : goal.loop-missing-init
 loop-missing-init g c =
     let old : SurveyState = survey_at (g.H.Shelf.state c.args.shelf.now) c.args.window.now c.args.found.now c.args.track.now in
     let next = c.next_missing-missing.ensures in
-    rw c.none-exhausted.ensures (begins (sought_of c.args.index.now c.args.mode) old c.next_missing-missing.result c.requires.small c.requires.empty
+    rw c.none-exhausted.ensures (begins c.args.sought.now old c.next_missing-missing.result c.requires.small c.requires.empty
     c.requires.unread (record { within = next.within; first = next.missing; marked = next.marked }))
 
 pub loop-missing-preserved-then-left-eq0 : goal.loop-missing-preserved-then-left-eq0
 loop-missing-preserved-then-left-eq0 g c =
-    let sought : Sought = sought_of c.args.index.now c.args.mode in
+    let sought : Sought = c.args.sought.now in
     let old : SurveyState = survey_at (g.H.Shelf.state c.args.shelf.now) c.args.window.now c.args.found.now c.args.track.now in
     let l = c.loop-missing in
     let now : SurveyState = survey_at (g.H.Shelf.state l.shelf) l.window l.found l.track in
@@ -40,7 +40,7 @@ loop-missing-preserved-then-left-eq0 g c =
 
 pub returns-in_err-fill-clause-ends : goal.returns-in_err-fill-clause-ends
 returns-in_err-fill-clause-ends g c =
-    let sought : Sought = sought_of c.args.index.now c.args.mode in
+    let sought : Sought = c.args.sought.now in
     let old : SurveyState = survey_at (g.H.Shelf.state c.args.shelf.now) c.args.window.now c.args.found.now c.args.track.now in
     let l = c.loop-missing in
     let now : SurveyState = survey_at (g.H.Shelf.state l.shelf) l.window l.found l.track in
@@ -60,7 +60,7 @@ returns-in_err-fill-clause-ends g c =
 pub returns-in_err-fill-clause-none : goal.returns-in_err-fill-clause-none
 returns-in_err-fill-clause-none g c = λ all.
     let l = c.loop-missing in
-    absurd (never_all (sought_of c.args.index.now c.args.mode) (survey_at (g.H.Shelf.state c.args.shelf.now) c.args.window.now c.args.found.now c.args.track.now)
+    absurd (never_all c.args.sought.now (survey_at (g.H.Shelf.state c.args.shelf.now) c.args.window.now c.args.found.now c.args.track.now)
     (survey_at (g.H.Shelf.state l.shelf) l.window l.found l.track) l.missing l.exhausted.crcs l.invariant
     (omega (arith, c.loop-missing-test.true)) l.auto.found all)
 
@@ -78,7 +78,7 @@ pub mark_seen-requires-clause-full : goal.mark_seen-requires-clause-full
 mark_seen-requires-clause-full g c =
     let r = c.in_ok-fill.ensures in
     record {
-      made = made_same (sought_of c.args.index.now c.args.mode) c.args.window.now c.fill.new.window
+      made = made_same c.args.sought.now c.args.window.now c.fill.new.window
           (ap (λ (x : WindowState). x.capacity) r.window ∙ ap (λ (x : WindowState). x.capacity) c.loop-missing.invariant.window_is)
           (ap (λ (x : WindowState). x.tails) r.window ∙ ap (λ (x : WindowState). x.tails) c.loop-missing.invariant.window_is) c.requires.made;
       full = r.full;
@@ -90,7 +90,7 @@ slide_until_crc-requires-clause-tied g c =
 
 pub loop-missing-preserved : goal.loop-missing-preserved
 loop-missing-preserved g c =
-    let sought : Sought = sought_of c.args.index.now c.args.mode in
+    let sought : Sought = c.args.sought.now in
     let old : SurveyState = survey_at (g.H.Shelf.state c.args.shelf.now) c.args.window.now c.args.found.now c.args.track.now in
     let l = c.loop-missing in
     let now : SurveyState = survey_at (g.H.Shelf.state l.shelf) l.window l.found l.track in
@@ -125,11 +125,11 @@ loop-missing-preserved g c =
     ∙ ap (λ (x : WindowState). x.tails) l.invariant.window_is) c.requires.made in
     slides sought old now l.missing l.exhausted.crcs left at fits filled fill r.shelf m.window m.found last.result look
     (omega (arith, last.ensures.within, c.if-missing-found.false)) (g.H.Shelf.state s.shelf) s.window s.self slid
-    c.in_ok-slide_until_crc.field-0 _ p.passes p.shelf m.self.crcs c.mark_seen.ensures.exhausted (p.none c.args.mode made)
+    c.in_ok-slide_until_crc.field-0 _ p.passes p.shelf m.self.crcs c.mark_seen.ensures.exhausted ((rw (ap (λ (s : Sought). s.set) c.sought.view_is) at p.none) sought.mode made)
 
 pub returns-in_err-slide_until_crc-clause-ends : goal.returns-in_err-slide_until_crc-clause-ends
 returns-in_err-slide_until_crc-clause-ends g c =
-    let sought : Sought = sought_of c.args.index.now c.args.mode in
+    let sought : Sought = c.args.sought.now in
     let old : SurveyState = survey_at (g.H.Shelf.state c.args.shelf.now) c.args.window.now c.args.found.now c.args.track.now in
     let l = c.loop-missing in
     let now : SurveyState = survey_at (g.H.Shelf.state l.shelf) l.window l.found l.track in
@@ -166,7 +166,7 @@ returns-in_err-slide_until_crc-clause-ends g c =
 pub returns-in_err-slide_until_crc-clause-none : goal.returns-in_err-slide_until_crc-clause-none
 returns-in_err-slide_until_crc-clause-none g c = λ all.
     let l = c.loop-missing in
-    absurd (never_all (sought_of c.args.index.now c.args.mode) (survey_at (g.H.Shelf.state c.args.shelf.now) c.args.window.now c.args.found.now c.args.track.now)
+    absurd (never_all c.args.sought.now (survey_at (g.H.Shelf.state c.args.shelf.now) c.args.window.now c.args.found.now c.args.track.now)
     (survey_at (g.H.Shelf.state l.shelf) l.window l.found l.track) l.missing l.exhausted.crcs l.invariant
     (omega (arith, c.loop-missing-test.true)) l.auto.found all)
 
@@ -184,12 +184,12 @@ pub returns-after-loop-missing-clause-ends : goal.returns-after-loop-missing-cla
 returns-after-loop-missing-clause-ends g c =
     let old : SurveyState = survey_at (g.H.Shelf.state c.args.shelf.now) c.args.window.now c.args.found.now c.args.track.now in
     let l = c.loop-missing in
-    ends_all (sought_of c.args.index.now c.args.mode) old (survey_at (g.H.Shelf.state l.shelf) l.window l.found l.track) l.missing l.exhausted.crcs l.invariant
+    ends_all c.args.sought.now old (survey_at (g.H.Shelf.state l.shelf) l.window l.found l.track) l.missing l.exhausted.crcs l.invariant
     (inl (omega (arith, c.loop-missing-test.false)))
 
 pub returns-then-missing-found-clause-ends : goal.returns-then-missing-found-clause-ends
 returns-then-missing-found-clause-ends g c =
-    let sought : Sought = sought_of c.args.index.now c.args.mode in
+    let sought : Sought = c.args.sought.now in
     let old : SurveyState = survey_at (g.H.Shelf.state c.args.shelf.now) c.args.window.now c.args.found.now c.args.track.now in
     let l = c.loop-missing in
     let now : SurveyState = survey_at (g.H.Shelf.state l.shelf) l.window l.found l.track in
@@ -218,7 +218,7 @@ returns-then-missing-found-clause-ends g c =
 pub returns-then-missing-found-clause-none : goal.returns-then-missing-found-clause-none
 returns-then-missing-found-clause-none g c = λ all.
     let l = c.loop-missing in
-    absurd (never_all (sought_of c.args.index.now c.args.mode) (survey_at (g.H.Shelf.state c.args.shelf.now) c.args.window.now c.args.found.now c.args.track.now)
+    absurd (never_all c.args.sought.now (survey_at (g.H.Shelf.state c.args.shelf.now) c.args.window.now c.args.found.now c.args.track.now)
     (survey_at (g.H.Shelf.state l.shelf) l.window l.found l.track) l.missing l.exhausted.crcs l.invariant
     (omega (arith, c.loop-missing-test.true)) l.auto.found all)
 

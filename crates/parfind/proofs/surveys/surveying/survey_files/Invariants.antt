@@ -6,7 +6,7 @@ use Rattle.parfind.proofs.surveys.surveying.survey_files.Given as goal
 
 abbrev pub invariant-loop-missing : goal.invariant-loop-missing
 invariant-loop-missing g l =
-    SurveySoFar (sought_of l.index l.mode) (survey_at (g.H.Shelf.state l.fn.shelf) l.fn.window l.fn.found l.fn.track)
+    SurveySoFar l.sought (survey_at (g.H.Shelf.state l.fn.shelf) l.fn.window l.fn.found l.fn.track)
     (survey_at (g.H.Shelf.state l.shelf) l.window l.found l.track) l.missing l.exhausted.crcs
 
 -- files that are left, and offsets of this one: none is as great as 2 ^ 63

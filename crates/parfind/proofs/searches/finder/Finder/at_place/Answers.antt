@@ -1,5 +1,5 @@
 use Rattle.std.proofs.lemmas.Grind.{common_steps}
-use Rattle.std.proofs.Common.{rules, ◌≡◌, ap, ◌∙◌, arith}
+use Rattle.std.proofs.Common.{◌≡◌, ap, ◌∙◌, arith}
 use Rattle.std.proofs.lemmas.Result.{err_from_is_err_and}
 use Rattle.parshelf.specs.Shelf.{ShelfState}
 use Rattle.parwindow.specs.Index.{SliceSet}
@@ -15,17 +15,17 @@ returns-in-Some g c =
     let set : SliceSet = c.args.index.now in
     let s : ShelfState = g.H.Shelf.state c.args.shelf.now in
     let i = c.self.inside in
-    let f : FinderState = with_window (record c.args.self.now { opening = i.opening; mode = i.look.mode }) i.cursor i.window i.track i.look.kept.items in
+    let f : FinderState = with_window (record c.args.self.now { opening = i.opening; mode = i.mode }) i.cursor i.window i.track i.digests.kept.items in
     let q = c.requires in
     let there : IsThere set s c.args.self.now =
     record { belongs = q.belongs; counted = q.file; there = q.there; stands = q.stands; full = q.full } in
     let w = c.first_seen.new in
     let r = c.first_seen.ensures in
     let looked : Looked set s f c.rest_of-rest.result c.first_seen.result w.window w.self.kept.items =
-    record { rest_is = c.rest_of-rest.ensures; first = r.first; looks = r.looks; keeps = rw r.mode at r.keeps } in
+    record { rest_is = c.rest_of-rest.ensures; first = r.first; looks = r.looks; keeps = r.keeps } in
     let seen = rw c.in-Some.is at r.there in
     let tried = hit_inside set s f c.args.self.now c.self.view_is there c.args.left q.left c.rest_of-rest.result
-    c.first_seen.result w.window w.self.kept.items looked w.self.mode r.mode c.in-Some.slice c.in-Some.is seen in
+    c.first_seen.result w.window w.self.kept.items looked c.in-Some.slice c.in-Some.is seen in
     record {
       belongs = tried.0;
       sees = tried.1.sees;
@@ -40,18 +40,18 @@ returns-in_err-count g c =
     let set : SliceSet = c.args.index.now in
     let s : ShelfState = g.H.Shelf.state c.args.shelf.now in
     let i = c.self.inside in
-    let f : FinderState = with_window (record c.args.self.now { opening = i.opening; mode = i.look.mode }) i.cursor i.window i.track i.look.kept.items in
+    let f : FinderState = with_window (record c.args.self.now { opening = i.opening; mode = i.mode }) i.cursor i.window i.track i.digests.kept.items in
     let q = c.requires in
     let there : IsThere set s c.args.self.now =
     record { belongs = q.belongs; counted = q.file; there = q.there; stands = q.stands; full = q.full } in
     let w = c.first_seen.new in
     let r = c.first_seen.ensures in
     let looked : Looked set s f c.rest_of-rest.result c.first_seen.result w.window w.self.kept.items =
-    record { rest_is = c.rest_of-rest.ensures; first = r.first; looks = r.looks; keeps = rw r.mode at r.keeps } in
+    record { rest_is = c.rest_of-rest.ensures; first = r.first; looks = r.looks; keeps = r.keeps } in
     let v = c.slide_until_crc.new in
     let e = c.in_err-count.ensures in
     let tried = fault_inside set s f c.args.self.now c.self.view_is there c.args.left q.left c.rest_of-rest.result
-    c.first_seen.result w.window w.self.kept.items looked w.self.mode r.mode (g.H.Shelf.state v.shelf) v.window v.self e.tied e.window e.reads
+    c.first_seen.result w.window w.self.kept.items looked (g.H.Shelf.state v.shelf) v.window v.self e.tied e.window e.reads
     c.in_err-count.field-0.0 e.shelf e.stays.0 e.stays.1 in
     let failed = err_from_is_err_and c.from_residual.result c.from_residual.ensures.1 in
     rw (failed.1, failed.2) (record {
@@ -68,20 +68,20 @@ returns g c =
     let set : SliceSet = c.args.index.now in
     let s : ShelfState = g.H.Shelf.state c.args.shelf.now in
     let i = c.self.inside in
-    let f : FinderState = with_window (record c.args.self.now { opening = i.opening; mode = i.look.mode }) i.cursor i.window i.track i.look.kept.items in
+    let f : FinderState = with_window (record c.args.self.now { opening = i.opening; mode = i.mode }) i.cursor i.window i.track i.digests.kept.items in
     let q = c.requires in
     let there : IsThere set s c.args.self.now =
     record { belongs = q.belongs; counted = q.file; there = q.there; stands = q.stands; full = q.full } in
     let w = c.first_seen.new in
     let r = c.first_seen.ensures in
     let looked : Looked set s f c.rest_of-rest.result c.first_seen.result w.window w.self.kept.items =
-    record { rest_is = c.rest_of-rest.ensures; first = r.first; looks = r.looks; keeps = rw r.mode at r.keeps } in
+    record { rest_is = c.rest_of-rest.ensures; first = r.first; looks = r.looks; keeps = r.keeps } in
     let v = c.slide_until_crc.new in
     let e = c.in_ok-count.ensures in
     let tried = pass_inside set s f c.args.self.now c.self.view_is there c.args.left q.left c.rest_of-rest.result
-    c.first_seen.result w.window w.self.kept.items looked c.forget.new.self.mode (c.forget.ensures.mode ∙ r.mode)
+    c.first_seen.result w.window w.self.kept.items looked
     (g.H.Shelf.state v.shelf) v.window v.self e.tied e.window e.reads c.in_ok-count.count c.unwrap_or-most.result c.forget.new.self.kept.items
-    c.forget.ensures.none e.shelf e.same e.passes c.in_default.is (omega (arith, c.unwrap_or-most.ensures)) e.none in
+    c.forget.ensures e.shelf e.same e.passes c.in_default.is (omega (arith, c.unwrap_or-most.ensures)) e.none in
     record {
       belongs = tried.0;
       sees = tried.1.sees;
@@ -104,7 +104,7 @@ overflow_add-self-2 g c =
     rw same (omega (arith, inside, (g.met.H.Shelf.well_formed c.args.shelf.now).short at.file 0 c.requires.file))
 
 pub overflow_add-self : goal.overflow_add-self
-overflow_add-self g c = search rules steps 300000
+overflow_add-self g c = omega (arith, rw c.in-Some.is at c.first_seen.ensures.there, c.first_seen.ensures.few)
 
 pub rest_of-rest-requires-clause-counted : goal.rest_of-rest-requires-clause-counted
 rest_of-rest-requires-clause-counted g c = grind (arith, common_steps) steps 100000
@@ -113,7 +113,7 @@ pub rest_of-rest-requires-clause-there : goal.rest_of-rest-requires-clause-there
 rest_of-rest-requires-clause-there g c = grind (arith, common_steps) steps 100000
 
 pub slide_until_crc-requires-clause-some : goal.slide_until_crc-requires-clause-some
-slide_until_crc-requires-clause-some g c = grind (arith, common_steps) steps 100000
+slide_until_crc-requires-clause-some g c = grind (arith, common_steps) steps 400000
 
 pub slide_until_crc-requires-clause-file : goal.slide_until_crc-requires-clause-file
 slide_until_crc-requires-clause-file g c = grind (arith, common_steps) steps 100000
@@ -125,7 +125,9 @@ pub slide_until_crc-requires-clause-sized : goal.slide_until_crc-requires-clause
 slide_until_crc-requires-clause-sized g c = grind (arith, common_steps) steps 100000
 
 pub slide_until_crc-requires-clause-full : goal.slide_until_crc-requires-clause-full
-slide_until_crc-requires-clause-full g c = grind (arith, common_steps) steps 100000
+slide_until_crc-requires-clause-full g c =
+    let window = ap (λ (f : FinderState). f.window) c.self.view_is in
+    rw (c.first_seen.ensures.looks.window_is, window) c.requires.full
 
 pub slide_until_crc-requires-clause-tied : goal.slide_until_crc-requires-clause-tied
 slide_until_crc-requires-clause-tied g c =

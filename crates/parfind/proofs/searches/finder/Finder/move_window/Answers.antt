@@ -47,7 +47,7 @@ returns-clause-belongs g c =
     let window = ap (λ (x : FinderState). x.window) c.self.view_is in
     let kept : List (Option Hash16) = c.forget.new.self.kept.items in
     let none : kept ≡ replicate (length (looked_lengths (sought_for set f))) None =
-    c.forget.ensures.none ∙ ap (λ (x : FinderState). replicate (length x.kept) None) c.self.view_is
+    c.forget.ensures ∙ ap (λ (x : FinderState). replicate (length x.kept) None) c.self.view_is
     ∙ ap (λ (n : ℕ). replicate n None) c.requires.belongs.keeps.room in
     let unfilled : f.track.file ≡ c.args.at.file → ¬ (length f.window.content ≡ f.window.capacity) = λ file full.
     elim c.else-at-file.branch [
@@ -62,8 +62,8 @@ returns-clause-belongs g c =
     c.enter_file.new.window c.enter_file.new.self (rw (track, window) at c.enter_file.ensures.same) (rw (track, window) at c.enter_file.ensures.other)
     unfilled t (later_read s t c.enter_file.new.self.file c.fill.result r.shelf) kept none c.fill.new.window c.fill.new.self
     r.tied r.window r.same in
-    opened_as (with_window f c.args.at c.fill.new.window c.fill.new.self kept) set t belongs c.self.inside.opening c.forget.new.self.mode
-    (ap (λ (x : FinderState). x.opening) c.self.view_is) (c.forget.ensures.mode ∙ ap (λ (x : FinderState). x.mode) c.self.view_is)
+    opened_as (with_window f c.args.at c.fill.new.window c.fill.new.self kept) set t belongs c.self.inside.opening c.self.inside.mode
+    (ap (λ (x : FinderState). x.opening) c.self.view_is) (ap (λ (x : FinderState). x.mode) c.self.view_is)
 
 pub returns-clause-along : goal.returns-clause-along
 returns-clause-along g c =
@@ -85,7 +85,7 @@ returns-clause-along g c =
           c.requires.fits c.enter_file.new.window c.enter_file.new.self (rw (track, window) at c.enter_file.ensures.same) (rw (track, window) at c.enter_file.ensures.other))
           c.fill.ensures.reads;
       opening_is = ap (λ (f : FinderState). f.opening) c.self.view_is;
-      mode_is = c.forget.ensures.mode ∙ ap (λ (f : FinderState). f.mode) c.self.view_is;
+      mode_is = ap (λ (f : FinderState). f.mode) c.self.view_is;
       no_fewer = omega (arith, counted, same, filled);
     }
 

@@ -23,10 +23,10 @@ returns-clause-belongs g c =
       opening = c.args.at;
       fetched = fetched_of c.new.result;
       digests = w.digests;
-      mode = c.in_ok-new.field-0.mode;
+      mode = c.args.mode;
       window = w;
       track = c.new.result;
       kept = c.in_ok-new.field-0.kept.items;
     }) set s) (sym is)
-    (rw c.in_ok-new.ensures.mode (opens_belongs set s c.args.at c.args.mode c.new.result c.in_ok-new.field-0.kept.items small
-    c.size.ensures.set.greatest_size few c.new.ensures c.in_ok-new.ensures.none))
+    (opens_belongs set s c.args.at c.args.mode c.new.result c.in_ok-new.field-0.kept.items small
+    c.size.ensures.set.greatest_size few c.new.ensures c.in_ok-new.ensures)

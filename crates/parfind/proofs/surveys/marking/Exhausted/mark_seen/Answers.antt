@@ -6,7 +6,7 @@ use Rattle.parwindow.specs.Window.{WindowState}
 use Rattle.parfind.specs.Fitting.{is_fitting_of}
 use Rattle.parfind.specs.Marking.{MarksMore, TakesDigests}
 use Rattle.parfind.specs.Marks.{has_looked_missing}
-use Rattle.parfind.specs.Sought.{looked_lengths, sought_of}
+use Rattle.parfind.specs.Sought.{Sought, looked_lengths}
 use Rattle.parfind.proofs.DigestLaws.{full_digests}
 use Rattle.parfind.proofs.EachLengthLaws.{seen_by, seen_by-all, seen_by-more}
 use Rattle.parfind.proofs.MarkingLaws.{marks_on}
@@ -17,8 +17,8 @@ pub loop-k-preserved : goal.loop-k-preserved
 loop-k-preserved c =
     let held = c.loop-k.invariant in
     let next = c.mark_seen_at.ensures in
-    let set = c.args.index.now in
-    let sought = sought_of set c.args.mode in
+    let set = c.args.sought.now.set in
+    let sought = c.args.sought.now in
     let owns = looked_lengths sought in
     let window = c.args.window.now.content in
     let below : c.loop-k.k < length owns = omega (arith, held.all) in
@@ -27,11 +27,11 @@ loop-k-preserved c =
       full = full_digests sought c.loop-k.window c.mark_seen_at.new.window _ next.digests held.full;
       content = ap (λ (w : WindowState). w.content) next.digests ∙ held.content;
       exhausted = next.exhausted;
-      marks = marks_on (seen_by set c.args.mode window c.args.left (take c.loop-k.k owns))
+      marks = marks_on (seen_by set c.args.sought.now.mode window c.args.left (take c.loop-k.k owns))
           (slice_passes set.slices (is_fitting_of sought window c.args.left (slice_index owns c.loop-k.k)))
-          (seen_by set c.args.mode window c.args.left (take (c.loop-k.k + 1) owns)) c.args.found.now c.loop-k.found c.mark_seen_at.new.found
-          (seen_by-more set c.args.mode window c.args.left c.loop-k.k below) held.marks (rw held.content at next.marks);
-      digests = digests_on set c.args.mode window c.args.left c.loop-k.k below c.args.found.now c.loop-k.found held.marks
+          (seen_by set c.args.sought.now.mode window c.args.left (take (c.loop-k.k + 1) owns)) c.args.found.now c.loop-k.found c.mark_seen_at.new.found
+          (seen_by-more set c.args.sought.now.mode window c.args.left c.loop-k.k below) held.marks (rw held.content at next.marks);
+      digests = digests_on set c.args.sought.now.mode window c.args.left c.loop-k.k below c.args.found.now c.loop-k.found held.marks
           c.args.window.now c.loop-k.window c.mark_seen_at.new.window held.digests
           (subst (λ (bytes : List ℕ). TakesDigests (cond (has_looked_missing sought c.loop-k.found bytes c.args.left (slice_index owns c.loop-k.k)) 1 0) c.loop-k.window c.mark_seen_at.new.window)
           held.content next.digests);
@@ -40,10 +40,11 @@ loop-k-preserved c =
 pub returns-clause-marks : goal.returns-clause-marks
 returns-clause-marks c =
     let held = c.loop-k.invariant in
-    let set = c.args.index.now in
-    let owns = looked_lengths (sought_of set c.args.mode) in
+    let set = c.args.sought.now.set in
+    let owns = looked_lengths c.args.sought.now in
     let window = c.args.window.now.content in
+    let good = rw (ap (λ (s : Sought). s.set) c.sought.view_is) at c.size-size.ensures.set in
     let all : take c.loop-k.k owns ≡ owns = take_all c.loop-k.k owns (omega (arith, held.all)) in
-    let marks : MarksMore (seen_by set c.args.mode window c.args.left owns) c.args.found.now c.loop-k.found = rw all at held.marks in
+    let marks : MarksMore (seen_by set c.args.sought.now.mode window c.args.left owns) c.args.found.now c.loop-k.found = rw all at held.marks in
     λ n. marks n ∙ ap (λ (b : Bool). mark_of c.args.found.now n || b)
-    (seen_by-all set c.args.mode window c.args.left (c.requires.full.full ∙ c.requires.full.made.sized) c.size-size.ensures.set n)
+    (seen_by-all set c.args.sought.now.mode window c.args.left (c.requires.full.full ∙ c.requires.full.made.sized) good n)

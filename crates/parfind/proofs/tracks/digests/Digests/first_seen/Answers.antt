@@ -3,39 +3,39 @@ use Rattle.std.proofs.lemmas.List.{take_all}
 use Rattle.parwindow.specs.Index.{slice_passes}
 use Rattle.parfind.specs.Fitting.{is_fitting_look}
 use Rattle.parwindow.specs.Window.{WindowState}
-use Rattle.parfind.specs.Sought.{looked_lengths, sought_of}
+use Rattle.parfind.specs.Sought.{Sought, looked_lengths}
 use Rattle.parfind.proofs.DigestLaws.{looks_on, full_digests}
 use Rattle.parfind.proofs.EachLengthLaws.{first_more, lesser_there, seen_by, seen_by-all}
 use Rattle.parfind.proofs.LookedLaws.{least_agree}
-use Rattle.parfind.proofs.tracks.looking.Look.first_seen.Goals as goal
+use Rattle.parfind.proofs.tracks.digests.Digests.first_seen.Goals as goal
 
 pub loop-k-preserved : goal.loop-k-preserved
 loop-k-preserved c =
     let held = c.loop-k.invariant in
     let next = c.first_seen_at-found.ensures in
-    let set = c.args.index.now in
-    let sought = sought_of set c.args.self.now.mode in
+    let set = c.args.sought.now.set in
+    let sought = c.args.sought.now in
     record {
-      mode = next.mode ∙ held.mode;
       all = held.all;
       full = full_digests sought c.loop-k.window c.first_seen_at-found.new.window c.first_seen_at-found.new.window.digests next.looks.window_is held.full;
       content = ap (λ (w : WindowState). w.content) next.looks.window_is ∙ held.content;
-      keeps = rw (next.mode, held.mode) at next.keeps;
+      keeps = next.keeps;
       looks = looks_on c.args.window.now c.loop-k.window c.first_seen_at-found.new.window c.args.self.now.kept.items c.loop-k.self.kept.items
           c.first_seen_at-found.new.self.kept.items held.looks next.looks;
-      seen = rw c.lesser-least.ensures (first_more set c.args.self.now.mode c.args.window.now.content c.args.left c.loop-k.k
-          (omega (arith, held.all)) c.args.first c.loop-k.least c.first_seen_at-found.result held.seen (rw (held.mode, held.content) at next.first));
+      seen = rw c.lesser-least.ensures (first_more set c.args.sought.now.mode c.args.window.now.content c.args.left c.loop-k.k
+          (omega (arith, held.all)) c.args.first c.loop-k.least c.first_seen_at-found.result held.seen (rw held.content at next.first));
       there = rw c.lesser-least.ensures (lesser_there c.loop-k.least c.first_seen_at-found.result (length set.slices) held.there next.there);
     }
 
 pub returns-clause-first : goal.returns-clause-first
 returns-clause-first c =
     let held = c.loop-k.invariant in
-    let set = c.args.index.now in
-    let mode = c.args.self.now.mode in
-    let owns = looked_lengths (sought_of set mode) in
+    let set = c.args.sought.now.set in
+    let mode = c.args.sought.now.mode in
+    let owns = looked_lengths c.args.sought.now in
     let window = c.args.window.now.content in
+    let good = rw (ap (λ (s : Sought). s.set) c.sought.view_is) at c.size-size.ensures.set in
     let all : take c.loop-k.k owns ≡ owns = take_all c.loop-k.k owns (omega (arith, held.all)) in
     least_agree (seen_by set mode window c.args.left owns) (slice_passes set.slices (is_fitting_look mode window c.args.left))
-    (seen_by-all set mode window c.args.left (c.requires.full.full ∙ c.requires.full.made.sized) c.size-size.ensures.set)
+    (seen_by-all set mode window c.args.left (c.requires.full.full ∙ c.requires.full.made.sized) good)
     c.args.first c.loop-k.least (rw all at held.seen)

@@ -1,6 +1,6 @@
 use Rattle.std.proofs.Common.{◌<◌, arith, length, sym}
 use Rattle.parfind.proofs.DigestLaws.{looks_more}
-use Rattle.parfind.proofs.tracks.looking.Look.digest_of.Goals as goal
+use Rattle.parfind.proofs.tracks.digests.Digests.digest_of.Goals as goal
 
 pub returns-clause-looks : goal.returns-clause-looks
 returns-clause-looks c =

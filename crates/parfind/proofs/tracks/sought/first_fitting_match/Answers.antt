@@ -1,6 +1,6 @@
 use Rattle.std.proofs.Common.{arith}
 use Rattle.std.proofs.lemmas.Grind.{common_steps}
-use Rattle.parfind.proofs.tracks.lengths.first_fitting_match.Goals as goal
+use Rattle.parfind.proofs.tracks.sought.first_fitting_match.Goals as goal
 
 pub loop-slice-init : goal.loop-slice-init
 loop-slice-init c = grind (arith, common_steps) steps 100000

@@ -1,7 +1,7 @@
 use Rattle.std.proofs.Common.{◌<◌, ◌≤◌, ◌-◌, ℕ, length, IsTrue}
 use Rattle.parwindow.specs.Index.{slice_passes}
 use Rattle.parfind.specs.Fitting.{is_fitting_match}
-use Rattle.parfind.proofs.tracks.lengths.first_fitting_match.Given as goal
+use Rattle.parfind.proofs.tracks.sought.first_fitting_match.Given as goal
 
 abbrev pub invariant-loop-slice : goal.invariant-loop-slice
 invariant-loop-slice l = record {

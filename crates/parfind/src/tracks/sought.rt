@@ -1,0 +1,173 @@
+ghost use Rattle.std.specs.Prelude.{◌≡◌, ◌+◌, ◌<◌, ◌≤◌, length, IfSome};
+ghost use Rattle.std.specs.List.{list_any};
+ghost use Rattle.parfield.specs.Md5.{md5};
+ghost use Rattle.parset.specs.Limits.{slice_limit};
+ghost use Rattle.parwindow.specs.Crc32.{crc_of};
+ghost use Rattle.parwindow.specs.Index.{slice_passes};
+ghost use Rattle.parwindow.specs.Least.{IsLeastFrom};
+ghost use Rattle.parwindow.specs.Missing.{has_fit_crc_of, has_unmarked};
+ghost use Rattle.parwindow.specs.Window.{AreTails};
+ghost use Rattle.parfind.specs.Fitting.{is_fitting_match};
+ghost use Rattle.parfind.specs.Looks.{IsFullFor};
+ghost use Rattle.parfind.specs.Sought.{is_looked, looked_bytes, looked_lengths, nth_looked, shorter_lengths};
+
+use crate::tracks::mode::Mode;
+use parfield::Hash16;
+use parwindow::{Index, Window};
+use std::marker::Model;
+
+/// How many shorter lengths of a window may be looked at.
+pub const MOST_TAILS: usize = 256;
+
+/// The slices that are looked for, and in which mode.
+#[derive(Drop)]
+pub(crate) struct Sought<'a> {
+    pub index: &'a Index,
+    pub mode: Mode,
+}
+
+impl<'a> Model for Sought<'a> {
+    ghost use Rattle.parfind.specs.Sought.{Sought, sought_of};
+
+    ghost Value = { Sought };
+
+    ghost view = { λ s. sought_of s.index.now s.mode };
+}
+
+impl<'a> Sought<'a> {
+    /// The shorter lengths of a window that are looked at, rising.
+    pub fn shorter_lengths(&self) -> &'a [usize]
+        ensures all { result.now ≡ shorter_lengths self.now.mode self.now.set }
+        ensures tails { AreTails self.now.set.slice_size result.now }
+    {
+        match self.mode {
+            Mode::Plain => &[],
+            Mode::Tails => self.index.tail_lengths(),
+        }
+    }
+
+    /// How many lengths of a window are looked at: the shorter ones, and after them all of it.
+    pub fn count_lengths(&self) -> usize
+        ensures { result ≡ length (looked_lengths self.now) }
+    {
+        self.shorter_lengths().len() + 1
+    }
+
+    /// Looked length `k`.
+    pub fn length_at(&self, k: usize) -> u64
+        requires { k < length (looked_lengths self.now) }
+        ensures { result ≡ nth_looked self.now k }
+    {
+        let tails = self.shorter_lengths();
+        if k < tails.len() {
+            tails[k] as u64
+        } else {
+            self.index.size()
+        }
+    }
+
+    /// The CRC-32 of a full window by looked length `k`.
+    pub fn crc_at(&self, window: &Window, k: usize) -> u32
+        requires there { k < length (looked_lengths self.now) }
+        requires full { IsFullFor self.now window.now }
+        ensures { result ≡ crc_of (looked_bytes window.now.content (nth_looked self.now k)) }
+    {
+        if k < self.shorter_lengths().len() {
+            window.tail_crc(k)
+        } else {
+            window.crc()
+        }
+    }
+
+    /// Its MD5.
+    pub fn digest_at(&self, window: &mut Window, k: usize) -> Hash16
+        requires there { k < length (looked_lengths self.now) }
+        requires full { IsFullFor self.now window.old }
+        ensures digest { result.0 ≡ md5 (looked_bytes window.old.content (nth_looked self.now k)) }
+        ensures counted { window.new ≡ record window.old { digests = window.old.digests + 1 } }
+    {
+        if k < self.shorter_lengths().len() {
+            window.tail_digest(k)
+        } else {
+            window.digest()
+        }
+    }
+
+    /// Whether some slice of looked length `k` has this CRC-32 and fits into what is left of the
+    /// file.
+    pub fn has_fitting_crc(&self, k: usize, crc: u32, left: u64) -> bool
+        requires { k < length (looked_lengths self.now) }
+        ensures { result ≡ list_any (is_looked self.now (nth_looked self.now k)
+            (has_fit_crc_of crc left)) self.now.set.slices }
+    {
+        match self.mode {
+            Mode::Plain => self.index.has_fit_crc(crc, left),
+            Mode::Tails => {
+                let own = self.length_at(k);
+                own <= left && self.index.has_crc_of(crc, own)
+            }
+        }
+    }
+
+    /// Whether some such slice has no mark.
+    pub fn is_missing_at(&self, k: usize, crc: u32, left: u64, found: &[bool]) -> bool
+        requires there { k < length (looked_lengths self.now) }
+        requires each { length found.now ≡ length self.now.set.slices }
+        ensures { result ≡ has_unmarked self.now.set.slices found.now
+            (is_looked self.now (nth_looked self.now k) (has_fit_crc_of crc left)) }
+    {
+        match self.mode {
+            Mode::Plain => self.index.is_missing(crc, left, found),
+            Mode::Tails => self
+                .index
+                .is_missing_of(crc, self.length_at(k), left, found),
+        }
+    }
+
+    /// The first slice from a number on that is of looked length `k`, has both sums and fits into
+    /// what is left of the file.
+    pub fn first_match_at(
+        &self,
+        k: usize,
+        sums: (Hash16, u32),
+        left: u64,
+        first: u32,
+    ) -> Option<u32>
+        requires { k < length (looked_lengths self.now) }
+        ensures first { IsLeastFrom (slice_passes self.now.set.slices
+            (is_looked self.now (nth_looked self.now k) (is_fitting_match sums left)))
+            first result }
+        ensures there { IfSome result (λ n. n < length self.now.set.slices) }
+        ensures few { length self.now.set.slices ≤ slice_limit }
+    {
+        match self.mode {
+            Mode::Plain => first_fitting_match(self.index, sums, left, first),
+            Mode::Tails => {
+                let own = self.length_at(k);
+                let found = self.index.next_match_of(sums.1, sums.0, own, first);
+                if own <= left { found } else { None }
+            }
+        }
+    }
+}
+
+// The first slice from a number on that has both sums and fits into what is left of the file.
+fn first_fitting_match(index: &Index, sums: (Hash16, u32), left: u64, first: u32) -> Option<u32>
+    ensures first { IsLeastFrom (slice_passes index.now.slices (is_fitting_match sums left))
+        first result }
+    ensures there { IfSome result (λ n. n < length index.now.slices) }
+    ensures few { length index.now.slices ≤ slice_limit }
+{
+    let mut from = first;
+    loop {
+        match index.next_match(sums.1, sums.0, from) {
+            None => return None,
+            Some(slice) => {
+                if index.own_length(slice) <= left {
+                    return Some(slice);
+                }
+                from = slice + 1;
+            }
+        }
+    }
+}
