@@ -43,6 +43,7 @@ pub mod MarkingLaws
 pub mod ExhaustedLaws
 pub mod MarkSeenLaws
 pub mod SightedLaws
+pub mod SettledLaws
 pub mod SurveyLaws
 pub mod SweepLaws
 pub mod SoFarLaws

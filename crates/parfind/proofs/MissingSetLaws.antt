@@ -1,5 +1,5 @@
 -- The set of the slices without a mark: what is found of it is found of the whole set, and of a slice without a mark the other way round.
-use Rattle.std.proofs.Common.{◌≡◌, ℕ, zero, suc, ◌-◌, ◌≤◌, Bool, true, false, ◌||◌, ◌&&◌, ◌==◌, List, [], ◌∷◌, filter, map, zip, length, refl, sym, ap, ◌∙◌, subst, arith, slice_get, slice_index, Option, None, Result, Ok, Err, inl, inr}
+use Rattle.std.proofs.Common.{◌≡◌, ℕ, zero, suc, ◌-◌, ◌≤◌, Bool, true, false, ◌||◌, ◌&&◌, ◌==◌, not, List, [], ◌∷◌, filter, map, zip, length, refl, sym, ap, ◌∙◌, subst, arith, slice_get, slice_index, Option, None, Result, Ok, Err, inl, inr}
 use Rattle.std.specs.List.{list_any, flat_map, range_with_len}
 use Rattle.std.specs.Option.{option_map_or}
 use Rattle.std.proofs.lemmas.Bool.{cases_Bool, or_cases, or_left, or_right, and_parts, eqb-true, false_from_ne_true}
@@ -21,7 +21,7 @@ use Rattle.parfind.specs.Places.{cursor_past, places_of}
 use Rattle.parfind.specs.Sightings.{Scan, content_of, is_seen, is_sighting, sightings_of, triples_of}
 use Rattle.parfind.specs.Sought.{HasFewTails, Sought, sought_of}
 use Rattle.parfind.specs.Steps.{scan_of}
-use Rattle.parfind.specs.Surveys.{is_sighted, is_sighted_before, SurveyMarks, SurveyTellsTails, StopsOnceFound}
+use Rattle.parfind.specs.Surveys.{is_sighted, is_sighted_before, is_settled, lacks_sums, AreAllSettled, SurveyMarks, SurveyTellsTails, StopsOnceFound}
 use Rattle.parfind.proofs.ListLaws.{Has-filter, Has-passed}
 use Rattle.parfind.proofs.MarkingLaws.{same_truth, any_has, has_any}
 
@@ -49,6 +49,10 @@ filter_less p q weaker (x ∷ xs) = elim (cases_Bool (p x)) [
     | inr k ↦ rw (h, k) (filter_less p q weaker xs)
   ]
 ]
+
+ors_alike : (m a b s t : Bool) → (m || a) ≡ (m || b) → (m || s) ≡ (m || t) → ((m || a) || s) ≡ ((m || b) || t)
+ors_alike true a b s t known seen = refl
+ors_alike false a b s t known seen = ap (λ x. x || s) known ∙ ap (λ x. b || x) seen
 
 -- the slices, of which those with a mark lose their sums
 abbrev pub missing_of : List SetSlice → List Bool → List SetSlice
@@ -124,6 +128,22 @@ tells_few all less (Err Memory) few fewer tells = few
 tells_few all less (Err TooManyTails) few fewer tells = absurd (tells fewer)
 
 module _ (set : SliceSet) (found : List Bool) (each : length found ≡ length set.slices) where
+  unless_found : (n : ℕ) (a b : Bool) → (mark_of found n ≡ false → a ≡ b) → (mark_of found n || a) ≡ (mark_of found n || b)
+  unless_found n a b same = elim (cases_Bool (mark_of found n)) [
+    | inl h ↦ rw h refl
+    | inr h ↦ rw h (same h)
+  ]
+
+  -- of a slice without a mark the sums are known alike
+  settled_alike : (n : ℕ) → is_settled (missing_set set found) found n ≡ is_settled set found n
+  settled_alike n =
+      unless_found n (lacks_sums (missing_set set found) n) (lacks_sums set n)
+      (λ none. ap (λ (s : Option SetSlice). not (option_map_or has_known_sums s false)) (same_slice set.slices found n each none))
+
+  -- where each slice is settled, each of those without a mark is
+  pub settled_missing : AreAllSettled set found → AreAllSettled (missing_set set found) found
+  settled_missing all n there = settled_alike n ∙ all n there
+
   same_triples : (lengths : List ℕ) → triples_of (missing_set set found) lengths ≡ triples_of set lengths
   same_triples lengths =
       ap (λ (k : ℕ). flat_map (λ (p : Place). map (λ (n : ℕ). record { file = p.file; offset = p.offset; slice = n }) (range_with_len 0 k)) (places_of lengths))
@@ -150,12 +170,6 @@ module _ (set : SliceSet) (found : List Bool) (each : length found ≡ length se
         (triples_of (missing_set set found) (map length files))
         ∙ ap (λ (xs : List Sighting). list_any test (filter (is_sighting all) xs)) (same_triples (map length files))
 
-    unless_found : (n : ℕ) (a b : Bool) → (mark_of found n ≡ false → a ≡ b) → (mark_of found n || a) ≡ (mark_of found n || b)
-    unless_found n a b same = elim (cases_Bool (mark_of found n)) [
-      | inl h ↦ rw h refl
-      | inr h ↦ rw h (same h)
-    ]
-
     sighted_alike : (n : ℕ) → (mark_of found n || is_sighted part n) ≡ (mark_of found n || is_sighted all n)
     sighted_alike n =
         unless_found n (is_sighted part n) (is_sighted all n) (λ none. found_alike n none (λ x. x.slice == n) (λ x h. eqb-true x.slice n h))
@@ -165,9 +179,15 @@ module _ (set : SliceSet) (found : List Bool) (each : length found ≡ length se
         unless_found n (is_sighted_before part c n) (is_sighted_before all c n) (λ none. found_alike n none
         (λ x. x.slice == n && is_before (cursor_of x) c) (λ x h. eqb-true x.slice n (and_parts _ _ h).0))
 
+    settled_before_alike : (c : Cursor) (n : ℕ)
+        → (is_settled (missing_set set found) found n || is_sighted_before part c n) ≡ (is_settled set found n || is_sighted_before all c n)
+    settled_before_alike c n =
+        ors_alike (mark_of found n) (lacks_sums (missing_set set found) n) (lacks_sums set n) (is_sighted_before part c n) (is_sighted_before all c n)
+        (settled_alike n) (before_alike c n)
+
     pub marks_all : {A E : Type 0} (now : List Bool) (answer : Result A E) → SurveyMarks part found now answer → SurveyMarks all found now answer
     marks_all now (Ok answer) marks = λ n there. marks n there ∙ sighted_alike n
     marks_all now (Err fault) marks = λ n there marked. sym (sighted_alike n) ∙ marks n there marked
 
     pub stops_all : (old new : ShelfState) → StopsOnceFound part old new found → StopsOnceFound all old new found
-    stops_all old new stops p sighted = stops p (λ n there. before_alike (cursor_past p) n ∙ sighted n there)
+    stops_all old new stops p sighted = stops p (λ n there. settled_before_alike (cursor_past p) n ∙ sighted n there)

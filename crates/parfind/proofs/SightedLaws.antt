@@ -8,7 +8,7 @@ use Rattle.parfind.specs.Fetched.{Place}
 use Rattle.parfind.specs.Places.{cursor_past, place_at}
 use Rattle.parfind.specs.Sightings.{Scan, content_of, is_slice_seen, sightings_of, sightings_between}
 use Rattle.parfind.specs.Steps.{lengths_of}
-use Rattle.parfind.specs.Surveys.{is_sighted, is_sighted_before, AllSightedBy}
+use Rattle.parfind.specs.Surveys.{is_sighted, is_sighted_before, lacks_sums, AllSightedBy}
 use Rattle.parwindow.specs.Missing.{mark_of}
 use Rattle.parfind.proofs.OrderLaws.{Before, From, Before-by_test, From-by_not_before, is_before-true, is_from-true, Before-From, not_both}
 use Rattle.parfind.proofs.ListLaws.{Has, Has-filter}
@@ -136,12 +136,15 @@ module _ (scan : Scan) where
 
   -- the place by which each slice is found is not before a cursor up to which one is not
   pub still_missing : (was : List Bool) (c : Cursor) (m : ℕ) (p : Place) → m < length was
-      → (mark_of was m || is_sighted_before scan c m) ≡ false → AllSightedBy scan was p
+      → lacks_sums scan.sought.set m ≡ false → (mark_of was m || is_sighted_before scan c m) ≡ false → AllSightedBy scan was p
       → (c.file ≤ p.file) × (c.file ≡ p.file → c.offset ≤ p.offset)
-  still_missing was c m p within open_ all =
+  still_missing was c m p within known open_ all =
       let parts = or_parts (mark_of was m) (is_sighted_before scan c m) open_ in
-      elim (or_cases (mark_of was m) (is_sighted_before scan (cursor_past p) m) (all m within)) [
-        | inl marked ↦ absurd (let both : true ≡ false = sym marked ∙ parts.0 in cc)
+      elim (or_cases (mark_of was m || lacks_sums scan.sought.set m) (is_sighted_before scan (cursor_past p) m) (all m within)) [
+        | inl settled ↦ elim (or_cases (mark_of was m) (lacks_sums scan.sought.set m) settled) [
+          | inl marked ↦ absurd (let both : true ≡ false = sym marked ∙ parts.0 in cc)
+          | inr unknown ↦ absurd (let both : true ≡ false = sym unknown ∙ known in cc)
+        ]
         | inr found ↦
             let one = sighted_one (cursor_past p) m found in
             elim (cases_Bool (is_before (cursor_of one.0) c)) [

@@ -1,6 +1,6 @@
 -- A survey on its way over the files: it enters the next one, fills its window, marks what is seen there, and slides on.
 use Rattle.std.proofs.Common.{◌≡◌, ℕ, ◌+◌, ◌<◌, ◌≤◌, ◌⊎◌, Bool, true, false, List, [], length, replicate, refl, sym, ap, ◌∙◌, arith, Option, None, Ok, Err, inl, inr, slice_index}
-use Rattle.std.proofs.lemmas.Bool.{cases_lt, or_left}
+use Rattle.std.proofs.lemmas.Bool.{cases_lt, or_cases, or_left, or_right}
 use Rattle.parshelf.specs.Shelf.{ShelfState, ReadsAs, Older, file_of}
 use Rattle.parshelf.specs.Reads.{ReadsOnly}
 use Rattle.parshelf.specs.declared.shelves.reading.ReadFault.{ReadFault}
@@ -16,7 +16,7 @@ use Rattle.parfind.specs.Sought.{Sought}
 use Rattle.parfind.specs.NextPlace.{rest_of}
 use Rattle.parfind.specs.Surveying.{SurveyState, Surveyed, SurveyEnds, survey_at}
 use Rattle.parfind.specs.declared.tracks.track.Track.{Track}
-use Rattle.parfind.specs.Surveys.{IsAllMarked}
+use Rattle.parfind.specs.Surveys.{AreAllSettled, is_settled, lacks_sums}
 use Rattle.parfind.specs.Tracks.{IsTied, IsUnread, HaveNoLookedCrc, Passes, SameTrack, cursor_of_track, fetched_of}
 use Rattle.parfind.proofs.EnterLaws.{unread_tied}
 use Rattle.parfind.proofs.ExhaustedLaws.{exhausted_none, exhausted_on}
@@ -24,7 +24,7 @@ use Rattle.parfind.proofs.PassLaws.{cursor_on}
 use Rattle.parfind.proofs.SoFarLaws.{SurveySoFar, IsNextMissing, never_all}
 use Rattle.parfind.proofs.SweepLaws.{swept_enter, swept_fill, swept_look, swept_pass, swept_read, kept_capacity}
 
--- a mark is missing, and so much of a file is left
+-- a slice is not settled, and so much of a file is left
 pub record Missing (sought : Sought) (old now : SurveyState) (missing : ℕ) (exhausted : List (Option ℕ)) (left : ℕ) : Type 0 where
   pub so_far : SurveySoFar sought old now missing exhausted
   pub open_is : missing < length now.found
@@ -49,7 +49,7 @@ pub record ReadOn (now filled : SurveyState) : Type 0 where
   pub same : SameTrack now.track filled.track
   pub hands : ReadsUpTo now.shelf filled.shelf (fetched_of now.track) (fetched_of filled.track)
 
--- in the full window of a state the slices that are seen were marked, and the next mark was looked for
+-- in the full window of a state the slices that are seen were marked, and the next that is not settled was looked for
 pub record LookedAt
     (sought : Sought) (filled : SurveyState) (left : ℕ) (w : WindowState) (more : List Bool) (missing last : ℕ) : Type 0 where
   pub full : length filled.window.content ≡ filled.window.capacity
@@ -57,7 +57,7 @@ pub record LookedAt
   pub each : length more ≡ length filled.found
   pub marks : MarksMore (slice_passes sought.set.slices (is_fitting_look sought.mode filled.window.content left)) filled.found more
   pub takes : TakesDigests (count_missing sought filled.found filled.window.content left) filled.window w
-  pub next : IsNextMissing more missing last
+  pub next : IsNextMissing sought.set more missing last
 
 -- the window slid on, or a read failed
 pub record SlidOn (filled : SurveyState) (w : WindowState) (t : ShelfState) (v : WindowState) (a : Track) : Type 0 where
@@ -72,8 +72,8 @@ module _ (sought : Sought) (old now : SurveyState) (missing : ℕ) (exhausted : 
   there : missing < length old.found
   there = omega (arith, at.open_is, at.each)
 
-  unmarked : mark_of now.found missing ≡ false
-  unmarked = let so_far = at.so_far in so_far.first at.open_is
+  unsettled : is_settled sought.set now.found missing ≡ false
+  unsettled = let so_far = at.so_far in so_far.first at.open_is
 
   room : now.track.window_offset + left ≡ slice_index old.shelf.lengths now.track.file
   room =
@@ -83,8 +83,8 @@ module _ (sought : Sought) (old now : SurveyState) (missing : ℕ) (exhausted : 
   sized : now.window.capacity ≡ sought.set.slice_size
   sized = let so_far = at.so_far in so_far.surveyed.capacity ∙ at.capacity_is
 
-  -- then not each slice had its mark
-  some_missing : IsAllMarked old.found → ⊥
+  -- then not each slice was settled
+  some_missing : AreAllSettled sought.set old.found → ⊥
   some_missing = never_all sought old now missing exhausted at.so_far at.open_is at.each
 
   -- no slice fits, and the next file is entered
@@ -98,12 +98,12 @@ module _ (sought : Sought) (old now : SurveyState) (missing : ℕ) (exhausted : 
         inside = λ _. omega (arith, unread.offset_is);
         within = so_far.within;
         first = so_far.first;
-        marked = so_far.marked;
+        settled = so_far.settled;
         exhausted_is = exhausted_none sought now.found (rest_of now.shelf.lengths (cursor_of_track t)) 257;
         none = so_far.none;
         window_is = kept_capacity old.window now.window w so_far.window_is (ap (λ (x : WindowState). x.capacity) window)
             (ap (λ (x : WindowState). x.tails) window);
-        surveyed = swept_enter sought old now so_far.reads missing there unmarked left room full so_far.surveyed
+        surveyed = swept_enter sought old now so_far.reads missing there unsettled left room full so_far.surveyed
             (survey_at now.shelf w now.found t) refl refl unread window;
       }
 
@@ -114,7 +114,7 @@ module _ (sought : Sought) (old now : SurveyState) (missing : ℕ) (exhausted : 
         let so_far = at.so_far in
         record {
           cursor = cursor_of_track filled.track;
-          surveyed = swept_fill sought old now so_far.reads missing there unmarked left fits room sized so_far.surveyed filled fill.found_is
+          surveyed = swept_fill sought old now so_far.reads missing there unsettled left fits room sized so_far.surveyed filled fill.found_is
               fill.older fill.tied fill.window_is fill.same fill.hands;
           first = refl;
           file_is = refl;
@@ -130,19 +130,23 @@ module _ (sought : Sought) (old now : SurveyState) (missing : ℕ) (exhausted : 
       looked : Surveyed sought old seen (cursor_on (cursor_of_track filled.track) 1)
       looked =
           let so_far = at.so_far in
-          swept_look sought old now so_far.reads missing there unmarked left fits room sized so_far.surveyed filled fill.found_is
+          swept_look sought old now so_far.reads missing there unsettled left fits room sized so_far.surveyed filled fill.found_is
           fill.older fill.tied fill.window_is fill.same fill.hands only look.full
           (omega (arith, at.counted, ap (λ (u : ShelfState). length u.lengths) so_far.reads.counts)) look.some seen refl refl look.marks look.takes
 
       all_read : ReadsOnly old.shelf filled.shelf
       all_read = let so_far = at.so_far in ReadsOnly_more old.shelf now.shelf filled.shelf so_far.reads only
 
-      all_marked : (n : ℕ) → n < last → mark_of more n ≡ true
-      all_marked n less = elim (cases_lt n missing) [
+      all_settled : (n : ℕ) → n < last → is_settled sought.set more n ≡ true
+      all_settled n less = elim (cases_lt n missing) [
         | inl early ↦
             let so_far = at.so_far in
-            look.marks n ∙ or_left _ _ (ap (λ xs. mark_of xs n) fill.found_is ∙ so_far.marked n early)
-        | inr late ↦ let next = look.next in next.marked n late less
+            elim (or_cases (mark_of now.found n) (lacks_sums sought.set n) (so_far.settled n early)) [
+              | inl marked ↦ or_left (mark_of more n) (lacks_sums sought.set n)
+                  (look.marks n ∙ or_left _ _ (ap (λ xs. mark_of xs n) fill.found_is ∙ marked))
+              | inr unknown ↦ or_right (mark_of more n) (lacks_sums sought.set n) unknown
+            ]
+        | inr late ↦ let next = look.next in next.settled n late less
       ]
 
       capacity : w.capacity ≡ now.window.capacity
@@ -157,7 +161,7 @@ module _ (sought : Sought) (old now : SurveyState) (missing : ℕ) (exhausted : 
         surveyed = looked;
         first = refl;
         file_is = refl;
-        all = inl (λ n less. all_marked n (omega arith));
+        all = inl (λ n less. all_settled n (omega arith));
       }
 
       -- the window slides on
@@ -168,8 +172,8 @@ module _ (sought : Sought) (old now : SurveyState) (missing : ℕ) (exhausted : 
         still_there : last < length old.found
         still_there = omega (arith, some, look.each, ap length fill.found_is, at.each)
 
-        still_unmarked : mark_of more last ≡ false
-        still_unmarked = let next = look.next in next.first some
+        still_unsettled : is_settled sought.set more last ≡ false
+        still_unsettled = let next = look.next in next.first some
 
         within_file : left ≤ slice_index old.shelf.lengths filled.track.file
         within_file = let same = fill.same in omega (arith, room, ap (λ (f : ℕ). slice_index old.shelf.lengths f) same.file_is)
@@ -177,7 +181,7 @@ module _ (sought : Sought) (old now : SurveyState) (missing : ℕ) (exhausted : 
         pub slide_fails : (fault : ReadFault) → a.window_offset ≡ filled.track.window_offset → SurveyEnds sought old on (Err fault)
         slide_fails fault stays = record {
           cursor = cursor_on (cursor_of_track filled.track) 1;
-          surveyed = swept_read sought old seen all_read last still_there still_unmarked left
+          surveyed = swept_read sought old seen all_read last still_there still_unsettled left
               (cursor_on (cursor_of_track filled.track) 1) looked on refl slid.older slid.tied slid.window_is (capacity ∙ sized) slid.file_is
               (omega (arith, stays)) slid.file_is slid.hands fits within_file;
           first = refl;
@@ -217,12 +221,12 @@ module _ (sought : Sought) (old now : SurveyState) (missing : ℕ) (exhausted : 
                 );
                 within = next.within;
                 first = next.first;
-                marked = all_marked;
+                settled = all_settled;
                 exhausted_is = exhausted_on sought left crcs more (rest_of t.lengths (cursor_of_track a)) less_left exhausted_is;
                 none = λ all. absurd (some_missing all);
                 window_is = kept_capacity old.window now.window v so_far.window_is
                     (ap (λ (x : WindowState). x.capacity) slid.window_is ∙ capacity)
                     (ap (λ (x : WindowState). x.tails) slid.window_is ∙ tails);
-                surveyed = swept_pass sought old seen all_read last still_there still_unmarked left n passes.some looked on refl
+                surveyed = swept_pass sought old seen all_read last still_there still_unsettled left n passes.some looked on refl
                     slid.older slid.tied slid.window_is (capacity ∙ sized) slid.file_is passes.offset_is slid.hands none fits within_file;
               }

@@ -1,6 +1,6 @@
 -- What a survey has done once it is at a cursor, and how it goes on.
 use Rattle.std.proofs.Common.{◌≡◌, ℕ, ◌+◌, ◌<◌, ◌≤◌, Bool, true, false, ◌||◌, List, [], length, refl, sym, ap, ◌∙◌, subst, arith, inl, inr, slice_index}
-use Rattle.std.proofs.lemmas.Bool.{cases_eq, cases_lt, or_cases, or_left, or_right}
+use Rattle.std.proofs.lemmas.Bool.{cases_eq, cases_lt, or_cases, or_left, or_parts, or_right, false_from_ne_true}
 use Rattle.std.proofs.lemmas.List.{length-map}
 use Rattle.std.proofs.Math.Bool.{or-false, or_assoc}
 use Rattle.parshelf.specs.Shelf.{ShelfState, ReadsAs, Older, file_of}
@@ -21,13 +21,14 @@ use Rattle.parfind.specs.OnePass.{IsNear}
 use Rattle.parfind.specs.Sightings.{Scan, is_slice_seen, sightings_between}
 use Rattle.parfind.specs.Steps.{scan_of, lengths_of}
 use Rattle.parfind.specs.Handover.{HandsEachOnce, HandsAround}
-use Rattle.parfind.specs.Surveys.{is_sighted, is_sighted_before, IsAllMarked, MarksSighted, MarksNoOther, MarksUpToFault, KeepsMarks, StopsOnceFound, marked_at}
+use Rattle.parfind.specs.Surveys.{is_sighted, is_sighted_before, lacks_sums, is_settled, AreAllSettled, MarksSighted, MarksNoOther, MarksUpToFault, KeepsMarks, StopsOnceFound, marked_at}
 use Rattle.parwindow.specs.Missing.{mark_of}
 use Rattle.parfind.specs.Surveying.{SurveyState, Surveyed, missing_between}
 use Rattle.parfind.specs.Tracks.{cursor_of_track}
 use Rattle.parfind.proofs.FitLaws.{fits_more}
 use Rattle.parfind.proofs.MarkLaws.{counted_rises, counted_more, counted_most}
 use Rattle.parfind.proofs.OrderLaws.{From}
+use Rattle.parfind.proofs.SettledLaws.{unknown_unseen}
 use Rattle.parfind.proofs.SightedLaws.{none_more, here_more, none_first, before_sighted, all_before, still_missing}
 
 -- where a survey begins
@@ -98,11 +99,16 @@ from_origin : (c : Cursor) → From origin c
 from_origin c = record { by_file = omega arith; by_offset = λ _. omega arith; by_slice = λ _ _. omega arith }
 
 module _ (sought : Sought) (old now : SurveyState) (c : Cursor) (so_far : Surveyed sought old now c) where
-  -- a slice without a mark had none at the beginning
-  pub not_all : (m : ℕ) → m < length old.found → mark_of now.found m ≡ false → IsAllMarked old.found → ⊥
-  not_all m there none all = let both : true ≡ false = sym (so_far.kept m (all m there)) ∙ none in cc
+  -- a slice that is not settled was not at the beginning
+  pub not_all : (m : ℕ) → m < length old.found → is_settled sought.set now.found m ≡ false → AreAllSettled sought.set old.found → ⊥
+  not_all m there unsettled all =
+      let parts = or_parts (mark_of now.found m) (lacks_sums sought.set m) unsettled in
+      elim (or_cases (mark_of old.found m) (lacks_sums sought.set m) (all m there)) [
+        | inl marked ↦ let both : true ≡ false = sym (so_far.kept m marked) ∙ parts.0 in cc
+        | inr unknown ↦ let both : true ≡ false = sym unknown ∙ parts.1 in cc
+      ]
 
-  -- to a cursor before which no other slice has a sighting, while a slice has no mark
+  -- to a cursor before which no other slice has a sighting, while a slice is not settled
   module _ (next : SurveyState) (d : Cursor) (same : next.found ≡ now.found) (on : From c d) (older : Older now.shelf next.shelf)
       (none : (files : List (List ℕ)) → ReadsAs next.shelf files → sightings_between (scan_of sought files) c d ≡ []) where
     moved_marks : (files : List (List ℕ)) → ReadsAs next.shelf files → (n : ℕ)
@@ -111,12 +117,12 @@ module _ (sought : Sought) (old now : SurveyState) (c : Cursor) (so_far : Survey
         ap (λ marks. mark_of marks n) same ∙ so_far.marks files (older files reads) n
         ∙ ap (λ b. mark_of old.found n || b) (none_more (scan_of sought files) c d on (none files reads) n)
 
-    pub surveyed_on : (m : ℕ) → m < length old.found → mark_of now.found m ≡ false
+    pub surveyed_on : (m : ℕ) → m < length old.found → is_settled sought.set now.found m ≡ false
         → HandsUpTo old.shelf.lengths now.shelf.handed next.shelf.handed (fetched_of now.track) (fetched_of next.track)
         → ((f : ℕ) → set_has_fit sought.set (slice_index old.shelf.lengths f) ≡ false → slice_index next.shelf.handed f ≤ slice_index now.shelf.handed f)
         → IsNear sought.set.slice_size (fetched_of next.track) d → next.window.digests ≡ now.window.digests
         → next.window.capacity ≡ now.window.capacity → Surveyed sought old next d
-    surveyed_on m there unmarked hands unfit near digests capacity = record {
+    surveyed_on m there unsettled hands unfit near digests capacity = record {
       marks = moved_marks;
       kept = λ n marked. ap (λ marks. mark_of marks n) same ∙ so_far.kept n marked;
       hands = hands_more old.shelf.lengths old.shelf.handed now.shelf.handed next.shelf.handed start (fetched_of now.track) (fetched_of next.track)
@@ -124,8 +130,9 @@ module _ (sought : Sought) (old now : SurveyState) (c : Cursor) (so_far : Survey
       unfit = λ f none. omega (arith, so_far.unfit f none, unfit f none);
       near = near;
       stops = λ files reads p all.
-          let open_ = sym (moved_marks files reads m) ∙ (ap (λ marks. mark_of marks m) same ∙ unmarked) in
-          let before = still_missing (scan_of sought files) old.found d m p there open_ all in
+          let parts = or_parts (mark_of now.found m) (lacks_sums sought.set m) unsettled in
+          let open_ = sym (moved_marks files reads m) ∙ (ap (λ marks. mark_of marks m) same ∙ parts.0) in
+          let before = still_missing (scan_of sought files) old.found d m p there parts.1 open_ all in
           near_further sought.set.slice_size (fetched_of next.track) d (cursor_at p) before.0 before.1 near;
       digests = λ files reads. omega (
         arith,
@@ -192,8 +199,15 @@ module _ (sought : Sought) (old now : SurveyState) (c : Cursor) (so_far : Survey
           | inr h ↦ or_right (mark_of old.found n) (is_sighted scan n) (before_sighted scan c n h)
         ]
 
-    pub surveyed_full : ((n : ℕ) → n < length now.found → mark_of now.found n ≡ true) → MarksSighted scan old.found now.found
-    surveyed_full all n there = all n there ∙ sym (surveyed_no_other n there (all n there))
+    pub surveyed_full : AreAllSettled sought.set now.found → MarksSighted scan old.found now.found
+    surveyed_full all n there = elim (or_cases (mark_of now.found n) (lacks_sums sought.set n) (all n there)) [
+      | inl marked ↦ marked ∙ sym (surveyed_no_other n there marked)
+      | inr unknown ↦
+          let unseen : is_sighted scan n ≡ false = unknown_unseen scan n unknown in
+          let not_yet : is_sighted_before scan c n ≡ false = false_from_ne_true _ (λ h.
+          let both : true ≡ false = sym (before_sighted scan c n h) ∙ unseen in cc) in
+          so_far.marks files reads n ∙ ap (λ b. mark_of old.found n || b) (not_yet ∙ sym unseen)
+    ]
 
     pub surveyed_end : now.shelf.lengths ≡ old.shelf.lengths → length old.shelf.lengths ≤ c.file → MarksSighted scan old.found now.found
     surveyed_end lengths past n there =

@@ -6,7 +6,6 @@ use Rattle.parshelf.specs.Reads.{ReadsOnly}
 use Rattle.parshelf.proofs.ReadLaws.{ReadsOnly_more}
 use Rattle.parshelf.proofs.ShelfLaws.{length-file_of}
 use Rattle.parwindow.specs.Index.{slice_passes, set_has_fit}
-use Rattle.parwindow.specs.Missing.{mark_of}
 use Rattle.parwindow.specs.Window.{WindowState, window_at}
 use Rattle.parfind.specs.declared.cursors.cursor.Cursor.{Cursor}
 use Rattle.parfind.specs.Fitting.{is_fitting_look}
@@ -21,6 +20,7 @@ use Rattle.parfind.specs.Order.{cursor_of}
 use Rattle.parfind.specs.Sightings.{is_slice_seen, sightings_of, sightings_between}
 use Rattle.parfind.specs.Steps.{scan_of}
 use Rattle.parfind.specs.Surveying.{SurveyState, Surveyed}
+use Rattle.parfind.specs.Surveys.{is_settled}
 use Rattle.parfind.specs.Tracks.{cursor_of_track}
 use Rattle.parfind.proofs.FitLaws.{fits_more, seen_fits}
 use Rattle.parfind.proofs.MarkSeenLaws.{count_was}
@@ -39,8 +39,8 @@ module _ (sought : Sought) (old now : SurveyState) (reads : ReadsOnly old.shelf 
   same_lengths : now.shelf.lengths ≡ old.shelf.lengths
   same_lengths = ap (λ (s : ShelfState). s.lengths) reads.counts
 
-  -- while a slice has no mark
-  module _ (m : ℕ) (there : m < length old.found) (unmarked : mark_of now.found m ≡ false) (left : ℕ) where
+  -- while a slice is not settled
+  module _ (m : ℕ) (there : m < length old.found) (unsettled : is_settled sought.set now.found m ≡ false) (left : ℕ) where
     -- over a read of the file in which the window is
     pub swept_read : (c : Cursor) → Surveyed sought old now c → (next : SurveyState) → next.found ≡ now.found → Older now.shelf next.shelf → IsTied next.shelf next.window next.track
         → next.window ≡ record now.window { content = next.window.content } → now.window.capacity ≡ sought.set.slice_size
@@ -50,7 +50,7 @@ module _ (sought : Sought) (old now : SurveyState) (reads : ReadsOnly old.shelf 
     swept_read c so_far next same older tied window sized file held stays hands fits room =
         let hands' = rw same_lengths at hands in
         let capacity : next.window.capacity ≡ now.window.capacity = ap (λ (w : WindowState). w.capacity) window in
-        surveyed_on sought old now c so_far next c same (From-refl c) older (λ files _. none_here sought files c) m there unmarked hands'
+        surveyed_on sought old now c so_far next c same (From-refl c) older (λ files _. none_here sought files c) m there unsettled hands'
         (others_unread sought.set old.shelf.lengths now.shelf.handed next.shelf.handed (fetched_of now.track) (fetched_of next.track) left (sym stays) hands' fits room)
         (tied_near next.shelf next.window next.track sought.set.slice_size c tied (capacity ∙ sized) file held)
         (ap (λ (w : WindowState). w.digests) window) capacity
@@ -73,7 +73,7 @@ module _ (sought : Sought) (old now : SurveyState) (reads : ReadsOnly old.shelf 
         subst (Surveyed sought old next) at
         (surveyed_on sought old now (cursor_on c 1) so_far next d same (From-on c 1 n some) older
         (λ files reads_as. on_unseen (scan_of sought files) c n some (none files reads_as))
-        m there unmarked hands'
+        m there unsettled hands'
         (others_unread sought.set old.shelf.lengths now.shelf.handed next.shelf.handed (fetched_of now.track) (fetched_of next.track) left (sym stays) hands' fits room)
         (tied_near next.shelf next.window next.track sought.set.slice_size d tied (capacity ∙ sized) stays (omega (arith, held)))
         (ap (λ (w : WindowState). w.digests) window) capacity)
@@ -120,7 +120,7 @@ module _ (sought : Sought) (old now : SurveyState) (reads : ReadsOnly old.shelf 
               by_slice = λ _ _. omega arith;
             }
           ]))
-          m there unmarked
+          m there unsettled
           (rw handed (hands_enter old.shelf.lengths now.shelf.handed (fetched_of now.track) (fetched_of next.track) (omega (arith, unread.file_is))))
           (λ f none. omega (arith, ap (λ (xs : List ℕ). slice_index xs f) handed))
           (record {
@@ -191,7 +191,7 @@ made_same sought u v capacity tails made =
     record { sized = capacity ∙ made.sized; tails_are = λ mode. tails ∙ made.tails_are mode; few = made.few }
 
 module _ (sought : Sought) (old now : SurveyState) (reads : ReadsOnly old.shelf now.shelf)
-    (m : ℕ) (there : m < length old.found) (unmarked : mark_of now.found m ≡ false) (left : ℕ) (fits : set_has_fit sought.set left ≡ true)
+    (m : ℕ) (there : m < length old.found) (unsettled : is_settled sought.set now.found m ≡ false) (left : ℕ) (fits : set_has_fit sought.set left ≡ true)
     (room : now.track.window_offset + left ≡ slice_index old.shelf.lengths now.track.file) (sized : now.window.capacity ≡ sought.set.slice_size)
     (so_far : Surveyed sought old now (cursor_of_track now.track)) (next : SurveyState) (found : next.found ≡ now.found)
     (older : Older now.shelf next.shelf) (tied : IsTied next.shelf next.window next.track) (window : next.window ≡ record now.window { content = next.window.content })
@@ -204,7 +204,7 @@ module _ (sought : Sought) (old now : SurveyState) (reads : ReadsOnly old.shelf 
       ap (λ (f : ℕ). record { file = f; offset = now.track.window_offset; slice = 0 }) (sym same.file_is)
       ∙ ap (λ (o : ℕ). record { file = next.track.file; offset = o; slice = 0 }) (sym same.offset_is) in
       subst (Surveyed sought old next) at
-      (swept_read sought old now reads m there unmarked left (cursor_of_track now.track) so_far next found older tied window sized
+      (swept_read sought old now reads m there unsettled left (cursor_of_track now.track) so_far next found older tied window sized
       same.file_is (omega (arith, same.offset_is)) same.file_is hands fits (omega arith))
 
   -- and the slices that are seen in it are marked

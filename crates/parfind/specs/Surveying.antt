@@ -16,7 +16,7 @@ use Rattle.parfind.specs.Places.{cursor_at, places_between}
 use Rattle.parfind.specs.OnePass.{IsNear}
 use Rattle.parfind.specs.Sightings.{Scan}
 use Rattle.parfind.specs.Steps.{scan_of}
-use Rattle.parfind.specs.Surveys.{is_sighted_before, IsAllMarked, AllSightedBy}
+use Rattle.parfind.specs.Surveys.{is_sighted_before, AreAllSettled, AllSightedBy}
 use Rattle.parwindow.specs.Missing.{mark_of}
 
 -- where a survey is: its shelf and its window, the marks, and how the window goes along a file
@@ -53,7 +53,7 @@ pub record Surveyed (sought : Sought) (old now : SurveyState) (c : Cursor) : Typ
       ≤ old.window.digests + missing_between (scan_of sought files) old.found origin c
   pub capacity : now.window.capacity ≡ old.window.capacity
 
--- it ends at a cursor: each slice has its mark there, or all files are before it, or a file could
+-- it ends at a cursor: each slice is settled there, or all files are before it, or a file could
 -- not be read
 pub record SurveyEnds
     (sought : Sought) (old new : SurveyState) (result : Result Unit ReadFault) : Type 0 where
@@ -61,4 +61,5 @@ pub record SurveyEnds
   pub surveyed : Surveyed sought old new cursor
   pub first : cursor.slice ≡ 0
   pub file_is : cursor.file ≡ new.track.file
-  pub all : OnOk result (IsAllMarked new.found ⊎ (length old.shelf.lengths ≤ cursor.file))
+  pub all : OnOk result
+      (AreAllSettled sought.set new.found ⊎ (length old.shelf.lengths ≤ cursor.file))

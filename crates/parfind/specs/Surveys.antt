@@ -1,10 +1,11 @@
 -- Which slices of a set have a sighting, as marks by slice number.
-use Rattle.std.specs.Prelude.{◌≡◌, ℕ, ◌==◌, ◌&&◌, ◌||◌, Bool, List, Result, Ok, Err, EachIndex, IsTrue}
+use Rattle.std.specs.Prelude.{◌≡◌, ℕ, ◌==◌, ◌&&◌, ◌||◌, not, Bool, List, Result, Ok, Err, EachIndex, IsTrue}
 use Rattle.std.specs.List.{list_any}
 use Rattle.parshelf.specs.Shelf.{ShelfState, ReadsAs}
 use Rattle.parshelf.specs.Reads.{ReadsOnly, FaultsIn}
 use Rattle.parshelf.specs.declared.shelves.reading.ReadFault.{ReadFault}
 use Rattle.parfind.specs.Sought.{Sought, HasFewTails}
+use Rattle.parwindow.specs.Index.{SliceSet, slice_passes, has_known_sums}
 use Rattle.parwindow.specs.Missing.{mark_of}
 use Rattle.parfind.specs.declared.cursors.cursor.Cursor.{Cursor}
 use Rattle.parfind.specs.Fetched.{Place}
@@ -25,9 +26,17 @@ abbrev pub is_sighted_before : Scan → Cursor → ℕ → Bool
 is_sighted_before scan c n =
     list_any (λ x. x.slice == n && is_before (cursor_of x) c) (sightings_of scan)
 
--- each slice is marked
-abbrev pub IsAllMarked : List Bool → Type 0
-IsAllMarked marks = EachIndex marks (λ n. IsTrue (mark_of marks n))
+-- the sums of slice n are not known, so that it has no sighting
+abbrev pub lacks_sums : SliceSet → ℕ → Bool
+lacks_sums set n = not (slice_passes set.slices has_known_sums n)
+
+-- slice n is marked, or no search can find it
+abbrev pub is_settled : SliceSet → List Bool → ℕ → Bool
+is_settled set marks n = mark_of marks n || lacks_sums set n
+
+-- each slice is settled
+abbrev pub AreAllSettled : SliceSet → List Bool → Type 0
+AreAllSettled set marks = EachIndex marks (λ n. IsTrue (is_settled set marks n))
 
 -- a slice is marked exactly where it was or has a sighting
 abbrev pub MarksSighted : Scan → List Bool → List Bool → Type 0
@@ -53,10 +62,11 @@ SurveyMarks scan was now (Err fault) = MarksNoOther scan was now
 abbrev pub KeepsMarks : List Bool → List Bool → Type 0
 KeepsMarks was now = EachIndex was (λ n. IsTrue (mark_of was n) → IsTrue (mark_of now n))
 
--- each slice that is not marked has a sighting at a place or before it
+-- each slice that is not settled has a sighting at a place or before it
 abbrev pub AllSightedBy : Scan → List Bool → Place → Type 0
 AllSightedBy scan marks p =
-    EachIndex marks (λ n. IsTrue (mark_of marks n || is_sighted_before scan (cursor_past p) n))
+    EachIndex marks (λ n.
+    IsTrue (is_settled scan.sought.set marks n || is_sighted_before scan (cursor_past p) n))
 
 -- from the place on by which each slice is found, no more is handed over than around it
 abbrev pub StopsOnceFound : Scan → ShelfState → ShelfState → List Bool → Type 0

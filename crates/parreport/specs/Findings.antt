@@ -1,8 +1,7 @@
 -- What scanned files show of a recovery set: the state of each file, and which slices are found.
-use Rattle.std.specs.Prelude.{ℕ, ◌&&◌, ◌||◌, not, Bool, false, All, IsTrue, List, map, count_by, is_none, is_some, slice_get}
+use Rattle.std.specs.Prelude.{ℕ, ◌&&◌, ◌||◌, not, Bool, All, IsTrue, List, map, count_by, is_none}
 use Rattle.std.specs.BTreeSet.{BTreeSet, contains}
 use Rattle.std.specs.List.{list_any, zip, enumerate_from}
-use Rattle.std.specs.Option.{option_map_or}
 use Rattle.std.specs.Str.{bytes_eq}
 use Rattle.parfield.specs.HashOrder.{id_cmp}
 use Rattle.parfield.specs.declared.hash16.Hash16.{Hash16}
@@ -33,15 +32,13 @@ abbrev pub is_found : SetView → Mode → List NamedFile → ℕ × SetSlice �
 is_found set mode scanned (n, slice) =
     is_in_intact_file set scanned slice.id || is_sighted (named_scan_of set mode scanned) n
 
+-- the file of a slice is one of these
+abbrev pub is_in_whole_file : BTreeSet Hash16 → SetSlice → Bool
+is_in_whole_file whole slice = contains id_cmp whole slice.id
+
 -- no search is needed for a slice: its file is one of these, or it has no sums to be found by
 abbrev pub is_settled : BTreeSet Hash16 → SetSlice → Bool
-is_settled whole slice = contains id_cmp whole slice.id || is_none slice.sums
-
--- there is a slice n that can be found: its file is one of these, or it has sums to be found by
-abbrev pub can_be_found : BTreeSet Hash16 → List SetSlice → ℕ → Bool
-can_be_found whole slices n =
-    option_map_or (λ slice. contains id_cmp whole slice.id || is_some slice.sums)
-    (slice_get slices n) false
+is_settled whole slice = is_in_whole_file whole slice || is_none slice.sums
 
 -- what the scanned files show of the set
 abbrev pub findings_of : SetView → Mode → List NamedFile → Findings

@@ -1,6 +1,6 @@
 ghost use Rattle.std.specs.Prelude.{◌≡◌, ℕ, ◌-◌, ◌<◌, ◌≤◌, ◌%◌, ◌↔◌, length, map, zip, slice_get, slice_index, IfOk, IfSome, IsTrue};
 ghost use Rattle.std.specs.Option.{IsSomeAnd};
-ghost use Rattle.parwindow.specs.Index.{IsSliceSet, slice_set_of, slice_passes, has_own, has_sums, has_known_crc, set_has_crc, set_has_fit, set_has_own_crc, tails_of};
+ghost use Rattle.parwindow.specs.Index.{IsSliceSet, slice_set_of, slice_passes, has_own, has_sums, has_known_crc, has_known_sums, set_has_crc, set_has_fit, set_has_own_crc, tails_of};
 ghost use Rattle.parwindow.specs.FilterBits.{zeros_crc};
 ghost use Rattle.parwindow.specs.Indexed.{IsShortest};
 ghost use Rattle.parwindow.specs.Least.{IsLeastFrom};
@@ -121,6 +121,14 @@ impl Index {
         ensures within { result ≤ self.now.slice_size }
     {
         self.slices.as_slice()[slice as usize].length
+    }
+
+    /// Whether the sums of a slice are known.
+    pub fn has_sums(&self, slice: u32) -> bool
+        requires { slice < length self.now.slices }
+        ensures { result ≡ slice_passes self.now.slices has_known_sums slice }
+    {
+        self.slices.as_slice()[slice as usize].sums.is_some()
     }
 
     /// Whether some slice with sums has at most so many bytes of its file.

@@ -7,8 +7,8 @@ ghost use Rattle.parshelf.specs.Reads.{ReadsFile};
 ghost use Rattle.parfind.specs.Handover.{HandsEachOnce, SkipsUnfit};
 ghost use Rattle.parfind.specs.Marks.{missing_count};
 ghost use Rattle.parfind.specs.Steps.{scan_of};
-ghost use Rattle.parfind.specs.Surveys.{SurveyMarks, MarksUpToFault, KeepsMarks, IsAllMarked, StopsOnceFound, ReadsNamed, SurveyLeaves, SurveyTellsTails, marked_at};
-ghost use Rattle.parwindow.specs.Missing.{mark_of, missing_set};
+ghost use Rattle.parfind.specs.Surveys.{SurveyMarks, MarksUpToFault, KeepsMarks, AreAllSettled, StopsOnceFound, ReadsNamed, SurveyLeaves, SurveyTellsTails, is_settled, marked_at};
+ghost use Rattle.parwindow.specs.Missing.{missing_set};
 ghost use Rattle.parfind.specs.Surveying.{SurveyEnds, survey_at};
 ghost use Rattle.parfind.specs.Sought.{HasFewTails, IsWindowFor, sought_of};
 ghost use Rattle.parfind.specs.declared.surveys.surveying.SurveyFault.TheVariants.{Memory};
@@ -40,8 +40,9 @@ impl From<AllocError> for SurveyFault {
 }
 
 /// Marks each slice of the set that has a sighting; `found` has a mark for each slice, by number.
-/// Only slices that have no mark at the call are looked for. Memory is taken for a window, and where
-/// some slices have a mark and others none for a second index too; none where each has one.
+/// Only slices that have no mark at the call are looked for, and until each whose sums are known has
+/// one. Memory is taken for a window, and where some slices have a mark and others none for a second
+/// index too; none where each has one or lacks its sums.
 pub fn survey<H: Shelf>(
     alloc: Global,
     index: &Index,
@@ -66,13 +67,13 @@ pub fn survey<H: Shelf>(
     ensures handed { HandsEachOnce (H.state shelf.old) (H.state shelf.new) }
     ensures unfit { SkipsUnfit (missing_set index.now found.old)
         (H.state shelf.old) (H.state shelf.new) }
-    ensures none { IsAllMarked found.old → H.state shelf.new ≡ H.state shelf.old }
+    ensures none { AreAllSettled index.now found.old → H.state shelf.new ≡ H.state shelf.old }
 {
     let sought = Sought { index, mode };
     if sought.shorter_lengths().len() > MOST_TAILS {
         return Err(SurveyFault::TooManyTails);
     }
-    if next_missing(found, 0) == found.len() {
+    if next_missing(&sought, found, 0) == found.len() {
         return Ok(());
     }
     if !has_mark(found) {
@@ -107,7 +108,7 @@ fn survey_few_tails<H: Shelf>(
     ensures tails { SurveyTellsTails sought.now result }
     ensures handed { HandsEachOnce (H.state shelf.old) (H.state shelf.new) }
     ensures unfit { SkipsUnfit sought.now.set (H.state shelf.old) (H.state shelf.new) }
-    ensures none { IsAllMarked found.old → H.state shelf.new ≡ H.state shelf.old }
+    ensures none { AreAllSettled sought.now.set found.old → H.state shelf.new ≡ H.state shelf.old }
 {
     let size = sought.index.size() as usize;
     let mut window = Window::with_tails(alloc, size, sought.shorter_lengths())?;
@@ -120,7 +121,8 @@ fn survey_few_tails<H: Shelf>(
 /// Marks each slice of the set that has a sighting, by a window that is handed in and without
 /// memory; a fault comes with its file's number. MD5s are taken no more often than there are pairs
 /// of a place and a looked length by which a slice that fits and has no mark at the call has the
-/// CRC-32, and no more is read than around the place by which each slice has its mark.
+/// CRC-32, and no more is read than around the place by which each slice whose sums are known has
+/// its mark.
 pub fn survey_in<H: Shelf>(
     index: &Index,
     shelf: &mut H,
@@ -151,7 +153,7 @@ pub fn survey_in<H: Shelf>(
     ensures shelf { ReadsNamed (H.state shelf.old) (H.state shelf.new) result }
     ensures handed { HandsEachOnce (H.state shelf.old) (H.state shelf.new) }
     ensures unfit { SkipsUnfit index.now (H.state shelf.old) (H.state shelf.new) }
-    ensures none { IsAllMarked found.old → H.state shelf.new ≡ H.state shelf.old }
+    ensures none { AreAllSettled index.now found.old → H.state shelf.new ≡ H.state shelf.old }
     ensures window { window.new ≡ record window.old {
       content = window.new.content;
       digests = window.new.digests;
@@ -168,7 +170,7 @@ pub fn survey_in<H: Shelf>(
     }
 }
 
-// Goes from the beginning of all files on, until each slice has its mark.
+// Goes from the beginning of all files on, until each slice is settled.
 fn survey_files<H: Shelf>(
     sought: &Sought,
     shelf: &mut H,
@@ -185,14 +187,14 @@ fn survey_files<H: Shelf>(
         (survey_at (H.state shelf.old) window.old found.old track.old)
         (survey_at (H.state shelf.new) window.new found.new track.new) result }
     ensures shelf { ReadsFile track.new.file (H.state shelf.old) (H.state shelf.new) result }
-    ensures none { IsAllMarked found.old → H.state shelf.new ≡ H.state shelf.old }
+    ensures none { AreAllSettled sought.now.set found.old → H.state shelf.new ≡ H.state shelf.old }
     ensures window { window.new ≡ record window.old {
       content = window.new.content;
       digests = window.new.digests;
     } }
 {
     let mut exhausted = Exhausted::none();
-    let mut missing = next_missing(found, 0);
+    let mut missing = next_missing(sought, found, 0);
     while missing < found.len() && track.file() < shelf.count() {
         let left = track.rest(shelf);
         if left == 0 || !sought.index.fits(left) {
@@ -203,7 +205,7 @@ fn survey_files<H: Shelf>(
         }
         track.fill(window, shelf)?;
         exhausted.mark_seen(window, sought, left, found);
-        missing = next_missing(found, missing);
+        missing = next_missing(sought, found, missing);
         if missing == found.len() {
             break;
         }
@@ -212,16 +214,21 @@ fn survey_files<H: Shelf>(
     Ok(())
 }
 
-// The first slice from a number on that has no mark; the number of all slices, where there is none.
-fn next_missing(found: &[bool], from: usize) -> usize
-    requires { from ≤ length found.now }
+// The first slice from a number on that has no mark, and sums to be found by; the number of all
+// slices, where there is none.
+fn next_missing(sought: &Sought, found: &[bool], from: usize) -> usize
+    requires each { length found.now ≡ length sought.now.set.slices }
+    requires from { from ≤ length found.now }
     ensures onward { from ≤ result }
     ensures within { result ≤ length found.now }
-    ensures missing { result < length found.now → mark_of found.now result ≡ false }
-    ensures marked { (n : ℕ) → from ≤ n → n < result → IsTrue (mark_of found.now n) }
+    ensures missing { result < length found.now
+        → is_settled sought.now.set found.now result ≡ false }
+    ensures settled { (n : ℕ) → from ≤ n → n < result
+        → IsTrue (is_settled sought.now.set found.now n) }
 {
+    let count = sought.index.slices() as usize;
     let mut number = from;
-    while number < found.len() && found[number] {
+    while number < count && (found[number] || !sought.index.has_sums(number as u32)) {
         number += 1;
     }
     number

@@ -1,4 +1,4 @@
-ghost use Rattle.std.specs.Prelude.{◌≡◌, ◌&&◌, ◌||◌, ℕ, List, map, length, slice_index, All, EachIndex, IsTrue, IfOk, OnOk, IfErr};
+ghost use Rattle.std.specs.Prelude.{◌≡◌, ◌&&◌, ◌||◌, ℕ, List, map, length, slice_index, All, IsTrue, IfOk, OnOk, IfErr};
 ghost use Rattle.std.specs.BTreeSet.{contains};
 ghost use Rattle.std.specs.List.{enumerate_from, list_any};
 ghost use Rattle.std.specs.Str.{bytes_eq};
@@ -8,12 +8,11 @@ ghost use Rattle.parshelf.specs.Shelf.{ReadsAs};
 ghost use Rattle.parwindow.specs.Index.{slice_set_of};
 ghost use Rattle.parfind.specs.Sought.{HasFewTails};
 ghost use Rattle.parfind.specs.Surveys.{is_sighted, StopsOnceFound};
-ghost use Rattle.parwindow.specs.Missing.{mark_of};
 ghost use Rattle.parreport.specs.Contents.{HandsPerFile};
 ghost use Rattle.parreport.specs.Costs.{searched_length_of};
 ghost use Rattle.parreport.specs.Files.{FilesLeave};
 ghost use Rattle.parreport.specs.States.{is_intact};
-ghost use Rattle.parreport.specs.Findings.{need_of, is_settled, can_be_found, set_scan_of};
+ghost use Rattle.parreport.specs.Findings.{need_of, is_in_whole_file, is_settled, set_scan_of};
 ghost use Rattle.parreport.specs.SetSearch.{set_sought_of};
 
 use crate::states::state::State;
@@ -76,7 +75,7 @@ pub fn found_slices<Q: Shelf>(
         (enumerate_from 0 set.now.slices)) }
     ensures stops { (files : List (List ℕ)) → ReadsAs (Q.state shelf.new) files
         → StopsOnceFound (set_scan_of set.now mode files) (Q.state shelf.old) (Q.state shelf.new)
-        (map (is_settled whole.now) set.now.slices) }
+        (map (is_in_whole_file whole.now) set.now.slices) }
 
     // Whatever was read.
     ensures slices { IfOk result (λ found. length found.items ≡ length set.now.slices) }
@@ -88,37 +87,23 @@ pub fn found_slices<Q: Shelf>(
     ensures ok { OnOk result (ReadsOnly (Q.state shelf.old) (Q.state shelf.new)) }
     ensures fault { IfErr result (FilesLeave (Q.state shelf.old) (Q.state shelf.new)) }
 {
-    let mut found = needs_no_search(alloc, set.slices(), whole)?;
+    let mut found = marks_of_whole_files(alloc, set.slices(), whole)?;
     survey(alloc, index, shelf, &mut found, mode)?;
-    unmark_unsearchable(set.slices(), whole, &mut found);
     Ok(found)
 }
 
-// Marks the slices that need no search: those of these files, and those that none can find.
-fn needs_no_search(
+// Marks the slices of these files.
+fn marks_of_whole_files(
     alloc: Global,
     slices: &[SetSlice],
     whole: &BTreeSet<Hash16>,
 ) -> Result<Vec<bool>, AllocError>
-    ensures { IfOk result (λ marks. marks.items ≡ map (is_settled whole.now) slices.now) }
+    ensures { IfOk result (λ marks. marks.items ≡ map (is_in_whole_file whole.now) slices.now) }
 {
     slices
         .iter()
-        .map(|slice| whole.contains(&slice.id) || slice.sums.is_none())
+        .map(|slice| whole.contains(&slice.id))
         .collect(alloc)
-}
-
-// Takes the marks back of slices of other files that lack their sums.
-fn unmark_unsearchable(slices: &[SetSlice], whole: &BTreeSet<Hash16>, found: &mut [bool])
-    requires { length found.old ≡ length slices.now }
-    ensures { EachIndex found.new (λ n. mark_of found.new n
-        ≡ (mark_of found.old n && can_be_found whole.now slices.now n)) }
-{
-    for (index, slice) in slices.iter().enumerate() {
-        if slice.sums.is_none() && !whole.contains(&slice.id) {
-            found[index] = false;
-        }
-    }
 }
 
 /// How many slices are not found.

@@ -1,12 +1,12 @@
 use Rattle.std.proofs.Common.{ℕ, ◌<◌, ◌≤◌, ◌-◌, length, IsTrue}
-use Rattle.parwindow.specs.Missing.{mark_of}
+use Rattle.parfind.specs.Surveys.{is_settled}
 use Rattle.parfind.proofs.surveys.surveying.next_missing.Given as goal
 
 abbrev pub invariant-loop-number : goal.invariant-loop-number
 invariant-loop-number l = record {
   onward : l.from ≤ l.number;
   within : l.number ≤ length l.found;
-  marked : (n : ℕ) → l.from ≤ n → n < l.number → IsTrue (mark_of l.found n);
+  settled : (n : ℕ) → l.from ≤ n → n < l.number → IsTrue (is_settled l.sought.set l.found n);
 }
 
 abbrev pub decreases-loop-number : goal.decreases-loop-number

@@ -1,7 +1,14 @@
 use Rattle.std.proofs.Common.{length, sym, ap, ◌∙◌, arith}
 use Rattle.parfind.specs.Sought.{HasFewTails, sought_of}
-use Rattle.parfind.proofs.MissingSetLaws.{as_many, few_missing, skips_same, marks_all, stops_all, tells_few}
+use Rattle.parfind.proofs.MissingSetLaws.{as_many, few_missing, settled_missing, skips_same, marks_all, stops_all, tells_few}
+use Rattle.parfind.specs.Steps.{scan_of}
+use Rattle.parfind.proofs.SettledLaws.{settled_sighted}
 use Rattle.parfind.proofs.surveys.surveying.survey.Goals as goal
+
+pub returns-then-next_missing-found-clause-found : goal.returns-then-next_missing-found-clause-found
+returns-then-next_missing-found-clause-found g c = λ files reads.
+    settled_sighted (scan_of (sought_of c.args.index.now c.args.mode) files) c.args.found.now
+    (λ n there. c.next_missing.ensures.settled n (omega arith) (omega (arith, c.if-next_missing-found.true)))
 
 pub returns-then-not-has_mark-clause-unfit : goal.returns-then-not-has_mark-clause-unfit
 returns-then-not-has_mark-clause-unfit g c =
@@ -33,3 +40,7 @@ returns-clause-tails g c =
     tells_few (sought_of c.args.index.now c.args.mode) (sought_of c.in_ok-missing.missing c.args.mode) c.survey_few_tails-2.result few
     (rw c.in_ok-missing.ensures (few_missing c.args.index.now c.args.found.now c.args.mode few))
     c.survey_few_tails-2.ensures.tails
+
+pub returns-clause-none : goal.returns-clause-none
+returns-clause-none g c = λ all.
+    c.survey_few_tails-2.ensures.none (rw c.in_ok-missing.ensures (settled_missing c.args.index.now c.args.found.now c.requires all))

@@ -36,7 +36,7 @@ pub returns-in-Ok-clause-unfit : goal.returns-in-Ok-clause-unfit
 returns-in-Ok-clause-unfit g c = rw (← c.sought.view_is) c.survey_in.ensures.unfit
 
 pub returns-in-Ok-clause-none : goal.returns-in-Ok-clause-none
-returns-in-Ok-clause-none g c = grind (arith, common_steps) steps 100000
+returns-in-Ok-clause-none g c = rw (← c.sought.view_is) c.survey_in.ensures.none
 
 pub returns-clause-found : goal.returns-clause-found
 returns-clause-found g c = grind (arith, common_steps)
@@ -54,7 +54,7 @@ pub returns-clause-unfit : goal.returns-clause-unfit
 returns-clause-unfit g c = rw (← c.sought.view_is) c.survey_in.ensures.unfit
 
 pub returns-clause-none : goal.returns-clause-none
-returns-clause-none g c = grind (arith, common_steps) steps 100000
+returns-clause-none g c = rw (← c.sought.view_is) c.survey_in.ensures.none
 
 pub survey_in-requires-clause-each : goal.survey_in-requires-clause-each
 survey_in-requires-clause-each g c = grind (arith, common_steps) steps 100000

@@ -19,7 +19,7 @@ loop-missing-init g c =
     let old : SurveyState = survey_at (g.H.Shelf.state c.args.shelf.now) c.args.window.now c.args.found.now c.args.track.now in
     let next = c.next_missing-missing.ensures in
     rw c.none-exhausted.ensures (begins c.args.sought.now old c.next_missing-missing.result c.requires.small c.requires.empty
-    c.requires.unread (record { within = next.within; first = next.missing; marked = next.marked }))
+    c.requires.unread (record { within = next.within; first = next.missing; settled = next.settled }))
 
 pub loop-missing-preserved-then-left-eq0 : goal.loop-missing-preserved-then-left-eq0
 loop-missing-preserved-then-left-eq0 g c =
@@ -111,7 +111,7 @@ loop-missing-preserved g c =
       each = c.mark_seen.auto.found;
       marks = c.mark_seen.ensures.marks;
       takes = c.mark_seen.ensures.digests;
-      next = record { within = last.ensures.within; first = last.ensures.missing; marked = last.ensures.marked };
+      next = record { within = last.ensures.within; first = last.ensures.missing; settled = last.ensures.settled };
     } in
     let p = c.in_ok-slide_until_crc.ensures in
     let s = c.slide_until_crc.new in
@@ -150,7 +150,7 @@ returns-in_err-slide_until_crc-clause-ends g c =
       each = c.mark_seen.auto.found;
       marks = c.mark_seen.ensures.marks;
       takes = c.mark_seen.ensures.digests;
-      next = record { within = last.ensures.within; first = last.ensures.missing; marked = last.ensures.marked };
+      next = record { within = last.ensures.within; first = last.ensures.missing; settled = last.ensures.settled };
     } in
     let p = c.in_err-slide_until_crc.ensures in
     let s = c.slide_until_crc.new in
@@ -210,7 +210,7 @@ returns-then-missing-found-clause-ends g c =
       each = c.mark_seen.auto.found;
       marks = c.mark_seen.ensures.marks;
       takes = c.mark_seen.ensures.digests;
-      next = record { within = last.ensures.within; first = last.ensures.missing; marked = last.ensures.marked };
+      next = record { within = last.ensures.within; first = last.ensures.missing; settled = last.ensures.settled };
     } in
     look_ends sought old now l.missing l.exhausted.crcs left at fits filled fill r.shelf m.window m.found last.result look
     (omega (arith, c.if-missing-found.true))

@@ -1,5 +1,4 @@
 use Rattle.std.proofs.Common.{◌*◌, ◌-◌, length}
-use Rattle.parfind.specs.Sought.{sought_of}
 use Rattle.parfind.specs.Surveying.{survey_at}
 use Rattle.parfind.proofs.SoFarLaws.{SurveySoFar}
 use Rattle.parfind.proofs.surveys.surveying.survey_files.Given as goal

@@ -1,13 +1,13 @@
 use Rattle.std.proofs.lemmas.Grind.{common_steps}
-use Rattle.std.proofs.Common.{◌≡◌, ◌∙◌, ◌&&◌, ap, arith, length, map, subst, sym}
+use Rattle.std.proofs.Common.{◌≡◌, ◌∙◌, ap, arith, length, map, subst, sym}
 use Rattle.std.proofs.lemmas.Result.{err_from_is_err_and}
 use Rattle.std.proofs.lemmas.List.{length-map}
 use Rattle.parshelf.specs.Shelf.{ShelfState}
 use Rattle.parfind.specs.Sought.{HasFewTails, sought_of}
 use Rattle.parfind.specs.Steps.{scan_of}
-use Rattle.parfind.specs.Surveys.{MarksSighted, StopsOnceFound, marked_at}
-use Rattle.parwindow.specs.Missing.{mark_of}
-use Rattle.parreport.specs.Findings.{is_settled, can_be_found, set_scan_of}
+use Rattle.parfind.specs.Surveys.{AreAllSettled, MarksSighted, StopsOnceFound, marked_at}
+use Rattle.parwindow.specs.Index.{slice_set_of}
+use Rattle.parreport.specs.Findings.{is_in_whole_file, set_scan_of}
 use Rattle.parreport.proofs.CostLaws.{searched_once}
 use Rattle.parreport.proofs.LeaveLaws.{FilesLeave-survey}
 use Rattle.parreport.proofs.StateLaws.{take-all_back}
@@ -19,34 +19,31 @@ returns-clause-found g c = λ files reads.
     let slices = c.args.set.now.slices in
     let whole = c.args.whole.now in
     let scan = set_scan_of c.args.set.now c.args.mode files in
-    let was : c.deref_mut.result.now ≡ map (is_settled whole) slices
-    = c.deref_mut.ensures.value ∙ (c.in_ok-found.ensures ∙ ap (map (is_settled whole)) c.slices.ensures.field) in
+    let was : c.deref_mut.result.now ≡ map (is_in_whole_file whole) slices
+    = c.deref_mut.ensures.value ∙ (c.in_ok-found.ensures ∙ ap (map (is_in_whole_file whole)) c.slices.ensures.field) in
     let same : length c.survey.new.found ≡ length c.in_ok-found.found.items
     = omega (arith, c.survey.auto.found, ap length c.deref_mut.ensures.value) in
     let back = take-all_back c.in_ok-found.found.len c.survey.new.found c.in_ok-found.found.items same (omega arith) in
-    let now : c.deref_mut-2.result.now ≡ c.survey.new.found = c.deref_mut-2.ensures.value ∙ back in
-    let sized : length c.survey.new.found ≡ length slices = omega (arith, c.survey.auto.found, ap length was, length-map slices (is_settled whole)) in
-    let kept : length c.unmark_unsearchable.new.found ≡ length slices = omega (arith, c.unmark_unsearchable.auto.found, ap length now, sized) in
+    let sized : length c.survey.new.found ≡ length slices = omega (arith, c.survey.auto.found, ap length was, length-map slices (is_in_whole_file whole)) in
     let marked : MarksSighted scan c.deref_mut.result.now c.survey.new.found
     = subst (λ set. MarksSighted (scan_of (sought_of set c.args.mode) files) c.deref_mut.result.now c.survey.new.found) c.requires.index (c.in_ok-survey.ensures.found files reads) in
-    take-all_back c.in_ok-found.found.len c.unmark_unsearchable.new.found _ (omega (arith, c.unmark_unsearchable.auto.found, ap length c.deref_mut-2.ensures.value))
-    (omega (arith, ap length back, same))
-    ∙ marks_found whole scan c.deref_mut.result.now c.survey.new.found c.unmark_unsearchable.new.found was sized kept marked (λ n within.
-    c.unmark_unsearchable.ensures n within
-    ∙ (ap (λ marks. mark_of marks n && can_be_found whole c.slices-2.result.now n) now
-    ∙ ap (λ xs. mark_of c.survey.new.found n && can_be_found whole xs n) c.slices-2.ensures.field))
+    back ∙ marks_found whole scan c.deref_mut.result.now c.survey.new.found was sized marked
 
 pub returns-clause-none : goal.returns-clause-none
 returns-clause-none g c = λ needs_no_search.
-    let was : c.deref_mut.result.now ≡ map (is_settled c.args.whole.now) c.args.set.now.slices
-    = c.deref_mut.ensures.value ∙ (c.in_ok-found.ensures ∙ ap (map (is_settled c.args.whole.now)) c.slices.ensures.field) in
-    c.survey.ensures.none (all_settled c.args.whole.now c.args.set.now.slices c.deref_mut.result.now was needs_no_search)
+    let was : c.deref_mut.result.now ≡ map (is_in_whole_file c.args.whole.now) c.args.set.now.slices
+    = c.deref_mut.ensures.value ∙ (c.in_ok-found.ensures ∙ ap (map (is_in_whole_file c.args.whole.now)) c.slices.ensures.field) in
+    let set = slice_set_of c.args.set.now.size c.args.set.now.slices in
+    c.survey.ensures.none (subst (λ set. AreAllSettled set c.deref_mut.result.now) (sym c.requires.index)
+    (all_settled c.args.whole.now set c.deref_mut.result.now was needs_no_search))
 
 pub returns-in_err-survey-clause-none : goal.returns-in_err-survey-clause-none
 returns-in_err-survey-clause-none g c = λ needs_no_search.
-    let was : c.deref_mut.result.now ≡ map (is_settled c.args.whole.now) c.args.set.now.slices
-    = c.deref_mut.ensures.value ∙ (c.in_ok-found.ensures ∙ ap (map (is_settled c.args.whole.now)) c.slices.ensures.field) in
-    c.survey.ensures.none (all_settled c.args.whole.now c.args.set.now.slices c.deref_mut.result.now was needs_no_search)
+    let was : c.deref_mut.result.now ≡ map (is_in_whole_file c.args.whole.now) c.args.set.now.slices
+    = c.deref_mut.ensures.value ∙ (c.in_ok-found.ensures ∙ ap (map (is_in_whole_file c.args.whole.now)) c.slices.ensures.field) in
+    let set = slice_set_of c.args.set.now.size c.args.set.now.slices in
+    c.survey.ensures.none (subst (λ set. AreAllSettled set c.deref_mut.result.now) (sym c.requires.index)
+    (all_settled c.args.whole.now set c.deref_mut.result.now was needs_no_search))
 
 pub returns-in_err-found-clause-found : goal.returns-in_err-found-clause-found
 returns-in_err-found-clause-found g c = grind (arith, common_steps) steps 400000
@@ -111,8 +108,8 @@ returns-clause-stops g c = λ files reads.
     let scan = set_scan_of c.args.set.now c.args.mode files in
     let old : ShelfState = g.Q.Shelf.state c.args.shelf.now in
     let new : ShelfState = g.Q.Shelf.state c.survey.new.shelf in
-    let was : c.deref_mut.result.now ≡ map (is_settled c.args.whole.now) c.args.set.now.slices
-    = c.deref_mut.ensures.value ∙ (c.in_ok-found.ensures ∙ ap (map (is_settled c.args.whole.now)) c.slices.ensures.field) in
+    let was : c.deref_mut.result.now ≡ map (is_in_whole_file c.args.whole.now) c.args.set.now.slices
+    = c.deref_mut.ensures.value ∙ (c.in_ok-found.ensures ∙ ap (map (is_in_whole_file c.args.whole.now)) c.slices.ensures.field) in
     subst (λ marks. StopsOnceFound scan old new marks) was
     (subst (λ set. StopsOnceFound (scan_of (sought_of set c.args.mode) files) old new c.deref_mut.result.now) c.requires.index
     (c.survey.ensures.stops files reads))
@@ -122,11 +119,8 @@ returns-in_err-survey-clause-stops g c = λ files reads.
     let scan = set_scan_of c.args.set.now c.args.mode files in
     let old : ShelfState = g.Q.Shelf.state c.args.shelf.now in
     let new : ShelfState = g.Q.Shelf.state c.survey.new.shelf in
-    let was : c.deref_mut.result.now ≡ map (is_settled c.args.whole.now) c.args.set.now.slices
-    = c.deref_mut.ensures.value ∙ (c.in_ok-found.ensures ∙ ap (map (is_settled c.args.whole.now)) c.slices.ensures.field) in
+    let was : c.deref_mut.result.now ≡ map (is_in_whole_file c.args.whole.now) c.args.set.now.slices
+    = c.deref_mut.ensures.value ∙ (c.in_ok-found.ensures ∙ ap (map (is_in_whole_file c.args.whole.now)) c.slices.ensures.field) in
     subst (λ marks. StopsOnceFound scan old new marks) was
     (subst (λ set. StopsOnceFound (scan_of (sought_of set c.args.mode) files) old new c.deref_mut.result.now) c.requires.index
     (c.survey.ensures.stops files reads))
-
-pub unmark_unsearchable-requires : goal.unmark_unsearchable-requires
-unmark_unsearchable-requires g c = grind (arith, common_steps) steps 400000

@@ -1,6 +1,6 @@
 use Rattle.std.proofs.Common.{arith}
 use Rattle.std.proofs.lemmas.Grind.{common_steps}
-use Rattle.parreport.proofs.states.found.needs_no_search.Goals as goal
+use Rattle.parreport.proofs.states.found.marks_of_whole_files.Goals as goal
 
 pub collect-requires-clause-can : goal.collect-requires-clause-can
 collect-requires-clause-can c = grind (arith, common_steps) steps 100000
