@@ -1,8 +1,8 @@
 #!/usr/bin/env bash
 # What hashing and searching cost, counted: how many blocks of 64 bytes go through MD5 in a run, how many digests are
-# taken of a window, how many indexes are made, how often a search goes on, and how often tails that slide are stopped.
-# Each number is worked out from the files, by the definitions of the formats and of MD5, but for turns, slides and
-# tables of zeros, which have a bound.
+# taken of a window, how many indexes are made, how often a search goes on, and how often tails that look ahead are stopped.
+# Each number is worked out from the files, by the definitions of the formats and of MD5, but for turns, pieces
+# and tables of zeros, which have a bound.
 . "$(dirname "$0")/wants.sh"
 cd "$work" || exit 1
 gcc -O1 -Wall -Wextra -o entries "$tools/digests/entries.c" || exit 1
@@ -30,9 +30,9 @@ place digests parwindow::window::Window::hash
 place windows parwindow::window::Window::with_tails
 place indexes parwindow::index::Index::of
 place turns parfind::tracks::track::Track::slide_until_crc
-place halves parwindow::zero_run::ZeroRun::new
+place halves parwindow::crcs::zero_run::ZeroRun::new
 place marks parshelf::shelves::names::list_mark
-place slides parwindow::in_turn::slide_piece parwindow::stream::Stream::piece_from
+place pieces parwindow::tails::stream::Stream::piece_from
 [ $failed -eq 0 ] || exit 1
 
 PYTHONPATH=$tools python3 - << 'END' || exit 1
@@ -219,9 +219,10 @@ costs "a run of equal windows" "verify -q zero.par2 zeros" "result impossible" d
 costs "a search by pieces" "find s.par2 other" end "turns<=5"
 costs "the same for a missing file" "verify -q s.par2 a b other" "result impossible" "turns<=14"
 
-# Four tails slide over up to 512 bytes in one go, and are stopped where the register of one may be a slice's, which is
-# so nearly nowhere: far less often than at each fourth place.
-costs "four tails in turn" "find --tails tails.par2 long" end "slides<=$((65536 / 4))"
+# Four tails look ahead over up to 512 bytes in one go. For each stretch they ask for five pieces, of what goes and of
+# what comes to each, and they are stopped where the register of one may be a slice's. That is so nearly nowhere: far
+# less often than at each twentieth place.
+costs "four tails in turn" "find --tails tails.par2 long" end "pieces<=$((65536 / 4))"
 
 # What zeros behind a window make of a register is worked out by halves of their number: of 8,192, of one more, of 1.
 costs "tables by halves" "find s.par2 other" end "halves<=$((15 + 15 + 2))"

@@ -44,8 +44,8 @@ abbrev pub is_lower_digit : ℕ → Bool
 is_lower_digit byte = nat_le 48 byte && nat_le byte 57 || nat_le 97 byte && nat_le byte 102
 
 -- the sixteen bytes that 32 such digits are
-abbrev pub hash_of : List ℕ → Option Hash16
-hash_of part = if list_all is_lower_digit part then hex_hash_of part else None
+abbrev pub parsed_hash : List ℕ → Option Hash16
+parsed_hash part = if list_all is_lower_digit part then hex_hash_of part else None
 
 -- `0`, or digits of which the first isn't `0`
 abbrev pub is_canonical : List ℕ → Bool
@@ -59,34 +59,34 @@ number_of limit part =
     if is_canonical part && nat_lt (digits_value 10 part) limit then Some (digits_value 10 part)
     else None
 
--- the `?` of the logic
-infixl 10 ◌>>=◌
-abbrev pub ◌>>=◌ : {A B : Type 0} → Option A → (A → Option B) → Option B
-found >>= f = option_and_then f found
+-- what a function makes of something, if it is there
+abbrev pub and_then : {A B : Type 0} → Option A → (A → Option B) → Option B
+and_then found f = option_and_then f found
 
 -- the cursor that three parts are
 abbrev pub cursor_of_parts : List (List ℕ) → Option Cursor
-cursor_of_parts (a ∷ b ∷ c ∷ []) = do
-  file ← number_of (2 ^ 32) a
-  offset ← number_of (2 ^ 64) b
-  slice ← number_of (2 ^ 32) c
-  Some (record { file = file; offset = offset; slice = slice })
+cursor_of_parts (a ∷ b ∷ c ∷ []) =
+    and_then (number_of (2 ^ 32) a) (λ file.
+    and_then (number_of (2 ^ 64) b) (λ offset.
+    and_then (number_of (2 ^ 32) c) (λ slice.
+    Some (record { file = file; offset = offset; slice = slice }))))
 cursor_of_parts _ = None
 
 -- what a text of the first version tells, whose parts are an ID and those of a cursor
 abbrev pub first_version : List ℕ → List (List ℕ) → Option CursorText
-first_version id parts = do
-  set ← hash_of id
-  at ← cursor_of_parts parts
-  Some (record { set = set; list = None; at = at })
+first_version id parts =
+    and_then (parsed_hash id) (λ set.
+    and_then (cursor_of_parts parts) (λ at.
+    Some (record { set = set; list = None; at = at })))
 
--- what a text of the second version tells, whose parts after `2` are an ID, a mark and those of a cursor
+-- what a text of the second version tells, whose parts after `2` are an ID, a list mark and those of
+-- a cursor
 abbrev pub second_version : List (List ℕ) → Option CursorText
-second_version (id ∷ mark ∷ parts) = do
-  set ← hash_of id
-  list ← hash_of mark
-  at ← cursor_of_parts parts
-  Some (record { set = set; list = Some list; at = at })
+second_version (id ∷ mark ∷ parts) =
+    and_then (parsed_hash id) (λ set.
+    and_then (parsed_hash mark) (λ list.
+    and_then (cursor_of_parts parts) (λ at.
+    Some (record { set = set; list = Some list; at = at }))))
 second_version _ = None
 
 -- what the parts of a text tell
@@ -95,7 +95,7 @@ text_of_parts [] = None
 text_of_parts (first ∷ parts) =
     if bytes_eq first (codes "2") then second_version parts else first_version first parts
 
--- what a text tells, parted at its colons
+-- what a text tells, split at its colons
 unfoldable pub cursor_text_of : List ℕ → Option CursorText
 cursor_text_of text = text_of_parts (slice_split is_colon text)
 

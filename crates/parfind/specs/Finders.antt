@@ -9,14 +9,14 @@ use Rattle.parfind.specs.declared.tracks.track.Track.{Track}
 use Rattle.parfind.specs.Fetched.{Place, ReadsUpTo}
 use Rattle.parshelf.specs.Reads.{ReadsFile}
 use Rattle.parfind.specs.Tracks.{IsTied, cursor_of_track, fetched_of}
-use Rattle.parfind.specs.Looks.{Keeps, kept_count}
+use Rattle.parfind.specs.KeptDigests.{Keeps, kept_count}
 use Rattle.parfind.specs.Sought.{Sought, IsWindowFor, sought_of}
 use Rattle.parfind.specs.declared.tracks.mode.Mode.{Mode}
 use Rattle.parfield.specs.declared.hash16.Hash16.{Hash16}
 use Rattle.parfind.specs.NextPlace.{HasFit, IsAtPlace}
 use Rattle.parfind.specs.Marks.{marked_between}
 use Rattle.parfind.specs.Order.{is_from}
-use Rattle.parfind.specs.Places.{start_of}
+use Rattle.parfind.specs.Places.{place_start}
 use Rattle.parfind.specs.Points.{SearchState}
 use Rattle.parfind.specs.Steps.{scan_of}
 
@@ -67,7 +67,7 @@ pub record BelongsTo (finder : FinderState) (set : SliceSet) (shelf : ShelfState
       → finder.track.window_offset ≡ finder.cursor.offset
   pub fetched_is : finder.fetched ≡ fetched_of finder.track
   pub digests_are : finder.digests ≡ finder.window.digests
-  pub onward : IsTrue (is_from (start_of finder.opening) (cursor_of_track finder.track))
+  pub onward : IsTrue (is_from (place_start finder.opening) (cursor_of_track finder.track))
   pub counted : (files : List (List ℕ)) → ReadsAs shelf files → finder.window.digests
       ≤ marked_between (scan_of (sought_for set finder) files) finder.opening
       (cursor_of_track finder.track) + kept_count finder.kept

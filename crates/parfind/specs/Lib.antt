@@ -1,6 +1,6 @@
 pub mod Fetched
 pub mod Sought
-pub mod Looks
+pub mod KeptDigests
 pub mod Starts
 pub mod Fitting
 pub mod Tracks
@@ -21,7 +21,7 @@ pub mod Finders
 pub mod NextPlace
 pub mod PlaceVisit
 pub mod Surveys
-pub mod Marking
+pub mod Noting
 pub mod Surveying
 pub use Rattle.parshelf.specs.Reads
 pub use Rattle.parshelf.specs.Shelf

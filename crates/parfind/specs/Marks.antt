@@ -1,23 +1,23 @@
--- The windows that have the CRC-32 of a slice by what is looked at of them, as many as digests may
+-- The windows that have the CRC-32 of a slice by what is compared of them, as many as digests may
 -- be taken.
 use Rattle.std.specs.Prelude.{ℕ, ◌-◌, Bool, List, length, map, filter}
 use Rattle.std.specs.List.{sum_by}
 use Rattle.parwindow.specs.Crc32.{crc_of}
-use Rattle.parwindow.specs.Missing.{has_unmarked, has_fit_crc_of}
+use Rattle.parwindow.specs.Missing.{has_unfound, has_fit_crc_of}
 use Rattle.parwindow.specs.Window.{window_at}
 use Rattle.parfind.specs.declared.cursors.cursor.Cursor.{Cursor}
 use Rattle.parfind.specs.Fetched.{Place}
 use Rattle.parfind.specs.Places.{cursor_past, place_at, places_of, places_between}
 use Rattle.parfind.specs.Sightings.{Scan, content_of}
-use Rattle.parfind.specs.Sought.{Sought, count_looked, is_looked, looked_bytes, looked_lengths}
+use Rattle.parfind.specs.Sought.{Sought, count_compared, is_compared, compared_bytes, compared_lengths}
 
 -- the window of a place
 abbrev pub window_of : Scan → Place → List ℕ
 window_of scan p = window_at scan.sought.set.slice_size (content_of scan p.file) p.offset
 
--- by how many looked lengths the window of a place has the CRC-32 of a slice whose sums are known
+-- by how many compared lengths the window of a place has the CRC-32 of a slice whose sums are known
 abbrev pub marks_at : Scan → Place → ℕ
-marks_at scan p = count_looked scan.sought (window_of scan p)
+marks_at scan p = count_compared scan.sought (window_of scan p)
 
 -- how many these are, from the file and offset of a cursor on and before those of another
 abbrev pub marked_between : Scan → Cursor → Cursor → ℕ
@@ -28,17 +28,17 @@ marked_between scan c d =
 abbrev pub marks : Scan → Cursor → Cursor → ℕ
 marks scan c d = marked_between scan c (cursor_past (place_at d))
 
--- by so many bytes the window has the CRC-32 of a slice for which so many are looked at, whose sums
--- are known, which fits into what is left of the file and has no mark
-abbrev pub has_looked_missing : Sought → List Bool → List ℕ → ℕ → ℕ → Bool
-has_looked_missing sought found window left own =
-    has_unmarked sought.set.slices found
-    (is_looked sought own (has_fit_crc_of (crc_of (looked_bytes window own)) left))
+-- by so many bytes the window has the CRC-32 of a slice for which so many are compared, whose sums
+-- are known, which fits into what is left of the file and isn't found
+abbrev pub has_compared_missing : Sought → List Bool → List ℕ → ℕ → ℕ → Bool
+has_compared_missing sought found window left own =
+    has_unfound sought.set.slices found
+    (is_compared sought own (has_fit_crc_of (crc_of (compared_bytes window own)) left))
 
--- by how many looked lengths it has
+-- by how many compared lengths it has
 abbrev pub count_missing : Sought → List Bool → List ℕ → ℕ → ℕ
 count_missing sought found window left =
-    length (filter (has_looked_missing sought found window left) (looked_lengths sought))
+    length (filter (has_compared_missing sought found window left) (compared_lengths sought))
 
 -- the same of the window of a place
 abbrev pub missing_at : Scan → List Bool → Place → ℕ

@@ -13,9 +13,9 @@ step_of (visit.Passed n) = step.Spent
 step_of visit.End = step.Done
 
 -- its answer
-abbrev pub answer_of : Result Visit ReadFault → Result Step ReadFault
-answer_of (Ok tried) = Ok (step_of tried)
-answer_of (Err fault) = Err fault
+abbrev pub step_answer : Result Visit ReadFault → Result Step ReadFault
+step_answer (Ok tried) = Ok (step_of tried)
+step_answer (Err fault) = Err fault
 
 -- its budget: the places that were passed, and else the first place alone
 abbrev pub count_of : Result Visit ReadFault → ℕ

@@ -23,8 +23,8 @@ abbrev pub place_of : Sighting → Place
 place_of x = record { file = x.file; offset = x.offset }
 
 -- a cursor put back before all slices of its offset
-abbrev pub start_of : Cursor → Cursor
-start_of c = record c { slice = 0 }
+abbrev pub place_start : Cursor → Cursor
+place_start c = record c { slice = 0 }
 
 -- the places of one file, where the files have these lengths
 abbrev pub places_of_file : List ℕ → ℕ → List Place
@@ -38,9 +38,9 @@ places_of lengths = flat_map (places_of_file lengths) (range_with_len 0 (length 
 
 -- the places that are not before the file and offset of a cursor
 abbrev pub places_ahead : List ℕ → Cursor → List Place
-places_ahead lengths c = filter (λ p. is_from (start_of c) (cursor_at p)) (places_of lengths)
+places_ahead lengths c = filter (λ p. is_from (place_start c) (cursor_at p)) (places_of lengths)
 
 -- of these the ones before the file and offset of another cursor
 abbrev pub places_between : List ℕ → Cursor → Cursor → List Place
 places_between lengths c d =
-    filter (λ p. is_before (cursor_at p) (start_of d)) (places_ahead lengths c)
+    filter (λ p. is_before (cursor_at p) (place_start d)) (places_ahead lengths c)

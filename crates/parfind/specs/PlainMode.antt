@@ -33,7 +33,8 @@ PlainMarks =
     ≡ length (filter (λ p. set_has_crc set (crc_of (window_of scan p)))
     (places_between (map length contents) c d))
 
--- what a survey misses are places whose windows have the CRC-32 of a slice that fits and has no mark
+-- what a survey misses are places whose windows have the CRC-32 of a slice that fits and isn't
+-- found
 abbrev pub PlainMisses : Type 0
 PlainMisses =
     (set : SliceSet) (contents : List (List ℕ)) (found : List Bool)

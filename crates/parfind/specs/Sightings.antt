@@ -9,7 +9,7 @@ use Rattle.parfind.specs.declared.cursors.sighting.Sighting.{Sighting}
 use Rattle.parfind.specs.Order.{is_before, is_from, origin, cursor_of, cursor_after}
 use Rattle.parfind.specs.Fetched.{Place}
 use Rattle.parfind.specs.Places.{places_of}
-use Rattle.parfind.specs.Sought.{Sought, looked_window}
+use Rattle.parfind.specs.Sought.{Sought, compared_window}
 use Rattle.parfind.specs.declared.tracks.mode.Mode.{Mode}
 
 -- what is searched for, and the contents of the files that are scanned for it
@@ -21,12 +21,12 @@ pub record Scan : Type 0 where
 abbrev pub content_of : Scan → ℕ → List ℕ
 content_of scan file = slice_index_or scan.contents file []
 
--- the offset and the slice's own bytes lie in the file, and what is looked at of the window there
+-- the offset and the slice's own bytes lie in the file, and what is compared of the window there
 -- has both sums of the slice
 abbrev pub is_seen : Mode → ℕ → List ℕ → ℕ → SetSlice → Bool
 is_seen mode size file offset slice =
     nat_lt offset (length file) && (nat_le (offset + slice.length) (length file)
-    && has_sums (sums_of (looked_window mode (window_at size file offset) slice)) slice)
+    && has_sums (sums_of (compared_window mode (window_at size file offset) slice)) slice)
 
 -- the same of slice n of a set, which is there
 abbrev pub is_slice_seen : Sought → List ℕ → ℕ → ℕ → Bool

@@ -1,4 +1,4 @@
--- What is searched for: the slices of a set, and how much of a window is looked at for each.
+-- What is searched for: the slices of a set, and how much of a window is compared for each.
 use Rattle.std.specs.Prelude.{◌≡◌, ℕ, ◌≤◌, ◌==◌, ◌&&◌, Bool, List, [], ◌∷◌, ◌++◌, All, length, filter, slice_index, IsTrue}
 use Rattle.std.specs.List.{list_any}
 use Rattle.parset.specs.declared.recovery_set.SetSlice.{SetSlice}
@@ -16,58 +16,58 @@ pub record Sought : Type 0 where
 abbrev pub sought_of : SliceSet → Mode → Sought
 sought_of set mode = record { set = set; mode = mode }
 
--- how many bytes of a window are looked at for a slice, before the zeros that fill it up: all of
+-- how many bytes of a window are compared for a slice, before the zeros that fill it up: all of
 -- them, or as many as the slice has of its file
-abbrev pub looked_length : Mode → ℕ → SetSlice → ℕ
-looked_length Plain size slice = size
-looked_length Tails size slice = slice.length
+abbrev pub compared_length : Mode → ℕ → SetSlice → ℕ
+compared_length Plain size slice = size
+compared_length Tails size slice = slice.length
 
 -- so many bytes of a window, and the zeros that fill it up
-abbrev pub looked_bytes : List ℕ → ℕ → List ℕ
-looked_bytes window own = zero_filled (length window) own window
+abbrev pub compared_bytes : List ℕ → ℕ → List ℕ
+compared_bytes window own = zero_filled (length window) own window
 
--- what of a window is looked at for a slice
-abbrev pub looked_window : Mode → List ℕ → SetSlice → List ℕ
-looked_window mode window slice = looked_bytes window (looked_length mode (length window) slice)
+-- what of a window is compared for a slice
+abbrev pub compared_window : Mode → List ℕ → SetSlice → List ℕ
+compared_window mode window slice = compared_bytes window (compared_length mode (length window) slice)
 
--- so many bytes of a window are looked at for a slice, and it passes a test
-abbrev pub is_looked : Sought → ℕ → (SetSlice → Bool) → SetSlice → Bool
-is_looked sought own test slice =
-    looked_length sought.mode sought.set.slice_size slice == own && test slice
+-- so many bytes of a window are compared for a slice, and it passes a test
+abbrev pub is_compared : Sought → ℕ → (SetSlice → Bool) → SetSlice → Bool
+is_compared sought own test slice =
+    compared_length sought.mode sought.set.slice_size slice == own && test slice
 
--- the shorter lengths that are looked at: where short slices are looked for by their own bytes, the
+-- the shorter lengths that are compared: where short slices are looked for by their own bytes, the
 -- own lengths below the slice size of slices whose sums are known, and else none
 abbrev pub shorter_lengths : Mode → SliceSet → List ℕ
 shorter_lengths Plain set = []
 shorter_lengths Tails set = tails_of set
 
--- what is looked at of a window: its shorter lengths, and all of it
-abbrev pub looked_lengths : Sought → List ℕ
-looked_lengths sought = shorter_lengths sought.mode sought.set ++ sought.set.slice_size ∷ []
+-- what is compared of a window: its shorter lengths, and all of it
+abbrev pub compared_lengths : Sought → List ℕ
+compared_lengths sought = shorter_lengths sought.mode sought.set ++ sought.set.slice_size ∷ []
 
 -- there are no more shorter lengths than a window may have
 abbrev pub HasFewTails : Sought → Type 0
 HasFewTails sought = length (shorter_lengths sought.mode sought.set) ≤ tail_limit
 
--- looked length number k, from the least on; the last is the slice size
-abbrev pub nth_looked : Sought → ℕ → ℕ
-nth_looked sought k = slice_index (looked_lengths sought) k
+-- compared length number k, from the least on; the last is the slice size
+abbrev pub nth_compared : Sought → ℕ → ℕ
+nth_compared sought k = slice_index (compared_lengths sought) k
 
--- by so many bytes the window has the CRC-32 of a slice for which so many are looked at and whose
+-- by so many bytes the window has the CRC-32 of a slice for which so many are compared and whose
 -- sums are known
-abbrev pub has_looked_crc : Sought → List ℕ → ℕ → Bool
-has_looked_crc sought window own =
-    list_any (is_looked sought own (has_known_crc (crc_of (looked_bytes window own))))
+abbrev pub has_compared_crc : Sought → List ℕ → ℕ → Bool
+has_compared_crc sought window own =
+    list_any (is_compared sought own (has_known_crc (crc_of (compared_bytes window own))))
     sought.set.slices
 
--- by how many looked lengths it has
-abbrev pub count_looked : Sought → List ℕ → ℕ
-count_looked sought window = length (filter (has_looked_crc sought window) (looked_lengths sought))
+-- by how many compared lengths it has
+abbrev pub count_compared : Sought → List ℕ → ℕ
+count_compared sought window = length (filter (has_compared_crc sought window) (compared_lengths sought))
 
--- for no slice what is looked at of the window has its CRC-32
-abbrev pub HasNoLookedCrc : Sought → List ℕ → Type 0
-HasNoLookedCrc sought window =
-    All (λ slice. ¬ IsTrue (has_known_crc (crc_of (looked_window sought.mode window slice)) slice))
+-- for no slice what is compared of the window has its CRC-32
+abbrev pub HasNoComparedCrc : Sought → List ℕ → Type 0
+HasNoComparedCrc sought window =
+    All (λ slice. ¬ IsTrue (has_known_crc (crc_of (compared_window sought.mode window slice)) slice))
     sought.set.slices
 
 -- the window is made for what is searched for

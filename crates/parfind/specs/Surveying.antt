@@ -1,4 +1,4 @@
--- A survey on its way: what it has marked, read and hashed once it is at a cursor.
+-- A survey on its way: what it has found, read and hashed once it is at a cursor.
 use Rattle.std.specs.Prelude.{◌≡◌, ℕ, ◌+◌, ◌≤◌, ◌||◌, ◌⊎◌, Bool, true, List, length, map, Result, OnOk}
 use Rattle.std.specs.List.{sum_by}
 use Rattle.parshelf.specs.Shelf.{ShelfState, ReadsAs}
@@ -17,9 +17,9 @@ use Rattle.parfind.specs.OnePass.{IsNear}
 use Rattle.parfind.specs.Sightings.{Scan}
 use Rattle.parfind.specs.Steps.{scan_of}
 use Rattle.parfind.specs.Surveys.{is_sighted_before, AreAllSettled, AllSightedBy}
-use Rattle.parwindow.specs.Missing.{mark_of}
+use Rattle.parwindow.specs.Missing.{found_at}
 
--- where a survey is: its shelf and its window, the marks, and how the window goes along a file
+-- where a survey is: its shelf and its window, what is found, and how the window goes along a file
 pub record SurveyState : Type 0 where
   pub shelf : ShelfState
   pub window : WindowState
@@ -30,18 +30,18 @@ abbrev pub survey_at : ShelfState → WindowState → List Bool → Track → Su
 survey_at shelf window found track =
     record { shelf = shelf; window = window; found = found; track = track }
 
--- how many looked lengths of windows from one cursor to another have the CRC-32 of a slice that fits
--- there and has no mark
+-- how many compared lengths of windows from one cursor to another have the CRC-32 of a slice that fits
+-- there and isn't found
 abbrev pub missing_between : Scan → List Bool → Cursor → Cursor → ℕ
 missing_between scan found c d =
     sum_by (missing_at scan found) (places_between (map length scan.contents) c d)
 
--- from the beginning of all files it has come to a cursor; marks, stops and digests are those of any
+-- from the beginning of all files it has come to a cursor; finds, stops and digests are those of any
 -- files that the shelf reads as so far
 pub record Surveyed (sought : Sought) (old now : SurveyState) (c : Cursor) : Type 0 where
-  pub marks : (files : List (List ℕ)) → ReadsAs now.shelf files → (n : ℕ)
-      → mark_of now.found n ≡ (mark_of old.found n || is_sighted_before (scan_of sought files) c n)
-  pub kept : (n : ℕ) → mark_of old.found n ≡ true → mark_of now.found n ≡ true
+  pub found : (files : List (List ℕ)) → ReadsAs now.shelf files → (n : ℕ)
+      → found_at now.found n ≡ (found_at old.found n || is_sighted_before (scan_of sought files) c n)
+  pub kept : (n : ℕ) → found_at old.found n ≡ true → found_at now.found n ≡ true
   pub hands :
       ReadsUpTo old.shelf now.shelf (record { file = 0; offset = 0 }) (fetched_of now.track)
   pub unfit : SkipsUnfit sought.set old.shelf now.shelf

@@ -1,4 +1,4 @@
--- Which slices of a set have a sighting, as marks by slice number.
+-- Which slices of a set a survey finds, as flags by slice number.
 use Rattle.std.specs.Prelude.{◌≡◌, ℕ, ◌==◌, ◌&&◌, ◌||◌, not, Bool, List, Result, Ok, Err, EachIndex, IsTrue}
 use Rattle.std.specs.List.{list_any}
 use Rattle.parshelf.specs.Shelf.{ShelfState, ReadsAs}
@@ -6,7 +6,7 @@ use Rattle.parshelf.specs.Reads.{ReadsOnly, FaultsIn}
 use Rattle.parshelf.specs.declared.shelves.reading.ReadFault.{ReadFault}
 use Rattle.parfind.specs.Sought.{Sought, HasFewTails}
 use Rattle.parwindow.specs.Index.{SliceSet, slice_passes, has_known_sums}
-use Rattle.parwindow.specs.Missing.{mark_of}
+use Rattle.parwindow.specs.Missing.{found_at}
 use Rattle.parfind.specs.declared.cursors.cursor.Cursor.{Cursor}
 use Rattle.parfind.specs.Fetched.{Place}
 use Rattle.parfind.specs.declared.surveys.surveying.SurveyFault.{SurveyFault}
@@ -26,68 +26,68 @@ abbrev pub is_sighted_before : Scan → Cursor → ℕ → Bool
 is_sighted_before scan c n =
     list_any (λ x. x.slice == n && is_before (cursor_of x) c) (sightings_of scan)
 
--- the sums of slice n are not known, so that it has no sighting
+-- the checksums of slice n are not known, so that it has no sighting
 abbrev pub lacks_sums : SliceSet → ℕ → Bool
 lacks_sums set n = not (slice_passes set.slices has_known_sums n)
 
--- slice n is marked, or no search can find it
+-- slice n is found, or no search can find it
 abbrev pub is_settled : SliceSet → List Bool → ℕ → Bool
-is_settled set marks n = mark_of marks n || lacks_sums set n
+is_settled set found n = found_at found n || lacks_sums set n
 
 -- each slice is settled
 abbrev pub AreAllSettled : SliceSet → List Bool → Type 0
-AreAllSettled set marks = EachIndex marks (λ n. IsTrue (is_settled set marks n))
+AreAllSettled set found = EachIndex found (λ n. IsTrue (is_settled set found n))
 
--- a slice is marked exactly where it was or has a sighting
-abbrev pub MarksSighted : Scan → List Bool → List Bool → Type 0
-MarksSighted scan was now =
-    EachIndex now (λ n. mark_of now n ≡ (mark_of was n || is_sighted scan n))
+-- a slice is found exactly where it was or has a sighting
+abbrev pub FindsSighted : Scan → List Bool → List Bool → Type 0
+FindsSighted scan was now =
+    EachIndex now (λ n. found_at now n ≡ (found_at was n || is_sighted scan n))
 
--- a slice is marked exactly where it was or has a sighting before a cursor
-abbrev pub MarksBefore : Scan → Cursor → List Bool → List Bool → Type 0
-MarksBefore scan c was now =
-    EachIndex now (λ n. mark_of now n ≡ (mark_of was n || is_sighted_before scan c n))
+-- a slice is found exactly where it was or has a sighting before a cursor
+abbrev pub FindsBefore : Scan → Cursor → List Bool → List Bool → Type 0
+FindsBefore scan c was now =
+    EachIndex now (λ n. found_at now n ≡ (found_at was n || is_sighted_before scan c n))
 
--- a slice is marked only where it was or has a sighting
-abbrev pub MarksNoOther : Scan → List Bool → List Bool → Type 0
-MarksNoOther scan was now =
-    EachIndex now (λ n. IsTrue (mark_of now n) → IsTrue (mark_of was n || is_sighted scan n))
+-- a slice is found only where it was or has a sighting
+abbrev pub FindsNoOther : Scan → List Bool → List Bool → Type 0
+FindsNoOther scan was now =
+    EachIndex now (λ n. IsTrue (found_at now n) → IsTrue (found_at was n || is_sighted scan n))
 
--- a survey that answers has marked all sightings, and after a fault there is no other mark
-abbrev pub SurveyMarks : {A E : Type 0} → Scan → List Bool → List Bool → Result A E → Type 0
-SurveyMarks scan was now (Ok answer) = MarksSighted scan was now
-SurveyMarks scan was now (Err fault) = MarksNoOther scan was now
+-- a survey that answers has found all sightings, and after a fault no other is found
+abbrev pub SurveyFinds : {A E : Type 0} → Scan → List Bool → List Bool → Result A E → Type 0
+SurveyFinds scan was now (Ok answer) = FindsSighted scan was now
+SurveyFinds scan was now (Err fault) = FindsNoOther scan was now
 
--- no mark is taken away
-abbrev pub KeepsMarks : List Bool → List Bool → Type 0
-KeepsMarks was now = EachIndex was (λ n. IsTrue (mark_of was n) → IsTrue (mark_of now n))
+-- none is taken back
+abbrev pub KeepsFound : List Bool → List Bool → Type 0
+KeepsFound was now = EachIndex was (λ n. IsTrue (found_at was n) → IsTrue (found_at now n))
 
 -- each slice that is not settled has a sighting at a place or before it
 abbrev pub AllSightedBy : Scan → List Bool → Place → Type 0
-AllSightedBy scan marks p =
-    EachIndex marks (λ n.
-    IsTrue (is_settled scan.sought.set marks n || is_sighted_before scan (cursor_past p) n))
+AllSightedBy scan found p =
+    EachIndex found (λ n.
+    IsTrue (is_settled scan.sought.set found n || is_sighted_before scan (cursor_past p) n))
 
 -- from the place on by which each slice is found, no more is handed over than around it
 abbrev pub StopsOnceFound : Scan → ShelfState → ShelfState → List Bool → Type 0
 StopsOnceFound scan old new was =
     (p : Place) → AllSightedBy scan was p → HandsAround scan.sought.set.slice_size old new p
 
--- a shelf, and the marks of a survey of its files
+-- a shelf, and what a survey of its files has found
 pub record SurveyPoint : Type 0 where
   pub shelf : ShelfState
-  pub marks : List Bool
+  pub found : List Bool
 
-abbrev pub marked_at : ShelfState → List Bool → SurveyPoint
-marked_at shelf marks = record { shelf = shelf; marks = marks }
+abbrev pub survey_point : ShelfState → List Bool → SurveyPoint
+survey_point shelf found = record { shelf = shelf; found = found }
 
 -- what a fault of a file leaves: a place of that file, such that in any files that the shelf reads as
--- the marks are those of all sightings before it, and no more was handed over than around it
-pub record MarksUpToFault (sought : Sought) (old new : SurveyPoint) (file : ℕ) : Type 0 where
+-- what is found is that of all sightings before it, and no more was handed over than around it
+pub record FindsUpToFault (sought : Sought) (old new : SurveyPoint) (file : ℕ) : Type 0 where
   pub place : Place
   pub file_is : place.file ≡ file
   pub sighted : (files : List (List ℕ)) → ReadsAs new.shelf files
-      → MarksBefore (scan_of sought files) (cursor_at place) old.marks new.marks
+      → FindsBefore (scan_of sought files) (cursor_at place) old.found new.found
   pub around : HandsAround sought.set.slice_size old.shelf new.shelf place
 
 -- an answer only reads, and a fault is one of the file that it names
@@ -96,7 +96,7 @@ ReadsNamed old new (Ok answer) = ReadsOnly old new
 ReadsNamed old new (Err named) = FaultsIn old new named.0 named.1
 
 -- an answer only reads, a read fault is one of the file that it names, and any other fault comes
--- before all reads and marks
+-- before all reads and finds
 abbrev pub SurveyLeaves : {A : Type 0} → SurveyPoint → SurveyPoint → Result A SurveyFault → Type 0
 SurveyLeaves old new (Ok answer) = ReadsOnly old.shelf new.shelf
 SurveyLeaves old new (Err (Read file fault)) = FaultsIn old.shelf new.shelf file fault

@@ -6,7 +6,7 @@ use Rattle.parwindow.specs.Window.{WindowState, window_at}
 use Rattle.parfind.specs.declared.cursors.cursor.Cursor.{Cursor}
 use Rattle.parfind.specs.declared.tracks.track.Track.{Track}
 use Rattle.parfind.specs.Fetched.{Place, ahead_limit}
-use Rattle.parfind.specs.Sought.{Sought, HasNoLookedCrc}
+use Rattle.parfind.specs.Sought.{Sought, HasNoComparedCrc}
 
 -- these are the bytes of a file from an offset on, with zeros past its end
 pub record HasBytes (file : List ℕ) (offset : ℕ) (bytes : List ℕ) : Type 0 where
@@ -61,16 +61,16 @@ pub record IsReadOn (a b : Track) : Type 0 where
 
 -- of a file of this length whose bytes were read ahead, the piece has the bytes that the window
 -- takes next
-abbrev pub IsPieceOf : WindowState → Track → ℕ → List ℕ → Type 0
-IsPieceOf w t size piece =
+abbrev pub AreNextBytes : WindowState → Track → ℕ → List ℕ → Type 0
+AreNextBytes w t size piece =
     (file : List ℕ) → length file ≡ size → HasBytes file t.buffer_offset (take t.buffer_len t.bytes)
     → HasBytes file (t.window_offset + length w.content) piece
 
--- so many bytes on, before that, no window has the CRC-32 of a slice in what is looked at for it
-abbrev pub HaveNoLookedCrc : Sought → List ℕ → ℕ → ℕ → Type 0
-HaveNoLookedCrc sought file offset n =
+-- so many bytes on, before that, no window has the CRC-32 of a slice in what is compared for it
+abbrev pub HaveNoComparedCrc : Sought → List ℕ → ℕ → ℕ → Type 0
+HaveNoComparedCrc sought file offset n =
     (k : ℕ) → 0 < k → k < n
-    → HasNoLookedCrc sought (window_at sought.set.slice_size file (offset + k))
+    → HasNoComparedCrc sought (window_at sought.set.slice_size file (offset + k))
 
 -- what a call that passes n places does: the window stands so many bytes on
 pub record Passes (size : ℕ) (a b : Track) (most n : ℕ) : Type 0 where

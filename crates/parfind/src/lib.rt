@@ -2,11 +2,11 @@
 //!
 //! From below: `cursors` says where a search stands and what it sees, and has the texts of cursors;
 //! `tracks` brings a window along a file. `searches` hands out sighting after sighting from a
-//! cursor on, and `surveys` marks the slices that have one; both go by a track. `drives` makes a
+//! cursor on, and `surveys` finds the slices that have one; both go by a track. `drives` makes a
 //! list of calls of a search.
 //!
 //! A search may be given up and opened again at its cursor, and then reads its window anew. A
-//! survey begins at the first file, and ends once each slice has its mark. Once it has its window,
+//! survey begins at the first file, and ends once each slice is found. Once it has its window,
 //! neither takes memory, nor is either handed more bytes of a file than the file has.
 #![tactic(auto)]
 

@@ -3,7 +3,7 @@
 //!
 //! From below: `track` makes a track, reads ahead along a file and brings the window from place to
 //! place over what was read. `mode` says how short slices are looked for, and `sought` which slices
-//! are. One body serves both modes: what is looked at of a window are some lengths of it, all of
+//! are. One body serves both modes: what is compared of a window are some lengths of it, all of
 //! them or the whole window alone, and `sought` tells what each is of. `digests` tells which slice
 //! is seen in a full window, and keeps the digests that were taken of it.
 //!

@@ -33,8 +33,8 @@ some_files_of None = Err NoPacketFile
 some_files_of (Some files) = if nat_lt open_file_limit (length files) then Err Value else Ok files
 
 -- FILES
-abbrev pub files_of : List Row → Result (List (List ℕ)) PlanFault
-files_of rows = some_files_of (all_of (codes "files") rows)
+abbrev pub file_names_of : List Row → Result (List (List ℕ)) PlanFault
+file_names_of rows = some_files_of (all_of (codes "files") rows)
 
 -- the packet files, of which there is one at least
 abbrev pub packet_files_of : List (List ℕ) → Result (List (List ℕ)) PlanFault
@@ -48,7 +48,7 @@ plan_of_rows verb rows = do
   command ← command_of verb rows
   set ← set_option_of rows
   base ← base_option_of rows
-  files ← files_of rows
+  files ← file_names_of rows
   packets ← packet_files_of files
   Ok (record {
     command = command;

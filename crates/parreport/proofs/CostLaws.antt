@@ -15,9 +15,9 @@ use Rattle.parfind.specs.OnePass.{room_of}
 use Rattle.parfind.specs.Places.{place_at}
 use Rattle.parfind.specs.Points.{SearchState}
 use Rattle.parfind.specs.declared.cursors.cursor.Cursor.{Cursor}
-use Rattle.parfind.proofs.FetchedLaws.{hands_more}
-use Rattle.parfind.proofs.MissingSetLaws.{skips_more}
-use Rattle.parfind.proofs.ReachLaws.{reach_adds_up}
+use Rattle.parfind.proofs.track_laws.FetchedLaws.{hands_more}
+use Rattle.parfind.proofs.survey_laws.MissingSetLaws.{skips_more}
+use Rattle.parfind.proofs.search_laws.ReachLaws.{reach_adds_up}
 use Rattle.parreport.specs.Contents.{HandsPerFile, ReadsCandidates}
 use Rattle.parreport.specs.Costs.{HandsWithinSalvage, searched_length_of, verified_length_of}
 

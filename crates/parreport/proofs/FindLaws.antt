@@ -18,10 +18,10 @@ use Rattle.parfind.specs.declared.cursors.cursor.Cursor.{Cursor}
 use Rattle.parfind.specs.declared.cursors.sighting.Sighting.{Sighting}
 use Rattle.parfind.specs.Order.{is_from, cursor_of, cursor_after}
 use Rattle.parfind.specs.Sightings.{Scan, sightings_of, sightings_between}
-use Rattle.parfind.proofs.OrderLaws.{From-by_test}
-use Rattle.parfind.proofs.ListLaws.{Each-weaker, Each-passes, All-from}
-use Rattle.parfind.proofs.RisingLaws.{between_and_from}
-use Rattle.parfind.proofs.SightingLaws.{Rises-sightings_of}
+use Rattle.parfind.proofs.place_laws.CursorOrderLaws.{From-by_test}
+use Rattle.parfind.proofs.place_laws.ItemLaws.{Each-weaker, Each-passes, All-from}
+use Rattle.parfind.proofs.place_laws.RisingLaws.{between_and_from}
+use Rattle.parfind.proofs.place_laws.SightingLaws.{Rises-sightings_of}
 use Rattle.parreport.specs.Findings.{set_scan_of}
 use Rattle.parreport.specs.FindText.{Search, line_of_cursor, seen_from, found_line, limited, last_line, find_text, limit_left, WritesLinesBefore}
 use Rattle.parreport.specs.Lines.{end_line}

@@ -7,7 +7,7 @@ use Rattle.parfind.specs.Sought.{Sought, HasFewTails}
 use Rattle.parfind.specs.Surveys.{SurveyPoint, SurveyLeaves, SurveyTellsTails}
 use Rattle.parfind.specs.declared.surveys.surveying.SurveyFault.{SurveyFault}
 use Rattle.parfind.specs.declared.surveys.surveying.SurveyFault.TheVariants.{Read, Memory, TooManyTails}
-use Rattle.parfind.proofs.LaterLaws.{Later, later_only, later_fault}
+use Rattle.parfind.proofs.track_laws.LaterShelfLaws.{Later, later_only, later_fault}
 use Rattle.parreport.specs.Files.{FilesLeave}
 use Rattle.parreport.specs.Outcomes.{LeavesPackets, LeavesScanned, TellsPackets, TellsScanned}
 use Rattle.parplan.specs.declared.command.Plan.{Plan}

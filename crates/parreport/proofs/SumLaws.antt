@@ -14,10 +14,10 @@ use Rattle.parset.specs.RecoverySet.{SetView}
 use Rattle.parshelf.specs.Shelf.{ShelfState}
 use Rattle.parwindow.specs.Index.{SliceSet, has_known_sums}
 use Rattle.parfind.specs.Sightings.{Scan}
-use Rattle.parfind.specs.Surveys.{is_sighted, lacks_sums, AreAllSettled, MarksSighted}
-use Rattle.parwindow.specs.Missing.{mark_of}
+use Rattle.parfind.specs.Surveys.{is_sighted, lacks_sums, AreAllSettled, FindsSighted}
+use Rattle.parwindow.specs.Missing.{found_at}
 use Rattle.parreport.specs.Contents.{ReadsCandidates}
-use Rattle.parreport.specs.Findings.{is_in_intact_file, is_in_whole_file, is_settled, NeedsNoSearch}
+use Rattle.parreport.specs.Findings.{is_in_intact_file, is_in_whole_file, needs_no_search, NeedsNoSearch}
 use Rattle.parreport.specs.States.{NamedFile}
 
 no_slice : SetSlice
@@ -25,15 +25,15 @@ no_slice = record { id = record { 0 = [] }; number = 0; length = 0; sums = None 
 
 -- the marks before the search
 mark_before : (whole : BTreeSet Hash16) (slices : List SetSlice) (was : List Bool) (k : ℕ) → k < length slices
-    → was ≡ map (is_in_whole_file whole) slices → mark_of was k ≡ is_in_whole_file whole (get_or slices k no_slice)
+    → was ≡ map (is_in_whole_file whole) slices → found_at was k ≡ is_in_whole_file whole (get_or slices k no_slice)
 mark_before whole slices was k here before =
-    ap (λ marks. mark_of marks k) before ∙ get_or-map (is_in_whole_file whole) slices k no_slice false here
+    ap (λ marks. found_at marks k) before ∙ get_or-map (is_in_whole_file whole) slices k no_slice false here
 
 -- and after it
-pub marks_found : (whole : BTreeSet Hash16) (scan : Scan) (was now : List Bool) → was ≡ map (is_in_whole_file whole) scan.sought.set.slices
-    → length now ≡ length scan.sought.set.slices → MarksSighted scan was now
+pub found_found : (whole : BTreeSet Hash16) (scan : Scan) (was now : List Bool) → was ≡ map (is_in_whole_file whole) scan.sought.set.slices
+    → length now ≡ length scan.sought.set.slices → FindsSighted scan was now
     → now ≡ map (λ slice. contains id_cmp whole slice.1.id || is_sighted scan slice.0) (enumerate_from 0 scan.sought.set.slices)
-marks_found whole scan was now before sized marked =
+found_found whole scan was now before sized marked =
     let slices = scan.sought.set.slices in
     let f = λ (slice : ℕ × SetSlice). contains id_cmp whole slice.1.id || is_sighted scan slice.0 in
     let numbered = length-enumerate_from 0 slices in
@@ -52,7 +52,7 @@ none_known (Some known) = refl
 
 -- where no search is needed for any slice, each is settled before it
 pub all_settled : (whole : BTreeSet Hash16) (set : SliceSet) (was : List Bool) → was ≡ map (is_in_whole_file whole) set.slices
-    → All (λ slice. IsTrue (is_settled whole slice)) set.slices → AreAllSettled set was
+    → All (λ slice. IsTrue (needs_no_search whole slice)) set.slices → AreAllSettled set was
 all_settled whole set was before all k within =
     let slices = set.slices in
     let sized = length-map slices (is_in_whole_file whole) in
@@ -65,7 +65,7 @@ all_settled whole set was before all k within =
 
 -- where no slice needs a search, none adds to what was asked for
 pub unsearched : (set : SetView) (scanned : List NamedFile) (whole : BTreeSet Hash16) (old mid new : ShelfState)
-    → ReadsCandidates set.files old mid → (All (λ slice. IsTrue (is_settled whole slice)) set.slices → new ≡ mid)
+    → ReadsCandidates set.files old mid → (All (λ slice. IsTrue (needs_no_search whole slice)) set.slices → new ≡ mid)
     → ((id : Hash16) → contains id_cmp whole id ≡ is_in_intact_file set scanned id)
     → NeedsNoSearch set scanned → ReadsCandidates set.files old new
 unsearched set scanned whole old mid new asked none by_id needs = λ file.

@@ -37,8 +37,8 @@ abbrev pub is_in_whole_file : BTreeSet Hash16 → SetSlice → Bool
 is_in_whole_file whole slice = contains id_cmp whole slice.id
 
 -- no search is needed for a slice: its file is one of these, or it has no sums to be found by
-abbrev pub is_settled : BTreeSet Hash16 → SetSlice → Bool
-is_settled whole slice = is_in_whole_file whole slice || is_none slice.sums
+abbrev pub needs_no_search : BTreeSet Hash16 → SetSlice → Bool
+needs_no_search whole slice = is_in_whole_file whole slice || is_none slice.sums
 
 -- what the scanned files show of the set
 abbrev pub findings_of : SetView → Mode → List NamedFile → Findings

@@ -33,7 +33,7 @@ pub fn run_end(plan: &Plan, answer: Result<Status, RunFault>) -> (End, Option<&T
 }
 
 /// The end where the packet files can't all be opened, and the argument that it is about.
-pub fn packets_end(plan: &Plan, why: OpenFault) -> (End, Option<&Text>)
+pub fn unopened_packets(plan: &Plan, why: OpenFault) -> (End, Option<&Text>)
     ensures { (result.0, option_map (λ file. file.now) result.1)
         ≡ open_end_of plan.now.packets why }
 {
@@ -44,7 +44,7 @@ pub fn packets_end(plan: &Plan, why: OpenFault) -> (End, Option<&Text>)
 }
 
 /// The end where the scanned files can't all be opened, and the argument that it is about.
-pub fn scanned_end(plan: &Plan, why: OpenFault) -> (End, Option<&Text>)
+pub fn unopened_scanned(plan: &Plan, why: OpenFault) -> (End, Option<&Text>)
     ensures { (result.0, option_map (λ file. file.now) result.1)
         ≡ open_end_of (scanned_paths_of plan.now) why }
 {

@@ -17,7 +17,7 @@ mod salvage;
 mod states;
 mod text;
 
-pub use crate::ends::{End, argument_of, packets_end, run_end, scanned_end};
+pub use crate::ends::{End, argument_of, run_end, unopened_packets, unopened_scanned};
 pub use crate::messages::ending;
 pub use crate::opened_files::run_opened;
 pub use crate::report::run;

@@ -3,7 +3,7 @@ ghost use Rattle.parplan.specs.Commands.{reads_scanned, LimitIsNotZero};
 ghost use Rattle.parreport.specs.Ends.{opened_of};
 ghost use Rattle.parreport.specs.OpenedFiles.{TellsEnd, TellsRun};
 
-use crate::ends::{End, packets_end, run_end, scanned_end};
+use crate::ends::{End, run_end, unopened_packets, unopened_scanned};
 use crate::messages::ending;
 use crate::report::run;
 use parfield::Text;
@@ -47,11 +47,11 @@ pub fn run_opened<P: Shelf, Q: Shelf, W: Sink>(
     match (packets, scanned) {
         (Ok(packets), Ok(scanned)) => run_and_tell(alloc, plan, packets, scanned, out),
         (Err(why), _) => {
-            let (end, argument) = packets_end(plan, *why);
+            let (end, argument) = unopened_packets(plan, *why);
             tell(alloc, end, argument)
         }
         (Ok(_), Err(why)) => {
-            let (end, argument) = scanned_end(plan, *why);
+            let (end, argument) = unopened_scanned(plan, *why);
             tell(alloc, end, argument)
         }
     }

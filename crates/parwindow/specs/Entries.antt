@@ -6,8 +6,8 @@ use Rattle.std.specs.Ordering.{nat_cmp, then_cmp, on}
 use Rattle.std.specs.Cmp.Lexicographic.{slice_cmp}
 use Rattle.parset.specs.declared.recovery_set.SetSlice.{SetSlice}
 use Rattle.parwindow.specs.Index.{slice_passes, has_sums}
-use Rattle.parwindow.specs.Missing.{mark_of}
-use Rattle.parwindow.specs.declared.entry.Entry.{Entry}
+use Rattle.parwindow.specs.Missing.{found_at}
+use Rattle.parwindow.specs.declared.slices.entries.Entry.{Entry}
 
 -- by CRC-32, then by the MD5 from its first byte on, then by number
 abbrev pub entry_cmp : Entry → Entry → Ordering
@@ -57,6 +57,6 @@ lesser from (Some least) n = if nat_lt n from then Some least else Some (min lea
 abbrev pub is_between : ℕ → ℕ → SetSlice → Bool
 is_between least most slice = nat_le least slice.length && nat_le slice.length most
 
--- the slice of an entry passes a test, and its mark is false
+-- the slice of an entry passes a test and isn't found
 abbrev pub is_open : List SetSlice → List Bool → (SetSlice → Bool) → Entry → Bool
-is_open slices found test e = slice_passes slices test e.slice && not (mark_of found e.slice)
+is_open slices found test e = slice_passes slices test e.slice && not (found_at found e.slice)

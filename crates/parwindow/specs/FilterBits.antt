@@ -5,7 +5,7 @@ use Rattle.parset.specs.declared.recovery_set.SetSlice.{SetSlice}
 use Rattle.parwindow.specs.Crc32.{crc_steps}
 use Rattle.parwindow.specs.Index.{has_known_crc, has_own}
 use Rattle.parwindow.specs.KeyBits.{HasBit}
-use Rattle.parwindow.specs.declared.bloom_filter.BloomFilter.{BloomFilter}
+use Rattle.parwindow.specs.declared.slices.bloom_filter.BloomFilter.{BloomFilter}
 
 -- the key of a register whose bits are all mixed into the upper ones
 abbrev pub scattered_key : ℕ → ℕ

@@ -12,7 +12,7 @@ pub mod Least
 pub mod Missing
 pub mod Powers
 pub mod Rolled
-pub mod Slide
+pub mod Rolling
 pub mod Tables
 pub mod TailLengths
 pub mod Tails

@@ -1,5 +1,5 @@
--- The slices that have a CRC-32 and fit into what is left of a file, and those of them without a
--- mark; and the set in which those with one have no sums.
+-- The slices that have a CRC-32 and fit into what is left of a file, and those of them that aren't
+-- found; and the set in which those that are found have no checksums.
 use Rattle.std.specs.Prelude.{ℕ, ◌&&◌, nat_le, not, Bool, true, false, None, List, length, map, zip, slice_index_or}
 use Rattle.std.specs.List.{list_any, range_with_len}
 use Rattle.parset.specs.declared.recovery_set.SetSlice.{SetSlice}
@@ -13,31 +13,31 @@ has_fit_crc_of crc left slice = has_known_crc crc slice && nat_le slice.length l
 abbrev pub set_has_fit_crc : SliceSet → ℕ → ℕ → Bool
 set_has_fit_crc set crc left = list_any (has_fit_crc_of crc left) set.slices
 
--- the mark of slice n; the marks are by slice number
-abbrev pub mark_of : List Bool → ℕ → Bool
-mark_of marks n = slice_index_or marks n false
+-- whether slice n is found, by flags for all slices
+abbrev pub found_at : List Bool → ℕ → Bool
+found_at found n = slice_index_or found n false
 
--- some slice passes a test, and its mark is false
-abbrev pub has_unmarked : List SetSlice → List Bool → (SetSlice → Bool) → Bool
-has_unmarked slices found test =
-    list_any (λ n. slice_passes slices test n && not (mark_of found n))
+-- some slice passes a test and isn't found
+abbrev pub has_unfound : List SetSlice → List Bool → (SetSlice → Bool) → Bool
+has_unfound slices found test =
+    list_any (λ n. slice_passes slices test n && not (found_at found n))
     (range_with_len 0 (length slices))
 
--- some slice has this CRC-32 and at most so many bytes of its file, and its mark is false
+-- some slice that isn't found has this CRC-32 and at most so many bytes of its file
 abbrev pub set_has_missing : SliceSet → List Bool → ℕ → ℕ → Bool
-set_has_missing set found crc left = has_unmarked set.slices found (has_fit_crc_of crc left)
+set_has_missing set found crc left = has_unfound set.slices found (has_fit_crc_of crc left)
 
 -- some slice with so many bytes of its file is such a one
 abbrev pub set_has_own_missing : SliceSet → List Bool → ℕ → ℕ → ℕ → Bool
 set_has_own_missing set found crc own left =
-    has_unmarked set.slices found (has_own own (has_fit_crc_of crc left))
+    has_unfound set.slices found (has_own own (has_fit_crc_of crc left))
 
--- a slice that has a mark loses its sums
-abbrev pub unless_marked : SetSlice × Bool → SetSlice
-unless_marked (slice, true) = record slice { sums = None }
-unless_marked (slice, false) = slice
+-- a slice that is found loses its checksums
+abbrev pub unless_found : SetSlice × Bool → SetSlice
+unless_found (slice, true) = record slice { sums = None }
+unless_found (slice, false) = slice
 
--- the set of which the slices that have a mark lose their sums, so that nothing looks for them; each
--- keeps its number and its own length, and there is a mark for each
+-- the set of which the slices that are found lose their checksums, so that nothing looks for them;
+-- each keeps its number and its own length, and there is a flag for each
 abbrev pub missing_set : SliceSet → List Bool → SliceSet
-missing_set set found = record set { slices = map unless_marked (zip set.slices found) }
+missing_set set found = record set { slices = map unless_found (zip set.slices found) }

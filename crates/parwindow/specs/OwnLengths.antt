@@ -6,7 +6,7 @@ use Rattle.std.specs.List.{list_any}
 use Rattle.parset.specs.declared.recovery_set.SetSlice.{SetSlice}
 use Rattle.parwindow.specs.Index.{has_known_crc, has_own}
 use Rattle.parwindow.specs.Missing.{has_fit_crc_of}
-use Rattle.parwindow.specs.declared.own_lengths.OwnLength.{OwnLength}
+use Rattle.parwindow.specs.declared.slices.own_lengths.OwnLength.{OwnLength}
 
 -- by CRC-32, then by length
 abbrev pub length_cmp : OwnLength → OwnLength → Ordering

@@ -1,7 +1,7 @@
 -- The fields of a window.
 use Rattle.std.specs.Prelude.{◌≡◌, ◌+◌, ◌≤◌, All, length}
 use Rattle.parwindow.specs.Crc32.{register_of}
-use Rattle.parwindow.specs.Tails.{lengths_of, IsTail}
+use Rattle.parwindow.specs.Tails.{tail_lengths_of, IsTail}
 use Rattle.parwindow.specs.Window.{WindowState}
 use Rattle.parwindow.specs.declared.window.Window.TheInside.{Inside}
 
@@ -10,7 +10,7 @@ abbrev pub window_view : Inside → WindowState
 window_view w = record {
   content = w.ring.items;
   capacity = w.ring.capacity;
-  tails = lengths_of w.tails.items;
+  tails = tail_lengths_of w.tails.items;
   digests = w.digests.count;
 }
 

@@ -4,11 +4,11 @@ use Rattle.std.specs.List.{list_any}
 use Rattle.parwindow.specs.Crc32.{crc_of, register_of}
 use Rattle.parwindow.specs.Index.{SliceSet, set_has_own_crc}
 use Rattle.parwindow.specs.Window.{zero_filled}
-use Rattle.parwindow.specs.declared.tail.Tail.{Tail}
+use Rattle.parwindow.specs.declared.tails.tail.Tail.{Tail}
 
 -- their lengths
-abbrev pub lengths_of : List Tail → List ℕ
-lengths_of tails = map (λ (tail : Tail). tail.length) tails
+abbrev pub tail_lengths_of : List Tail → List ℕ
+tail_lengths_of tails = map (λ (tail : Tail). tail.length) tails
 
 -- a slice of this own length has the CRC-32 of as many first bytes and of zeros up to the size
 abbrev pub is_tail_slice : SliceSet → ℕ → List ℕ → ℕ → Bool

@@ -6,20 +6,20 @@ use Rattle.parwindow.specs.Index.{SliceSet, set_has_crc, set_has_own_crc}
 use Rattle.parwindow.specs.Window.{WindowState, content_after, tail_content}
 
 -- the content of a full window once k of the bytes are pushed: as many are gone at the front
-abbrev pub slid_content : List ℕ → List ℕ → ℕ → List ℕ
-slid_content content bytes k = drop k (content ++ take k bytes)
+abbrev pub pushed_content : List ℕ → List ℕ → ℕ → List ℕ
+pushed_content content bytes k = drop k (content ++ take k bytes)
 
 -- that is what so many pushes make of it, one after another
-pub record PushesSlide : Type 0 where
-  pub none : (content bytes : List ℕ) → slid_content content bytes 0 ≡ content
+pub record PushesOneByOne : Type 0 where
+  pub none : (content bytes : List ℕ) → pushed_content content bytes 0 ≡ content
   pub one_more : (w : WindowState) (bytes : List ℕ) (k : ℕ) → length w.content ≡ w.capacity
       → k < length bytes
-      → content_after (record w { content = slid_content w.content bytes k }) (slice_index bytes k)
-      ≡ slid_content w.content bytes (k + 1)
+      → content_after (record w { content = pushed_content w.content bytes k }) (slice_index bytes k)
+      ≡ pushed_content w.content bytes (k + 1)
 
 -- a full window once k of the bytes are pushed
-abbrev pub slid_window : WindowState → List ℕ → ℕ → WindowState
-slid_window w bytes k = record w { content = slid_content w.content bytes k }
+abbrev pub pushed_window : WindowState → List ℕ → ℕ → WindowState
+pushed_window w bytes k = record w { content = pushed_content w.content bytes k }
 
 -- for some tail, a slice of this own length has the CRC-32 of the window's first bytes and zeros
 abbrev pub has_tail_slice : SliceSet → WindowState → Bool
@@ -34,9 +34,9 @@ is_at_slice set w = has_tail_slice set w || set_has_crc set (crc_of w.content)
 pub record PushesUntil (set : SliceSet) (w : WindowState) (bytes : List ℕ) (n : ℕ) : Type 0 where
   pub within : n ≤ length bytes
   -- after none of the earlier ones it is
-  pub before : (k : ℕ) → 0 < k → k < n → ¬ IsTrue (is_at_slice set (slid_window w bytes k))
+  pub before : (k : ℕ) → 0 < k → k < n → ¬ IsTrue (is_at_slice set (pushed_window w bytes k))
   -- where some bytes are left, it is after the last one
-  pub stops : n < length bytes → (0 < n) × IsTrue (is_at_slice set (slid_window w bytes n))
+  pub stops : n < length bytes → (0 < n) × IsTrue (is_at_slice set (pushed_window w bytes n))
 
 -- with no tails it is at a slice where some slice has the CRC-32 of the content
 abbrev pub NoTails : Type 0

@@ -5,15 +5,11 @@ ghost use Rattle.parwindow.specs.FilterBits.{zeros_crc};
 ghost use Rattle.parwindow.specs.Indexed.{IsShortest};
 ghost use Rattle.parwindow.specs.Least.{IsLeastFrom};
 ghost use Rattle.parset.specs.Limits.{slice_size_limit, slice_limit};
-ghost use Rattle.parwindow.specs.Missing.{missing_set, set_has_fit_crc, set_has_missing, set_has_own_missing, unless_marked};
+ghost use Rattle.parwindow.specs.Missing.{missing_set, set_has_fit_crc, set_has_missing, set_has_own_missing, unless_found};
 ghost use Rattle.parwindow.specs.Window.{AreTails};
 
-use crate::bloom_filter::BloomFilter;
-use crate::crc_list::CrcList;
-use crate::entries::Entries;
-use crate::own_lengths::OwnLengths;
-use crate::sought::Sought;
-use crate::tail_lengths::tail_lengths;
+use crate::rolling::RegisterSet;
+use crate::slices::{BloomFilter, CrcList, Entries, OwnLengths, tail_lengths};
 use parfield::{Hash16, Sequence};
 use parset::{RecoverySet, SetSlice};
 use std::alloc::{AllocError, Global};
@@ -45,7 +41,7 @@ impl Model for Index {
     ghost invariant = { IsIndexed };
 }
 
-impl Sought for Index {
+impl RegisterSet for Index {
     ghost use Rattle.std.specs.Prelude.{bit_xor};
     ghost use Rattle.parwindow.specs.Index.{set_has_crc};
 
@@ -65,13 +61,13 @@ impl Index {
         Index::of(alloc, set.size(), slices)
     }
 
-    /// All slices by their numbers, of which those that have a mark lose their sums, so that nothing
-    /// looks for them. `found` has a mark for each slice, by number.
+    /// All slices by their numbers, but those that are found without their checksums, so that nothing
+    /// looks for them. `found` has a flag for each slice, by number.
     pub fn missing(&self, alloc: Global, found: &[bool]) -> Result<Index, AllocError>
         requires { length found.now ≡ length self.now.slices }
         ensures { IfOk result (λ index. index ≡ missing_set self.now found.now) }
     {
-        let slices = each_unless_marked(alloc, self.slices.as_slice(), found)?;
+        let slices = each_unless_found(alloc, self.slices.as_slice(), found)?;
         Index::of(alloc, self.size(), slices)
     }
 
@@ -123,7 +119,7 @@ impl Index {
         self.slices.as_slice()[slice as usize].length
     }
 
-    /// Whether the sums of a slice are known.
+    /// Whether the checksums of a slice are known.
     pub fn has_sums(&self, slice: u32) -> bool
         requires { slice < length self.now.slices }
         ensures { result ≡ slice_passes self.now.slices has_known_sums slice }
@@ -182,8 +178,8 @@ impl Index {
         self.has_crc(crc) && self.lengths.has_exactly(crc, own)
     }
 
-    /// Whether some slice without a mark has this CRC-32 and at most so many bytes of its file;
-    /// `found` has a mark for each slice, by number. Goes over the slices with this CRC-32 once.
+    /// Whether some slice that isn't found has this CRC-32 and at most so many bytes of its file.
+    /// `found` has a flag for each slice, by number. Goes over the slices with this CRC-32 once.
     pub fn is_missing(&self, crc: u32, left: u64, found: &[bool]) -> bool
         requires { length found.now ≡ length self.now.slices }
         ensures { result ≡ set_has_missing self.now found.now crc left }
@@ -251,27 +247,27 @@ impl Index {
     }
 }
 
-// All slices, of which those that have a mark lose their sums.
-fn each_unless_marked(
+// All slices, but those that are found without their checksums.
+fn each_unless_found(
     alloc: Global,
     slices: &[SetSlice],
     found: &[bool],
 ) -> Result<Vec<SetSlice>, AllocError>
     requires { length found.now ≡ length slices.now }
-    ensures { IfOk result (λ list. list.items ≡ map unless_marked (zip slices.now found.now)) }
+    ensures { IfOk result (λ list. list.items ≡ map unless_found (zip slices.now found.now)) }
 {
     let mut list = Vec::with_capacity(alloc, slices.len())?;
     for (number, slice) in slices.iter().enumerate() {
-        list.push(unless_marked(slice, found[number]))?;
+        list.push(unless_found(slice, found[number]))?;
     }
     Ok(list)
 }
 
-// The slice, without its sums where it has a mark.
-fn unless_marked(slice: &SetSlice, is_marked: bool) -> SetSlice
-    ensures { result ≡ unless_marked (slice.now, is_marked) }
+// The slice, without its checksums if it is found.
+fn unless_found(slice: &SetSlice, found: bool) -> SetSlice
+    ensures { result ≡ unless_found (slice.now, found) }
 {
-    if is_marked {
+    if found {
         SetSlice {
             sums: None,
             ..*slice

@@ -1,16 +1,16 @@
-ghost use Rattle.parwindow.specs.Crc32.{CrcSlides};
-ghost use Rattle.parwindow.specs.Until.{NoTails, PushesSlide};
+ghost use Rattle.parwindow.specs.Crc32.{CrcRolls};
+ghost use Rattle.parwindow.specs.Until.{NoTails, PushesOneByOne};
 ghost use Rattle.parwindow.specs.TailLengths.{TailsFit};
 ghost use Rattle.parwindow.specs.Window.{ZerosFill};
 
 /// The law by which the CRC-32 of a window is kept while bytes fall out of it. Does nothing.
 pub fn crc_removal_law()
-    ensures { CrcSlides }
+    ensures { CrcRolls }
 {}
 
 /// The law that many pushes at once are so many pushes one after another. Does nothing.
 pub fn push_until_law()
-    ensures { PushesSlide }
+    ensures { PushesOneByOne }
 {}
 
 /// The law that zeros fill a window up to its size. Does nothing.

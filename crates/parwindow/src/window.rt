@@ -1,26 +1,23 @@
-ghost use Rattle.std.specs.Prelude.{◌≡◌, ◌+◌, ◌<◌, ◌≤◌, ◌↔◌, ◌++◌, [], length, replicate, slice_index, take, IfOk, IsTrue};
+ghost use Rattle.std.specs.Prelude.{◌≡◌, ℕ, ◌+◌, ◌<◌, ◌≤◌, ◌↔◌, ◌++◌, List, [], length, replicate, slice_index, take, IfOk, IsTrue};
+ghost use Rattle.md5.specs.Md5.{Holds};
 ghost use Rattle.parfield.specs.Md5.{md5};
 ghost use Rattle.parwindow.specs.Ahead.{PushesPast};
 ghost use Rattle.parwindow.specs.Crc32.{crc_of};
 ghost use Rattle.parset.specs.Limits.{slice_size_limit};
-ghost use Rattle.parwindow.specs.Until.{has_tail_slice, is_at_slice, slid_content, slid_window, PushesUntil};
+ghost use Rattle.parwindow.specs.Until.{has_tail_slice, is_at_slice, pushed_content, pushed_window, PushesUntil};
 ghost use Rattle.parwindow.specs.Window.{content_after, empty_window, fallen_byte, tail_content, tail_limit, AreTails};
 
-use crate::ahead::pass_tails;
-use crate::checksum::after_bytes;
+use crate::crcs::after_bytes;
 use crate::index::Index;
-use crate::stream::Stream;
-use crate::tables::SlideTables;
-use crate::tail::Tail;
-use crate::tails::{clear_tails, move_tails, slide_tails, tails_for};
-use crate::zeros::hash_zeros;
+use crate::rolling::RollTables;
+use crate::tails::{Stream, Tail, clear_tails, pass_tails, push_tails, roll_tails, tails_for};
 use circular_buffer::HeapCircularBuffer;
 use md5::{Digest, Md5};
 use parfield::{Hash16, Tally};
 use std::alloc::{AllocError, Global};
 use std::marker::Model;
 
-// How many bytes of a stream are looked at in one go at most, where there are tails.
+// How many bytes tails look ahead at most in one go.
 const LONGEST_PIECE: usize = 512;
 
 /// The last bytes of a stream, at most as many as its capacity, and their CRC-32.
@@ -28,13 +25,13 @@ const LONGEST_PIECE: usize = 512;
 pub struct Window {
     ring: HeapCircularBuffer<u8>,
     register: u32,
-    tables: SlideTables,
+    tables: RollTables,
     tails: Vec<Tail>,
     digests: Tally,
 }
 
 impl Model for Window {
-    ghost use Rattle.parwindow.specs.Until.{slid_content, PushesUntil};
+    ghost use Rattle.parwindow.specs.Until.{pushed_content, PushesUntil};
     ghost use Rattle.parwindow.specs.Window.{WindowState};
 
     ghost Value = { WindowState };
@@ -70,7 +67,7 @@ impl Window {
         Ok(Window {
             ring,
             register: 0xFFFF_FFFF,
-            tables: SlideTables::new(size),
+            tables: RollTables::new(size),
             tails: tails_for(alloc, size, tails)?,
             digests: Tally::new(),
         })
@@ -81,9 +78,9 @@ impl Window {
         ensures content { self.new ≡ record self.old { content = content_after self.old byte } }
         ensures answer { result ≡ fallen_byte self.old }
     {
-        move_tails(&mut self.tails, &self.ring, byte);
+        push_tails(&mut self.tails, &self.ring, byte);
         let fallen = self.ring.push_back(byte);
-        self.register = self.tables.moved(self.register, fallen, byte);
+        self.register = self.tables.pushed(self.register, fallen, byte);
         fallen
     }
 
@@ -111,45 +108,47 @@ impl Window {
         self.register = after_bytes(self.register, bytes);
     }
 
-    /// Pushes bytes into a full window until its CRC-32 is that of a slice, or that of one of its
-    /// tails is that of a slice of this own length, or they are used up; the answer is how many.
-    /// Where none is left, the last place may be such a one or not.
+    /// Pushes bytes into a full window, of the slice size, until its CRC-32 is that of a slice, or
+    /// that of one of its tails is that of a slice of this own length, or the bytes are used up.
+    /// Returns how many it pushed. If it pushed all, the window may be at such a slice or not.
     pub fn push_until(&mut self, index: &Index, bytes: &[u8]) -> usize
         requires full { length self.old.content ≡ self.old.capacity }
+        requires sized { self.old.capacity ≡ index.now.slice_size }
         ensures content { self.new
-            ≡ record self.old { content = slid_content self.old.content bytes.now result } }
+            ≡ record self.old { content = pushed_content self.old.content bytes.now result } }
         ensures full { length self.new.content ≡ self.new.capacity }
         ensures until { PushesUntil index.now self.old bytes.now result }
     {
         if self.tails.is_empty() {
-            self.slide_until(index, bytes)
+            self.push_plain_until(index, bytes)
         } else {
             self.push_pieces_until(index, bytes)
         }
     }
 
-    // The same without tails: the ring is written once, behind the loop.
-    fn slide_until(&mut self, index: &Index, bytes: &[u8]) -> usize
+    // The same without tails: the ring is written once, after the loop.
+    fn push_plain_until(&mut self, index: &Index, bytes: &[u8]) -> usize
         requires full { length self.old.content ≡ self.old.capacity }
         requires none { self.old.tails ≡ [] }
-        ensures content { self.new ≡ slid_window self.old bytes.now result }
+        ensures content { self.new ≡ pushed_window self.old bytes.now result }
         ensures until { PushesUntil index.now self.old bytes.now result }
     {
-        let slid = {
+        let roll = {
             let (front, back) = self.ring.as_slices();
             self.tables
-                .slide_over(index, front, back, bytes, self.register)
+                .roll_over(index, front, back, bytes, self.register)
         };
-        self.register = slid.register;
-        self.ring.extend_from_slice(&bytes[..slid.count]);
-        slid.count
+        self.register = roll.register;
+        self.ring.extend_from_slice(&bytes[..roll.count]);
+        roll.count
     }
 
-    // The same with tails: a single byte, and ever longer pieces while it is at no slice. Of a piece
-    // that has one the bytes before it are a piece again, and then comes a single byte.
+    // The same with tails: first a single byte, then longer and longer pieces, as long as no slice is
+    // met. If one is met in a piece, the bytes before it are the next piece, and then a single byte.
     fn push_pieces_until(&mut self, index: &Index, bytes: &[u8]) -> usize
         requires full { length self.old.content ≡ self.old.capacity }
-        ensures content { self.new ≡ slid_window self.old bytes.now result }
+        requires sized { self.old.capacity ≡ index.now.slice_size }
+        ensures content { self.new ≡ pushed_window self.old bytes.now result }
         ensures until { PushesUntil index.now self.old bytes.now result }
     {
         let mut done = 0;
@@ -158,7 +157,7 @@ impl Window {
         while done < bytes.len() {
             let rest = &bytes[done..];
             let piece = &rest[..rest.len().min(most)];
-            let passed = self.slide_past(index, piece);
+            let passed = self.push_past(index, piece);
             if passed == piece.len() {
                 done += passed;
                 most = then;
@@ -179,50 +178,53 @@ impl Window {
         done
     }
 
-    // Pushes all bytes into a full window that is at a slice after none of them. Otherwise nothing is
-    // changed, and the answer is fewer; how many hangs on the first slice, and the next piece on it.
-    fn slide_past(&mut self, index: &Index, bytes: &[u8]) -> usize
+    // Pushes all bytes into a full window, if it is at a slice after none of them. Otherwise nothing
+    // changes, and the answer is fewer: how many places before the first slice were seen to be passed.
+    fn push_past(&mut self, index: &Index, bytes: &[u8]) -> usize
         requires full { length self.old.content ≡ self.old.capacity }
+        requires sized { self.old.capacity ≡ index.now.slice_size }
         ensures within { result ≤ length bytes.now }
         ensures all { result ≡ length bytes.now → PushesPast index.now self.old bytes.now self.new }
         ensures fewer { result < length bytes.now → self.new ≡ self.old }
     {
-        // A single byte is sooner pushed than looked at.
+        // To look at a single byte takes longer than to push it.
         if bytes.len() == 1 {
             return 0;
         }
         let (front, back) = self.ring.as_slices();
-        let slid = self
+        let roll = self
             .tables
-            .slide_over(index, front, back, bytes, self.register);
+            .roll_over(index, front, back, bytes, self.register);
         let stream = Stream { front, back, bytes };
-        let passed = pass_tails(&mut self.tails, index, &stream, slid.passed());
+        let passed = pass_tails(&mut self.tails, index, &stream, roll.passed());
         if passed < bytes.len() {
             return passed;
         }
-        self.register = slid.register;
+        self.register = roll.register;
         self.ring.extend_from_slice(bytes);
         passed
     }
 
-    // Pushes a byte into a full window; whether it is at a slice then.
+    // Pushes a byte into a full window. Whether the window is at a slice then.
     fn push_on(&mut self, index: &Index, byte: u8) -> bool
         requires full { length self.old.content ≡ self.old.capacity }
+        requires sized { self.old.capacity ≡ index.now.slice_size }
         ensures content { self.new ≡ record self.old { content = content_after self.old byte } }
         ensures slice { result ≡ is_at_slice index.now self.new }
     {
-        self.slide_on(index, byte) || index.has_crc(self.crc())
+        self.push_by_tails(index, byte) || index.has_crc(self.crc())
     }
 
-    // The same; whether a tail has the CRC-32 of a slice of its length then.
-    fn slide_on(&mut self, index: &Index, byte: u8) -> bool
+    // The same. Whether a tail has the CRC-32 of a slice of its length then.
+    fn push_by_tails(&mut self, index: &Index, byte: u8) -> bool
         requires full { length self.old.content ≡ self.old.capacity }
+        requires sized { self.old.capacity ≡ index.now.slice_size }
         ensures content { self.new ≡ record self.old { content = content_after self.old byte } }
         ensures slice { result ≡ has_tail_slice index.now self.new }
     {
-        let has_tail = slide_tails(&mut self.tails, &self.ring, index);
+        let has_tail = roll_tails(&mut self.tails, &self.ring, index);
         let fallen = self.ring.push_back(byte);
-        self.register = self.tables.moved(self.register, fallen, byte);
+        self.register = self.tables.pushed(self.register, fallen, byte);
         has_tail
     }
 
@@ -319,5 +321,18 @@ impl Window {
         self.ring.clear();
         self.register = 0xFFFF_FFFF;
         clear_tails(&mut self.tails);
+    }
+}
+
+// Zeros go into a hasher, so many.
+fn hash_zeros(hasher: &mut Md5, count: usize)
+    ensures { (m : List ℕ) → Holds hasher.old m → Holds hasher.new (m ++ replicate count 0) }
+{
+    let zeros = [0u8; 1024];
+    let mut left = count;
+    while left > 0 {
+        let n = left.min(1024);
+        hasher.update(&zeros[..n]);
+        left -= n;
     }
 }

@@ -16,7 +16,7 @@ words=(--extern "std=$kit/rlibs/std.rlib" -L "dependency=$kit/rlibs" --extern "m
 for folder in "$crates"/*/out/rlib; do
     words+=(-L "dependency=$folder")
 done
-for crate in parfixtures parwindow; do
+for crate in parfield parsalvage parset parwindow; do
     words+=(--extern "$crate=$crates/$crate/out/rlib/$crate.rlib")
 done
 logic=(--antt-project "$kit/rattle/logic/antt-project.json" --logic-built "$kit/logic_built")

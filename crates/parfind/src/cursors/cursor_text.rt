@@ -1,7 +1,7 @@
 ghost use Rattle.std.specs.Prelude.{◌≡◌, ◌^◌, ◌≤◌, ◌∷◌, [], length, IfOk, IfSome, IfNone, true, false};
 ghost use Rattle.std.specs.Char.{is_ascii_digit};
 ghost use Rattle.std.specs.List.{list_all, position, slice_split};
-ghost use Rattle.parfind.specs.CursorText.{cursor_for, cursor_of_parts, cursor_text, cursor_text_of, cursor_fault_of, hash_of, is_canonical, is_colon, is_lower_digit, number_of, read_for, second_version};
+ghost use Rattle.parfind.specs.CursorText.{cursor_for, cursor_of_parts, cursor_text, cursor_text_of, cursor_fault_of, parsed_hash, is_canonical, is_colon, is_lower_digit, number_of, read_for, second_version};
 
 use crate::cursors::cursor::Cursor;
 use parfield::Hash16;
@@ -88,11 +88,11 @@ impl Cursor {
 pub fn split_cursor(text: &[u8]) -> Option<CursorText>
     ensures { result ≡ cursor_text_of text.now }
 {
-    let (first, rest) = parted(text)?;
+    let (first, rest) = split_at_colon(text)?;
     if first == b"2".as_slice() {
         split_second(rest)
     } else {
-        let set = hash_of(first)?;
+        let set = parsed_hash(first)?;
         let at = cursor_of(rest)?;
         Some(CursorText {
             set,
@@ -115,10 +115,10 @@ pub fn read_cursor(text: &[u8], set: Hash16, list: Hash16) -> Result<Cursor, Cur
 fn split_second(text: &[u8]) -> Option<CursorText>
     ensures { result ≡ second_version (slice_split is_colon text.now) }
 {
-    let (id, rest) = parted(text)?;
-    let (mark, rest) = parted(rest)?;
-    let set = hash_of(id)?;
-    let list = hash_of(mark)?;
+    let (id, rest) = split_at_colon(text)?;
+    let (mark, rest) = split_at_colon(rest)?;
+    let set = parsed_hash(id)?;
+    let list = parsed_hash(mark)?;
     let at = cursor_of(rest)?;
     Some(CursorText {
         set,
@@ -131,13 +131,13 @@ fn split_second(text: &[u8]) -> Option<CursorText>
 fn cursor_of(text: &[u8]) -> Option<Cursor>
     ensures { result ≡ cursor_of_parts (slice_split is_colon text.now) }
 {
-    let (file, rest) = parted(text)?;
-    let (offset, slice) = parted(rest)?;
+    let (file, rest) = split_at_colon(text)?;
+    let (offset, slice) = split_at_colon(rest)?;
     cursor_of_parts(file, offset, slice)
 }
 
 // What stands before the first colon, and all that stands after it.
-fn parted(text: &[u8]) -> Option<(&[u8], &[u8])>
+fn split_at_colon(text: &[u8]) -> Option<(&[u8], &[u8])>
     ensures parts { IfSome result (λ p.
         slice_split is_colon text.now ≡ p.0.now ∷ slice_split is_colon p.1.now) }
     ensures whole { IfNone result (slice_split is_colon text.now ≡ text.now ∷ []) }
@@ -167,8 +167,8 @@ fn cursor_of_parts(file: &[u8], offset: &[u8], slice: &[u8]) -> Option<Cursor>
 }
 
 // The sixteen bytes that a part is in 32 digits, those above 9 in lower case; `None` for any other part.
-fn hash_of(part: &[u8]) -> Option<Hash16>
-    ensures { result ≡ hash_of part.now }
+fn parsed_hash(part: &[u8]) -> Option<Hash16>
+    ensures { result ≡ parsed_hash part.now }
 {
     if are_lower_hex_digits(part) {
         Hash16::read(part)

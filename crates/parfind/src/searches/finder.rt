@@ -7,7 +7,7 @@ ghost use Rattle.parfind.specs.Marks.{marks};
 ghost use Rattle.parfind.specs.Moves.{StepMoves, PassesAll, IsWithin, Advances, steps_left};
 ghost use Rattle.parfind.specs.OnePass.{CallReads};
 ghost use Rattle.parfind.specs.Places.{place_at};
-ghost use Rattle.parfind.specs.PlaceVisit.{answer_of, count_of, step_of};
+ghost use Rattle.parfind.specs.PlaceVisit.{step_answer, count_of, step_of};
 ghost use Rattle.parfind.specs.Points.{search_at};
 ghost use Rattle.parfind.specs.Sought.{sought_of};
 ghost use Rattle.parfind.specs.Starts.{TellsTails};
@@ -117,7 +117,7 @@ impl Finder {
     }
 
     /// The next sighting, or `Done`.
-    #[tactic(auto, using(crate::proofs::CallLaws::reads_near, crate::proofs::CallLaws::few_digests))]
+    #[tactic(auto, using(crate::proofs::search_laws::NextCallLaws::reads_near, crate::proofs::search_laws::NextCallLaws::few_digests))]
     pub fn next<H: Shelf>(&mut self, index: &Index, shelf: &mut H) -> Result<Step, ReadFault>
         requires { BelongsTo self.old index.now (H.state shelf.old) }
         ensures belongs { BelongsTo self.new index.now (H.state shelf.new) }
@@ -148,7 +148,7 @@ impl Finder {
 
     /// The next sighting, if it is at one of the first `budget` places; `Done`, where fewer places
     /// are ahead and there is none; else `Spent`.
-    #[tactic(auto, using(crate::proofs::CallLaws::reads_near, crate::proofs::CallLaws::few_digests))]
+    #[tactic(auto, using(crate::proofs::search_laws::NextCallLaws::reads_near, crate::proofs::search_laws::NextCallLaws::few_digests))]
     pub fn step<H: Shelf>(
         &mut self,
         index: &Index,
@@ -236,9 +236,9 @@ impl Finder {
 
         ensures sees { (files : List (List ℕ)) → ReadsAs (H.state shelf.new) files →
             StepSees (scan_of (sought_for index.now self.old) files)
-            self.old.cursor (answer_of result) self.new.cursor }
+            self.old.cursor (step_answer result) self.new.cursor }
         ensures moves { StepMoves (H.state shelf.old).lengths (Some (count_of result))
-            self.old.cursor (answer_of result) self.new.cursor }
+            self.old.cursor (step_answer result) self.new.cursor }
         ensures advances { IfOk result (λ visit. Advances index.now (Some 1)
             (search_at (H.state shelf.old) self.old.cursor) (step_of visit) self.new.cursor) }
         ensures within { IsWithin (count_of result) left }
@@ -347,9 +347,9 @@ impl Finder {
 
         ensures sees { (files : List (List ℕ)) → ReadsAs (H.state shelf.new) files →
             StepSees (scan_of (sought_for index.now self.old) files)
-            self.old.cursor (answer_of result) self.new.cursor }
+            self.old.cursor (step_answer result) self.new.cursor }
         ensures moves { StepMoves (H.state shelf.old).lengths (Some (count_of result))
-            self.old.cursor (answer_of result) self.new.cursor }
+            self.old.cursor (step_answer result) self.new.cursor }
         ensures advances { IfOk result (λ visit. Advances index.now (Some 1)
             (search_at (H.state shelf.old) self.old.cursor) (step_of visit) self.new.cursor) }
         ensures within { IsWithin (count_of result) left }

@@ -7,13 +7,13 @@ ghost use Rattle.parshelf.specs.Reads.{ReadsFile};
 ghost use Rattle.parfind.specs.Handover.{HandsEachOnce, SkipsUnfit};
 ghost use Rattle.parfind.specs.Marks.{missing_count};
 ghost use Rattle.parfind.specs.Steps.{scan_of};
-ghost use Rattle.parfind.specs.Surveys.{SurveyMarks, MarksUpToFault, KeepsMarks, AreAllSettled, StopsOnceFound, ReadsNamed, SurveyLeaves, SurveyTellsTails, is_settled, marked_at};
+ghost use Rattle.parfind.specs.Surveys.{SurveyFinds, FindsUpToFault, KeepsFound, AreAllSettled, StopsOnceFound, ReadsNamed, SurveyLeaves, SurveyTellsTails, is_settled, survey_point};
 ghost use Rattle.parwindow.specs.Missing.{missing_set};
 ghost use Rattle.parfind.specs.Surveying.{SurveyEnds, survey_at};
 ghost use Rattle.parfind.specs.Sought.{HasFewTails, IsWindowFor, sought_of};
 ghost use Rattle.parfind.specs.declared.surveys.surveying.SurveyFault.TheVariants.{Memory};
 
-use crate::surveys::marking::Exhausted;
+use crate::surveys::exhausted::Exhausted;
 use crate::tracks::{MOST_TAILS, Mode, Sought, Track};
 use parshelf::{ReadFault, Shelf};
 use parwindow::{Index, Window};
@@ -27,7 +27,7 @@ pub enum SurveyFault {
     Read(u32, ReadFault),
     /// Memory was refused.
     Memory,
-    /// There are more lengths of short slices than 256, whichever slices have marks.
+    /// There are more lengths of short slices than 256, whichever slices are found.
     TooManyTails,
 }
 
@@ -39,10 +39,11 @@ impl From<AllocError> for SurveyFault {
     }
 }
 
-/// Marks each slice of the set that has a sighting; `found` has a mark for each slice, by number.
-/// Only slices that have no mark at the call are looked for, and until each whose sums are known has
-/// one. Memory is taken for a window, and where some slices have a mark and others none for a second
-/// index too; none where each has one or lacks its sums.
+/// Finds each slice of the set that has a sighting. `found` has a flag for each slice, by number; the
+/// survey sets those of the slices that it sees, and takes none back. It looks only for slices that
+/// aren't found at the call and have checksums, and ends once it has found them all. Memory is taken
+/// for a window, and if some slices are found at the call and others aren't, for a second index; it
+/// takes none if nothing is to be looked for.
 pub fn survey<H: Shelf>(
     alloc: Global,
     index: &Index,
@@ -52,17 +53,17 @@ pub fn survey<H: Shelf>(
 ) -> Result<(), SurveyFault>
     requires { length found.old ≡ length index.now.slices }
 
-    // The marks, in any files that the shelf is read as.
+    // What is found, in any files that the shelf is read as.
     ensures found { (files : List (List ℕ)) → ReadsAs (H.state shelf.new) files →
-        SurveyMarks (scan_of (sought_of index.now mode) files) found.old found.new result }
+        SurveyFinds (scan_of (sought_of index.now mode) files) found.old found.new result }
     ensures stops { (files : List (List ℕ)) → ReadsAs (H.state shelf.new) files →
         StopsOnceFound (scan_of (sought_of index.now mode) files)
         (H.state shelf.old) (H.state shelf.new) found.old }
 
     // On any shelf.
-    ensures kept { KeepsMarks found.old found.new }
-    ensures leaves { SurveyLeaves (marked_at (H.state shelf.old) found.old)
-        (marked_at (H.state shelf.new) found.new) result }
+    ensures kept { KeepsFound found.old found.new }
+    ensures leaves { SurveyLeaves (survey_point (H.state shelf.old) found.old)
+        (survey_point (H.state shelf.new) found.new) result }
     ensures tails { SurveyTellsTails (sought_of index.now mode) result }
     ensures handed { HandsEachOnce (H.state shelf.old) (H.state shelf.new) }
     ensures unfit { SkipsUnfit (missing_set index.now found.old)
@@ -76,7 +77,7 @@ pub fn survey<H: Shelf>(
     if next_missing(&sought, found, 0) == found.len() {
         return Ok(());
     }
-    if !has_mark(found) {
+    if !is_any_found(found) {
         return survey_few_tails(alloc, &sought, shelf, found);
     }
     let missing = index.missing(alloc, found)?;
@@ -87,8 +88,7 @@ pub fn survey<H: Shelf>(
     survey_few_tails(alloc, &others, shelf, found)
 }
 
-// Marks each slice of the set that has a sighting, where there are no more tails than a window may
-// have.
+// Finds each slice of the set that has a sighting, if there are no more tails than a window may have.
 fn survey_few_tails<H: Shelf>(
     alloc: Global,
     sought: &Sought,
@@ -98,13 +98,13 @@ fn survey_few_tails<H: Shelf>(
     requires each { length found.old ≡ length sought.now.set.slices }
     requires few { HasFewTails sought.now }
     ensures found { (files : List (List ℕ)) → ReadsAs (H.state shelf.new) files →
-        SurveyMarks (scan_of sought.now files) found.old found.new result }
+        SurveyFinds (scan_of sought.now files) found.old found.new result }
     ensures stops { (files : List (List ℕ)) → ReadsAs (H.state shelf.new) files →
         StopsOnceFound (scan_of sought.now files)
         (H.state shelf.old) (H.state shelf.new) found.old }
-    ensures kept { KeepsMarks found.old found.new }
-    ensures leaves { SurveyLeaves (marked_at (H.state shelf.old) found.old)
-        (marked_at (H.state shelf.new) found.new) result }
+    ensures kept { KeepsFound found.old found.new }
+    ensures leaves { SurveyLeaves (survey_point (H.state shelf.old) found.old)
+        (survey_point (H.state shelf.new) found.new) result }
     ensures tails { SurveyTellsTails sought.now result }
     ensures handed { HandsEachOnce (H.state shelf.old) (H.state shelf.new) }
     ensures unfit { SkipsUnfit sought.now.set (H.state shelf.old) (H.state shelf.new) }
@@ -118,11 +118,11 @@ fn survey_few_tails<H: Shelf>(
     }
 }
 
-/// Marks each slice of the set that has a sighting, by a window that is handed in and without
-/// memory; a fault comes with its file's number. MD5s are taken no more often than there are pairs
-/// of a place and a looked length by which a slice that fits and has no mark at the call has the
-/// CRC-32, and no more is read than around the place by which each slice whose sums are known has
-/// its mark.
+/// Finds each slice of the set that has a sighting, as `survey` does, by a window that is handed in
+/// and without memory. A fault comes with its file's number. Unlike `survey` it also reads files into
+/// which only slices fit that are found at the call. MD5s are taken no more often than there are pairs
+/// of a place and a compared length by which a slice that fits and isn't found at the call has the
+/// CRC-32. No more is read than around the place by which each slice with checksums is found.
 pub fn survey_in<H: Shelf>(
     index: &Index,
     shelf: &mut H,
@@ -133,11 +133,11 @@ pub fn survey_in<H: Shelf>(
     requires made { IsWindowFor (sought_of index.now mode) window.old }
     requires each { length found.old ≡ length index.now.slices }
 
-    // The marks, in any files that the shelf is read as.
+    // What is found, in any files that the shelf is read as.
     ensures found { (files : List (List ℕ)) → ReadsAs (H.state shelf.new) files →
-        SurveyMarks (scan_of (sought_of index.now mode) files) found.old found.new result }
-    ensures so_far { IfErr result (λ fault. MarksUpToFault (sought_of index.now mode)
-        (marked_at (H.state shelf.old) found.old) (marked_at (H.state shelf.new) found.new)
+        SurveyFinds (scan_of (sought_of index.now mode) files) found.old found.new result }
+    ensures so_far { IfErr result (λ fault. FindsUpToFault (sought_of index.now mode)
+        (survey_point (H.state shelf.old) found.old) (survey_point (H.state shelf.new) found.new)
         fault.0) }
 
     // How much is read and hashed, in any such files.
@@ -149,7 +149,7 @@ pub fn survey_in<H: Shelf>(
         + missing_count (scan_of (sought_of index.now mode) files) found.old }
 
     // On any shelf.
-    ensures kept { KeepsMarks found.old found.new }
+    ensures kept { KeepsFound found.old found.new }
     ensures shelf { ReadsNamed (H.state shelf.old) (H.state shelf.new) result }
     ensures handed { HandsEachOnce (H.state shelf.old) (H.state shelf.new) }
     ensures unfit { SkipsUnfit index.now (H.state shelf.old) (H.state shelf.new) }
@@ -170,7 +170,7 @@ pub fn survey_in<H: Shelf>(
     }
 }
 
-// Goes from the beginning of all files on, until each slice is settled.
+// Goes from the beginning of all files on, until each slice is found or has no checksums to be found by.
 fn survey_files<H: Shelf>(
     sought: &Sought,
     shelf: &mut H,
@@ -204,7 +204,7 @@ fn survey_files<H: Shelf>(
             continue;
         }
         track.fill(window, shelf)?;
-        exhausted.mark_seen(window, sought, left, found);
+        exhausted.note_seen(window, sought, left, found);
         missing = next_missing(sought, found, missing);
         if missing == found.len() {
             break;
@@ -214,8 +214,8 @@ fn survey_files<H: Shelf>(
     Ok(())
 }
 
-// The first slice from a number on that has no mark, and sums to be found by; the number of all
-// slices, where there is none.
+// The first slice from a number on that isn't found and has checksums; the number of all slices, if
+// there is none.
 fn next_missing(sought: &Sought, found: &[bool], from: usize) -> usize
     requires each { length found.now ≡ length sought.now.set.slices }
     requires from { from ≤ length found.now }
@@ -234,9 +234,9 @@ fn next_missing(sought: &Sought, found: &[bool], from: usize) -> usize
     number
 }
 
-// Whether some slice has a mark.
-fn has_mark(found: &[bool]) -> bool
-    ensures { result ≡ list_any (λ is_marked. is_marked) found.now }
+// Whether some slice is found.
+fn is_any_found(found: &[bool]) -> bool
+    ensures { result ≡ list_any (λ found. found) found.now }
 {
-    found.iter().any(|is_marked| *is_marked)
+    found.iter().any(|found| *found)
 }

@@ -3,16 +3,16 @@ ghost use Rattle.parfield.specs.Md5.{md5};
 ghost use Rattle.parset.specs.Limits.{slice_limit};
 ghost use Rattle.parwindow.specs.Index.{slice_passes};
 ghost use Rattle.parwindow.specs.Least.{IsLeastFrom};
-ghost use Rattle.parfind.specs.Fitting.{is_fitting_look, is_fitting_of};
-ghost use Rattle.parfind.specs.Looks.{Keeps, Looks, IsFullFor, lesser_of};
-ghost use Rattle.parfind.specs.Sought.{has_looked_crc, looked_bytes, looked_lengths, nth_looked};
+ghost use Rattle.parfind.specs.Fitting.{is_fitting_compared, is_fitting_of};
+ghost use Rattle.parfind.specs.KeptDigests.{Keeps, KeepsDigests, IsFullFor, lesser_of};
+ghost use Rattle.parfind.specs.Sought.{has_compared_crc, compared_bytes, compared_lengths, nth_compared};
 
 use crate::tracks::sought::Sought;
 use parfield::Hash16;
 use parwindow::Window;
 use std::alloc::{AllocError, Global};
 
-/// The digests that were taken of a window: one for each looked length, which is kept until the
+/// The digests that were taken of a window: one for each compared length, which is kept until the
 /// window moves.
 #[derive(Drop)]
 pub(crate) struct Digests {
@@ -20,10 +20,10 @@ pub(crate) struct Digests {
 }
 
 impl Digests {
-    /// Room for a digest of each looked length, of which none is kept yet.
+    /// Room for a digest of each compared length, of which none is kept yet.
     pub fn new(alloc: Global, sought: &Sought) -> Result<Digests, AllocError>
         ensures { IfOk result (λ digests. digests.kept.items
-            ≡ replicate (length (looked_lengths sought.now)) None) }
+            ≡ replicate (length (compared_lengths sought.now)) None) }
     {
         let kept = vec![in alloc; None; sought.count_lengths()]?;
         Ok(Digests { kept })
@@ -38,9 +38,9 @@ impl Digests {
         }
     }
 
-    /// The first slice from a number on that has both sums of what is looked at of a full window
+    /// The first slice from a number on that has both sums of what is compared of a full window
     /// for it, and fits into what is left of the file. An MD5 is taken only where some slice of its
-    /// looked length has the CRC-32 and fits, and once.
+    /// compared length has the CRC-32 and fits, and once.
     pub fn first_seen(
         &mut self,
         window: &mut Window,
@@ -51,10 +51,10 @@ impl Digests {
         requires full { IsFullFor sought.now window.old }
         requires keeps { Keeps sought.now window.old self.old.kept.items }
         ensures first { IsLeastFrom (slice_passes sought.now.set.slices
-            (is_fitting_look sought.now.mode window.old.content left)) first result }
+            (is_fitting_compared sought.now.mode window.old.content left)) first result }
         ensures there { IfSome result (λ n. n < length sought.now.set.slices) }
         ensures few { length sought.now.set.slices ≤ slice_limit }
-        ensures looks { Looks window.old self.old.kept.items window.new self.new.kept.items }
+        ensures stays { KeepsDigests window.old self.old.kept.items window.new self.new.kept.items }
         ensures keeps { Keeps sought.now window.new self.new.kept.items }
     {
         let size = sought.index.size();
@@ -67,7 +67,7 @@ impl Digests {
         least
     }
 
-    // The first of them for which looked length `k` is looked at.
+    // The first of them that is looked for by compared length `k`.
     fn first_seen_at(
         &mut self,
         window: &mut Window,
@@ -76,14 +76,14 @@ impl Digests {
         left: u64,
         first: u32,
     ) -> Option<u32>
-        requires there { k < length (looked_lengths sought.now) }
+        requires there { k < length (compared_lengths sought.now) }
         requires full { IsFullFor sought.now window.old }
         requires keeps { Keeps sought.now window.old self.old.kept.items }
         ensures first { IsLeastFrom (slice_passes sought.now.set.slices
             (is_fitting_of sought.now window.old.content left
-            (nth_looked sought.now k))) first result }
+            (nth_compared sought.now k))) first result }
         ensures there { IfSome result (λ n. n < length sought.now.set.slices) }
-        ensures looks { Looks window.old self.old.kept.items window.new self.new.kept.items }
+        ensures stays { KeepsDigests window.old self.old.kept.items window.new self.new.kept.items }
         ensures keeps { Keeps sought.now window.new self.new.kept.items }
     {
         let crc = sought.crc_at(window, k);
@@ -94,16 +94,16 @@ impl Digests {
         sought.first_match_at(k, (digest, crc), left, first)
     }
 
-    // The MD5 of a full window by looked length `k`, which is taken once.
+    // The MD5 of a full window by compared length `k`, which is taken once.
     fn digest_of(&mut self, window: &mut Window, sought: &Sought, k: usize) -> Hash16
-        requires there { k < length (looked_lengths sought.now) }
+        requires there { k < length (compared_lengths sought.now) }
         requires full { IsFullFor sought.now window.old }
         requires keeps { Keeps sought.now window.old self.old.kept.items }
-        requires marked { IsTrue (has_looked_crc sought.now
-            window.old.content (nth_looked sought.now k)) }
-        ensures digest { result.0 ≡ md5 (looked_bytes window.old.content
-            (nth_looked sought.now k)) }
-        ensures looks { Looks window.old self.old.kept.items window.new self.new.kept.items }
+        requires marked { IsTrue (has_compared_crc sought.now
+            window.old.content (nth_compared sought.now k)) }
+        ensures digest { result.0 ≡ md5 (compared_bytes window.old.content
+            (nth_compared sought.now k)) }
+        ensures stays { KeepsDigests window.old self.old.kept.items window.new self.new.kept.items }
         ensures keeps { Keeps sought.now window.new self.new.kept.items }
     {
         if let Some(digest) = self.kept[k] {

@@ -5,18 +5,18 @@ ghost use Rattle.parset.specs.Limits.{slice_limit};
 ghost use Rattle.parwindow.specs.Crc32.{crc_of};
 ghost use Rattle.parwindow.specs.Index.{slice_passes};
 ghost use Rattle.parwindow.specs.Least.{IsLeastFrom};
-ghost use Rattle.parwindow.specs.Missing.{has_fit_crc_of, has_unmarked};
+ghost use Rattle.parwindow.specs.Missing.{has_fit_crc_of, has_unfound};
 ghost use Rattle.parwindow.specs.Window.{AreTails};
 ghost use Rattle.parfind.specs.Fitting.{is_fitting_match};
-ghost use Rattle.parfind.specs.Looks.{IsFullFor};
-ghost use Rattle.parfind.specs.Sought.{is_looked, looked_bytes, looked_lengths, nth_looked, shorter_lengths};
+ghost use Rattle.parfind.specs.KeptDigests.{IsFullFor};
+ghost use Rattle.parfind.specs.Sought.{is_compared, compared_bytes, compared_lengths, nth_compared, shorter_lengths};
 
 use crate::tracks::mode::Mode;
 use parfield::Hash16;
 use parwindow::{Index, Window};
 use std::marker::Model;
 
-/// How many shorter lengths of a window may be looked at.
+/// How many shorter lengths of a window may be compared.
 pub const MOST_TAILS: usize = 256;
 
 /// The slices that are looked for, and in which mode.
@@ -35,7 +35,7 @@ impl<'a> Model for Sought<'a> {
 }
 
 impl<'a> Sought<'a> {
-    /// The shorter lengths of a window that are looked at, rising.
+    /// The shorter lengths of a window that are compared, rising.
     pub fn shorter_lengths(&self) -> &'a [usize]
         ensures all { result.now ≡ shorter_lengths self.now.mode self.now.set }
         ensures tails { AreTails self.now.set.slice_size result.now }
@@ -46,17 +46,17 @@ impl<'a> Sought<'a> {
         }
     }
 
-    /// How many lengths of a window are looked at: the shorter ones, and after them all of it.
+    /// How many lengths of a window are compared: the shorter ones, and after them all of it.
     pub fn count_lengths(&self) -> usize
-        ensures { result ≡ length (looked_lengths self.now) }
+        ensures { result ≡ length (compared_lengths self.now) }
     {
         self.shorter_lengths().len() + 1
     }
 
-    /// Looked length `k`.
+    /// Compared length `k`.
     pub fn length_at(&self, k: usize) -> u64
-        requires { k < length (looked_lengths self.now) }
-        ensures { result ≡ nth_looked self.now k }
+        requires { k < length (compared_lengths self.now) }
+        ensures { result ≡ nth_compared self.now k }
     {
         let tails = self.shorter_lengths();
         if k < tails.len() {
@@ -66,11 +66,11 @@ impl<'a> Sought<'a> {
         }
     }
 
-    /// The CRC-32 of a full window by looked length `k`.
+    /// The CRC-32 of a full window by compared length `k`.
     pub fn crc_at(&self, window: &Window, k: usize) -> u32
-        requires there { k < length (looked_lengths self.now) }
+        requires there { k < length (compared_lengths self.now) }
         requires full { IsFullFor self.now window.now }
-        ensures { result ≡ crc_of (looked_bytes window.now.content (nth_looked self.now k)) }
+        ensures { result ≡ crc_of (compared_bytes window.now.content (nth_compared self.now k)) }
     {
         if k < self.shorter_lengths().len() {
             window.tail_crc(k)
@@ -81,9 +81,9 @@ impl<'a> Sought<'a> {
 
     /// Its MD5.
     pub fn digest_at(&self, window: &mut Window, k: usize) -> Hash16
-        requires there { k < length (looked_lengths self.now) }
+        requires there { k < length (compared_lengths self.now) }
         requires full { IsFullFor self.now window.old }
-        ensures digest { result.0 ≡ md5 (looked_bytes window.old.content (nth_looked self.now k)) }
+        ensures digest { result.0 ≡ md5 (compared_bytes window.old.content (nth_compared self.now k)) }
         ensures counted { window.new ≡ record window.old { digests = window.old.digests + 1 } }
     {
         if k < self.shorter_lengths().len() {
@@ -93,11 +93,11 @@ impl<'a> Sought<'a> {
         }
     }
 
-    /// Whether some slice of looked length `k` has this CRC-32 and fits into what is left of the
+    /// Whether some slice of compared length `k` has this CRC-32 and fits into what is left of the
     /// file.
     pub fn has_fitting_crc(&self, k: usize, crc: u32, left: u64) -> bool
-        requires { k < length (looked_lengths self.now) }
-        ensures { result ≡ list_any (is_looked self.now (nth_looked self.now k)
+        requires { k < length (compared_lengths self.now) }
+        ensures { result ≡ list_any (is_compared self.now (nth_compared self.now k)
             (has_fit_crc_of crc left)) self.now.set.slices }
     {
         match self.mode {
@@ -109,12 +109,12 @@ impl<'a> Sought<'a> {
         }
     }
 
-    /// Whether some such slice has no mark.
+    /// Whether some such slice isn't found.
     pub fn is_missing_at(&self, k: usize, crc: u32, left: u64, found: &[bool]) -> bool
-        requires there { k < length (looked_lengths self.now) }
+        requires there { k < length (compared_lengths self.now) }
         requires each { length found.now ≡ length self.now.set.slices }
-        ensures { result ≡ has_unmarked self.now.set.slices found.now
-            (is_looked self.now (nth_looked self.now k) (has_fit_crc_of crc left)) }
+        ensures { result ≡ has_unfound self.now.set.slices found.now
+            (is_compared self.now (nth_compared self.now k) (has_fit_crc_of crc left)) }
     {
         match self.mode {
             Mode::Plain => self.index.is_missing(crc, left, found),
@@ -124,7 +124,7 @@ impl<'a> Sought<'a> {
         }
     }
 
-    /// The first slice from a number on that is of looked length `k`, has both sums and fits into
+    /// The first slice from a number on that is of compared length `k`, has both sums and fits into
     /// what is left of the file.
     pub fn first_match_at(
         &self,
@@ -133,9 +133,9 @@ impl<'a> Sought<'a> {
         left: u64,
         first: u32,
     ) -> Option<u32>
-        requires { k < length (looked_lengths self.now) }
+        requires { k < length (compared_lengths self.now) }
         ensures first { IsLeastFrom (slice_passes self.now.set.slices
-            (is_looked self.now (nth_looked self.now k) (is_fitting_match sums left)))
+            (is_compared self.now (nth_compared self.now k) (is_fitting_match sums left)))
             first result }
         ensures there { IfSome result (λ n. n < length self.now.set.slices) }
         ensures few { length self.now.set.slices ≤ slice_limit }

@@ -4,7 +4,7 @@ ghost use Rattle.parshelf.specs.Reads.{ReadsFile};
 ghost use Rattle.parfind.specs.Fetched.{ReadsUpTo, ahead_limit};
 ghost use Rattle.parfind.specs.NextPlace.{rest_of};
 ghost use Rattle.parfind.specs.Sought.{IsWindowFor, sought_of};
-ghost use Rattle.parfind.specs.Tracks.{HasBytes, IsTied, IsUnread, IsReadOn, IsPieceOf, SameTrack, HaveNoLookedCrc, Passes, cursor_of_track, next_offset, fetched_of};
+ghost use Rattle.parfind.specs.Tracks.{HasBytes, IsTied, IsUnread, IsReadOn, AreNextBytes, SameTrack, HaveNoComparedCrc, Passes, cursor_of_track, next_offset, fetched_of};
 ghost use Rattle.parfind.specs.declared.tracks.mode.Mode.{Mode};
 
 use parshelf::{Failed, ReadFault, Shelf};
@@ -101,7 +101,7 @@ impl Track {
     }
 
     /// Passes the place of a full window, and those after it up to the first whose CRC-32, by some
-    /// length that is looked at, is that of a slice, or whose window wants bytes that are not at
+    /// length that is compared, is that of a slice, or whose window wants bytes that are not at
     /// hand; at most so many, and only of this file. The answer is how many.
     pub fn slide_until_crc<H: Shelf>(
         &mut self,
@@ -124,7 +124,7 @@ impl Track {
             (slice_index (H.state shelf.old).lengths self.old.file) self.old self.new most) }
         ensures none { (mode : Mode) → IsWindowFor (sought_of index.now mode) window.old
             → (files : List (List ℕ)) → ReadsAs (H.state shelf.new) files
-            → IfOk result (HaveNoLookedCrc (sought_of index.now mode)
+            → IfOk result (HaveNoComparedCrc (sought_of index.now mode)
             (file_of files self.old.file) self.old.window_offset) }
         ensures stays { IfErr result (λ _.
             SameTrack self.old self.new × (window.new ≡ window.old)) }
@@ -217,7 +217,7 @@ impl Track {
         ensures hand { next_offset window.now self.now < file_end
             → next_offset window.now self.now + length result.now
             ≤ self.now.buffer_offset + self.now.buffer_len }
-        ensures bytes { IsPieceOf window.now self.now file_end result.now }
+        ensures bytes { AreNextBytes window.now self.now file_end result.now }
     {
         let at = self.window_offset + window.len() as u64;
         if at >= file_end {

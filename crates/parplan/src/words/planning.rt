@@ -2,7 +2,7 @@ ghost use Rattle.std.specs.Prelude.{◌≡◌, ◌≢◌, ◌≤◌, ◌<◌, ma
 ghost use Rattle.clap.specs.Words.{found_of, rows_of};
 ghost use Rattle.parshelf.specs.Disk.{open_file_limit};
 ghost use Rattle.parplan.specs.Commands.{LimitIsNotZero};
-ghost use Rattle.parplan.specs.Plans.{plan_of, plan_of_rows, verb_of, first_verb_of, files_of, AnswersPlan, TellsTaken};
+ghost use Rattle.parplan.specs.Plans.{plan_of, plan_of_rows, verb_of, first_verb_of, file_names_of, AnswersPlan, TellsTaken};
 
 use crate::words::files::{packet_files, scanned_files};
 use crate::words::grammar::Verb;
@@ -81,10 +81,10 @@ fn verb_named(word: &str) -> Result<Verb, PlanFault>
 
 // FILES, of which there are not too many.
 fn files_given<'m, 'a>(matches: &'m ArgMatches<'a>) -> Result<&'m [&'a str], PlanFault>
-    ensures files { IfOk result (λ files. files_of (rows_of (found_of matches.now))
+    ensures files { IfOk result (λ files. file_names_of (rows_of (found_of matches.now))
         ≡ Ok (map (λ file. file.now) files.now)) }
     ensures few { IfOk result (λ files. length files.now ≤ open_file_limit) }
-    ensures fault { IfErr result (λ fault. files_of (rows_of (found_of matches.now)) ≡ Err fault) }
+    ensures fault { IfErr result (λ fault. file_names_of (rows_of (found_of matches.now)) ≡ Err fault) }
 {
     match values_of(matches, "files") {
         None => Err(PlanFault::NoPacketFile),

@@ -12,7 +12,7 @@ ghost use Rattle.parreport.specs.Contents.{HandsPerFile};
 ghost use Rattle.parreport.specs.Costs.{searched_length_of};
 ghost use Rattle.parreport.specs.Files.{FilesLeave};
 ghost use Rattle.parreport.specs.States.{is_intact};
-ghost use Rattle.parreport.specs.Findings.{need_of, is_in_whole_file, is_settled, set_scan_of};
+ghost use Rattle.parreport.specs.Findings.{need_of, is_in_whole_file, needs_no_search, set_scan_of};
 ghost use Rattle.parreport.specs.SetSearch.{set_sought_of};
 
 use crate::states::state::State;
@@ -82,18 +82,18 @@ pub fn found_slices<Q: Shelf>(
     ensures handed { HandsPerFile
         (λ file. searched_length_of set.now (slice_index (Q.state shelf.old).lengths file))
         (Q.state shelf.old) (Q.state shelf.new) }
-    ensures none { All (λ slice. IsTrue (is_settled whole.now slice)) set.now.slices →
+    ensures none { All (λ slice. IsTrue (needs_no_search whole.now slice)) set.now.slices →
         Q.state shelf.new ≡ Q.state shelf.old }
     ensures ok { OnOk result (ReadsOnly (Q.state shelf.old) (Q.state shelf.new)) }
     ensures fault { IfErr result (FilesLeave (Q.state shelf.old) (Q.state shelf.new)) }
 {
-    let mut found = marks_of_whole_files(alloc, set.slices(), whole)?;
+    let mut found = slices_of_whole_files(alloc, set.slices(), whole)?;
     survey(alloc, index, shelf, &mut found, mode)?;
     Ok(found)
 }
 
-// Marks the slices of these files.
-fn marks_of_whole_files(
+// Which slices are those of these files.
+fn slices_of_whole_files(
     alloc: Global,
     slices: &[SetSlice],
     whole: &BTreeSet<Hash16>,

@@ -103,8 +103,8 @@ fn a_search_for_256_lengths_takes_no_memory_once_it_is_open(rt: HostRuntime) -> 
     told(found?, "all found without Memory")
 }
 
-// Marks all slices, also where memory is refused once there is a window.
-fn marks_all(
+// Finds all slices, also where memory is refused once there is a window.
+fn found_all(
     rt: &(impl Abort + AllocGlobal),
     index: &Index,
     shelf: &mut MemShelf,
@@ -126,13 +126,13 @@ fn a_survey_for_256_lengths_takes_no_memory_once_it_has_a_window(
 ) -> Result<(), Fail> {
     let index = must(&rt, index_with_last(rt.alloc(), 0));
     let mut shelf = file_with(rt.alloc(), b"X")?;
-    let marked = marks_all(&rt, &index, &mut shelf);
+    let marked = found_all(&rt, &index, &mut shelf);
     drop(index);
     told(marked?, "all marked without Memory")
 }
 
 // Surveys for no slice, also where memory is refused.
-fn marks_none(
+fn found_none(
     rt: &(impl Abort + AllocGlobal),
     index: &Index,
     shelf: &mut MemShelf,
@@ -147,10 +147,10 @@ fn marks_none(
 }
 
 #[test]
-fn a_survey_takes_no_memory_where_each_slice_has_its_mark(rt: HostRuntime) -> Result<(), Fail> {
+fn a_survey_takes_no_memory_if_each_slice_is_found(rt: HostRuntime) -> Result<(), Fail> {
     let index = must(&rt, index_with_last(rt.alloc(), 0));
     let mut shelf = file_with(rt.alloc(), b"X")?;
-    let marked = marks_none(&rt, &index, &mut shelf);
+    let marked = found_none(&rt, &index, &mut shelf);
     drop(index);
     told(marked?, "none marked without Memory")
 }
@@ -201,7 +201,7 @@ fn a_search_by_whole_windows_finds_slices_of_257_lengths(rt: HostRuntime) -> Res
     Ok(())
 }
 
-// Marks a survey of slices of too many lengths would set.
+// A survey of slices of too many lengths, which finds none.
 fn surveys_none(rt: &(impl Abort + AllocGlobal), index: &Index, shelf: &mut MemShelf) {
     assert!(rt; index.slices() == 257);
     let mut marks = [false; 257];

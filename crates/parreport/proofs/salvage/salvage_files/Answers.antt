@@ -2,7 +2,7 @@ use Rattle.std.proofs.Common.{ap, arith, length}
 use Rattle.std.proofs.lemmas.Grind.{common_steps}
 use Rattle.parshelf.specs.Shelf.{ShelfState}
 use Rattle.parshelf.proofs.ReadLaws.{ReadsOnly_more, FaultsIn_more}
-use Rattle.parfind.proofs.LaterLaws.{later_fault}
+use Rattle.parfind.proofs.track_laws.LaterShelfLaws.{later_fault}
 use Rattle.parreport.proofs.CostLaws.{salvages_more, salvages_stopped, salvages_all}
 use Rattle.parreport.proofs.SalvageLaws.{kept_of_files-more, kept_of_files-all}
 use Rattle.parreport.proofs.salvage.salvage_files.Goals as goal

@@ -1,4 +1,4 @@
-use Rattle.parwindow.proofs.UntilLaws.{no_tails}
+use Rattle.parwindow.proofs.window_laws.PushUntilLaws.{no_tails}
 use Rattle.parwindow.proofs.laws.no_tails_law.Goals as goal
 
 pub returns : goal.returns

@@ -1,4 +1,4 @@
-use Rattle.parwindow.proofs.ShortLaws.{tails_fit}
+use Rattle.parwindow.proofs.slice_laws.TailLengthsLaws.{tails_fit}
 use Rattle.parwindow.proofs.laws.tails_law.Goals as goal
 
 pub returns : goal.returns

@@ -1,4 +1,4 @@
-use Rattle.parwindow.proofs.TailLaws.{zeros_fill}
+use Rattle.parwindow.proofs.tail_laws.TailContentLaws.{zeros_fill}
 use Rattle.parwindow.proofs.laws.zero_fill_law.Goals as goal
 
 pub returns : goal.returns

@@ -39,7 +39,7 @@ fn missing_lengths_law()
 {}
 
 #[test]
-fn digests_are_counted_where_a_slice_has_no_mark(_rt: HostRuntime) {
+fn digests_are_counted_where_a_slice_is_missing(_rt: HostRuntime) {
     missing_law();
     missing_lengths_law();
 }

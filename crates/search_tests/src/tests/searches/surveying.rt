@@ -1,4 +1,4 @@
-// Marks of the slices that a survey finds.
+// The slices that a survey finds.
 ghost use Rattle.std.specs.Prelude.{◌≡◌, length};
 
 mod tails;
@@ -14,7 +14,7 @@ use std::alloc::AllocError;
 use std::process::Abort;
 
 // A row has bars between: the bytes of the file whose slices are looked for, the files with commas
-// between or `-` for none, the marks before and after the survey, a plus or a minus for each slice,
+// between or `-` for none, what is found before and after the survey, a plus or a minus for each slice,
 // the number of the file whose read fails, if one does, and how many bytes are handed over at most,
 // if that is wanted.
 
@@ -67,7 +67,7 @@ enum In {
     UsedWindow,
 }
 
-// Surveys files for the slices of an index, by the marks of a row.
+// Surveys files for the slices of an index, by what a row has as found.
 fn surveyed(
     rt: &(impl Abort + AllocGlobal),
     index: &Index,
@@ -106,7 +106,7 @@ fn surveys(
 }
 
 // Surveys by a row in a search that is there already.
-fn survey_marks(
+fn survey_finds(
     rt: &(impl Abort + AllocGlobal),
     mut search: Search,
     row: &str,
@@ -128,11 +128,11 @@ fn marks(
     way: In,
     mode: Mode,
 ) -> Result<(), AllocError> {
-    survey_marks(rt, search_of(rt, row, piece, &[failing]), row, way, mode)
+    survey_finds(rt, search_of(rt, row, piece, &[failing]), row, way, mode)
 }
 
 // Surveys by each row of a table, by pieces of one byte and of many.
-fn marks_each(rt: &(impl Abort + AllocGlobal), table: &str, mode: Mode) {
+fn found_each(rt: &(impl Abort + AllocGlobal), table: &str, mode: Mode) {
     for row in table.lines() {
         if is_row(row) {
             must(rt, marks(rt, row, 1, 0, In::UsedWindow, mode));
@@ -142,12 +142,12 @@ fn marks_each(rt: &(impl Abort + AllocGlobal), table: &str, mode: Mode) {
 }
 
 static SEEN: &str = "\
-# Each slice that is seen is marked.
+# Each slice that is seen is found.
 abcdefghijkl|ab,XXabcdefgh|---|++-||10
 abcdefgh|abcXabcdef|--|+-||10
 abcdefgh|,ab,abcd|--|+-||4
 abcdefgh|-|--|--||0
-# A short slice is marked where the file ends or goes on with zeros.
+# A short slice is found where the file ends or goes on with zeros.
 ij|ij|-|+||2
 ij|XXij\0|-|+||5
 ij|ijk|-|-||3
@@ -157,8 +157,8 @@ abcdefgh|,a,ab,abc|--|--||0
 ";
 
 #[test]
-fn each_slice_that_is_seen_is_marked(rt: HostRuntime) {
-    marks_each(&rt, SEEN, Mode::Plain);
+fn each_slice_that_is_seen_is_found(rt: HostRuntime) {
+    found_each(&rt, SEEN, Mode::Plain);
 }
 
 static EQUAL: &str = "\
@@ -169,12 +169,12 @@ static EQUAL: &str = "\
 ";
 
 #[test]
-fn equal_slices_are_marked_together(rt: HostRuntime) {
-    marks_each(&rt, EQUAL, Mode::Plain);
+fn equal_slices_are_found_together(rt: HostRuntime) {
+    found_each(&rt, EQUAL, Mode::Plain);
 }
 
 #[test]
-fn nothing_is_read_where_each_slice_has_its_mark(rt: HostRuntime) {
+fn nothing_is_read_if_each_slice_is_found(rt: HostRuntime) {
     let row = "abcdefgh|abcdefgh|++|++||0";
     must(&rt, marks(&rt, row, 64, 1, In::UsedWindow, Mode::Plain));
 }
@@ -193,13 +193,13 @@ fn stops(rt: &(impl Abort + AllocGlobal), row: &str, piece: usize) {
     let search = Search { index, shelf };
     must(
         rt,
-        survey_marks(rt, search, row, In::UsedWindow, Mode::Plain),
+        survey_finds(rt, search, row, In::UsedWindow, Mode::Plain),
     );
 }
 
 // At most 4,096 bytes are read behind those in front of the last slice and its own four.
 #[test]
-fn reading_stops_once_each_slice_without_a_mark_is_found(rt: HostRuntime) {
+fn reading_stops_once_each_missing_slice_is_found(rt: HostRuntime) {
     stops(&rt, "||--|++||4106", 1);
     stops(&rt, "||--|++||4106", 64);
     stops(&rt, "||-+|++||4102", 64);
@@ -229,25 +229,25 @@ fn fails_in_turn(rt: &(impl Abort + AllocGlobal), row: &str, piece: usize, first
 }
 
 #[test]
-fn after_a_failed_read_the_marks_before_it_stand(rt: HostRuntime) {
+fn after_a_failed_read_the_slices_before_it_stay_found(rt: HostRuntime) {
     for (piece, first, last, row) in &FAILURES {
         fails_in_turn(&rt, row, *piece, *first, *last);
     }
 }
 
 static LEFT: &str = "\
-# Of a file into which no slice fits but those with a mark nothing is read.
+# Of a file into which no slice fits but those that are found nothing is read.
 abcdefgh,ij|ij,abX|--+|--+||0
 ij,ij\0|ij|+-|+-||0
-# A slice whose equal has a mark is looked for.
+# A slice whose equal is found is looked for.
 abcdabcd|Xabcd|+-|++||5
 ij,ij|abX,Xij|+-|++||6
-# Marks of slices that are not seen stay.
+# Slices that are not seen stay found.
 abcdefghijkl|efgh,XXX|+--|++-||7
 ";
 
 // Surveys in windows of their own by each row of a table.
-fn marks_own(rt: &(impl Abort + AllocGlobal), table: &str, mode: Mode) {
+fn found_own(rt: &(impl Abort + AllocGlobal), table: &str, mode: Mode) {
     for row in table.lines() {
         if is_row(row) {
             must(rt, marks(rt, row, 1, 0, In::OwnWindow, mode));
@@ -257,14 +257,14 @@ fn marks_own(rt: &(impl Abort + AllocGlobal), table: &str, mode: Mode) {
 }
 
 #[test]
-fn a_survey_looks_for_slices_without_a_mark(rt: HostRuntime) {
-    marks_own(&rt, LEFT, Mode::Plain);
-    marks_own(&rt, LEFT, Mode::Tails);
+fn a_survey_looks_for_missing_slices(rt: HostRuntime) {
+    found_own(&rt, LEFT, Mode::Plain);
+    found_own(&rt, LEFT, Mode::Tails);
 }
 
 // Surveys in windows of their own: of files of which the first read fails, and of others.
 #[test]
-fn a_survey_marks_what_a_search_finds(rt: HostRuntime) -> Result<(), AllocError> {
+fn a_survey_finds_what_a_search_finds(rt: HostRuntime) -> Result<(), AllocError> {
     marks(
         &rt,
         "abcdefghijkl|ab,XXabcdefgh|--+|--+|1",

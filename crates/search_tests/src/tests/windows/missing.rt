@@ -1,4 +1,4 @@
-// Indexes of the slices without a mark.
+// Indexes of the slices that are missing.
 use crate::tests::fixtures::{index_with, is, must};
 use crate::tests::windows::told::{
     AB, AB_CRC, ABCD, ABCD_CRC, EQUAL_BYTES, TEN_BYTES, Told, says_first,
@@ -69,7 +69,7 @@ static NONE_LEFT: [Told; 5] = [
 ];
 
 #[test]
-fn slices_with_a_mark_are_looked_for_no_more(rt: HostRuntime) {
+fn slices_that_are_found_are_looked_for_no_more(rt: HostRuntime) {
     let index = must(&rt, index_with(rt.alloc(), 10, &TEN_BYTES));
     leaves(&rt, &index, &[false, false, false], &ALL, &ALL);
     leaves(&rt, &index, &[true, false, false], &FIRST_MARKED, &ALL);
@@ -97,7 +97,7 @@ static OWN_LEFT: [Told; 5] = [
 ];
 
 #[test]
-fn a_slice_whose_equal_has_a_mark_is_looked_for(rt: HostRuntime) {
+fn a_slice_whose_equal_is_found_is_looked_for(rt: HostRuntime) {
     let index = must(&rt, index_with(rt.alloc(), 6, &EQUAL_BYTES));
     let before = [Told::NextMatch(AB_CRC, AB, 0, Some(0))];
     leaves(&rt, &index, &[false, true], &WHOLE_LEFT, &before);

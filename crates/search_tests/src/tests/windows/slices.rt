@@ -146,7 +146,7 @@ static EQUAL_MISSING: [Told; 5] = [
 ];
 
 #[test]
-fn a_slice_is_missing_that_fits_and_has_no_mark(rt: HostRuntime) {
+fn a_slice_is_missing_that_fits_and_is_not_found(rt: HostRuntime) {
     index_says(&rt, 10, &TEN_BYTES, &TEN_MISSING);
     index_says(&rt, 6, &EQUAL_BYTES, &EQUAL_MISSING);
 }
@@ -166,6 +166,7 @@ static PIECES: [(&[u8], usize, bool); 7] = [
 fn takes(rt: &impl Abort, window: &mut Window, index: &Index) {
     for (bytes, count, seen) in &PIECES {
         assert!(rt; window.is_full());
+        assert!(rt; window.size() as u64 == index.size());
         is(rt, &window.push_until(index, bytes), count);
         is(rt, &index.has_crc(window.crc()), seen);
     }

@@ -47,7 +47,7 @@ pub enum Told {
     // Whether a slice fits in where so many bytes are left, and whether one with this CRC-32 does.
     Fits(u64, bool),
     FitsCrc(u32, u64, bool),
-    // Whether a slice with this CRC-32 that fits into so many bytes has none of these marks.
+    // Whether a slice with this CRC-32 that fits into so many bytes isn't one of those that are found.
     Misses(u32, &'static [bool], u64, bool),
 }
 

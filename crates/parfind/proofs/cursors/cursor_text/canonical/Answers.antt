@@ -1,7 +1,7 @@
 use Rattle.std.proofs.Common.{Result, Ok, Err, sym}
 use Rattle.std.specs.Option.{IfNone}
 use Rattle.std.specs.Result.{MatchResult, result_ok}
-use Rattle.parfind.proofs.NumberLaws.{IsUtf8-canonical}
+use Rattle.parfind.proofs.cursor_laws.NumberLaws.{IsUtf8-canonical}
 use Rattle.parfind.proofs.cursors.cursor_text.canonical.Goals as goal
 
 -- canonical decimal is always read as text

@@ -1,5 +1,5 @@
 use Rattle.std.proofs.Common.{sym, ◌∙◌}
-use Rattle.parfind.proofs.CursorTextLaws.{last_part}
+use Rattle.parfind.proofs.cursor_laws.CursorTextLaws.{last_part}
 use Rattle.parfind.proofs.cursors.cursor_text.cursor_of.Goals as goal
 
 pub returns : goal.returns

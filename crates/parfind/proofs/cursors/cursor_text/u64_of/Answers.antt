@@ -1,5 +1,5 @@
 use Rattle.std.proofs.Common.{◌∙◌}
-use Rattle.parfind.proofs.NumberLaws.{number_of-parsed}
+use Rattle.parfind.proofs.cursor_laws.NumberLaws.{number_of-parsed}
 use Rattle.parfind.proofs.cursors.cursor_text.u64_of.Goals as goal
 
 pub returns : goal.returns

@@ -1,4 +1,4 @@
-use Rattle.parfind.proofs.SightingLaws.{sightings_rise, all_from_origin, rest_follows, between_joins}
+use Rattle.parfind.proofs.place_laws.SightingLaws.{sightings_rise, all_from_origin, rest_follows, between_joins}
 use Rattle.parfind.proofs.cursors.laws.sighting_laws.Goals as goal
 
 pub returns : goal.returns

@@ -7,7 +7,7 @@ use Rattle.parshelf.specs.Shelf.{ShelfState}
 use Rattle.parfind.specs.declared.drives.calls.Call.{Call}
 use Rattle.parfind.specs.declared.drives.calls.Call.TheVariants as call
 use Rattle.parfind.specs.declared.drives.calls.Answer.{Answer}
-use Rattle.parfind.proofs.DriveLaws.{asks_step, asks_next, drive_steps, drive_reopens, drive_stops, drive_ends, next_call, drop_all}
+use Rattle.parfind.proofs.drive_laws.DriveLaws.{asks_step, asks_next, drive_steps, drive_reopens, drive_stops, drive_ends, next_call, drop_all}
 use Rattle.parfind.proofs.drives.driver.drive.Goals as goal
 use Rattle.parfind.proofs.drives.driver.drive.Goals.{in-Step, in-Next, in-Reopen+in-Ok}
 

@@ -1,7 +1,7 @@
 use Rattle.std.proofs.Common.{◌≡◌, ◌≤◌, drop, length, vec_len, vec_capacity}
 use Rattle.parfind.specs.Finders.{BelongsTo}
 use Rattle.parfind.specs.Sought.{sought_of}
-use Rattle.parfind.proofs.DriveLaws.{DriveSoFar}
+use Rattle.parfind.proofs.drive_laws.DriveLaws.{DriveSoFar}
 use Rattle.parfind.proofs.drives.driver.drive.Given as goal
 
 abbrev pub invariant-loop-call : goal.invariant-loop-call

@@ -1,4 +1,4 @@
-use Rattle.parfind.proofs.ReachLaws.{reach_adds_up}
+use Rattle.parfind.proofs.search_laws.ReachLaws.{reach_adds_up}
 use Rattle.parfind.proofs.searches.laws.reach_law.Goals as goal
 
 pub returns : goal.returns

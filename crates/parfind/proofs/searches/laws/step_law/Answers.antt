@@ -1,5 +1,5 @@
-use Rattle.parfind.proofs.HandingLaws.{step_hands_out}
-use Rattle.parfind.proofs.StepLaws.{spent_sees_none}
+use Rattle.parfind.proofs.search_laws.StepHandsLaws.{step_hands_out}
+use Rattle.parfind.proofs.search_laws.StepLaws.{spent_sees_none}
 use Rattle.parfind.proofs.searches.laws.step_law.Goals as goal
 
 pub returns : goal.returns

@@ -1,7 +1,7 @@
 use Rattle.std.proofs.Common.{◌-◌, length}
 use Rattle.parfind.specs.declared.cursors.cursor.Cursor.{Cursor}
 use Rattle.parfind.specs.NextPlace.{IsAtPlace}
-use Rattle.parfind.proofs.OrderLaws.{From}
+use Rattle.parfind.proofs.place_laws.CursorOrderLaws.{From}
 use Rattle.parfind.proofs.searches.places.next_place.Given as goal
 
 abbrev pub invariant-loop-at : goal.invariant-loop-at

@@ -1,8 +1,8 @@
 use Rattle.std.proofs.Common.{length, sym, ap, ◌∙◌, arith}
 use Rattle.parfind.specs.Sought.{HasFewTails, sought_of}
-use Rattle.parfind.proofs.MissingSetLaws.{as_many, few_missing, settled_missing, skips_same, marks_all, stops_all, tells_few}
+use Rattle.parfind.proofs.survey_laws.MissingSetLaws.{as_many, few_missing, settled_missing, skips_same, found_all, stops_all, tells_few}
 use Rattle.parfind.specs.Steps.{scan_of}
-use Rattle.parfind.proofs.SettledLaws.{settled_sighted}
+use Rattle.parfind.proofs.survey_laws.SettledLaws.{settled_sighted}
 use Rattle.parfind.proofs.surveys.surveying.survey.Goals as goal
 
 pub returns-then-next_missing-found-clause-found : goal.returns-then-next_missing-found-clause-found
@@ -10,10 +10,10 @@ returns-then-next_missing-found-clause-found g c = λ files reads.
     settled_sighted (scan_of (sought_of c.args.index.now c.args.mode) files) c.args.found.now
     (λ n there. c.next_missing.ensures.settled n (omega arith) (omega (arith, c.if-next_missing-found.true)))
 
-pub returns-then-not-has_mark-clause-unfit : goal.returns-then-not-has_mark-clause-unfit
-returns-then-not-has_mark-clause-unfit g c =
+pub returns-then-not-is_any_found-clause-unfit : goal.returns-then-not-is_any_found-clause-unfit
+returns-then-not-is_any_found-clause-unfit g c =
     skips_same c.args.index.now c.args.found.now (g.H.Shelf.state c.args.shelf.now) (g.H.Shelf.state c.survey_few_tails.new.shelf)
-    c.requires (sym c.has_mark.ensures ∙ c.if-not-has_mark.true) c.survey_few_tails.ensures.unfit
+    c.requires (sym c.is_any_found.ensures ∙ c.if-not-is_any_found.true) c.survey_few_tails.ensures.unfit
 
 pub survey_few_tails-requires-2-clause-each : goal.survey_few_tails-requires-2-clause-each
 survey_few_tails-requires-2-clause-each g c =
@@ -26,7 +26,7 @@ survey_few_tails-requires-2-clause-few g c =
 
 pub returns-clause-found : goal.returns-clause-found
 returns-clause-found g c = λ files reads.
-    marks_all c.args.index.now c.args.found.now c.requires c.args.mode files
+    found_all c.args.index.now c.args.found.now c.requires c.args.mode files
     c.survey_few_tails-2.new.found c.survey_few_tails-2.result (rw c.in_ok-missing.ensures at c.survey_few_tails-2.ensures.found files reads)
 
 pub returns-clause-stops : goal.returns-clause-stops

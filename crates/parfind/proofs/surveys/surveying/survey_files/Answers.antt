@@ -6,11 +6,11 @@ use Rattle.parwindow.specs.Index.{set_has_fit}
 use Rattle.parfind.specs.Sought.{Sought, IsWindowFor}
 use Rattle.parwindow.specs.Window.{WindowState}
 use Rattle.parfind.specs.Surveying.{SurveyState, survey_at}
-use Rattle.parfind.proofs.SoFarLaws.{begins, ends_all, never_all}
-use Rattle.parfind.proofs.SurveyFilesLaws.{ReadOn, LookedAt, SlidOn, missing_left, enters, fill_fails, look_ends, slide_fails, slides}
-use Rattle.parfind.proofs.LaterLaws.{later_fault}
-use Rattle.parfind.proofs.SweepLaws.{entered_nearer, made_same, slid_nearer}
-use Rattle.parfind.proofs.KeptLaws.{tied_digest}
+use Rattle.parfind.proofs.survey_laws.SurveyedSoFarLaws.{begins, ends_all, never_all}
+use Rattle.parfind.proofs.survey_laws.SurveyFilesLaws.{ReadOn, ComparedAt, SlidOn, missing_left, enters, fill_fails, look_ends, slide_fails, slides}
+use Rattle.parfind.proofs.track_laws.LaterShelfLaws.{later_fault}
+use Rattle.parfind.proofs.survey_laws.SurveyGoesOnLaws.{entered_nearer, made_same, slid_nearer}
+use Rattle.parfind.proofs.track_laws.KeptDigestLaws.{tied_digest}
 use Rattle.parfind.proofs.surveys.surveying.survey_files.Goals.{then-left-eq0-via-then-left-eq0, then-left-eq0-via-else-left-eq0+then-not-fits}
 use Rattle.parfind.proofs.surveys.surveying.survey_files.Goals as goal
 
@@ -71,11 +71,11 @@ returns-in_err-fill-clause-shelf g c =
     (FaultsIn_more (g.H.Shelf.state c.args.shelf.now) (g.H.Shelf.state c.loop-missing.shelf) (g.H.Shelf.state c.fill.new.shelf)
     c.loop-missing.track.file c.in_err-fill.field-0.0 c.loop-missing.invariant.reads c.in_err-fill.ensures.shelf)
 
-pub mark_seen-requires-clause-exhausted : goal.mark_seen-requires-clause-exhausted
-mark_seen-requires-clause-exhausted g c = rw c.rest-left.ensures c.loop-missing.invariant.exhausted_is
+pub note_seen-requires-clause-exhausted : goal.note_seen-requires-clause-exhausted
+note_seen-requires-clause-exhausted g c = rw c.rest-left.ensures c.loop-missing.invariant.exhausted_is
 
-pub mark_seen-requires-clause-full : goal.mark_seen-requires-clause-full
-mark_seen-requires-clause-full g c =
+pub note_seen-requires-clause-full : goal.note_seen-requires-clause-full
+note_seen-requires-clause-full g c =
     let r = c.in_ok-fill.ensures in
     record {
       made = made_same c.args.sought.now c.args.window.now c.fill.new.window
@@ -86,7 +86,7 @@ mark_seen-requires-clause-full g c =
 
 pub slide_until_crc-requires-clause-tied : goal.slide_until_crc-requires-clause-tied
 slide_until_crc-requires-clause-tied g c =
-    tied_digest (g.H.Shelf.state c.fill.new.shelf) c.fill.new.window c.mark_seen.new.window c.fill.new.self _ c.fill.ensures.tied c.mark_seen.ensures.digests
+    tied_digest (g.H.Shelf.state c.fill.new.shelf) c.fill.new.window c.note_seen.new.window c.fill.new.self _ c.fill.ensures.tied c.note_seen.ensures.digests
 
 pub loop-missing-preserved : goal.loop-missing-preserved
 loop-missing-preserved g c =
@@ -103,14 +103,14 @@ loop-missing-preserved g c =
     let fill : ReadOn now filled =
     record { found_is = refl; older = r.shelf.older; tied = r.tied; window_is = r.window; same = r.same; hands = r.reads } in
     let fits : set_has_fit sought.set left ≡ true = search rules steps 600000 in
-    let m = c.mark_seen.new in
+    let m = c.note_seen.new in
     let last = c.next_missing-missing-in-loop-missing in
-    let look : LookedAt sought filled left m.window m.found l.missing last.result = record {
+    let look : ComparedAt sought filled left m.window m.found l.missing last.result = record {
       full = r.full;
       some = omega (arith, c.if-left-eq0.false);
-      each = c.mark_seen.auto.found;
-      marks = c.mark_seen.ensures.marks;
-      takes = c.mark_seen.ensures.digests;
+      each = c.note_seen.auto.found;
+      found = c.note_seen.ensures.found;
+      takes = c.note_seen.ensures.digests;
       next = record { within = last.ensures.within; first = last.ensures.missing; settled = last.ensures.settled };
     } in
     let p = c.in_ok-slide_until_crc.ensures in
@@ -119,13 +119,13 @@ loop-missing-preserved g c =
     record { older = p.shelf.older; tied = p.tied; window_is = p.window; file_is = p.same; hands = p.reads } in
     let made : IsWindowFor sought m.window =
     made_same sought c.args.window.now m.window
-    (ap (λ (x : WindowState). x.capacity) c.mark_seen.ensures.digests ∙ ap (λ (x : WindowState). x.capacity) r.window
+    (ap (λ (x : WindowState). x.capacity) c.note_seen.ensures.digests ∙ ap (λ (x : WindowState). x.capacity) r.window
     ∙ ap (λ (x : WindowState). x.capacity) l.invariant.window_is)
-    (ap (λ (x : WindowState). x.tails) c.mark_seen.ensures.digests ∙ ap (λ (x : WindowState). x.tails) r.window
+    (ap (λ (x : WindowState). x.tails) c.note_seen.ensures.digests ∙ ap (λ (x : WindowState). x.tails) r.window
     ∙ ap (λ (x : WindowState). x.tails) l.invariant.window_is) c.requires.made in
     slides sought old now l.missing l.exhausted.crcs left at fits filled fill r.shelf m.window m.found last.result look
     (omega (arith, last.ensures.within, c.if-missing-found.false)) (g.H.Shelf.state s.shelf) s.window s.self slid
-    c.in_ok-slide_until_crc.field-0 _ p.passes p.shelf m.self.crcs c.mark_seen.ensures.exhausted ((rw (ap (λ (s : Sought). s.set) c.sought.view_is) at p.none) sought.mode made)
+    c.in_ok-slide_until_crc.field-0 _ p.passes p.shelf m.self.crcs c.note_seen.ensures.exhausted ((rw (ap (λ (s : Sought). s.set) c.sought.view_is) at p.none) sought.mode made)
 
 pub returns-in_err-slide_until_crc-clause-ends : goal.returns-in_err-slide_until_crc-clause-ends
 returns-in_err-slide_until_crc-clause-ends g c =
@@ -142,14 +142,14 @@ returns-in_err-slide_until_crc-clause-ends g c =
     let fill : ReadOn now filled =
     record { found_is = refl; older = r.shelf.older; tied = r.tied; window_is = r.window; same = r.same; hands = r.reads } in
     let fits : set_has_fit sought.set left ≡ true = search rules steps 600000 in
-    let m = c.mark_seen.new in
+    let m = c.note_seen.new in
     let last = c.next_missing-missing-in-loop-missing in
-    let look : LookedAt sought filled left m.window m.found l.missing last.result = record {
+    let look : ComparedAt sought filled left m.window m.found l.missing last.result = record {
       full = r.full;
       some = omega (arith, c.if-left-eq0.false);
-      each = c.mark_seen.auto.found;
-      marks = c.mark_seen.ensures.marks;
-      takes = c.mark_seen.ensures.digests;
+      each = c.note_seen.auto.found;
+      found = c.note_seen.ensures.found;
+      takes = c.note_seen.ensures.digests;
       next = record { within = last.ensures.within; first = last.ensures.missing; settled = last.ensures.settled };
     } in
     let p = c.in_err-slide_until_crc.ensures in
@@ -202,14 +202,14 @@ returns-then-missing-found-clause-ends g c =
     let fill : ReadOn now filled =
     record { found_is = refl; older = r.shelf.older; tied = r.tied; window_is = r.window; same = r.same; hands = r.reads } in
     let fits : set_has_fit sought.set left ≡ true = search rules steps 600000 in
-    let m = c.mark_seen.new in
+    let m = c.note_seen.new in
     let last = c.next_missing-missing-in-loop-missing in
-    let look : LookedAt sought filled left m.window m.found l.missing last.result = record {
+    let look : ComparedAt sought filled left m.window m.found l.missing last.result = record {
       full = r.full;
       some = omega (arith, c.if-left-eq0.false);
-      each = c.mark_seen.auto.found;
-      marks = c.mark_seen.ensures.marks;
-      takes = c.mark_seen.ensures.digests;
+      each = c.note_seen.auto.found;
+      found = c.note_seen.ensures.found;
+      takes = c.note_seen.ensures.digests;
       next = record { within = last.ensures.within; first = last.ensures.missing; settled = last.ensures.settled };
     } in
     look_ends sought old now l.missing l.exhausted.crcs left at fits filled fill r.shelf m.window m.found last.result look

@@ -1,6 +1,6 @@
 use Rattle.std.proofs.Common.{◌*◌, ◌-◌, length}
 use Rattle.parfind.specs.Surveying.{survey_at}
-use Rattle.parfind.proofs.SoFarLaws.{SurveySoFar}
+use Rattle.parfind.proofs.survey_laws.SurveyedSoFarLaws.{SurveySoFar}
 use Rattle.parfind.proofs.surveys.surveying.survey_files.Given as goal
 
 abbrev pub invariant-loop-missing : goal.invariant-loop-missing

@@ -5,7 +5,7 @@ use Rattle.parshelf.specs.Reads.{ReadsOnly}
 use Rattle.parshelf.specs.Shelf.{ShelfState}
 use Rattle.parwindow.specs.Window.{WindowState}
 use Rattle.parfind.specs.Surveying.{SurveyState, survey_at}
-use Rattle.parfind.proofs.SurveyLaws.{surveyed_kept, surveyed_no_other, surveyed_full, surveyed_end, surveyed_digests, surveyed_once, surveyed_stops, surveyed_fault}
+use Rattle.parfind.proofs.survey_laws.SurveyedLaws.{surveyed_kept, surveyed_no_other, surveyed_full, surveyed_end, surveyed_digests, surveyed_once, surveyed_stops, surveyed_fault}
 use Rattle.parfind.proofs.surveys.surveying.survey_in.Goals as goal
 
 pub returns-in-Ok : goal.returns-in-Ok

@@ -5,13 +5,13 @@ use Rattle.std.proofs.lemmas.List.{length-map}
 use Rattle.parshelf.specs.Shelf.{ShelfState}
 use Rattle.parfind.specs.Sought.{HasFewTails, sought_of}
 use Rattle.parfind.specs.Steps.{scan_of}
-use Rattle.parfind.specs.Surveys.{AreAllSettled, MarksSighted, StopsOnceFound, marked_at}
+use Rattle.parfind.specs.Surveys.{AreAllSettled, FindsSighted, StopsOnceFound, survey_point}
 use Rattle.parwindow.specs.Index.{slice_set_of}
 use Rattle.parreport.specs.Findings.{is_in_whole_file, set_scan_of}
 use Rattle.parreport.proofs.CostLaws.{searched_once}
 use Rattle.parreport.proofs.LeaveLaws.{FilesLeave-survey}
 use Rattle.parreport.proofs.StateLaws.{take-all_back}
-use Rattle.parreport.proofs.SumLaws.{marks_found, all_settled}
+use Rattle.parreport.proofs.SumLaws.{found_found, all_settled}
 use Rattle.parreport.proofs.states.found.found_slices.Goals as goal
 
 pub returns-clause-found : goal.returns-clause-found
@@ -25,9 +25,9 @@ returns-clause-found g c = λ files reads.
     = omega (arith, c.survey.auto.found, ap length c.deref_mut.ensures.value) in
     let back = take-all_back c.in_ok-found.found.len c.survey.new.found c.in_ok-found.found.items same (omega arith) in
     let sized : length c.survey.new.found ≡ length slices = omega (arith, c.survey.auto.found, ap length was, length-map slices (is_in_whole_file whole)) in
-    let marked : MarksSighted scan c.deref_mut.result.now c.survey.new.found
-    = subst (λ set. MarksSighted (scan_of (sought_of set c.args.mode) files) c.deref_mut.result.now c.survey.new.found) c.requires.index (c.in_ok-survey.ensures.found files reads) in
-    back ∙ marks_found whole scan c.deref_mut.result.now c.survey.new.found was sized marked
+    let marked : FindsSighted scan c.deref_mut.result.now c.survey.new.found
+    = subst (λ set. FindsSighted (scan_of (sought_of set c.args.mode) files) c.deref_mut.result.now c.survey.new.found) c.requires.index (c.in_ok-survey.ensures.found files reads) in
+    back ∙ found_found whole scan c.deref_mut.result.now c.survey.new.found was sized marked
 
 pub returns-clause-none : goal.returns-clause-none
 returns-clause-none g c = λ needs_no_search.
@@ -84,8 +84,8 @@ pub returns-in_err-survey-clause-fault : goal.returns-in_err-survey-clause-fault
 returns-in_err-survey-clause-fault g c =
     let failed = err_from_is_err_and c.from_residual-in_err-survey.result c.from_residual-in_err-survey.ensures.1 in
     rw (failed.1, failed.2)
-    (FilesLeave-survey (Unit {0}) (sought_of c.args.index.now c.args.mode) (marked_at (g.Q.Shelf.state c.args.shelf.now) c.deref_mut.result.now)
-    (marked_at (g.Q.Shelf.state c.survey.new.shelf) c.survey.new.found) c.in_err-survey.field-0.0
+    (FilesLeave-survey (Unit {0}) (sought_of c.args.index.now c.args.mode) (survey_point (g.Q.Shelf.state c.args.shelf.now) c.deref_mut.result.now)
+    (survey_point (g.Q.Shelf.state c.survey.new.shelf) c.survey.new.found) c.in_err-survey.field-0.0
     (subst (λ set. HasFewTails (sought_of set c.args.mode)) (sym c.requires.index) c.requires.few)
     c.in_err-survey.ensures.tails c.in_err-survey.ensures.leaves)
 

@@ -1,5 +1,5 @@
 use Rattle.std.proofs.Common.{sym, ◌∙◌}
-use Rattle.parwindow.proofs.LengthLaws.{no_own}
+use Rattle.parwindow.proofs.slice_laws.OwnLengthsLaws.{no_own}
 use Rattle.parwindow.proofs.index.Index.has_crc_of.Goals as goal
 
 pub returns-then-has_crc : goal.returns-then-has_crc

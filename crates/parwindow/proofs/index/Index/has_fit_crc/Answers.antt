@@ -1,5 +1,5 @@
 use Rattle.std.proofs.Common.{sym, ◌∙◌}
-use Rattle.parwindow.proofs.MissingLaws.{no_fit}
+use Rattle.parwindow.proofs.slice_laws.MissingLaws.{no_fit}
 use Rattle.parwindow.proofs.index.Index.has_fit_crc.Goals as goal
 
 pub returns-then-has_crc : goal.returns-then-has_crc

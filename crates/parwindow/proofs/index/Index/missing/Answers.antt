@@ -1,6 +1,6 @@
 use Rattle.std.proofs.Common.{ap}
 use Rattle.parwindow.specs.Index.{SliceSet}
-use Rattle.parwindow.proofs.UnmarkedLaws.{missing_good}
+use Rattle.parwindow.proofs.slice_laws.UnlessFoundLaws.{missing_good}
 use Rattle.parwindow.proofs.index.Index.missing.Goals as goal
 
 pub of-requires : goal.of-requires

@@ -1,4 +1,4 @@
-use Rattle.parwindow.proofs.SumLaws.{found_within}
+use Rattle.parwindow.proofs.slice_laws.KnownSumsLaws.{found_within}
 use Rattle.parwindow.proofs.index.Index.next_crc.Goals as goal
 
 pub returns-clause-found : goal.returns-clause-found

@@ -1,5 +1,5 @@
 use Rattle.parwindow.specs.Index.{slice_set_of}
-use Rattle.parwindow.proofs.ShortLaws.{tails_fit}
+use Rattle.parwindow.proofs.slice_laws.TailLengthsLaws.{tails_fit}
 use Rattle.parwindow.proofs.index.Index.tail_lengths.Goals as goal
 
 pub returns-clause-tails : goal.returns-clause-tails

@@ -1,5 +1,5 @@
 use Rattle.std.proofs.Common.{arith, ap, length}
-use Rattle.parwindow.proofs.ShortLaws.{few_tails}
+use Rattle.parwindow.proofs.slice_laws.TailLengthsLaws.{few_tails}
 use Rattle.parwindow.specs.Index.{slice_set_of}
 use Rattle.parwindow.proofs.index.Index.tails.Goals as goal
 

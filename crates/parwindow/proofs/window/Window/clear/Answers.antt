@@ -1,6 +1,6 @@
 use Rattle.std.proofs.Common.{refl, arith}
 use Rattle.parwindow.specs.Crc32.{register_of}
-use Rattle.parwindow.proofs.TailMoveLaws.{refilled}
+use Rattle.parwindow.proofs.tail_laws.PushTailsLaws.{refilled}
 use Rattle.parwindow.proofs.window.Window.clear.Goals as goal
 
 pub invariant_of-self : goal.invariant_of-self

@@ -1,4 +1,4 @@
-use Rattle.parwindow.proofs.PieceLaws.{extended_more, extended_none}
+use Rattle.parwindow.proofs.window_laws.ExtendLaws.{extended_more, extended_none}
 use Rattle.parwindow.proofs.window.Window.extend.Goals as goal
 
 pub loop-byte-init : goal.loop-byte-init

@@ -1,5 +1,5 @@
 use Rattle.std.proofs.Common.{◌≡◌}
-use Rattle.parwindow.proofs.PieceLaws.{extended}
+use Rattle.parwindow.proofs.window_laws.ExtendLaws.{extended}
 use Rattle.parwindow.proofs.window.Window.extend.Given as goal
 
 abbrev pub invariant-loop-byte : goal.invariant-loop-byte

@@ -1,6 +1,6 @@
 use Rattle.std.proofs.Common.{◌≡◌, [], ◌++◌, arith, length-append}
-use Rattle.parwindow.proofs.PieceLaws.{keep_last-piece, register_of-piece, each_of_none}
-use Rattle.parwindow.specs.Tails.{lengths_of, IsTail}
+use Rattle.parwindow.proofs.window_laws.ExtendLaws.{keep_last-piece, register_of-piece, each_of_none}
+use Rattle.parwindow.specs.Tails.{tail_lengths_of, IsTail}
 use Rattle.parwindow.proofs.window.Window.extend_plain.Goals as goal
 
 pub invariant_of-self : goal.invariant_of-self
@@ -9,7 +9,7 @@ invariant_of-self c =
     let held = c.self.invariant in
     let bytes = c.args.bytes.now in
     let room = rw (← c.self.view_is) at c.requires.room in
-    let none : lengths_of w.tails.items ≡ [] = rw (← c.self.view_is) at c.requires.none in
+    let none : tail_lengths_of w.tails.items ≡ [] = rw (← c.self.view_is) at c.requires.none in
     rw (
       c.extend_from_slice.ensures,
       c.after_bytes-self-inside.ensures,

@@ -1,5 +1,5 @@
 use Rattle.std.proofs.Common.{◌+◌, ◌-◌, ◌*◌, ◌<◌, ◌≤◌, length}
-use Rattle.parwindow.proofs.UntilLaws.{PushedSoFar}
+use Rattle.parwindow.proofs.window_laws.PushUntilLaws.{PushedSoFar}
 use Rattle.parwindow.proofs.window.Window.push_pieces_until.Given as goal
 
 abbrev pub invariant-loop-done : goal.invariant-loop-done

@@ -1,4 +1,4 @@
-use Rattle.parwindow.proofs.TailLaws.{tail_is, tail_length, tail_crc_is}
+use Rattle.parwindow.proofs.tail_laws.TailContentLaws.{tail_is, tail_length, tail_crc_is}
 use Rattle.parwindow.proofs.window.Window.tail_crc.Goals as goal
 
 pub returns : goal.returns

@@ -100,21 +100,21 @@ fn files_of(rt: &(impl Abort + AllocGlobal), words: &str) -> MemShelf {
 }
 
 // Wants this mark of the files of a row, which have these names.
-fn has_mark<N: Named>(rt: &impl Abort, shelf: &MemShelf, names: &[N], mark: &Hash16) {
+fn is_any_found<N: Named>(rt: &impl Abort, shelf: &MemShelf, names: &[N], mark: &Hash16) {
     assert!(rt; shelf.count() as usize == names.len());
     is(rt, &list_mark(shelf, names), mark);
 }
 
 // The same of names that are strings, and of texts.
-fn is_marked(rt: &(impl Abort + AllocGlobal), names: &str, files: &str, mark: &Hash16) {
+fn found(rt: &(impl Abort + AllocGlobal), names: &str, files: &str, mark: &Hash16) {
     let shelf = files_of(rt, files);
-    has_mark(rt, &shelf, &names_of(rt, names), mark);
-    has_mark(rt, &shelf, &texts_of(rt, names), mark);
+    is_any_found(rt, &shelf, &names_of(rt, names), mark);
+    is_any_found(rt, &shelf, &texts_of(rt, names), mark);
 }
 
 #[test]
 fn the_mark_of_a_list_is_that_of_its_names_and_lengths(rt: HostRuntime) {
     for (names, files, mark) in &LISTS {
-        is_marked(&rt, names, files, mark);
+        found(&rt, names, files, mark);
     }
 }

@@ -1,6 +1,6 @@
-// Marks of short slices that are looked for by their own bytes, and of the same ones by whole windows.
+// Short slices that are looked for by their own bytes, and the same ones by whole windows.
 use crate::tests::fixtures::must;
-use crate::tests::searches::surveying::{In, marks, marks_each};
+use crate::tests::searches::surveying::{In, found_each, marks};
 use parfind::Mode;
 use std::alloc::AllocError;
 use std::process::Abort;
@@ -43,13 +43,13 @@ abcdef|Xabcd,XefX|--|+-||9
 ";
 
 #[test]
-fn short_slices_are_marked_by_their_own_bytes(rt: HostRuntime) {
-    marks_each(&rt, TAILS, Mode::Tails);
+fn short_slices_are_found_by_their_own_bytes(rt: HostRuntime) {
+    found_each(&rt, TAILS, Mode::Tails);
 }
 
 #[test]
-fn short_slices_are_marked_by_whole_windows(rt: HostRuntime) {
-    marks_each(&rt, WHOLE, Mode::Plain);
+fn short_slices_are_found_by_whole_windows(rt: HostRuntime) {
+    found_each(&rt, WHOLE, Mode::Plain);
 }
 
 // Surveys the file of a row, which is read `piece` bytes at a time, a read failing.
@@ -62,7 +62,7 @@ fn fails(rt: &(impl Abort + AllocGlobal), row: &str, piece: usize, failing: u64)
 
 // The window of the first place ends with the fourth byte, and that of the last own bytes behind all.
 #[test]
-fn after_a_failed_read_the_short_slices_before_it_are_marked(rt: HostRuntime) {
+fn after_a_failed_read_the_short_slices_before_it_are_found(rt: HostRuntime) {
     fails(&rt, "abcdef|Xefabcd|--|--|0|3", 1, 4);
     fails(&rt, "abcdef|Xefabcd|--|-+|0|6", 1, 7);
     fails(&rt, "abcdef|Xefabcd,ef|--|++||7", 1, 8);
@@ -70,7 +70,7 @@ fn after_a_failed_read_the_short_slices_before_it_are_marked(rt: HostRuntime) {
 
 // Surveys in windows of their own.
 #[test]
-fn a_survey_of_short_slices_marks_what_a_search_finds(rt: HostRuntime) -> Result<(), AllocError> {
+fn a_survey_of_short_slices_finds_what_a_search_finds(rt: HostRuntime) -> Result<(), AllocError> {
     let row = "ab,abcd,a|XabcdX|---|+++|";
     marks(&rt, row, 64, 0, In::OwnWindow, Mode::Tails)?;
     let row = "ab,abcd,a|XabcdX|---|-+-|";

@@ -4,8 +4,8 @@ use Rattle.parshelf.specs.Shelf.{ShelfState}
 use Rattle.parfind.specs.Finders.{sought_for}
 use Rattle.parfind.specs.Sought.{Sought}
 use Rattle.parfind.specs.declared.searches.finder.Visit.TheVariants.{Hit, End}
-use Rattle.parfind.proofs.StepLaws.{budget_left, leaves_some, none_left}
-use Rattle.parfind.proofs.TryLaws.{none_so_far, tried_ends, tried_is, tried_passes, tried_spends}
+use Rattle.parfind.proofs.search_laws.StepLaws.{budget_left, leaves_some, none_left}
+use Rattle.parfind.proofs.search_laws.TryPlaceLaws.{none_so_far, tried_ends, tried_is, tried_passes, tried_spends}
 use Rattle.parfind.proofs.searches.finder.Finder.advance.Goals as goal
 
 pub loop-sighting-init : goal.loop-sighting-init

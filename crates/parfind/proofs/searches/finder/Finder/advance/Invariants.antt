@@ -1,6 +1,6 @@
 use Rattle.parfind.specs.Finders.{BelongsTo, sought_for}
 use Rattle.parfind.specs.Moves.{steps_left}
-use Rattle.parfind.proofs.TryLaws.{PassedSoFar}
+use Rattle.parfind.proofs.search_laws.TryPlaceLaws.{PassedSoFar}
 use Rattle.parfind.proofs.searches.finder.Finder.advance.Given as goal
 
 abbrev pub invariant-loop-sighting : goal.invariant-loop-sighting

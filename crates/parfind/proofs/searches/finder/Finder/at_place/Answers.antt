@@ -5,9 +5,9 @@ use Rattle.parshelf.specs.Shelf.{ShelfState}
 use Rattle.parwindow.specs.Index.{SliceSet}
 use Rattle.parfind.specs.declared.cursors.cursor.Cursor.{Cursor}
 use Rattle.parfind.specs.Finders.{FinderState}
-use Rattle.parfind.proofs.AtPlaceLaws.{IsThere, Looked, hit_inside, fault_inside, pass_inside}
-use Rattle.parfind.proofs.BelongsLaws.{with_window}
-use Rattle.parfind.proofs.KeptLaws.{tied_digest}
+use Rattle.parfind.proofs.search_laws.AtPlaceLaws.{IsThere, Looked, hit_inside, fault_inside, pass_inside}
+use Rattle.parfind.proofs.search_laws.BelongsLaws.{with_window}
+use Rattle.parfind.proofs.track_laws.KeptDigestLaws.{tied_digest}
 use Rattle.parfind.proofs.searches.finder.Finder.at_place.Goals as goal
 
 pub returns-in-Some : goal.returns-in-Some
@@ -22,7 +22,7 @@ returns-in-Some g c =
     let w = c.first_seen.new in
     let r = c.first_seen.ensures in
     let looked : Looked set s f c.rest_of-rest.result c.first_seen.result w.window w.self.kept.items =
-    record { rest_is = c.rest_of-rest.ensures; first = r.first; looks = r.looks; keeps = r.keeps } in
+    record { rest_is = c.rest_of-rest.ensures; first = r.first; stays = r.stays; keeps = r.keeps } in
     let seen = rw c.in-Some.is at r.there in
     let tried = hit_inside set s f c.args.self.now c.self.view_is there c.args.left q.left c.rest_of-rest.result
     c.first_seen.result w.window w.self.kept.items looked c.in-Some.slice c.in-Some.is seen in
@@ -47,7 +47,7 @@ returns-in_err-count g c =
     let w = c.first_seen.new in
     let r = c.first_seen.ensures in
     let looked : Looked set s f c.rest_of-rest.result c.first_seen.result w.window w.self.kept.items =
-    record { rest_is = c.rest_of-rest.ensures; first = r.first; looks = r.looks; keeps = r.keeps } in
+    record { rest_is = c.rest_of-rest.ensures; first = r.first; stays = r.stays; keeps = r.keeps } in
     let v = c.slide_until_crc.new in
     let e = c.in_err-count.ensures in
     let tried = fault_inside set s f c.args.self.now c.self.view_is there c.args.left q.left c.rest_of-rest.result
@@ -75,7 +75,7 @@ returns g c =
     let w = c.first_seen.new in
     let r = c.first_seen.ensures in
     let looked : Looked set s f c.rest_of-rest.result c.first_seen.result w.window w.self.kept.items =
-    record { rest_is = c.rest_of-rest.ensures; first = r.first; looks = r.looks; keeps = r.keeps } in
+    record { rest_is = c.rest_of-rest.ensures; first = r.first; stays = r.stays; keeps = r.keeps } in
     let v = c.slide_until_crc.new in
     let e = c.in_ok-count.ensures in
     let tried = pass_inside set s f c.args.self.now c.self.view_is there c.args.left q.left c.rest_of-rest.result
@@ -127,7 +127,7 @@ slide_until_crc-requires-clause-sized g c = grind (arith, common_steps) steps 10
 pub slide_until_crc-requires-clause-full : goal.slide_until_crc-requires-clause-full
 slide_until_crc-requires-clause-full g c =
     let window = ap (λ (f : FinderState). f.window) c.self.view_is in
-    rw (c.first_seen.ensures.looks.window_is, window) c.requires.full
+    rw (c.first_seen.ensures.stays.window_is, window) c.requires.full
 
 pub slide_until_crc-requires-clause-tied : goal.slide_until_crc-requires-clause-tied
 slide_until_crc-requires-clause-tied g c =
@@ -135,4 +135,4 @@ slide_until_crc-requires-clause-tied g c =
     let track = ap (λ (f : FinderState). f.track) c.self.view_is in
     let window = ap (λ (f : FinderState). f.window) c.self.view_is in
     tied_digest (g.H.Shelf.state c.args.shelf.now) i.window c.first_seen.new.window i.track _ (rw (track, window) c.requires.belongs.tied)
-    c.first_seen.ensures.looks.window_is
+    c.first_seen.ensures.stays.window_is

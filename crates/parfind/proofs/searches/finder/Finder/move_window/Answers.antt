@@ -4,13 +4,13 @@ use Rattle.parwindow.specs.Index.{SliceSet}
 use Rattle.parwindow.specs.Window.{WindowState}
 use Rattle.parshelf.specs.Reads.{ReadsFile}
 use Rattle.parfind.specs.Tracks.{fetched_of}
-use Rattle.parfind.proofs.FetchedLaws.{hands_more}
+use Rattle.parfind.proofs.track_laws.FetchedLaws.{hands_more}
 use Rattle.parfind.specs.Finders.{FinderState, BelongsTo, StandsAt, sought_for}
-use Rattle.parfind.proofs.EnterLaws.{stays_there, enter_tied, enter_file, enter_stands, enter_hands, enter_digests, enter_belongs}
-use Rattle.parfind.proofs.BelongsLaws.{opened_as, with_window}
-use Rattle.parfind.proofs.LaterLaws.{later_read}
+use Rattle.parfind.proofs.search_laws.MoveWindowLaws.{stays_there, enter_tied, enter_file, enter_stands, enter_hands, enter_digests, enter_belongs}
+use Rattle.parfind.proofs.search_laws.BelongsLaws.{opened_as, with_window}
+use Rattle.parfind.proofs.track_laws.LaterShelfLaws.{later_read}
 use Rattle.parfield.specs.declared.hash16.Hash16.{Hash16}
-use Rattle.parfind.specs.Sought.{looked_lengths}
+use Rattle.parfind.specs.Sought.{compared_lengths}
 use Rattle.parfind.specs.declared.tracks.track.Track.{Track}
 use Rattle.parfind.proofs.searches.finder.Finder.move_window.Goals as goal
 use Rattle.parfind.proofs.searches.finder.Finder.move_window.Goals.{else-at-file-via-then-at-file+else-is_full, else-at-file-via-else-at-file}
@@ -46,7 +46,7 @@ returns-clause-belongs g c =
     let track = ap (λ (x : FinderState). x.track) c.self.view_is in
     let window = ap (λ (x : FinderState). x.window) c.self.view_is in
     let kept : List (Option Hash16) = c.forget.new.self.kept.items in
-    let none : kept ≡ replicate (length (looked_lengths (sought_for set f))) None =
+    let none : kept ≡ replicate (length (compared_lengths (sought_for set f))) None =
     c.forget.ensures ∙ ap (λ (x : FinderState). replicate (length x.kept) None) c.self.view_is
     ∙ ap (λ (n : ℕ). replicate n None) c.requires.belongs.keeps.room in
     let unfilled : f.track.file ≡ c.args.at.file → ¬ (length f.window.content ≡ f.window.capacity) = λ file full.

@@ -4,8 +4,8 @@ use Rattle.parshelf.specs.Shelf.{ShelfState}
 use Rattle.parwindow.specs.Index.{SliceSet}
 use Rattle.parfind.specs.Finders.{FinderState, BelongsTo, sought_for}
 use Rattle.parfind.specs.NextPlace.{HasFit}
-use Rattle.parfind.proofs.PassLaws.{cursor_on}
-use Rattle.parfind.proofs.FitLaws.{unfit_belongs, unfit_passes, unfit_advances, unfit_sees, some_passed}
+use Rattle.parfind.proofs.search_laws.PassUnfitLaws.{cursor_on}
+use Rattle.parfind.proofs.place_laws.UnfitPlaceLaws.{unfit_belongs, unfit_passes, unfit_advances, unfit_sees, some_passed}
 use Rattle.parfind.proofs.searches.finder.Finder.pass_unfit.Goals as goal
 
 pub returns-clause-belongs : goal.returns-clause-belongs

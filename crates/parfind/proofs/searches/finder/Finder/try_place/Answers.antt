@@ -6,14 +6,14 @@ use Rattle.parfind.specs.declared.cursors.cursor.Cursor.{Cursor}
 use Rattle.parfind.specs.Finders.{FinderState, BelongsTo, sought_for}
 use Rattle.parfind.specs.Moves.{StepMoves}
 use Rattle.parfind.specs.NextPlace.{IsNextPlace}
-use Rattle.parfind.specs.PlaceVisit.{answer_of, count_of}
+use Rattle.parfind.specs.PlaceVisit.{step_answer, count_of}
 use Rattle.parfind.specs.Steps.{StepSees, scan_of}
-use Rattle.parfind.proofs.BelongsLaws.{later_belongs}
-use Rattle.parfind.proofs.LaterLaws.{later_fault}
-use Rattle.parfind.proofs.LookLaws.{one_within}
-use Rattle.parfind.proofs.MoveLaws.{greater-end, greater-same}
-use Rattle.parfind.proofs.TryLaws.{tried_next}
-use Rattle.parfind.proofs.VisitLaws.{visit_ended, visit_stopped, visit_stays, visit_ends}
+use Rattle.parfind.proofs.search_laws.BelongsLaws.{later_belongs}
+use Rattle.parfind.proofs.track_laws.LaterShelfLaws.{later_fault}
+use Rattle.parfind.proofs.search_laws.FirstSeenLaws.{one_within}
+use Rattle.parfind.proofs.search_laws.StepMovesLaws.{greater-end, greater-same}
+use Rattle.parfind.proofs.search_laws.TryPlaceLaws.{tried_next}
+use Rattle.parfind.proofs.search_laws.VisitLaws.{visit_ended, visit_stopped, visit_stays, visit_ends}
 use Rattle.parfind.proofs.searches.finder.Finder.try_place.Goals as goal
 
 pub returns : goal.returns
@@ -75,7 +75,7 @@ returns-in_err-move_window-clause-moves g c =
     let same = ap (λ (f : FinderState). f.cursor) c.self.view_is in
     let found = rw same at c.in-Some.ensures.found in
     let failed = err_from_is_err_and c.from_residual.result c.from_residual.ensures.1 in
-    subst (λ answer. StepMoves s.lengths (Some (count_of answer)) c.args.self.now.cursor (answer_of answer) c.move_window.new.self.cursor) (sym failed.1)
+    subst (λ answer. StepMoves s.lengths (Some (count_of answer)) c.args.self.now.cursor (step_answer answer) c.move_window.new.self.cursor) (sym failed.1)
     (rw c.in_err-move_window.ensures.cursor (visit_stays s.lengths c.args.self.now.cursor c.in-Some.at found))
 
 pub returns-in_err-move_window-clause-sees : goal.returns-in_err-move_window-clause-sees
@@ -87,7 +87,7 @@ returns-in_err-move_window-clause-sees g c = λ files reads.
     let later = later_fault s (g.H.Shelf.state c.move_window.new.shelf) c.move_window.new.self.cursor.file c.in_err-move_window.field-0.0
     c.in_err-move_window.ensures.along.shelf in
     let before : ReadsAs s files = later.older files reads in
-    subst (λ answer. StepSees (scan_of (sought_for c.args.index.now c.args.self.now) files) c.args.self.now.cursor (answer_of answer) c.move_window.new.self.cursor) (sym failed.1)
+    subst (λ answer. StepSees (scan_of (sought_for c.args.index.now c.args.self.now) files) c.args.self.now.cursor (step_answer answer) c.move_window.new.self.cursor) (sym failed.1)
     (rw c.in_err-move_window.ensures.cursor
     (visit_stopped (sought_for c.args.index.now c.args.self.now) files s.lengths before.lengths c.args.self.now.cursor c.in-Some.at found))
 

@@ -1,7 +1,7 @@
 use Rattle.std.proofs.Common.{arith}
 use Rattle.std.proofs.lemmas.Grind.{common_steps}
-use Rattle.parfind.proofs.LaterLaws.{later_read}
-use Rattle.parfind.proofs.RefillLaws.{tied_refilled}
+use Rattle.parfind.proofs.track_laws.LaterShelfLaws.{later_read}
+use Rattle.parfind.proofs.track_laws.RefillLaws.{tied_refilled}
 use Rattle.parfind.proofs.tracks.track.Track.ensure_next_byte.Goals as goal
 
 pub returns-then-at-length-clause-tied : goal.returns-then-at-length-clause-tied

@@ -5,8 +5,8 @@ use Rattle.std.proofs.lemmas.Result.{err_from_is_err_and}
 use Rattle.parshelf.proofs.ReadLaws.{ReadsOnly_more, FaultsIn_more}
 use Rattle.parwindow.specs.Window.{WindowState}
 use Rattle.parfind.specs.Tracks.{IsTied, fetched_of}
-use Rattle.parfind.proofs.FetchedLaws.{hands_more}
-use Rattle.parfind.proofs.SlideLaws.{tied_more, kept_window}
+use Rattle.parfind.proofs.track_laws.FetchedLaws.{hands_more}
+use Rattle.parfind.proofs.track_laws.FillLaws.{tied_more, kept_window}
 use Rattle.parfind.proofs.tracks.track.Track.fill.Goals as goal
 
 pub loop-self-preserved : goal.loop-self-preserved

@@ -1,5 +1,5 @@
 use Rattle.std.proofs.Common.{◌≡◌, ◌≤◌, ℕ, ◌+◌, ◌-◌, List, length, min, take, drop, replicate, arith}
-use Rattle.parfind.proofs.TrackLaws.{front_bytes, hand_bytes, zero_bytes}
+use Rattle.parfind.proofs.track_laws.NextBytesLaws.{front_bytes, hand_bytes, zero_bytes}
 use Rattle.parfind.proofs.tracks.track.Track.next_bytes.Goals as goal
 
 pub returns-then-at-file_end-clause-bytes : goal.returns-then-at-file_end-clause-bytes

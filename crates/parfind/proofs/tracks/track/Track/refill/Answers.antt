@@ -3,8 +3,8 @@ use Rattle.std.proofs.Common.{ap, ◌+◌, ◌≤◌, arith, length, refl, rules
 use Rattle.std.proofs.lemmas.List.{length-take-le, take-append-le}
 use Rattle.parshelf.specs.Shelf.{ShelfState}
 use Rattle.parshelf.proofs.ReadLaws.{HandsOver_reads}
-use Rattle.parfind.proofs.FetchedLaws.{hands_read}
-use Rattle.parfind.proofs.RefillLaws.{refills, refill_bytes, refill_ends, refill_fails}
+use Rattle.parfind.proofs.track_laws.FetchedLaws.{hands_read}
+use Rattle.parfind.proofs.track_laws.RefillLaws.{refills, refill_bytes, refill_ends, refill_fails}
 use Rattle.parfind.proofs.tracks.track.Track.refill.Goals as goal
 
 pub returns-in-Ok-clause-reads : goal.returns-in-Ok-clause-reads

@@ -3,9 +3,9 @@ use Rattle.std.proofs.lemmas.Grind.{common_steps}
 use Rattle.std.proofs.Common.{◌≡◌, ℕ, ◌+◌, slice_index, sym, subst, arith}
 use Rattle.parshelf.specs.Shelf.{ShelfState, file_of}
 use Rattle.parwindow.specs.Window.{WindowState}
-use Rattle.parfind.specs.Tracks.{IsTied, HaveNoLookedCrc}
+use Rattle.parfind.specs.Tracks.{IsTied, HaveNoComparedCrc}
 use Rattle.parfind.specs.Sought.{sought_of}
-use Rattle.parfind.proofs.SlideLaws.{tied_on, none_on}
+use Rattle.parfind.proofs.track_laws.FillLaws.{tied_on, none_on}
 use Rattle.parfind.proofs.tracks.track.Track.slide_until_crc.Goals as goal
 
 pub returns-clause-tied : goal.returns-clause-tied
@@ -28,7 +28,7 @@ returns-clause-none g c = λ mode made files reads.
     let r = c.in_ok-ensure_next_byte.ensures in
     let n : ℕ = c.push_until-count.result in
     let file_end : c.length-file_end.result ≡ slice_index new.lengths t.file = c.length-file_end.ensures.value in
-    let none : HaveNoLookedCrc (sought_of c.args.index.now mode) (file_of files t.file) t.window_offset n =
+    let none : HaveNoComparedCrc (sought_of c.args.index.now mode) (file_of files t.file) t.window_offset n =
     none_on new w t r.tied
     c.next_bytes-bytes.result.now (rw file_end at c.next_bytes-bytes.ensures.bytes) (λ before. c.next_bytes-bytes.ensures.hand (rw file_end before))
     c.args.index.now mode n c.size-size.ensures.set made c.requires.full c.push_until-count.ensures.until files reads in

@@ -5,12 +5,12 @@ use Rattle.parshelf.specs.Shelf.{ShelfState}
 use Rattle.parshelf.proofs.ReadLaws.{ReadsOnly-refl, ReadsOnly_more, FaultsIn_more}
 use Rattle.parfind.specs.declared.cursors.cursor.Cursor.{Cursor}
 use Rattle.parfind.specs.Points.{search_at}
-use Rattle.parfind.proofs.LaterLaws.{later_fault}
+use Rattle.parfind.proofs.track_laws.LaterShelfLaws.{later_fault}
 use Rattle.parfind.specs.declared.searches.finder.Step.TheVariants.{Hit, Done}
 use Rattle.parreport.specs.FindText.{Search, find_search_of}
 use Rattle.parreport.specs.SetSearch.{mode_of}
 use Rattle.parshelf.specs.SinkState.{SinkState}
-use Rattle.parfind.proofs.FetchedLaws.{hands_none}
+use Rattle.parfind.proofs.track_laws.FetchedLaws.{hands_none}
 use Rattle.parreport.proofs.CostLaws.{lengths_same, reads_on, reads_room, reads_room_on}
 use Rattle.parreport.proofs.FindLaws.{hands_none as hands_no_sighting, hands_front, hands_one, hands_refused, ends_text, ends_refused, stops_text, stops_refused, keeps_after_fault, gives_of_set}
 use Rattle.parreport.proofs.LineLaws.{fault_text, last_text, line_reads, line_sink, line_keeps, line_fault}

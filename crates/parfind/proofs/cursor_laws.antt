@@ -1,0 +1,4 @@
+pub mod NumberLaws
+pub mod HashTextLaws
+pub mod SplitAtColonLaws
+pub mod CursorTextLaws

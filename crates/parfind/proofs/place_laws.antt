@@ -1,0 +1,10 @@
+pub mod FittingLaws
+pub mod CursorOrderLaws
+pub mod ItemLaws
+pub mod RisingLaws
+pub mod SightingLaws
+pub mod SeenLaws
+pub mod PlaceLaws
+pub mod SightingsBetweenLaws
+pub mod CrcMatchLaws
+pub mod UnfitPlaceLaws

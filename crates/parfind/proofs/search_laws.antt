@@ -1,0 +1,14 @@
+pub mod StepMovesLaws
+pub mod VisitLaws
+pub mod GoesAlongLaws
+pub mod StepLaws
+pub mod TryPlaceLaws
+pub mod AtPlaceLaws
+pub mod AdvanceLaws
+pub mod ReachLaws
+pub mod PassUnfitLaws
+pub mod FirstSeenLaws
+pub mod MoveWindowLaws
+pub mod BelongsLaws
+pub mod NextCallLaws
+pub mod StepHandsLaws

@@ -1,0 +1,10 @@
+pub mod NotedLaws
+pub mod ExhaustedLaws
+pub mod NoteSeenLaws
+pub mod SightedLaws
+pub mod SettledLaws
+pub mod SurveyedLaws
+pub mod SurveyGoesOnLaws
+pub mod SurveyedSoFarLaws
+pub mod SurveyFilesLaws
+pub mod MissingSetLaws

@@ -1,0 +1,70 @@
+-- What a survey has come to on its way over the files, at its beginning and at its end.
+use Rattle.std.proofs.Common.{◌≡◌, ℕ, ◌<◌, ◌≤◌, ◌⊎◌, Bool, true, false, List, [], length, replicate, refl, ap, arith, Option, None, Ok, inl, inr, slice_index}
+use Rattle.parshelf.specs.Reads.{ReadsOnly}
+use Rattle.parshelf.proofs.ReadLaws.{ReadsOnly-refl}
+use Rattle.parset.specs.Limits.{slice_size_limit}
+use Rattle.parfind.specs.Sought.{Sought}
+use Rattle.parfind.specs.Noting.{AreExhausted}
+use Rattle.parfind.specs.NextPlace.{rest_of}
+use Rattle.parfind.specs.Surveying.{SurveyState, Surveyed, SurveyEnds}
+use Rattle.parfind.specs.Surveys.{AreAllSettled, is_settled}
+use Rattle.parwindow.specs.Index.{SliceSet}
+use Rattle.parfind.specs.Tracks.{IsTied, IsUnread, cursor_of_track}
+use Rattle.parfind.proofs.search_laws.MoveWindowLaws.{unread_tied}
+use Rattle.parfind.proofs.survey_laws.ExhaustedLaws.{exhausted_none}
+use Rattle.parfind.proofs.survey_laws.SurveyedLaws.{surveyed_none, not_all}
+
+-- what a survey has come to, which looks for slices from this number on, and for no slice with one of these CRC-32s
+pub record SurveySoFar (sought : Sought) (old now : SurveyState) (missing : ℕ) (exhausted : List (Option ℕ)) : Type 0 where
+  pub reads : ReadsOnly old.shelf now.shelf
+  pub tied : IsTied now.shelf now.window now.track
+  pub inside : now.track.file < length now.shelf.lengths → now.track.window_offset ≤ slice_index now.shelf.lengths now.track.file
+  pub within : missing ≤ length now.found
+  pub first : missing < length now.found → is_settled sought.set now.found missing ≡ false
+  pub settled : (n : ℕ) → n < missing → is_settled sought.set now.found n ≡ true
+  pub exhausted_is : AreExhausted sought now.found (rest_of now.shelf.lengths (cursor_of_track now.track)) exhausted
+  pub none : AreAllSettled sought.set old.found → now.shelf ≡ old.shelf
+  pub window_is : now.window ≡ record old.window { content = now.window.content; digests = now.window.digests }
+  pub surveyed : Surveyed sought old now (cursor_of_track now.track)
+
+-- the next slice that is not settled
+pub record IsNextMissing (set : SliceSet) (marks : List Bool) (from missing : ℕ) : Type 0 where
+  pub within : missing ≤ length marks
+  pub first : missing < length marks → is_settled set marks missing ≡ false
+  pub settled : (n : ℕ) → from ≤ n → n < missing → is_settled set marks n ≡ true
+
+pub begins : (sought : Sought) (old : SurveyState) (missing : ℕ) → old.window.capacity ≤ slice_size_limit → old.window.content ≡ [] → IsUnread 0 0 old.track
+    → IsNextMissing sought.set old.found 0 missing → SurveySoFar sought old old missing (replicate 257 None)
+begins sought old missing few empty unread next = record {
+  reads = ReadsOnly-refl old.shelf;
+  tied = unread_tied old.shelf old.window old.window 0 0 old.track (omega arith) few unread
+      (ap (λ (xs : List ℕ). record old.window { content = xs }) empty);
+  inside = λ _. omega (arith, unread.offset_is);
+  within = next.within;
+  first = next.first;
+  settled = λ n less. next.settled n (omega arith) less;
+  exhausted_is = exhausted_none sought old.found (rest_of old.shelf.lengths (cursor_of_track old.track)) 257;
+  none = λ _. refl;
+  window_is = refl;
+  surveyed = surveyed_none sought old unread;
+}
+
+-- each slice is settled, or all files are passed
+pub ends_all : (sought : Sought) (old now : SurveyState) (missing : ℕ) (exhausted : List (Option ℕ)) → SurveySoFar sought old now missing exhausted
+    → (length now.found ≤ missing) ⊎ (length old.shelf.lengths ≤ now.track.file) → SurveyEnds sought old now (Ok tt)
+ends_all sought old now missing exhausted so_far all = record {
+  cursor = cursor_of_track now.track;
+  surveyed = so_far.surveyed;
+  first = refl;
+  file_is = refl;
+  all = elim all [
+    | inl over ↦ inl (λ n less. so_far.settled n (omega arith))
+    | inr past ↦ inr past
+  ];
+}
+
+-- where a slice is not settled, not each was at the beginning
+pub never_all : (sought : Sought) (old now : SurveyState) (missing : ℕ) (exhausted : List (Option ℕ)) → SurveySoFar sought old now missing exhausted
+    → missing < length now.found → length now.found ≡ length old.found → AreAllSettled sought.set old.found → ⊥
+never_all sought old now missing exhausted so_far some each all =
+    not_all sought old now (cursor_of_track now.track) so_far.surveyed missing (omega (arith, some, each)) (so_far.first some) all

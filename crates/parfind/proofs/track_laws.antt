@@ -1,0 +1,9 @@
+pub mod FetchedLaws
+pub mod LaterShelfLaws
+pub mod RefillLaws
+pub mod ComparedLaws
+pub mod EachLengthLaws
+pub mod TakenDigestLaws
+pub mod NextBytesLaws
+pub mod FillLaws
+pub mod KeptDigestLaws

@@ -1,0 +1,108 @@
+ghost use Rattle.std.specs.Prelude.{◌≡◌, ◌<◌, ◌≤◌, ◌+◌, length, replicate, if◌then◌else◌, None};
+ghost use Rattle.parwindow.specs.Index.{slice_passes, sums_of};
+ghost use Rattle.parfind.specs.Fitting.{is_fitting_compared, is_fitting_match, is_fitting_of};
+ghost use Rattle.parfind.specs.KeptDigests.{IsFullFor};
+ghost use Rattle.parfind.specs.Noting.{FindsMore, TakesDigests, AreExhausted};
+ghost use Rattle.parfind.specs.Marks.{count_missing, has_compared_missing};
+ghost use Rattle.parfind.specs.Sought.{is_compared, compared_lengths, nth_compared};
+
+use crate::tracks::{MOST_TAILS, Sought};
+use parfield::Hash16;
+use parwindow::Window;
+
+// How many lengths of a window may be compared.
+const MOST_LENGTHS: usize = MOST_TAILS + 1;
+
+/// For each compared length a CRC-32 of which each slice that fits is found, so that this is asked
+/// once in a run of equal windows, as of zeros.
+#[derive(Drop)]
+pub struct Exhausted {
+    pub crcs: [Option<u32>; MOST_LENGTHS],
+}
+
+impl Exhausted {
+    /// None is known.
+    pub fn none() -> Exhausted
+        ensures { result.crcs ≡ replicate 257 None }
+    {
+        Exhausted {
+            crcs: [None; MOST_LENGTHS],
+        }
+    }
+
+    /// None is known any more.
+    pub fn forget(&mut self)
+        ensures { self.new.crcs ≡ replicate 257 None }
+    {
+        *self = Exhausted::none();
+    }
+
+    /// Notes as found each slice that has both checksums of what is compared of a full window for it,
+    /// and fits into what is left of the file. An MD5 is taken only if some slice of its compared
+    /// length with the CRC-32 fits and isn't found.
+    pub fn note_seen(&mut self, window: &mut Window, sought: &Sought, left: u64, found: &mut [bool])
+        requires full { IsFullFor sought.now window.old }
+        requires each { length found.old ≡ length sought.now.set.slices }
+        requires exhausted { AreExhausted sought.now found.old left self.old.crcs }
+        ensures exhausted { AreExhausted sought.now found.new left self.new.crcs }
+        ensures found { FindsMore (slice_passes sought.now.set.slices
+            (is_fitting_compared sought.now.mode window.old.content left)) found.old found.new }
+        ensures digests { TakesDigests (count_missing sought.now found.old
+            window.old.content left) window.old window.new }
+    {
+        let size = sought.index.size();
+        prove!(window.size() as u64 == size);
+        for k in 0..sought.count_lengths() {
+            self.note_seen_at(window, sought, k, left, found);
+        }
+    }
+
+    // Notes those of them that are looked for by compared length `k`.
+    fn note_seen_at(
+        &mut self,
+        window: &mut Window,
+        sought: &Sought,
+        k: usize,
+        left: u64,
+        found: &mut [bool],
+    )
+        requires there { k < length (compared_lengths sought.now) }
+        requires full { IsFullFor sought.now window.old }
+        requires each { length found.old ≡ length sought.now.set.slices }
+        requires exhausted { AreExhausted sought.now found.old left self.old.crcs }
+        ensures exhausted { AreExhausted sought.now found.new left self.new.crcs }
+        ensures found { FindsMore (slice_passes sought.now.set.slices
+            (is_fitting_of sought.now window.old.content left
+            (nth_compared sought.now k))) found.old found.new }
+        ensures digests { TakesDigests (if has_compared_missing sought.now found.old
+            window.old.content left (nth_compared sought.now k)
+            then 1 else 0) window.old window.new }
+    {
+        let crc = sought.crc_at(window, k);
+        if self.crcs[k] == Some(crc) {
+            return;
+        }
+        if sought.is_missing_at(k, crc, left, found) {
+            let digest = sought.digest_at(window, k);
+            note_matches(sought, k, (digest, crc), left, found);
+        } else {
+            self.crcs[k] = Some(crc);
+        }
+    }
+}
+
+// Notes as found each slice of compared length `k` that has both checksums and fits into what is left
+// of the file.
+fn note_matches(sought: &Sought, k: usize, sums: (Hash16, u32), left: u64, found: &mut [bool])
+    requires there { k < length (compared_lengths sought.now) }
+    requires each { length found.old ≡ length sought.now.set.slices }
+    ensures found { FindsMore (slice_passes sought.now.set.slices (is_compared sought.now
+        (nth_compared sought.now k) (is_fitting_match sums left)))
+        found.old found.new }
+{
+    let mut from = 0;
+    while let Some(slice) = sought.first_match_at(k, sums, left, from) {
+        found[slice as usize] = true;
+        from = slice + 1;
+    }
+}

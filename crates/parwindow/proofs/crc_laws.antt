@@ -1,0 +1,6 @@
+pub mod XorLaws
+pub mod CrcLaws
+pub mod TableLaws
+pub mod EightBytesLaws
+pub mod ZeroRunLaws
+pub mod TakenBackLaws

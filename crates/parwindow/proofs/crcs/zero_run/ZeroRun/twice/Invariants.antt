@@ -1,0 +1,8 @@
+use Rattle.std.proofs.Common.{◌≡◌, ℕ, ◌*◌, ◌^◌, ◌<◌, get_or, length}
+use Rattle.parwindow.specs.Crc32.{crc_steps}
+use Rattle.parwindow.proofs.crcs.zero_run.ZeroRun.twice.Given as goal
+
+abbrev pub invariant-loop-i : goal.invariant-loop-i
+invariant-loop-i l =
+    (length l.columns ≡ 32) × ((k : ℕ) → k < l.i
+    → get_or l.columns k 0 ≡ crc_steps (8 * (2 * l.self.len)) (2 ^ k))

@@ -1,5 +1,0 @@
-use Rattle.std.proofs.Common.{rules}
-use Rattle.parwindow.proofs.entries.lesser.Goals as goal
-
-pub returns-then-number-from : goal.returns-then-number-from
-returns-then-number-from c = search rules steps 1000000

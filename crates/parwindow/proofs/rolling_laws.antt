@@ -1,0 +1,3 @@
+pub mod RolledLaws
+pub mod RollUntilLaws
+pub mod RollOverLaws

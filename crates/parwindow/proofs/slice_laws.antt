@@ -1,0 +1,11 @@
+pub mod FilterLaws
+pub mod OrderLaws
+pub mod KnownSumsLaws
+pub mod SearchLaws
+pub mod EntryLaws
+pub mod LeastFromLaws
+pub mod HasOpenLaws
+pub mod MissingLaws
+pub mod UnlessFoundLaws
+pub mod OwnLengthsLaws
+pub mod TailLengthsLaws

@@ -1,0 +1,75 @@
+-- Bits that are set, and the slices that they are set for.
+use Rattle.std.proofs.Common.{◌≡◌, ℕ, ◌*◌, ◌/◌, ◌%◌, ◌^◌, ◌<◌, List, length, take, get_or, set, ◌+◌, true, false, Some, None, sym, ◌∙◌, inl, inr, arith, get_or-set_same, get_or-set_other, w64}
+use Rattle.std.specs.Int.Bits.{bit_and, bit_or, bit_xor}
+use Rattle.std.proofs.lemmas.Nat.{and_le_r}
+use Rattle.std.proofs.lemmas.Nat.Bits.{bit_at_set_same, bit_at_set_other}
+use Rattle.std.proofs.lemmas.Bool.{cases_Bool, cases_eq, eqb-true}
+use Rattle.std.specs.List.{list_any}
+use Rattle.std.proofs.lemmas.List.Folds.{list_any_more}
+use Rattle.parfield.specs.declared.hash16.Hash16.{Hash16}
+use Rattle.parset.specs.declared.recovery_set.SetSlice.{SetSlice}
+use Rattle.parwindow.specs.Index.{has_known_crc}
+use Rattle.parwindow.specs.FilterBits.{MayHave, HasSlices}
+use Rattle.parwindow.specs.KeyBits.{HasBit}
+use Rattle.parwindow.specs.declared.slices.bloom_filter.BloomFilter.{BloomFilter}
+
+-- the words once the bit of a key is set
+abbrev pub inserted : List ℕ → ℕ → List ℕ
+inserted words r = set words (r / 262144) (bit_or (get_or words (r / 262144) 0)
+    (1 * 2 ^ (bit_and r 63) % 2 ^ 64))
+
+pub insert-has : (words : List ℕ) (r : ℕ) → r / 262144 < length words → HasBit (inserted words r) r
+insert-has words r within =
+    let bit : bit_and r 63 < 64 = omega (arith, and_le_r r 63) in
+    rw get_or-set_same (bit_at_set_same w64 (get_or words (r / 262144) 0) (bit_and r 63) bit)
+
+pub insert-keeps : (words : List ℕ) (r other : ℕ) → r / 262144 < length words → HasBit words other
+    → HasBit (inserted words r) other
+insert-keeps words r other within was =
+    let bit : bit_and r 63 < 64 = omega (arith, and_le_r r 63) in
+    elim (cases_eq (other / 262144) (r / 262144)) [
+      | inl word ↦ elim (cases_eq (bit_and other 63) (bit_and r 63)) [
+        | inl place ↦ rw (word, place) (insert-has words r within)
+        | inr apart ↦
+            rw (word, get_or-set_same)
+            (bit_at_set_other w64 (get_or words (r / 262144) 0) (bit_and r 63) bit
+            (bit_and other 63) apart
+            ∙ rw word at was)
+      ]
+      | inr apart ↦ rw get_or-set_other was
+    ]
+
+-- one slice more
+has_more : (slices : List SetSlice) (i : ℕ) (d : SetSlice) (before after : BloomFilter)
+    → i < length slices
+    → HasSlices (take i slices) before → ((other : ℕ) → MayHave before other → MayHave after other)
+    → ((crc : ℕ) → has_known_crc crc (get_or slices i d) ≡ true
+    → MayHave after (bit_xor crc 0xFFFFFFFF))
+    → HasSlices (take (i + 1) slices) after
+has_more slices i d before after within has keeps marks crc any =
+    elim (cases_Bool (list_any (has_known_crc crc) (take i slices))) [
+      | inl earlier ↦ keeps (bit_xor crc 0xFFFFFFFF) (has crc earlier)
+      | inr none ↦ marks crc (rw none at (sym (list_any_more (has_known_crc crc) slices i d within)
+          ∙ any))
+    ]
+
+-- it has no sums
+pub has_none : (slices : List SetSlice) (i : ℕ) (d : SetSlice) (filter : BloomFilter)
+    → i < length slices
+    → HasSlices (take i slices) filter → (get_or slices i d).sums ≡ None
+    → HasSlices (take (i + 1) slices) filter
+has_none slices i d filter within has unknown =
+    has_more slices i d filter filter within has (λ other was. was)
+    (λ crc hit. let wrong : false ≡ true = rw unknown at hit in cc)
+
+-- the bit of its register is set
+pub has_some : (slices : List SetSlice) (i : ℕ) (d : SetSlice) (before after : BloomFilter)
+    (md5 : Hash16) (sum : ℕ)
+    → i < length slices
+    → HasSlices (take i slices) before → ((other : ℕ) → MayHave before other → MayHave after other)
+    → (get_or slices i d).sums ≡ Some (md5, sum) → MayHave after (bit_xor sum 0xFFFFFFFF)
+    → HasSlices (take (i + 1) slices) after
+has_some slices i d before after md5 sum within has keeps known marks =
+    has_more slices i d before after within has keeps (λ crc hit.
+    let same : sum ≡ crc = eqb-true sum crc (rw known at hit) in
+    rw (← same) marks)

@@ -1,8 +1,0 @@
-use Rattle.std.proofs.Common.{◌≡◌, [], All, take}
-use Rattle.parwindow.specs.Tails.{lengths_of, IsTail}
-use Rattle.parwindow.proofs.tails.tails_for.Given as goal
-
-abbrev pub invariant-loop-length : goal.invariant-loop-length
-invariant-loop-length l =
-    (lengths_of l.tails.items ≡ take l.length-index l.lengths)
-    × All (IsTail l.size []) l.tails.items

@@ -1,0 +1,4 @@
+pub mod PushLaws
+pub mod PushUntilLaws
+pub mod ExtendLaws
+pub mod PushPastLaws

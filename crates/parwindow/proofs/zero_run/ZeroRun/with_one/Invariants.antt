@@ -1,8 +1,0 @@
-use Rattle.std.proofs.Common.{◌≡◌, ℕ, ◌+◌, ◌*◌, ◌^◌, ◌<◌, get_or, length}
-use Rattle.parwindow.specs.Crc32.{crc_steps}
-use Rattle.parwindow.proofs.zero_run.ZeroRun.with_one.Given as goal
-
-abbrev pub invariant-loop-i : goal.invariant-loop-i
-invariant-loop-i l =
-    (length l.columns ≡ 32) × ((k : ℕ) → k < l.i
-    → get_or l.columns k 0 ≡ crc_steps (8 * (l.self.len + 1)) (2 ^ k))

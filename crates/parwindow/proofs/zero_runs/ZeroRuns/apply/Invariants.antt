@@ -1,6 +1,0 @@
-use Rattle.std.proofs.Common.{◌≡◌, ◌*◌, ◌%◌, ◌^◌}
-use Rattle.parwindow.specs.Crc32.{crc_steps}
-use Rattle.parwindow.proofs.zero_runs.ZeroRuns.apply.Given as goal
-
-abbrev pub invariant-loop-i : goal.invariant-loop-i
-invariant-loop-i l = l.out ≡ crc_steps (8 * (l.count % 2 ^ l.i)) l.register

@@ -1,0 +1,149 @@
+ghost use Rattle.std.specs.Prelude.{◌≡◌, ◌+◌, ◌<◌, ◌≤◌, ◌++◌, length, min, IsTrue};
+ghost use Rattle.parset.specs.Limits.{slice_size_limit};
+ghost use Rattle.parwindow.specs.Tables.{IsRemovalTable, IsStepTable};
+
+use crate::crcs::{STEPPED_BYTES, STEPPED_TWICE, after_byte, removal_table};
+use crate::index::Index;
+use crate::rolling::register_set::RegisterSet;
+use crate::rolling::roll::Roll;
+
+/// The tables by which a register rolls, side by side: with one base address for all four, two
+/// bytes a turn are a seventh faster.
+#[derive(Drop)]
+pub struct RollTables {
+    /// How many bytes a full window has beside its first one.
+    pub others: usize,
+    /// What eight steps make of each byte.
+    pub bytes: [u32; 256],
+    /// What sixteen steps make of each byte.
+    pub two_bytes: [u32; 256],
+    /// What each first byte has changed in the register once a whole window has followed it.
+    pub once: [u32; 256],
+    /// What each first byte has changed in the register once one byte more has followed it.
+    pub twice: [u32; 256],
+    ghost steps: { IsStepTable bytes 8 },
+    ghost two_steps: { IsStepTable two_bytes 16 },
+    ghost once_removes: { IsRemovalTable once (others + 1) },
+    ghost twice_removes: { IsRemovalTable twice (others + 2) },
+}
+
+impl RollTables {
+    ghost use Rattle.parwindow.specs.Crc32.{register_of};
+    ghost use Rattle.parwindow.specs.Rolling.{rolled_register, pushed_register, rolled_over, HasRegister, StopsAt};
+    ghost use Rattle.parwindow.specs.Until.{pushed_content};
+
+    /// The tables for a window of `size` bytes, by squaring: no byte runs through it.
+    pub fn new(size: usize) -> RollTables
+        requires some { 0 < size }
+        requires within { size ≤ slice_size_limit }
+        ensures { result.others + 1 ≡ size }
+    {
+        RollTables {
+            others: size - 1,
+            bytes: STEPPED_BYTES,
+            two_bytes: STEPPED_TWICE,
+            once: removal_table(size),
+            twice: removal_table(size + 1),
+        }
+    }
+
+    /// The register once a byte is pushed, and one falls out if there is such a one.
+    pub fn pushed(&self, register: u32, fallen: Option<u8>, come: u8) -> u32
+        ensures { result ≡ pushed_register self.now.others register fallen come }
+    {
+        match fallen {
+            Some(gone) => self.rolled(register, gone, come),
+            None => after_byte(register, come),
+        }
+    }
+
+    /// The register once one byte goes and one comes.
+    pub fn rolled(&self, register: u32, gone: u8, come: u8) -> u32
+        ensures { result ≡ rolled_register self.now.others register gone come }
+    {
+        (register >> 8)
+            ^ self.bytes[((register ^ u32::from(come)) & 0xFF) as usize]
+            ^ self.once[gone as usize]
+    }
+
+    // The register once two bytes go and two come. It doesn't wait for the register in between.
+    fn rolled_twice(&self, register: u32, gone: u8, come: u8, next_gone: u8, next_come: u8) -> u32
+        ensures { result ≡ rolled_register self.now.others
+            (rolled_register self.now.others register gone come) next_gone next_come }
+    {
+        (register >> 16)
+            ^ (self.twice[gone as usize] ^ self.once[next_gone as usize])
+            ^ self.two_bytes[((register ^ u32::from(come)) & 0xFF) as usize]
+            ^ self.bytes[(((register >> 8) ^ u32::from(next_come)) & 0xFF) as usize]
+    }
+
+    /// Rolls a register over bytes that go and bytes that come, as long as there are both, up to the
+    /// first that is in the set. Not inlined, so that the loop is compiled once for each type of
+    /// set, and not once for each call.
+    #[inline(never)]
+    pub fn roll_until<S: RegisterSet>(&self, set: &S, gone: &[u8], come: &[u8], start: u32) -> Roll
+        ensures { StopsAt (λ register. IsTrue (S.has set.now register))
+            (rolled_over self.now.others start gone.now come.now)
+            (min (length gone.now) (length come.now)) result }
+    {
+        let len = gone.len().min(come.len());
+        let mut register = start;
+        let mut i = 0;
+        while i + 2 <= len {
+            let between = self.rolled(register, gone[i], come[i]);
+            if set.has(between) {
+                return Roll::hit(i + 1, between);
+            }
+            register = self.rolled_twice(register, gone[i], come[i], gone[i + 1], come[i + 1]);
+            i += 2;
+            if set.has(register) {
+                return Roll::hit(i, register);
+            }
+        }
+        if i == len {
+            return Roll::missed(len, register);
+        }
+        let last = self.rolled(register, gone[i], come[i]);
+        Roll {
+            count: len,
+            register: last,
+            hit: set.has(last),
+        }
+    }
+
+    /// Rolls the register of a full window, whose content is in two parts, over the bytes that
+    /// come: what goes is the content, and after it the bytes themselves.
+    pub fn roll_over(
+        &self,
+        index: &Index,
+        front: &[u8],
+        back: &[u8],
+        bytes: &[u8],
+        start: u32,
+    ) -> Roll
+        requires full { length (front.now ++ back.now) ≡ self.now.others + 1 }
+        requires start { start ≡ register_of (front.now ++ back.now) }
+        ensures { StopsAt (HasRegister index.now)
+            (λ k. register_of (pushed_content (front.now ++ back.now) bytes.now k))
+            (length bytes.now) result }
+    {
+        let first = self.roll_until(index, front, bytes, start);
+        if first.hit || first.count == bytes.len() {
+            return first;
+        }
+        let rest = &bytes[first.count..];
+        let second = self.roll_until(index, back, rest, first.register);
+        if second.hit || second.count == rest.len() {
+            return Roll {
+                count: first.count + second.count,
+                ..second
+            };
+        }
+        let last = &rest[second.count..];
+        let third = self.roll_until(index, bytes, last, second.register);
+        Roll {
+            count: first.count + second.count + third.count,
+            ..third
+        }
+    }
+}

@@ -1,0 +1,177 @@
+ghost use Rattle.std.specs.Prelude.{◌≡◌, ℕ, ◌<◌, ◌≤◌, All, List, length, IfOk, IsSorted};
+ghost use Rattle.std.specs.List.{list_any};
+ghost use Rattle.parset.specs.declared.recovery_set.SetSlice.{SetSlice};
+ghost use Rattle.parwindow.specs.Index.{has_known_crc, has_sums, slice_passes, slice_set_of};
+ghost use Rattle.parwindow.specs.Least.{IsLeastFrom};
+ghost use Rattle.parset.specs.Limits.{slice_limit};
+ghost use Rattle.parwindow.specs.Entries.{entry_cmp, AreWithCrc, IsFloor, IsIndexOf, IsLeastOf, is_between, is_open, lesser};
+ghost use Rattle.parwindow.specs.Missing.{set_has_missing, set_has_own_missing};
+
+use parfield::Hash16;
+use parset::SetSlice;
+use std::alloc::{AllocError, Global};
+
+/// Both sums of a slice, and its number behind them.
+#[derive(Clone, Copy, PartialEq, Eq, PartialOrd, Ord)]
+pub struct Entry {
+    pub crc: u32,
+    pub digest: [u8; 16],
+    pub slice: u32,
+}
+
+/// The slices with sums, in the order of their entries.
+#[derive(Drop)]
+pub struct Entries {
+    pub list: Vec<Entry>,
+    ghost rises: { IsSorted entry_cmp list.items },
+}
+
+impl Entries {
+    /// The entries of these slices.
+    pub fn of(alloc: Global, slices: &[SetSlice]) -> Result<Entries, AllocError>
+        requires { length slices.now ≤ slice_limit }
+        ensures { IfOk result (λ entries. IsIndexOf slices.now entries.list.items) }
+    {
+        let mut list = listed(alloc, slices)?;
+        list.sort_unstable();
+        Ok(Entries { list })
+    }
+
+    /// The first slice from a number on that has this CRC-32.
+    pub fn next_crc(&self, crc: u32, from: u32) -> Option<u32>
+        ensures { (slices : List SetSlice) → IsIndexOf slices self.now.list.items
+            → IsLeastFrom (slice_passes slices (has_known_crc crc)) from result }
+    {
+        least_from(with_crc(&self.list, crc), from)
+    }
+
+    /// The first slice from a number on that has both sums.
+    pub fn next_match(&self, crc: u32, digest: Hash16, from: u32) -> Option<u32>
+        ensures { (slices : List SetSlice) → IsIndexOf slices self.now.list.items
+            → IsLeastFrom (slice_passes slices (has_sums (digest, crc))) from result }
+    {
+        next_match_in(&self.list, crc, digest, from)
+    }
+
+    /// Whether some slice that isn't found has this CRC-32 and at most so many bytes of its file.
+    pub fn is_missing(&self, slices: &[SetSlice], crc: u32, left: u64, found: &[bool]) -> bool
+        requires indexed { IsIndexOf slices.now self.now.list.items }
+        requires each { length found.now ≡ length slices.now }
+        ensures { (size : ℕ)
+            → result ≡ set_has_missing (slice_set_of size slices.now) found.now crc left }
+    {
+        has_open(with_crc(&self.list, crc), slices, 0, left, found)
+    }
+
+    /// Whether `is_missing` holds of the slices with so many bytes of their files alone.
+    pub fn is_missing_of(
+        &self,
+        slices: &[SetSlice],
+        crc: u32,
+        own: u64,
+        left: u64,
+        found: &[bool],
+    ) -> bool
+        requires indexed { IsIndexOf slices.now self.now.list.items }
+        requires each { length found.now ≡ length slices.now }
+        ensures { (size : ℕ)
+            → result ≡ set_has_own_missing (slice_set_of size slices.now) found.now crc own left }
+    {
+        own <= left && has_open(with_crc(&self.list, crc), slices, own, own, found)
+    }
+}
+
+// The entries of these slices, in the order of the slices.
+fn listed(alloc: Global, slices: &[SetSlice]) -> Result<Vec<Entry>, AllocError>
+    requires { length slices.now ≤ slice_limit }
+    ensures { IfOk result (λ list. IsIndexOf slices.now list.items) }
+{
+    let mut list = Vec::with_capacity(alloc, slices.len())?;
+    for (number, slice) in slices.iter().enumerate() {
+        if let Some((hash, crc)) = slice.sums {
+            let digest = hash.0;
+            list.push(Entry {
+                crc,
+                digest,
+                slice: number as u32,
+            })?;
+        }
+    }
+    Ok(list)
+}
+
+// The place of the first entry that is not below the wanted one.
+fn first_not_below(entries: &[Entry], wanted: &Entry) -> usize
+    requires { IsSorted entry_cmp entries.now }
+    ensures { IsFloor entries.now wanted.now result }
+{
+    match entries.binary_search(wanted) {
+        Ok(at) => at,
+        Err(at) => at,
+    }
+}
+
+// The first slice of these entries from a number on that has both sums.
+fn next_match_in(entries: &[Entry], crc: u32, digest: Hash16, from: u32) -> Option<u32>
+    requires { IsSorted entry_cmp entries.now }
+    ensures { (slices : List SetSlice) → IsIndexOf slices entries.now
+        → IsLeastFrom (slice_passes slices (has_sums (digest, crc))) from result }
+{
+    let wanted = Entry {
+        crc,
+        digest: digest.0,
+        slice: from,
+    };
+    match entries.get(first_not_below(entries, &wanted)) {
+        Some(entry) if entry.crc == crc && entry.digest == digest.0 => Some(entry.slice),
+        _ => None,
+    }
+}
+
+// The entries that have this CRC-32, which stand side by side.
+fn with_crc(entries: &[Entry], crc: u32) -> &[Entry]
+    requires { IsSorted entry_cmp entries.now }
+    ensures { AreWithCrc entries.now crc result.now }
+{
+    let rest = &entries[entries.partition_point(|entry| entry.crc < crc)..];
+    &rest[..rest.partition_point(|entry| entry.crc == crc)]
+}
+
+// The least number of these entries from a number on.
+fn least_from(entries: &[Entry], from: u32) -> Option<u32>
+    ensures { IsLeastOf entries.now from result }
+{
+    let mut least = None;
+    for entry in entries {
+        least = lesser(from, least, entry.slice);
+    }
+    least
+}
+
+// The lesser one of a number and of another, if that is at or above `from`.
+fn lesser(from: u32, least: Option<u32>, number: u32) -> Option<u32>
+    ensures { result ≡ lesser from least number }
+{
+    match least {
+        _ if number < from => least,
+        Some(other) => Some(other.min(number)),
+        None => Some(number),
+    }
+}
+
+// Whether the slice of one of these entries isn't found and has so many bytes of its file.
+fn has_open(entries: &[Entry], slices: &[SetSlice], least: u64, most: u64, found: &[bool]) -> bool
+    requires there { All (λ e. e.slice < length slices.now) entries.now }
+    requires each { length found.now ≡ length slices.now }
+    ensures { result
+        ≡ list_any (is_open slices.now found.now (is_between least most)) entries.now }
+{
+    for entry in entries {
+        let slice = entry.slice as usize;
+        let length = slices[slice].length;
+        if !found[slice] && least <= length && length <= most {
+            return true;
+        }
+    }
+    false
+}
