@@ -15,6 +15,9 @@ par2 has no --tails, so in the cases with that flag parv without it stands in pa
 Their numbers are those of own lengths below the slice size. `find` meets no slice there. `verify` has so many
 files, the last of which has another last byte, and needs the last slice of that one alone.
 
+The last cases are of content as people have it, which repeats or doesn't: each kind whole, damaged at one place, and
+with a part left out, in slices of the size that par2 chooses ("par2's") and of 4 KiB.
+
 With BEFORE, another parv runs in turn with them. Each case then has a second line, of that one beside
 par2, and at the end of the first the processor time of parv by that of the one before. Both must give the
 same text and the same exit status: where they don't, that is told, and the exit status is 1.
@@ -38,6 +41,7 @@ from typing import NamedTuple
 sys.path[0] = os.path.dirname(os.path.dirname(os.path.realpath(__file__)))  # tools/, where imports begin
 
 from bench.bench_sets import INDEX, OTHER, SHAPES, data_files, packet_files, sets_of, size_text
+from bench.real_content import KINDS
 from hostile.runs import PARV
 
 BEFORE = os.path.abspath(os.environ["BEFORE"]) if os.environ.get("BEFORE") else None
@@ -92,6 +96,8 @@ CASES = [
     Case("1,998 of 2,000 files", "1998 of 2000", "verify", 2),
     *[Case(f"find --tails, {count}", f"{count} tails", "find", 0, True) for count in (1, 16, 256)],
     *[Case(f"verify --tails, {count}", f"{count} tails, flipped", "verify", 1, True) for count in (1, 16, 256)],
+    *[Case(kind + more, kind + more, "verify", status if kind != "volumes" else 2 * status)
+      for kind in KINDS for more, status in (("", 0), (", flipped", 1), (", left out", 1))],
 ]
 
 
@@ -165,11 +171,11 @@ def beside(case, folder, alone):
     return [words + by_par2(folder, options), by_par2(folder)]
 
 
-def expected(case, shape):
+def expected(case, shape, folder):
     """What parv's text has of the case: the slices that it needs, or how many it sees or lists."""
     if case.command == "packets":
         return shape.volume // shape.slice_size
-    lost = shape.lost(case.folder)
+    lost = shape.lost(case.folder, folder)
     return lost if case.command == "verify" else shape.slices - lost
 
 
@@ -192,14 +198,14 @@ def answer(program, case, folder, limit):
     return Answer(ran.status, text, told(case, text))
 
 
-def disagreement(case, shape, ours, theirs):
+def disagreement(case, shape, folder, ours, theirs):
     """How the answer of a parv, or the exit status of what stands beside it, isn't the case's; or nothing."""
     status = ours.status
     if case.command != "verify" and status == 0:
         status = case.status
-    if (status, theirs, ours.number) != (case.status, case.status, expected(case, shape)):
+    if (status, theirs, ours.number) != (case.status, case.status, expected(case, shape, folder)):
         return f"NOT THE CASE: parv {status}, {case.beside} {theirs} for {case.status}, " \
-               f"{ours.number} slices for {expected(case, shape)}"
+               f"{ours.number} slices for {expected(case, shape, folder)}"
     return None
 
 
@@ -254,7 +260,7 @@ def rows(programs, costs, case, shape, folder, limit, rounds, alone):
     theirs = run(beside(case, folder, alone)[-1], folder, limit)
     if theirs is None:
         return [f"not measured ({case.beside} over {limit:g} s)" for _ in programs], differs
-    texts = [disagreement(case, shape, ours, theirs.status) if ours else over for ours in answers]
+    texts = [disagreement(case, shape, folder, ours, theirs.status) if ours else over for ours in answers]
     measured = [place for place, text in enumerate(texts) if text is None]
     if not measured:
         return texts, differs

@@ -12,12 +12,15 @@ import shutil
 import subprocess
 from typing import NamedTuple
 
+from bench.real_content import KINDS
 from bench.search_cost import packets_with_tails, searched, tails_about, written
-from make.damage import flip, in_file, insert, remove
+from make.content import write
+from make.damage import flip, in_file, insert, remove, zero
+from models.list_packets import packets_in
 
 VERSION = 1  # of what is made here
 KIB, MIB = 1 << 10, 1 << 20
-DATA, OTHER, INDEX = "data.bin", "other.bin", "set.par2"
+DATA, OTHER, INDEX, LOST = "data.bin", "other.bin", "set.par2", "lost"
 VOLUME_SLICES = 32  # input slices of a set that is made for its volume
 
 
@@ -40,7 +43,7 @@ class Shape(NamedTuple):
     def slices(self):
         return self.data // self.slice_size
 
-    def lost(self, folder):
+    def lost(self, folder, _path):
         """How many slices aren't there."""
         return {"flipped": 1, "left out": 1, "every slice": self.slices}.get(folder, 0)
 
@@ -82,7 +85,7 @@ class Files(NamedTuple):
     def slices(self):
         return self.data // self.slice_size
 
-    def lost(self, folder):
+    def lost(self, folder, _path):
         gone = self.gone * self.length // self.slice_size
         return dict(zip(self.folders, [0, gone, gone + self.flipped]))[folder]
 
@@ -117,7 +120,7 @@ class Tails(NamedTuple):
     def slices(self):
         return self.files
 
-    def lost(self, folder):
+    def lost(self, folder, _path):
         return dict(zip(self.folders, [self.files, 1]))[folder]
 
     def make(self, folder):
@@ -131,21 +134,73 @@ class Tails(NamedTuple):
         in_file(os.path.join(flipped, data_files(flipped)[-1]), flip, -1)
 
 
+class Real(NamedTuple):
+    """A set of files of some kind as people have them, in slices of a size or, if that is 0, of the size that par2
+    chooses: whole, with a byte flipped or a part zeroed, and with a byte or a part left out."""
+    kind: str
+    slice_size: int
+    data: int
+
+    @property
+    def name(self):
+        return f"{self.kind} {self.slice_size}".replace(" ", "-")
+
+    @property
+    def folders(self):
+        return [self.kind, f"{self.kind}, flipped", f"{self.kind}, left out"]
+
+    def lost(self, _folder, path):
+        with open(os.path.join(path, LOST)) as file:
+            return int(file.read())
+
+    def make(self, folder):
+        whole, flipped, left_out = [os.path.join(folder, name) for name in self.folders]
+        files, spot = KINDS[self.kind](self.data)
+        os.makedirs(whole)
+        for name, content in files.items():
+            write(os.path.join(whole, name), content)
+        create(whole, self.slice_size, 2)
+        size = slice_size_of(os.path.join(whole, INDEX))
+        damage = (zero, spot.offset, spot.zeroed) if spot.zeroed else (flip, spot.offset)
+        for other, words, count in ((flipped, damage, spot.zeroed or 1),
+                                    (left_out, (remove, spot.offset, spot.removed), spot.removed)):
+            link_all(whole, other, files)
+            damage_copy(whole, other, spot.name, *words)
+            write(os.path.join(other, LOST),
+                  str((spot.offset + count - 1) // size - spot.offset // size + 1).encode())
+        write(os.path.join(whole, LOST), b"0")
+
+
 DAMAGED = ["renamed", "flipped", "left out", "in front", "every slice"]
+
+# How large the files of each kind are, in MiB, in the large sets, where ratios count. A set has at most 32,768 slices.
+REAL = {
+    "virtual disk": 192, "database": 100, "one line": 64, "records of 1,000": 64, "records of 5,000": 64, "bitmap": 24,
+    "sound": 64, "volumes": 150, "small files": 60, "log": 64, "tar": 128,
+}
+
+
+def real(divisor):
+    """The sets of each kind, so much smaller, in the slices that par2 chooses and in slices of 4 KiB."""
+    return [Real(kind, slice_size, min(REAL[kind], most) * MIB // divisor)
+            for kind in KINDS for slice_size, most in ((0, 192), (4 * KIB, 96))]
+
 
 SHAPES = {
     "small": [Shape(2 * KIB, 64 * KIB, 16, 0), Shape(64 * KIB, 4 * MIB, 16, 4 * MIB),
               Shape(MIB, 16 * MIB, 16, 32 * MIB),
               Files(16 * KIB, 64 * KIB, 64, 3, 1), Files(KIB, 4 * KIB, 2000, 2, 0),
-              Tails(KIB, 4 * MIB, 1), Tails(KIB, 4 * MIB, 16), Tails(KIB, MIB, 256)],
+              Tails(KIB, 4 * MIB, 1), Tails(KIB, 4 * MIB, 16), Tails(KIB, MIB, 256), *real(64)],
     "large": [Shape(2 * KIB, 64 * MIB, 256, 0), Shape(64 * KIB, 256 * MIB, 256, 128 * MIB),
               Shape(MIB, 256 * MIB, 256, 128 * MIB),
               Files(MIB, 4 * MIB, 64, 3, 1), Files(4 * KIB, 32 * KIB, 2000, 2, 0),
-              Tails(4 * KIB, 64 * MIB, 1), Tails(4 * KIB, 16 * MIB, 16), Tails(4 * KIB, 4 * MIB, 256)],
+              Tails(4 * KIB, 64 * MIB, 1), Tails(4 * KIB, 16 * MIB, 16), Tails(4 * KIB, 4 * MIB, 256), *real(1)],
 }
 
 
 def size_text(size):
+    if size == 0:
+        return "par2's"
     return f"{size // MIB} MiB" if size % MIB == 0 else f"{size // KIB} KiB"
 
 
@@ -166,10 +221,20 @@ def write_data(path, length):
 
 
 def create(folder, slice_size, recovery):
-    """Makes packet files of the folder's files: the index and one volume. Threads would wait for one another."""
-    subprocess.run(["par2", "create", "-q", "-q", f"-s{slice_size}", f"-c{recovery}", "-n1", INDEX,
+    """Makes packet files of the folder's files: the index and one volume. Threads would wait for one another. A slice
+    size of 0 is left to par2."""
+    sizes = [f"-s{slice_size}"] if slice_size else []
+    subprocess.run(["par2", "create", "-q", "-q", *sizes, f"-c{recovery}", "-n1", INDEX,
                     *data_files(folder)], cwd=folder, check=True, stdout=subprocess.DEVNULL,
                    env={**os.environ, "OMP_NUM_THREADS": "1"})
+
+
+def slice_size_of(path):
+    """The slice size of a packet file's set."""
+    with open(path, "rb") as file:
+        data = file.read()
+    at = next(at for at, _, kind, _ in packets_in(data) if kind == "main")
+    return int.from_bytes(data[at + 64:at + 72], "little")
 
 
 def flip_each(data, size):
