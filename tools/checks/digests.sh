@@ -9,7 +9,8 @@ gcc -O1 -Wall -Wextra -o entries "$tools/digests/entries.c" || exit 1
 nm "$parv" > symbols || exit 1
 
 # place NAME FUNCTION..: NAME is counted where the first of these functions that the program has begins, whatever types
-# it is made for. (What is built another way may have one inside another.)
+# it is made for. (What is built another way may have one inside another, or none if nothing comes to it. Rows that
+# count such a one fail, and the others go on.)
 places=()
 place() {
     local name=$1 function found=
@@ -33,7 +34,6 @@ place turns parfind::tracks::track::Track::slide_until_crc
 place halves parwindow::crcs::zero_run::ZeroRun::new
 place marks parshelf::shelves::names::list_mark
 place pieces parwindow::tails::stream::Stream::piece_from
-[ $failed -eq 0 ] || exit 1
 
 PYTHONPATH=$tools python3 - << 'END' || exit 1
 import zlib
