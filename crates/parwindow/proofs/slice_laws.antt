@@ -2,6 +2,7 @@ pub mod FilterLaws
 pub mod OrderLaws
 pub mod KnownSumsLaws
 pub mod SearchLaws
+pub mod CountLaws
 pub mod EntryLaws
 pub mod LeastFromLaws
 pub mod HasOpenLaws

@@ -1,11 +1,12 @@
 -- The slices that have sums, in an order by which halves find them.
-use Rattle.std.specs.Prelude.{◌≡◌, ℕ, ◌<◌, ◌≤◌, Bool, Option, None, Some, List, length, get_or, IsTrue, Contains, All, nat_le, nat_lt, not, ◌&&◌, min, if◌then◌else◌}
+use Rattle.std.specs.Prelude.{◌≡◌, ℕ, ◌<◌, ◌≤◌, ◌==◌, Bool, Option, None, Some, List, length, get_or, IsTrue, Contains, All, nat_le, nat_lt, not, ◌&&◌, min, if◌then◌else◌}
 use Rattle.std.specs.declared.cmp.Ordering.{Ordering}
 use Rattle.std.specs.declared.cmp.Ordering.TheVariants.{Less}
+use Rattle.std.specs.List.{count_by}
 use Rattle.std.specs.Ordering.{nat_cmp, then_cmp, on}
 use Rattle.std.specs.Cmp.Lexicographic.{slice_cmp}
 use Rattle.parset.specs.declared.recovery_set.SetSlice.{SetSlice}
-use Rattle.parwindow.specs.Index.{slice_passes, has_sums}
+use Rattle.parwindow.specs.Index.{slice_passes, has_known_crc, has_sums}
 use Rattle.parwindow.specs.Missing.{found_at}
 use Rattle.parwindow.specs.declared.slices.entries.Entry.{Entry}
 
@@ -24,11 +25,18 @@ HasSums slices n crc digest = IsTrue (slice_passes slices (has_sums (record { 0 
 abbrev pub IsEntryOf : List SetSlice → Entry → Type 0
 IsEntryOf slices e = HasSums slices e.slice e.crc e.digest
 
--- each slice with sums has its entry, and each entry is of such a slice
+-- an entry has this CRC-32
+abbrev pub entry_has_crc : ℕ → Entry → Bool
+entry_has_crc crc e = e.crc == crc
+
+-- each slice with sums has its entry, each entry is of such a slice, and of each CRC-32 there are as
+-- many entries as slices
 pub record IsIndexOf (slices : List SetSlice) (entries : List Entry) : Type 0 where
   pub sound : All (IsEntryOf slices) entries
   pub complete : (n crc : ℕ) (digest : List ℕ) → HasSums slices n crc digest
       → Contains entries (record { crc = crc; digest = digest; slice = n })
+  pub counts : (crc : ℕ)
+      → count_by (entry_has_crc crc) entries ≡ count_by (has_known_crc crc) slices
 
 -- the entries at and after `at` are those that are not below t
 pub record IsFloor (entries : List Entry) (t : Entry) (at : ℕ) : Type 0 where
@@ -36,10 +44,11 @@ pub record IsFloor (entries : List Entry) (t : Entry) (at : ℕ) : Type 0 where
   pub first : (x e : Entry) → Contains entries x → (entry_cmp x t ≡ Less → ⊥)
       → (at < length entries) × (entry_cmp x (get_or entries at e) ≡ Less → ⊥)
 
--- these are the entries that have a CRC-32
+-- these are the entries that have a CRC-32, as many as there are
 pub record AreWithCrc (entries : List Entry) (crc : ℕ) (found : List Entry) : Type 0 where
   pub sound : All (λ e. Contains entries e × (e.crc ≡ crc)) found
   pub complete : (e : Entry) → Contains entries e → e.crc ≡ crc → Contains found e
+  pub counts : length found ≡ count_by (entry_has_crc crc) entries
 
 -- the least number of entries that is at or above `from`; None says that there is none
 abbrev pub IsLeastOf : List Entry → ℕ → Option ℕ → Type 0

@@ -1,4 +1,4 @@
-ghost use Rattle.std.specs.Prelude.{◌≡◌, ℕ, ◌-◌, ◌<◌, ◌≤◌, ◌%◌, ◌↔◌, length, map, zip, slice_get, slice_index, IfOk, IfSome, IsTrue};
+ghost use Rattle.std.specs.Prelude.{◌≡◌, ℕ, ◌-◌, ◌<◌, ◌≤◌, ◌%◌, ◌↔◌, filter, length, map, zip, slice_get, slice_index, IfOk, IfSome, IsTrue};
 ghost use Rattle.std.specs.Option.{IsSomeAnd};
 ghost use Rattle.parwindow.specs.Index.{IsSliceSet, slice_set_of, slice_passes, has_own, has_sums, has_known_crc, has_known_sums, set_has_crc, set_has_fit, set_has_own_crc, tails_of};
 ghost use Rattle.parwindow.specs.FilterBits.{zeros_crc};
@@ -203,6 +203,14 @@ impl Index {
         ensures there { IfSome result (λ n. n < length self.now.slices) }
     {
         self.entries.next_crc(crc, from)
+    }
+
+    /// How many slices have this CRC-32.
+    pub fn count_crc(&self, crc: u32) -> u32
+        ensures count { result ≡ length (filter (has_known_crc crc) self.now.slices) }
+        ensures few { result ≤ slice_limit }
+    {
+        self.entries.count_crc(crc) as u32
     }
 
     /// Whether zeros up to the slice size may make of this register the CRC-32 of a slice that is

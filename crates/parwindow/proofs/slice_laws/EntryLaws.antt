@@ -1,22 +1,30 @@
 -- The entries of an index, one slice at a time, and in another order.
-use Rattle.std.proofs.Common.{◌≡◌, ℕ, ◌+◌, ◌<◌, ◌≤◌, get_or, List, [], ◌∷◌, ◌++◌, length, Some, None, arith, inl, inr}
+use Rattle.std.proofs.Common.{◌≡◌, ℕ, ◌+◌, ◌<◌, ◌≤◌, get_or, List, [], ◌∷◌, ◌++◌, length, take, Some, None, cond, arith, inl, inr, refl, sym, ◌∙◌}
 use Rattle.std.specs.Prelude.{All, Contains}
+use Rattle.std.specs.List.{count_by}
+use Rattle.std.specs.List.Sorted.{IsPermutation}
 use Rattle.std.proofs.lemmas.Bool.{cases_lt}
 use Rattle.std.proofs.lemmas.Option.{slice_get-get_or}
-use Rattle.parwindow.specs.Index.{has_sums}
+use Rattle.parwindow.specs.Index.{has_known_crc, has_sums}
 use Rattle.std.proofs.lemmas.List.Elements.{All-push, Contains-push, Contains-append_left}
+use Rattle.std.proofs.lemmas.List.{take_all}
+use Rattle.std.proofs.lemmas.List.Sums.{count_by_more_no, sum_by_more, sum_by_push}
+use Rattle.std.proofs.lemmas.List.Sorted.{All-permutation, Contains-permutation, sum_by-IsPermutation}
 use Rattle.parfield.specs.declared.hash16.Hash16.{Hash16}
 use Rattle.parset.specs.declared.recovery_set.SetSlice.{SetSlice}
 use Rattle.parwindow.specs.declared.slices.entries.Entry.{Entry}
-use Rattle.parwindow.specs.Entries.{IsEntryOf, IsIndexOf, HasSums}
+use Rattle.parwindow.specs.Entries.{IsEntryOf, IsIndexOf, HasSums, entry_has_crc}
 use Rattle.parwindow.proofs.slice_laws.SearchLaws.{entry_of}
 use Rattle.parwindow.proofs.slice_laws.KnownSumsLaws.{sums_none, sums_same, sums_known, passes_within}
 
--- each slice with sums below a number has its entry, and each entry is of a slice with sums
+-- each slice with sums below a number has its entry, each entry is of a slice with sums, and of each
+-- CRC-32 there are as many entries as slices below the number
 pub record IndexSoFar (slices : List SetSlice) (number : ℕ) (entries : List Entry) : Type 0 where
   pub sound : All (IsEntryOf slices) entries
   pub complete : (n crc : ℕ) (digest : List ℕ) → n < number → HasSums slices n crc digest
       → Contains entries (entry_of crc digest n)
+  pub counts : (crc : ℕ) → count_by (entry_has_crc crc) entries
+      ≡ count_by (has_known_crc crc) (take number slices)
 
 pub index_all : (slices : List SetSlice) (xs : List Entry) (n : ℕ) → length slices ≤ n
     → IndexSoFar slices n xs → IsIndexOf slices xs
@@ -24,6 +32,7 @@ index_all slices xs n whole ix = record {
   sound = ix.sound;
   complete = λ k c d has. ix.complete k c d
       (omega (arith, passes_within (has_sums (record { 0 = d }, c)) slices k has)) has;
+  counts = λ c. rw (← take_all n slices whole) (ix.counts c);
 }
 
 -- a slice without sums adds nothing
@@ -41,6 +50,8 @@ index_skip slices xs n empty within unknown ix = record {
         (slice_get-get_or slices n empty within) unknown
         (rw e at has))
   ];
+  counts = λ c. ix.counts c
+      ∙ sym (count_by_more_no (has_known_crc c) slices n empty within (rw unknown refl));
 }
 
 -- a slice with sums adds its entry
@@ -62,4 +73,18 @@ index_push slices xs n empty md5 sum within known ix = record {
         (slice_get-get_or slices n empty within) known (rw e at has) in
         rw (e, same.0, same.1) (Contains-push xs (entry_of c d n))
   ];
+  counts = λ c.
+      let more = sum_by_more (λ s. cond (has_known_crc c s) 1 0) slices n empty within in
+      sum_by_push (λ e. cond (entry_has_crc c e) 1 0) xs (entry_of sum md5.0 n)
+      ∙ (rw (ix.counts c, more, known) refl);
+}
+
+-- the same entries in another order
+pub index_moved : (slices : List SetSlice) (xs ys : List Entry) → IsPermutation xs ys
+    → IsIndexOf slices xs
+    → IsIndexOf slices ys
+index_moved slices xs ys moved ix = record {
+  sound = All-permutation (IsEntryOf slices) xs ys moved ix.sound;
+  complete = λ n c d has. Contains-permutation xs ys (entry_of c d n) moved (ix.complete n c d has);
+  counts = λ c. sum_by-IsPermutation (λ e. cond (entry_has_crc c e) 1 0) xs ys moved ∙ ix.counts c;
 }

@@ -11,11 +11,12 @@ use Rattle.std.proofs.lemmas.List.{get_or-take, take_more}
 use Rattle.std.proofs.lemmas.List.Elements.{All-push, All-contains, All-contains_itself, Contains-push, Contains-append_left}
 use Rattle.parset.specs.declared.recovery_set.SetSlice.{SetSlice}
 use Rattle.parwindow.specs.declared.slices.entries.Entry.{Entry}
-use Rattle.parwindow.specs.Entries.{entry_cmp, AreWithCrc, HasSums, IsIndexOf, IsLeastOf, lesser}
+use Rattle.parwindow.specs.Entries.{entry_cmp, AreWithCrc, HasSums, entry_has_crc, IsIndexOf, IsLeastOf, lesser}
 use Rattle.parwindow.specs.Index.{slice_passes, has_known_crc}
 use Rattle.parwindow.specs.Least.{IsLeastFrom}
 use Rattle.parwindow.proofs.slice_laws.SearchLaws.{entry_of, crc_rises}
 use Rattle.parwindow.proofs.slice_laws.KnownSumsLaws.{has_crc_at, crc_at}
+use Rattle.parwindow.proofs.slice_laws.CountLaws.{counted_from}
 
 -- one entry more
 least_from_none : (xs : List Entry) (from : ℕ) (e : Entry) → IsLeastOf xs from None
@@ -134,6 +135,11 @@ module _ (entries : List Entry) (c start : ℕ) (rises : IsSorted entry_cmp entr
       eq-eqb (get_or (drop start entries) i d).crc c
       (omega (arith, rise, is, not_below i d (omega arith)))
 
+  none_before : (k : ℕ) (d : Entry) → 0 ≤ k → k < start → eqb (get_or entries k d).crc c ≡ false
+  none_before k d low high =
+      let less : nat_lt (get_or entries k d).crc c ≡ true = first.0 k d low high in
+      grind (arith, nat_tests)
+
   pub with_crc_is : (count : ℕ) → count ≤ length (drop start entries)
       → IsPartitionPoint (λ (y : Entry). eqb y.crc c ≡ true) (λ (y : Entry). eqb y.crc c ≡ false)
       (drop start entries) count
@@ -179,6 +185,7 @@ module _ (entries : List Entry) (c start : ℕ) (rises : IsSorted entry_cmp entr
                 cc
           ]
     ];
+    counts = counted_from (entry_has_crc c) entries start count none_before few second;
   }
 
 -- that is the least number of a slice that has the CRC-32

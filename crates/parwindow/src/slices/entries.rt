@@ -1,4 +1,4 @@
-ghost use Rattle.std.specs.Prelude.{◌≡◌, ℕ, ◌<◌, ◌≤◌, All, List, length, IfOk, IsSorted};
+ghost use Rattle.std.specs.Prelude.{◌≡◌, ℕ, ◌<◌, ◌≤◌, All, List, filter, length, IfOk, IsSorted};
 ghost use Rattle.std.specs.List.{list_any};
 ghost use Rattle.parset.specs.declared.recovery_set.SetSlice.{SetSlice};
 ghost use Rattle.parwindow.specs.Index.{has_known_crc, has_sums, slice_passes, slice_set_of};
@@ -43,6 +43,14 @@ impl Entries {
             → IsLeastFrom (slice_passes slices (has_known_crc crc)) from result }
     {
         least_from(with_crc(&self.list, crc), from)
+    }
+
+    /// How many slices have this CRC-32.
+    pub fn count_crc(&self, crc: u32) -> usize
+        ensures { (slices : List SetSlice) → IsIndexOf slices self.now.list.items
+            → result ≡ length (filter (has_known_crc crc) slices) }
+    {
+        with_crc(&self.list, crc).len()
     }
 
     /// The first slice from a number on that has both sums.
