@@ -7,4 +7,9 @@ pub mod SurveyedLaws
 pub mod SurveyGoesOnLaws
 pub mod SurveyedSoFarLaws
 pub mod SurveyFilesLaws
+pub mod LookLaws
+pub mod NearLaws
+pub mod SurveyStates
 pub mod MissingSetLaws
+pub mod PartLaws
+pub mod LeastMissingLaws

@@ -22,6 +22,7 @@ pub mod NextPlace
 pub mod PlaceVisit
 pub mod Surveys
 pub mod Noting
+pub mod Smaller
 pub mod Surveying
 pub use Rattle.parshelf.specs.Reads
 pub use Rattle.parshelf.specs.Shelf

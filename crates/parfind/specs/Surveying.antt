@@ -17,7 +17,7 @@ use Rattle.parfind.specs.OnePass.{IsNear}
 use Rattle.parfind.specs.Sightings.{Scan}
 use Rattle.parfind.specs.Steps.{scan_of}
 use Rattle.parfind.specs.Surveys.{is_sighted_before, AreAllSettled, AllSightedBy}
-use Rattle.parwindow.specs.Missing.{found_at}
+use Rattle.parwindow.specs.Missing.{found_at, missing_set}
 
 -- where a survey is: its shelf and its window, what is found, and how the window goes along a file
 pub record SurveyState : Type 0 where
@@ -44,7 +44,7 @@ pub record Surveyed (sought : Sought) (old now : SurveyState) (c : Cursor) : Typ
   pub kept : (n : ℕ) → found_at old.found n ≡ true → found_at now.found n ≡ true
   pub hands :
       ReadsUpTo old.shelf now.shelf (record { file = 0; offset = 0 }) (fetched_of now.track)
-  pub unfit : SkipsUnfit sought.set old.shelf now.shelf
+  pub unfit : SkipsUnfit (missing_set sought.set old.found) old.shelf now.shelf
   pub near : IsNear sought.set.slice_size (fetched_of now.track) c
   pub stops : (files : List (List ℕ)) → ReadsAs now.shelf files → (p : Place)
       → AllSightedBy (scan_of sought files) old.found p
@@ -54,12 +54,13 @@ pub record Surveyed (sought : Sought) (old now : SurveyState) (c : Cursor) : Typ
   pub capacity : now.window.capacity ≡ old.window.capacity
 
 -- it ends at a cursor: each slice is settled there, or all files are before it, or a file could
--- not be read
+-- not be read; it reads nothing if each slice is settled at the beginning
 pub record SurveyEnds
     (sought : Sought) (old new : SurveyState) (result : Result Unit ReadFault) : Type 0 where
   pub cursor : Cursor
   pub surveyed : Surveyed sought old new cursor
   pub first : cursor.slice ≡ 0
   pub file_is : cursor.file ≡ new.track.file
+  pub none : AreAllSettled sought.set old.found → new.shelf ≡ old.shelf
   pub all : OnOk result
       (AreAllSettled sought.set new.found ⊎ (length old.shelf.lengths ≤ cursor.file))

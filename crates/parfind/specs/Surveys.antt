@@ -68,7 +68,7 @@ AllSightedBy scan found p =
     EachIndex found (λ n.
     IsTrue (is_settled scan.sought.set found n || is_sighted_before scan (cursor_past p) n))
 
--- from the place on by which each slice is found, no more is handed over than around it
+-- from the place on by which each slice is settled or has a sighting, no more is handed over than around it
 abbrev pub StopsOnceFound : Scan → ShelfState → ShelfState → List Bool → Type 0
 StopsOnceFound scan old new was =
     (p : Place) → AllSightedBy scan was p → HandsAround scan.sought.set.slice_size old new p

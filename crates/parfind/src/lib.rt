@@ -6,8 +6,9 @@
 //! list of calls of a search.
 //!
 //! A search may be given up and opened again at its cursor, and then reads its window anew. A
-//! survey begins at the first file, and ends once each slice is found. Once it has its window,
-//! neither takes memory, nor is either handed more bytes of a file than the file has.
+//! survey begins at the first file, and ends once each slice is found. Neither is handed more bytes of
+//! a file than the file has. A search takes no memory once it has its window. A survey with a window
+//! of its own may take more for a smaller index, and if that is refused, it goes on with the given one.
 #![tactic(auto)]
 
 mod cursors;

@@ -1,13 +1,13 @@
 -- How many bytes of each file are handed over, by one call after another.
-use Rattle.std.proofs.Common.{◌≡◌, ◌≢◌, ◌<◌, ◌≤◌, ◌+◌, ◌∙◌, ℕ, Bool, List, [], ◌∷◌, true, false, slice_index, length, ap, refl, arith, if◌then◌else◌, inl, inr}
-use Rattle.std.proofs.lemmas.Bool.{cases_lt}
+use Rattle.std.proofs.Common.{◌≡◌, ◌≢◌, ◌<◌, ◌≤◌, ◌+◌, ◌∙◌, ℕ, Bool, List, [], ◌∷◌, true, false, slice_index, length, ap, refl, sym, arith, if◌then◌else◌, inl, inr}
+use Rattle.std.proofs.lemmas.Bool.{cases_lt, false_from_ne_true}
 use Rattle.parfield.specs.Added.{slice_index-added_at_same, slice_index-added_at_other}
 use Rattle.parshelf.specs.Shelf.{ShelfState, IsShelf, ReadsAs, file_of}
 use Rattle.parshelf.specs.Reads.{ReadsOnly}
 use Rattle.parsalvage.specs.Leaves.{HandsAtMost}
 use Rattle.parsalvage.specs.MagicPlaces.{salvage_limit}
 use Rattle.parset.specs.RecoverySet.{SetView}
-use Rattle.parwindow.specs.Index.{SliceSet, slice_set_of, set_has_fit}
+use Rattle.parwindow.specs.Index.{SliceSet, slice_set_of, has_fit_of, set_has_fit}
 use Rattle.parwindow.specs.Missing.{missing_set}
 use Rattle.parfind.specs.Fetched.{Place, ReadsUpTo}
 use Rattle.parfind.specs.Handover.{HandsEachOnce, SkipsUnfit}
@@ -16,7 +16,7 @@ use Rattle.parfind.specs.Places.{place_at}
 use Rattle.parfind.specs.Points.{SearchState}
 use Rattle.parfind.specs.declared.cursors.cursor.Cursor.{Cursor}
 use Rattle.parfind.proofs.track_laws.FetchedLaws.{hands_more}
-use Rattle.parfind.proofs.survey_laws.MissingSetLaws.{skips_more}
+use Rattle.parfind.proofs.survey_laws.MissingSetLaws.{any_missing}
 use Rattle.parfind.proofs.search_laws.ReachLaws.{reach_adds_up}
 use Rattle.parreport.specs.Contents.{HandsPerFile, ReadsCandidates}
 use Rattle.parreport.specs.Costs.{HandsWithinSalvage, searched_length_of, verified_length_of}
@@ -112,6 +112,13 @@ reads_room_on at s t u p q r start same next_same first next =
 once_if : (fits : Bool) (n before after : ℕ) → after ≤ before + n → (fits ≡ false → after ≤ before) → after ≤ before + (if fits then n else 0)
 once_if true n before after once none = once
 once_if false n before after once none = omega (arith, none refl)
+
+-- a file into which no slice fits is one into which no slice that isn't found fits, so that nothing is lost by a clause that speaks of these
+skips_more : (set : SliceSet) (found : List Bool) (old new : ShelfState) → SkipsUnfit (missing_set set found) old new → SkipsUnfit set old new
+skips_more set found old new skips f none =
+    let left : ℕ = slice_index old.lengths f in
+    skips f (false_from_ne_true _ (λ fits.
+    let both : true ≡ false = sym (any_missing (has_fit_of left) (λ slice. refl) set.slices found fits) ∙ none in cc))
 
 -- a search for those of its slices that have no mark
 pub searched_once : (set : SetView) (index : SliceSet) (found : List Bool) (s t : ShelfState) → index ≡ slice_set_of set.size set.slices

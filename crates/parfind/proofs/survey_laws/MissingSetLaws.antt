@@ -1,27 +1,23 @@
 -- The set of the slices that aren't found: what is seen of it is seen of the whole set, and the other way round of a slice that isn't found.
-use Rattle.std.proofs.Common.{◌≡◌, ℕ, zero, suc, ◌-◌, ◌≤◌, Bool, true, false, ◌||◌, ◌&&◌, ◌==◌, not, List, [], ◌∷◌, filter, map, zip, length, refl, sym, ap, ◌∙◌, subst, arith, slice_get, slice_index, Option, None, Result, Ok, Err, inl, inr}
+use Rattle.std.proofs.Common.{◌≡◌, ℕ, zero, suc, ◌-◌, ◌≤◌, Bool, true, false, ◌||◌, ◌&&◌, ◌==◌, List, [], ◌∷◌, filter, map, zip, length, refl, sym, ap, ◌∙◌, arith, slice_get, Option, None, inl, inr}
 use Rattle.std.specs.List.{list_any, flat_map, range_with_len}
 use Rattle.std.specs.Option.{option_map_or}
-use Rattle.std.proofs.lemmas.Bool.{cases_Bool, or_cases, or_left, or_right, and_parts, eqb-true, false_from_ne_true}
+use Rattle.std.proofs.lemmas.Bool.{cases_Bool, or_cases, or_left, or_right, and_parts, eqb-true}
 use Rattle.std.proofs.Math.Bool.{and-false}
 use Rattle.parset.specs.declared.recovery_set.SetSlice.{SetSlice}
-use Rattle.parshelf.specs.Shelf.{ShelfState}
-use Rattle.parwindow.specs.Index.{SliceSet, has_fit_of, set_has_fit, has_known_sums, has_own, tails_of}
+use Rattle.parwindow.specs.Index.{SliceSet, has_known_sums, has_own, tails_of}
 use Rattle.parwindow.specs.Missing.{found_at, missing_set, unless_found}
 use Rattle.parfind.specs.declared.cursors.cursor.Cursor.{Cursor}
 use Rattle.parfind.specs.declared.cursors.sighting.Sighting.{Sighting}
 use Rattle.parfind.specs.declared.tracks.mode.Mode.{Mode}
 use Rattle.parfind.specs.declared.tracks.mode.Mode.TheVariants.{Plain, Tails}
-use Rattle.parfind.specs.declared.surveys.surveying.SurveyFault.{SurveyFault}
-use Rattle.parfind.specs.declared.surveys.surveying.SurveyFault.TheVariants.{Read, Memory, TooManyTails}
 use Rattle.parfind.specs.Fetched.{Place}
-use Rattle.parfind.specs.Handover.{SkipsUnfit}
 use Rattle.parfind.specs.Order.{is_before, cursor_of}
-use Rattle.parfind.specs.Places.{cursor_past, places_of}
+use Rattle.parfind.specs.Places.{places_of}
 use Rattle.parfind.specs.Sightings.{Scan, content_of, is_seen, is_sighting, sightings_of, triples_of}
-use Rattle.parfind.specs.Sought.{HasFewTails, Sought, sought_of}
+use Rattle.parfind.specs.Sought.{HasFewTails, sought_of}
 use Rattle.parfind.specs.Steps.{scan_of}
-use Rattle.parfind.specs.Surveys.{is_sighted, is_sighted_before, is_settled, lacks_sums, AreAllSettled, SurveyFinds, SurveyTellsTails, StopsOnceFound}
+use Rattle.parfind.specs.Surveys.{is_sighted_before}
 use Rattle.parfind.proofs.place_laws.ItemLaws.{Has-filter, Has-passed}
 use Rattle.parfind.proofs.survey_laws.NotedLaws.{same_truth, any_has, has_any}
 
@@ -49,10 +45,6 @@ filter_less p q weaker (x ∷ xs) = elim (cases_Bool (p x)) [
     | inr k ↦ rw (h, k) (filter_less p q weaker xs)
   ]
 ]
-
-ors_alike : (m a b s t : Bool) → (m || a) ≡ (m || b) → (m || s) ≡ (m || t) → ((m || a) || s) ≡ ((m || b) || t)
-ors_alike true a b s t known seen = refl
-ors_alike false a b s t known seen = ap (λ x. x || s) known ∙ ap (λ x. b || x) seen
 
 -- the slices, of which those that are found lose their checksums
 abbrev pub missing_of : List SetSlice → List Bool → List SetSlice
@@ -94,21 +86,6 @@ any_missing test known (x ∷ xs) (false ∷ bs) some = elim (or_cases (test x) 
   | inr later ↦ or_right (test x) (list_any test xs) (any_missing test known xs bs later)
 ]
 
--- what fits of the slices that aren't found fits of all
-pub fit_missing : (set : SliceSet) (found : List Bool) (left : ℕ) → set_has_fit (missing_set set found) left ≡ true → set_has_fit set left ≡ true
-fit_missing set found left some = any_missing (has_fit_of left) (λ slice. refl) set.slices found some
-
--- a file into which no slice fits is one into which no slice that isn't found fits, so that nothing is lost by a clause that speaks of these
-pub skips_more : (set : SliceSet) (found : List Bool) (old new : ShelfState) → SkipsUnfit (missing_set set found) old new → SkipsUnfit set old new
-skips_more set found old new skips f none =
-    skips f (false_from_ne_true _ (λ fits. let both : true ≡ false = sym (fit_missing set found (slice_index old.lengths f) fits) ∙ none in cc))
-
--- if none is found, both are the same
-pub skips_same : (set : SliceSet) (found : List Bool) (old new : ShelfState) → length found ≡ length set.slices
-    → list_any (λ found. found) found ≡ false → SkipsUnfit set old new → SkipsUnfit (missing_set set found) old new
-skips_same set found old new each none skips =
-    subst (λ (slices : List SetSlice). SkipsUnfit (record set { slices = slices }) old new) (sym (none_lost set.slices found each none)) skips
-
 -- there are no more tails than before
 pub few_missing : (set : SliceSet) (found : List Bool) (mode : Mode) → HasFewTails (sought_of set mode) → HasFewTails (sought_of (missing_set set found) mode)
 few_missing set found Plain few = few
@@ -119,30 +96,12 @@ few_missing set found Tails few =
     (range_with_len 1 (set.slice_size - 1)) in
     omega (arith, few, less)
 
--- where there are few tails in both, too many are told in neither
-pub tells_few : {A : Type 0} (all less : Sought) (answer : Result A SurveyFault) → HasFewTails all → HasFewTails less
-    → SurveyTellsTails less answer → SurveyTellsTails all answer
-tells_few all less (Ok answer) few fewer tells = few
-tells_few all less (Err (Read file fault)) few fewer tells = few
-tells_few all less (Err Memory) few fewer tells = few
-tells_few all less (Err TooManyTails) few fewer tells = absurd (tells fewer)
-
 module _ (set : SliceSet) (found : List Bool) (each : length found ≡ length set.slices) where
   unless_is_found : (n : ℕ) (a b : Bool) → (found_at found n ≡ false → a ≡ b) → (found_at found n || a) ≡ (found_at found n || b)
   unless_is_found n a b same = elim (cases_Bool (found_at found n)) [
     | inl h ↦ rw h refl
     | inr h ↦ rw h (same h)
   ]
-
-  -- of a slice that isn't found the sums are known alike
-  settled_alike : (n : ℕ) → is_settled (missing_set set found) found n ≡ is_settled set found n
-  settled_alike n =
-      unless_is_found n (lacks_sums (missing_set set found) n) (lacks_sums set n)
-      (λ none. ap (λ (s : Option SetSlice). not (option_map_or has_known_sums s false)) (same_slice set.slices found n each none))
-
-  -- where each slice is settled, each of those that aren't found is
-  pub settled_missing : AreAllSettled set found → AreAllSettled (missing_set set found) found
-  settled_missing all n there = settled_alike n ∙ all n there
 
   same_triples : (lengths : List ℕ) → triples_of (missing_set set found) lengths ≡ triples_of set lengths
   same_triples lengths =
@@ -170,24 +129,7 @@ module _ (set : SliceSet) (found : List Bool) (each : length found ≡ length se
         (triples_of (missing_set set found) (map length files))
         ∙ ap (λ (xs : List Sighting). list_any test (filter (is_sighting all) xs)) (same_triples (map length files))
 
-    sighted_alike : (n : ℕ) → (found_at found n || is_sighted part n) ≡ (found_at found n || is_sighted all n)
-    sighted_alike n =
-        unless_is_found n (is_sighted part n) (is_sighted all n) (λ none. found_alike n none (λ x. x.slice == n) (λ x h. eqb-true x.slice n h))
-
-    before_alike : (c : Cursor) (n : ℕ) → (found_at found n || is_sighted_before part c n) ≡ (found_at found n || is_sighted_before all c n)
+    pub before_alike : (c : Cursor) (n : ℕ) → (found_at found n || is_sighted_before part c n) ≡ (found_at found n || is_sighted_before all c n)
     before_alike c n =
         unless_is_found n (is_sighted_before part c n) (is_sighted_before all c n) (λ none. found_alike n none
         (λ x. x.slice == n && is_before (cursor_of x) c) (λ x h. eqb-true x.slice n (and_parts _ _ h).0))
-
-    settled_before_alike : (c : Cursor) (n : ℕ)
-        → (is_settled (missing_set set found) found n || is_sighted_before part c n) ≡ (is_settled set found n || is_sighted_before all c n)
-    settled_before_alike c n =
-        ors_alike (found_at found n) (lacks_sums (missing_set set found) n) (lacks_sums set n) (is_sighted_before part c n) (is_sighted_before all c n)
-        (settled_alike n) (before_alike c n)
-
-    pub found_all : {A E : Type 0} (now : List Bool) (answer : Result A E) → SurveyFinds part found now answer → SurveyFinds all found now answer
-    found_all now (Ok answer) marks = λ n there. marks n there ∙ sighted_alike n
-    found_all now (Err fault) marks = λ n there marked. sym (sighted_alike n) ∙ marks n there marked
-
-    pub stops_all : (old new : ShelfState) → StopsOnceFound part old new found → StopsOnceFound all old new found
-    stops_all old new stops p sighted = stops p (λ n there. settled_before_alike (cursor_past p) n ∙ sighted n there)

@@ -79,7 +79,7 @@ missing_there set was now first second there missing = elim (cases_Bool (has_unf
 ]
 
 -- a slice that isn't found wasn't found before, since none is taken back
-was_none : (was now : List Bool) (k : ℕ) → (found_at was k ≡ true → found_at now k ≡ true) → found_at now k ≡ false → found_at was k ≡ false
+pub was_none : (was now : List Bool) (k : ℕ) → (found_at was k ≡ true → found_at now k ≡ true) → found_at now k ≡ false → found_at was k ≡ false
 was_none was now k kept none = false_from_ne_true (found_at was k) (λ marked. let both : true ≡ false = sym (kept marked) ∙ none in cc)
 
 pub missing_was : (set : SliceSet) (was now : List Bool) (test : SetSlice → Bool) → ((k : ℕ) → found_at was k ≡ true → found_at now k ≡ true)

@@ -35,6 +35,12 @@ module _ (scan : Scan) where
       has_any (λ y. y.slice == n && is_before (cursor_of y) c) (sightings_of scan) x one.has
       (and_from _ _ (eq-eqb x.slice n one.slice_is) (is_before-true (cursor_of x) c one.before))
 
+  -- what has one before a cursor has one before each later cursor
+  pub sighted_on : (c d : Cursor) → From c d → (n : ℕ) → is_sighted_before scan c n ≡ true → is_sighted_before scan d n ≡ true
+  sighted_on c d on n h =
+      let one = sighted_one c n h in
+      one_sighted d n one.0 (record { has = one.1.has; slice_is = one.1.slice_is; before = Before-From (cursor_of one.0) c d one.1.before on })
+
   -- where none lies between two cursors, the same have one before both
   module _ (c d : Cursor) (on : From c d) (none : sightings_between scan c d ≡ []) where
     late : (x : Sighting) → Has (sightings_of scan) x → Before (cursor_of x) d → Before (cursor_of x) c
@@ -50,8 +56,7 @@ module _ (scan : Scan) where
 
     pub none_more : (n : ℕ) → is_sighted_before scan c n ≡ is_sighted_before scan d n
     none_more n = same_truth _ _
-        (λ h. let one = sighted_one c n h in
-        one_sighted d n one.0 (record { has = one.1.has; slice_is = one.1.slice_is; before = Before-From (cursor_of one.0) c d one.1.before on }))
+        (sighted_on c d on n)
         (λ h. let one = sighted_one d n h in
         one_sighted c n one.0 (record { has = one.1.has; slice_is = one.1.slice_is; before = late one.0 one.1.has one.1.before }))
 

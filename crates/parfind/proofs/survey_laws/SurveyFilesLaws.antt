@@ -1,74 +1,31 @@
 -- A survey on its way over the files: it enters the next one, fills its window, notes what is seen there, and slides on.
-use Rattle.std.proofs.Common.{◌≡◌, ℕ, ◌+◌, ◌<◌, ◌≤◌, ◌⊎◌, Bool, true, false, List, [], length, replicate, refl, sym, ap, ◌∙◌, arith, Option, None, Ok, Err, inl, inr, slice_index}
+use Rattle.std.proofs.Common.{◌≡◌, ℕ, ◌+◌, ◌<◌, ◌≤◌, Bool, true, false, List, [], length, replicate, refl, sym, ap, ◌∙◌, arith, Option, None, Ok, Err, inl, inr, slice_index}
 use Rattle.std.proofs.lemmas.Bool.{cases_lt, or_cases, or_left, or_right}
-use Rattle.parshelf.specs.Shelf.{ShelfState, ReadsAs, Older, file_of}
+use Rattle.parshelf.specs.Shelf.{ShelfState, ReadsAs, file_of}
 use Rattle.parshelf.specs.Reads.{ReadsOnly}
 use Rattle.parshelf.specs.declared.shelves.reading.ReadFault.{ReadFault}
 use Rattle.parshelf.proofs.ReadLaws.{ReadsOnly_more}
-use Rattle.parwindow.specs.Index.{slice_passes, set_has_fit}
-use Rattle.parwindow.specs.Missing.{found_at}
+use Rattle.parwindow.specs.Index.{SliceSet, set_has_fit}
+use Rattle.parwindow.specs.Missing.{found_at, missing_set}
 use Rattle.parwindow.specs.Window.{WindowState}
-use Rattle.parfind.specs.Fetched.{ReadsUpTo}
-use Rattle.parfind.specs.Fitting.{is_fitting_compared}
-use Rattle.parfind.specs.Noting.{FindsMore, TakesDigests, AreExhausted}
-use Rattle.parfind.specs.Marks.{count_missing}
-use Rattle.parfind.specs.Sought.{Sought}
+use Rattle.parfind.specs.Noting.{AreExhausted}
+use Rattle.parfind.specs.Smaller.{IsPart}
+use Rattle.parfind.specs.Sought.{Sought, sought_of}
 use Rattle.parfind.specs.NextPlace.{rest_of}
 use Rattle.parfind.specs.Surveying.{SurveyState, Surveyed, SurveyEnds, survey_at}
 use Rattle.parfind.specs.declared.tracks.track.Track.{Track}
 use Rattle.parfind.specs.Surveys.{AreAllSettled, is_settled, lacks_sums}
-use Rattle.parfind.specs.Tracks.{IsTied, IsUnread, HaveNoComparedCrc, Passes, SameTrack, cursor_of_track, fetched_of}
+use Rattle.parfind.specs.Tracks.{IsUnread, HaveNoComparedCrc, Passes, cursor_of_track}
 use Rattle.parfind.proofs.search_laws.MoveWindowLaws.{unread_tied}
 use Rattle.parfind.proofs.survey_laws.ExhaustedLaws.{exhausted_none, exhausted_on}
 use Rattle.parfind.proofs.search_laws.PassUnfitLaws.{cursor_on}
-use Rattle.parfind.proofs.survey_laws.SurveyedSoFarLaws.{SurveySoFar, IsNextMissing, never_all}
+use Rattle.parfind.proofs.survey_laws.PartLaws.{part_kept}
+use Rattle.parfind.proofs.survey_laws.SurveyStates.{ComparedAt, Missing, ReadOn, SlidOn}
+use Rattle.parfind.proofs.survey_laws.SurveyedSoFarLaws.{SurveySoFar, never_all}
 use Rattle.parfind.proofs.survey_laws.SurveyGoesOnLaws.{swept_enter, swept_fill, swept_look, swept_pass, swept_read, kept_capacity}
 
--- a slice is not settled, and so much of a file is left
-pub record Missing (sought : Sought) (old now : SurveyState) (missing : ℕ) (exhausted : List (Option ℕ)) (left : ℕ) : Type 0 where
-  pub so_far : SurveySoFar sought old now missing exhausted
-  pub open_is : missing < length now.found
-  pub each : length now.found ≡ length old.found
-  pub capacity_is : old.window.capacity ≡ sought.set.slice_size
-  pub counted : now.track.file < length now.shelf.lengths
-  pub left_is : left ≡ rest_of now.shelf.lengths (cursor_of_track now.track)
-
-pub missing_left : (sought : Sought) (old now : SurveyState) (missing : ℕ) (exhausted : List (Option ℕ)) (left : ℕ) → SurveySoFar sought old now missing exhausted
-    → missing < length now.found → length now.found ≡ length old.found → old.window.capacity ≡ sought.set.slice_size
-    → now.track.file < length now.shelf.lengths → left ≡ rest_of now.shelf.lengths (cursor_of_track now.track)
-    → Missing sought old now missing exhausted left
-missing_left sought old now missing exhausted left so_far open_ each capacity counted left_is =
-    record { so_far = so_far; open_is = open_; each = each; capacity_is = capacity; counted = counted; left_is = left_is }
-
--- the window was read on
-pub record ReadOn (now filled : SurveyState) : Type 0 where
-  pub found_is : filled.found ≡ now.found
-  pub older : Older now.shelf filled.shelf
-  pub tied : IsTied filled.shelf filled.window filled.track
-  pub window_is : filled.window ≡ record now.window { content = filled.window.content }
-  pub same : SameTrack now.track filled.track
-  pub hands : ReadsUpTo now.shelf filled.shelf (fetched_of now.track) (fetched_of filled.track)
-
--- in the full window of a state the slices that are seen were noted, and the next that is not settled was looked for
-pub record ComparedAt
-    (sought : Sought) (filled : SurveyState) (left : ℕ) (w : WindowState) (more : List Bool) (missing last : ℕ) : Type 0 where
-  pub full : length filled.window.content ≡ filled.window.capacity
-  pub some : 0 < left
-  pub each : length more ≡ length filled.found
-  pub found : FindsMore (slice_passes sought.set.slices (is_fitting_compared sought.mode filled.window.content left)) filled.found more
-  pub takes : TakesDigests (count_missing sought filled.found filled.window.content left) filled.window w
-  pub next : IsNextMissing sought.set more missing last
-
--- the window slid on, or a read failed
-pub record SlidOn (filled : SurveyState) (w : WindowState) (t : ShelfState) (v : WindowState) (a : Track) : Type 0 where
-  pub older : Older filled.shelf t
-  pub tied : IsTied t v a
-  pub window_is : v ≡ record w { content = v.content }
-  pub file_is : a.file ≡ filled.track.file
-  pub hands : ReadsUpTo filled.shelf t (fetched_of filled.track) (fetched_of a)
-
-module _ (sought : Sought) (old now : SurveyState) (missing : ℕ) (exhausted : List (Option ℕ)) (left : ℕ)
-    (at : Missing sought old now missing exhausted left) where
+module _ (sought : Sought) (part : SliceSet) (old now : SurveyState) (missing : ℕ) (exhausted : List (Option ℕ)) (left : ℕ)
+    (at : Missing sought part old now missing exhausted left) where
   there : missing < length old.found
   there = omega (arith, at.open_is, at.each)
 
@@ -85,30 +42,32 @@ module _ (sought : Sought) (old now : SurveyState) (missing : ℕ) (exhausted : 
 
   -- then not each slice was settled
   some_missing : AreAllSettled sought.set old.found → ⊥
-  some_missing = never_all sought old now missing exhausted at.so_far at.open_is at.each
+  some_missing = never_all sought part old now missing exhausted at.so_far at.open_is at.each
 
-  -- no slice fits, and the next file is entered
-  pub enters : (left ≡ 0) ⊎ (set_has_fit sought.set left ≡ false) → (w : WindowState) (t : Track) → IsUnread (now.track.file + 1) 0 t
-      → w ≡ record now.window { content = [] } → SurveySoFar sought old (survey_at now.shelf w now.found t) missing (replicate 257 None)
+  -- no slice that was missing fits, and the next file is entered
+  pub enters : set_has_fit (missing_set sought.set old.found) left ≡ false → (w : WindowState) (t : Track) → IsUnread (now.track.file + 1) 0 t
+      → w ≡ record now.window { content = [] } → SurveySoFar sought part old (survey_at now.shelf w now.found t) missing (replicate 257 None)
   enters full w t unread window =
       let so_far = at.so_far in
       record {
+        part_is = so_far.part_is;
+        made = so_far.made;
         reads = so_far.reads;
         tied = unread_tied now.shelf now.window w (now.track.file + 1) 0 t (omega arith) so_far.tied.few unread window;
         inside = λ _. omega (arith, unread.offset_is);
         within = so_far.within;
         first = so_far.first;
         settled = so_far.settled;
-        exhausted_is = exhausted_none sought now.found (rest_of now.shelf.lengths (cursor_of_track t)) 257;
+        exhausted_is = exhausted_none (sought_of part sought.mode) now.found (rest_of now.shelf.lengths (cursor_of_track t)) 257;
         none = so_far.none;
         window_is = kept_capacity old.window now.window w so_far.window_is (ap (λ (x : WindowState). x.capacity) window)
             (ap (λ (x : WindowState). x.tails) window);
-        surveyed = swept_enter sought old now so_far.reads missing there unsettled left room full so_far.surveyed
+        surveyed = swept_enter sought old now so_far.reads missing there unsettled left room at.each_slice full so_far.surveyed
             (survey_at now.shelf w now.found t) refl refl unread window;
       }
 
   -- the window is filled
-  module _ (fits : set_has_fit sought.set left ≡ true) (filled : SurveyState) (fill : ReadOn now filled) where
+  module _ (fits : set_has_fit (missing_set sought.set old.found) left ≡ true) (filled : SurveyState) (fill : ReadOn now filled) where
     pub fill_fails : (fault : ReadFault) → SurveyEnds sought old filled (Err fault)
     fill_fails fault =
         let so_far = at.so_far in
@@ -118,21 +77,31 @@ module _ (sought : Sought) (old now : SurveyState) (missing : ℕ) (exhausted : 
               fill.older fill.tied fill.window_is fill.same fill.hands;
           first = refl;
           file_is = refl;
+          none = λ all. absurd (some_missing all);
           all = tt;
         }
 
     -- the slices that are seen in it are found
     module _ (only : ReadsOnly now.shelf filled.shelf) (w : WindowState) (more : List Bool) (last : ℕ)
-        (look : ComparedAt sought filled left w more missing last) where
+        (look : ComparedAt sought part filled left w more missing last) where
       abbrev seen : SurveyState
       seen = survey_at filled.shelf w more filled.track
+
+      filled_part : IsPart sought.set filled.found part
+      filled_part = let so_far = at.so_far in rw fill.found_is so_far.part_is
+
+      more_part : IsPart sought.set more part
+      more_part =
+          let so_far = at.so_far in
+          part_kept sought.set now.found more part (λ n had. look.found n ∙ or_left _ _ (ap (λ xs. found_at xs n) fill.found_is ∙ had)) so_far.part_is
 
       looked : Surveyed sought old seen (cursor_on (cursor_of_track filled.track) 1)
       looked =
           let so_far = at.so_far in
           swept_look sought old now so_far.reads missing there unsettled left fits room sized so_far.surveyed filled fill.found_is
           fill.older fill.tied fill.window_is fill.same fill.hands only look.full
-          (omega (arith, at.counted, ap (λ (u : ShelfState). length u.lengths) so_far.reads.counts)) look.some seen refl refl look.found look.takes
+          (omega (arith, at.counted, ap (λ (u : ShelfState). length u.lengths) so_far.reads.counts)) look.some
+          part filled_part seen refl refl look.found look.takes
 
       all_read : ReadsOnly old.shelf filled.shelf
       all_read = let so_far = at.so_far in ReadsOnly_more old.shelf now.shelf filled.shelf so_far.reads only
@@ -161,6 +130,7 @@ module _ (sought : Sought) (old now : SurveyState) (missing : ℕ) (exhausted : 
         surveyed = looked;
         first = refl;
         file_is = refl;
+        none = λ all. absurd (some_missing all);
         all = inl (λ n less. all_settled n (omega arith));
       }
 
@@ -186,6 +156,7 @@ module _ (sought : Sought) (old now : SurveyState) (missing : ℕ) (exhausted : 
               (omega (arith, stays)) slid.file_is slid.hands fits within_file;
           first = refl;
           file_is = sym slid.file_is;
+          none = λ all. absurd (some_missing all);
           all = tt;
         }
 
@@ -203,13 +174,16 @@ module _ (sought : Sought) (old now : SurveyState) (missing : ℕ) (exhausted : 
             ap (λ (f : ℕ). slice_index old.shelf.lengths f) same.file_is,
           )
 
-          pub slides : (crcs : List (Option ℕ)) → AreExhausted sought more left crcs
-              → ((files : List (List ℕ)) → ReadsAs t files → HaveNoComparedCrc sought (file_of files filled.track.file) filled.track.window_offset n)
-              → SurveySoFar sought old on last crcs
+          pub slides : (crcs : List (Option ℕ)) → AreExhausted (sought_of part sought.mode) more left crcs
+              → ((files : List (List ℕ)) → ReadsAs t files
+              → HaveNoComparedCrc (sought_of part sought.mode) (file_of files filled.track.file) filled.track.window_offset n)
+              → SurveySoFar sought part old on last crcs
           slides crcs exhausted_is none =
               let so_far = at.so_far in
               let next = look.next in
               record {
+                part_is = more_part;
+                made = so_far.made;
                 reads = ReadsOnly_more old.shelf filled.shelf t all_read only_on;
                 tied = slid.tied;
                 inside = λ _. omega (
@@ -222,11 +196,11 @@ module _ (sought : Sought) (old now : SurveyState) (missing : ℕ) (exhausted : 
                 within = next.within;
                 first = next.first;
                 settled = all_settled;
-                exhausted_is = exhausted_on sought left crcs more (rest_of t.lengths (cursor_of_track a)) less_left exhausted_is;
+                exhausted_is = exhausted_on (sought_of part sought.mode) left crcs more (rest_of t.lengths (cursor_of_track a)) less_left exhausted_is;
                 none = λ all. absurd (some_missing all);
                 window_is = kept_capacity old.window now.window v so_far.window_is
                     (ap (λ (x : WindowState). x.capacity) slid.window_is ∙ capacity)
                     (ap (λ (x : WindowState). x.tails) slid.window_is ∙ tails);
-                surveyed = swept_pass sought old seen all_read last still_there still_unsettled left n passes.some looked on refl
+                surveyed = swept_pass sought old seen all_read last still_there still_unsettled left part more_part n passes.some looked on refl
                     slid.older slid.tied slid.window_is (capacity ∙ sized) slid.file_is passes.offset_is slid.hands none fits within_file;
               }

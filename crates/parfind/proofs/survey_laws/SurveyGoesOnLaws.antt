@@ -1,11 +1,12 @@
 -- A survey that goes on: to the next file, to the next place with the CRC-32 of a slice, over reads, and past a place that it looked at.
-use Rattle.std.proofs.Common.{◌≡◌, ℕ, ◌+◌, ◌-◌, ◌*◌, ◌<◌, ◌≤◌, ◌⊎◌, true, false, List, [], length, refl, sym, ap, ◌∙◌, subst, arith, inl, inr, slice_index}
+use Rattle.std.proofs.Common.{◌≡◌, ℕ, ◌+◌, ◌-◌, ◌*◌, ◌<◌, ◌≤◌, true, false, List, [], length, refl, sym, ap, ◌∙◌, subst, arith, inl, inr, slice_index}
 use Rattle.std.proofs.lemmas.Bool.{cases_eq}
 use Rattle.parshelf.specs.Shelf.{ShelfState, ReadsAs, Older, file_of}
 use Rattle.parshelf.specs.Reads.{ReadsOnly}
 use Rattle.parshelf.proofs.ReadLaws.{ReadsOnly_more}
 use Rattle.parshelf.proofs.ShelfLaws.{length-file_of}
-use Rattle.parwindow.specs.Index.{slice_passes, set_has_fit}
+use Rattle.parwindow.specs.Index.{SliceSet, slice_passes, set_has_fit}
+use Rattle.parwindow.specs.Missing.{missing_set}
 use Rattle.parwindow.specs.Window.{WindowState, window_at}
 use Rattle.parfind.specs.declared.cursors.cursor.Cursor.{Cursor}
 use Rattle.parfind.specs.Fitting.{is_fitting_compared}
@@ -15,27 +16,31 @@ use Rattle.parfind.proofs.track_laws.FetchedLaws.{hands_enter}
 use Rattle.parfind.proofs.track_laws.NextBytesLaws.{whole_window}
 use Rattle.parfind.specs.Noting.{FindsMore, TakesDigests}
 use Rattle.parfind.specs.Marks.{count_missing}
-use Rattle.parfind.specs.Sought.{Sought, IsWindowFor}
+use Rattle.parfind.specs.Smaller.{IsPart}
+use Rattle.parfind.specs.Sought.{Sought, IsWindowFor, sought_of}
 use Rattle.parfind.specs.Order.{cursor_of}
-use Rattle.parfind.specs.Sightings.{is_slice_seen, sightings_of, sightings_between}
+use Rattle.parfind.specs.Sightings.{Scan, is_slice_seen, sightings_of, sightings_between}
 use Rattle.parfind.specs.Steps.{scan_of}
 use Rattle.parfind.specs.Surveying.{SurveyState, Surveyed}
 use Rattle.parfind.specs.Surveys.{is_settled}
 use Rattle.parfind.specs.Tracks.{cursor_of_track}
 use Rattle.parfind.proofs.place_laws.UnfitPlaceLaws.{fits_more, seen_fits}
 use Rattle.parfind.proofs.survey_laws.NoteSeenLaws.{count_was}
-use Rattle.parfind.proofs.place_laws.CursorOrderLaws.{From-refl}
+use Rattle.parfind.proofs.survey_laws.NotedLaws.{was_none}
+use Rattle.parfind.proofs.survey_laws.PartLaws.{count_whole, finds_whole, missing_part, none_whole}
+use Rattle.parfind.proofs.place_laws.CursorOrderLaws.{From, From-refl}
 use Rattle.parfind.proofs.search_laws.PassUnfitLaws.{cursor_on, on_unseen, From-on}
 use Rattle.parfind.proofs.place_laws.PlaceLaws.{sighting_seen}
 use Rattle.parfind.proofs.place_laws.RisingLaws.{none_between}
 use Rattle.parfind.proofs.place_laws.SeenLaws.{fit_seen, seen_inside}
-use Rattle.parfind.proofs.survey_laws.SurveyedLaws.{surveyed_on, surveyed_here, others_unread, tied_near}
-
--- no sighting lies between a cursor and itself
-none_here : (sought : Sought) (files : List (List ℕ)) (c : Cursor) → sightings_between (scan_of sought files) c c ≡ []
-none_here sought files c = none_between cursor_of c c (sightings_of (scan_of sought files)) (λ y has from. from)
+use Rattle.parfind.proofs.survey_laws.SurveyedLaws.{surveyed_on, surveyed_here}
+use Rattle.parfind.proofs.survey_laws.NearLaws.{others_unread, tied_near}
 
 module _ (sought : Sought) (old now : SurveyState) (reads : ReadsOnly old.shelf now.shelf) where
+  -- the slices that were missing at the beginning
+  abbrev missing_then : SliceSet
+  missing_then = missing_set sought.set old.found
+
   same_lengths : now.shelf.lengths ≡ old.shelf.lengths
   same_lengths = ap (λ (s : ShelfState). s.lengths) reads.counts
 
@@ -46,23 +51,23 @@ module _ (sought : Sought) (old now : SurveyState) (reads : ReadsOnly old.shelf 
         → next.window ≡ record now.window { content = next.window.content } → now.window.capacity ≡ sought.set.slice_size
         → next.track.file ≡ c.file → next.track.window_offset ≤ c.offset → next.track.file ≡ now.track.file
         → ReadsUpTo now.shelf next.shelf (fetched_of now.track) (fetched_of next.track)
-        → set_has_fit sought.set left ≡ true → left ≤ slice_index old.shelf.lengths now.track.file → Surveyed sought old next c
+        → set_has_fit missing_then left ≡ true → left ≤ slice_index old.shelf.lengths now.track.file → Surveyed sought old next c
     swept_read c so_far next same older tied window sized file held stays hands fits room =
         let hands' = rw same_lengths at hands in
         let capacity : next.window.capacity ≡ now.window.capacity = ap (λ (w : WindowState). w.capacity) window in
-        surveyed_on sought old now c so_far next c same (From-refl c) older (λ files _. none_here sought files c) m there unsettled hands'
-        (others_unread sought.set old.shelf.lengths now.shelf.handed next.shelf.handed (fetched_of now.track) (fetched_of next.track) left (sym stays) hands' fits room)
+        surveyed_on sought old now c so_far next c same (From-refl c) older (λ files _ n _. refl) m there unsettled hands'
+        (others_unread missing_then old.shelf.lengths now.shelf.handed next.shelf.handed (fetched_of now.track) (fetched_of next.track) left (sym stays) hands' fits room)
         (tied_near next.shelf next.window next.track sought.set.slice_size c tied (capacity ∙ sized) file held)
         (ap (λ (w : WindowState). w.digests) window) capacity
 
-    -- past places whose windows have no CRC-32 of a slice
-    pub swept_pass : (n : ℕ) → 0 < n → Surveyed sought old now (cursor_on (cursor_of_track now.track) 1) → (next : SurveyState) → next.found ≡ now.found
+    -- past places whose windows have no CRC-32 of a slice that remains
+    pub swept_pass : (part : SliceSet) → IsPart sought.set now.found part → (n : ℕ) → 0 < n → Surveyed sought old now (cursor_on (cursor_of_track now.track) 1) → (next : SurveyState) → next.found ≡ now.found
         → Older now.shelf next.shelf → IsTied next.shelf next.window next.track → next.window ≡ record now.window { content = next.window.content }
         → now.window.capacity ≡ sought.set.slice_size → next.track.file ≡ now.track.file → next.track.window_offset ≡ now.track.window_offset + n
         → ReadsUpTo now.shelf next.shelf (fetched_of now.track) (fetched_of next.track)
-        → ((files : List (List ℕ)) → ReadsAs next.shelf files → HaveNoComparedCrc sought (file_of files now.track.file) now.track.window_offset n)
-        → set_has_fit sought.set left ≡ true → left ≤ slice_index old.shelf.lengths now.track.file → Surveyed sought old next (cursor_of_track next.track)
-    swept_pass n some so_far next same older tied window sized stays held hands none fits room =
+        → ((files : List (List ℕ)) → ReadsAs next.shelf files → HaveNoComparedCrc (sought_of part sought.mode) (file_of files now.track.file) now.track.window_offset n)
+        → set_has_fit missing_then left ≡ true → left ≤ slice_index old.shelf.lengths now.track.file → Surveyed sought old next (cursor_of_track next.track)
+    swept_pass part is n some so_far next same older tied window sized stays held hands none fits room =
         let hands' = rw same_lengths at hands in
         let capacity : next.window.capacity ≡ now.window.capacity = ap (λ (w : WindowState). w.capacity) window in
         let c : Cursor = cursor_of_track now.track in
@@ -72,28 +77,43 @@ module _ (sought : Sought) (old now : SurveyState) (reads : ReadsOnly old.shelf 
         ∙ ap (λ (o : ℕ). record { file = next.track.file; offset = o; slice = 0 }) (sym held) in
         subst (Surveyed sought old next) at
         (surveyed_on sought old now (cursor_on c 1) so_far next d same (From-on c 1 n some) older
-        (λ files reads_as. on_unseen (scan_of sought files) c n some (none files reads_as))
+        (λ files reads_as. none_whole sought.set now.found part is sought.mode files (cursor_on c 1) d (From-on c 1 n some)
+        (on_unseen (scan_of (sought_of part sought.mode) files) c n some (none files reads_as)))
         m there unsettled hands'
-        (others_unread sought.set old.shelf.lengths now.shelf.handed next.shelf.handed (fetched_of now.track) (fetched_of next.track) left (sym stays) hands' fits room)
+        (others_unread missing_then old.shelf.lengths now.shelf.handed next.shelf.handed (fetched_of now.track) (fetched_of next.track) left (sym stays) hands' fits room)
         (tied_near next.shelf next.window next.track sought.set.slice_size d tied (capacity ∙ sized) stays (omega (arith, held)))
         (ap (λ (w : WindowState). w.digests) window) capacity)
 
-    -- to the next file, where no slice fits into what is left of this one
+    -- to the next file, where no slice that was missing fits into what is left of this one
     module _ (room : now.track.window_offset + left ≡ slice_index old.shelf.lengths now.track.file)
-        (full : (left ≡ 0) ⊎ (set_has_fit sought.set left ≡ false)) where
+        (each : length old.found ≡ length sought.set.slices) (full : set_has_fit missing_then left ≡ false) where
       unfit_here : (files : List (List ℕ)) → ReadsAs now.shelf files → (o n : ℕ) → now.track.window_offset ≤ o
-          → is_slice_seen sought (file_of files now.track.file) o n ≡ true → ⊥
+          → is_slice_seen (sought_of missing_then sought.mode) (file_of files now.track.file) o n ≡ true → ⊥
       unfit_here files reads_as o n later seen =
           let file : List ℕ = file_of files now.track.file in
           let whole : length file ≡ slice_index old.shelf.lengths now.track.file =
           length-file_of old.shelf files now.track.file (reads.older files reads_as) in
-          let inside : o < length file = seen_inside sought file o n seen in
-          elim full [
-            | inl none ↦ omega arith
-            | inr none ↦
-                let fits : set_has_fit sought.set left ≡ true = fits_more sought.set (length file - o) left (omega arith) (seen_fits sought file o n seen) in
-                let both : true ≡ false = sym fits ∙ none in cc
-          ]
+          let inside : o < length file = seen_inside (sought_of missing_then sought.mode) file o n seen in
+          let fits : set_has_fit missing_then left ≡ true =
+          fits_more missing_then (length file - o) left (omega arith) (seen_fits (sought_of missing_then sought.mode) file o n seen) in
+          let both : true ≡ false = sym fits ∙ full in cc
+
+      none_there : (files : List (List ℕ)) → ReadsAs now.shelf files → (d : Cursor) → d.file ≡ now.track.file + 1 → d.offset ≡ 0 → d.slice ≡ 0
+          → sightings_between (scan_of (sought_of missing_then sought.mode) files) (cursor_of_track now.track) d ≡ []
+      none_there files reads_as d next first least =
+          let c : Cursor = cursor_of_track now.track in
+          let s : Scan = scan_of (sought_of missing_then sought.mode) files in
+          none_between cursor_of c d (sightings_of s) (λ y has from. elim (cases_eq now.track.file y.file) [
+            | inl e ↦
+                let seen : is_slice_seen s.sought (file_of files y.file) y.offset y.slice ≡ true = sighting_seen s y has in
+                absurd (unfit_here files reads_as y.offset y.slice (from.by_offset e)
+                (subst (λ (f : ℕ). is_slice_seen s.sought (file_of files f) y.offset y.slice ≡ true) (sym e) seen))
+            | inr other ↦ record {
+              by_file = omega (arith, next, from.by_file);
+              by_offset = λ _. omega (arith, first);
+              by_slice = λ _ _. omega (arith, least);
+            }
+          ])
 
       pub swept_enter : Surveyed sought old now (cursor_of_track now.track) → (next : SurveyState) → next.found ≡ now.found → next.shelf ≡ now.shelf
           → IsUnread (now.track.file + 1) 0 next.track → next.window ≡ record now.window { content = [] } → Surveyed sought old next (cursor_of_track next.track)
@@ -102,24 +122,15 @@ module _ (sought : Sought) (old now : SurveyState) (reads : ReadsOnly old.shelf 
           let d : Cursor = cursor_of_track next.track in
           let handed : next.shelf.handed ≡ now.shelf.handed = ap (λ (s : ShelfState). s.handed) still in
           let still_reads : Older now.shelf next.shelf = λ files reads_as. subst (λ (s : ShelfState). ReadsAs s files) still reads_as in
-          surveyed_on sought old now c so_far next d same
-          (record {
+          let on : From c d = record {
             by_file = omega (arith, unread.file_is);
             by_offset = λ e. absurd (omega (arith, unread.file_is));
             by_slice = λ e _. absurd (omega (arith, unread.file_is));
-          })
-          still_reads
-          (λ files reads_as. none_between cursor_of c d (sightings_of (scan_of sought files)) (λ y has from. elim (cases_eq now.track.file y.file) [
-            | inl e ↦
-                let seen : is_slice_seen sought (file_of files y.file) y.offset y.slice ≡ true = sighting_seen (scan_of sought files) y has in
-                absurd (unfit_here files (still_reads files reads_as) y.offset y.slice (from.by_offset e)
-                (subst (λ (f : ℕ). is_slice_seen sought (file_of files f) y.offset y.slice ≡ true) (sym e) seen))
-            | inr other ↦ record {
-              by_file = omega (arith, unread.file_is, from.by_file);
-              by_offset = λ _. omega (arith, unread.offset_is);
-              by_slice = λ _ _. omega arith;
-            }
-          ]))
+          } in
+          surveyed_on sought old now c so_far next d same on still_reads
+          (λ files reads_as n open_. none_whole sought.set old.found missing_then (missing_part sought.set old.found each) sought.mode files c d on
+          (none_there files (still_reads files reads_as) d unread.file_is unread.offset_is refl) n
+          (was_none old.found now.found n (so_far.kept n) open_))
           m there unsettled
           (rw handed (hands_enter old.shelf.lengths now.shelf.handed (fetched_of now.track) (fetched_of next.track) (omega (arith, unread.file_is))))
           (λ f none. omega (arith, ap (λ (xs : List ℕ). slice_index xs f) handed))
@@ -144,13 +155,14 @@ module _ (sought : Sought) (old now : SurveyState) (reads : ReadsOnly old.shelf 
         → length (file_of files now.track.file) ≡ slice_index old.shelf.lengths now.track.file
     whole_length files reads_as = length-file_of old.shelf files now.track.file (reads.older files reads_as)
 
-    pub swept_here : (next : SurveyState) → next.shelf ≡ now.shelf → next.track ≡ now.track
-        → FindsMore (slice_passes sought.set.slices (is_fitting_compared sought.mode now.window.content left)) now.found next.found
-        → TakesDigests (count_missing sought now.found now.window.content left) now.window next.window
+    pub swept_here : (part : SliceSet) → IsPart sought.set now.found part → (next : SurveyState) → next.shelf ≡ now.shelf → next.track ≡ now.track
+        → FindsMore (slice_passes part.slices (is_fitting_compared sought.mode now.window.content left)) now.found next.found
+        → TakesDigests (count_missing (sought_of part sought.mode) now.found now.window.content left) now.window next.window
         → Surveyed sought old next (cursor_on (cursor_of_track now.track) 1)
-    swept_here next still track marks takes =
+    swept_here part is next still track marks takes =
         surveyed_here sought old now (cursor_of_track now.track) so_far refl same_lengths counted (omega arith) next still track
-        (slice_passes sought.set.slices (is_fitting_compared sought.mode now.window.content left)) (count_missing sought now.found now.window.content left)
+        (slice_passes sought.set.slices (is_fitting_compared sought.mode now.window.content left))
+        (count_missing (sought_of part sought.mode) now.found now.window.content left)
         (λ files reads_as n.
         let file : List ℕ = file_of files now.track.file in
         let whole = whole_length files reads_as in
@@ -159,14 +171,16 @@ module _ (sought : Sought) (old now : SurveyState) (reads : ReadsOnly old.shelf 
         let file : List ℕ = file_of files now.track.file in
         let whole = whole_length files reads_as in
         let rest : left ≡ length file - now.track.window_offset = omega (arith, room) in
-        let fewer = count_was sought old.found now.found now.window.content left so_far.kept in
-        let there : count_missing sought now.found now.window.content left
-        ≤ count_missing sought old.found (window_at sought.set.slice_size file now.track.window_offset) left =
-        subst (λ (content : List ℕ). count_missing sought now.found now.window.content left ≤ count_missing sought old.found content left)
-        (whole_there files reads_as) fewer in
-        subst (λ (n : ℕ). count_missing sought now.found now.window.content left
-        ≤ count_missing sought old.found (window_at sought.set.slice_size file now.track.window_offset) n) rest there)
-        marks takes
+        let count : ℕ = count_missing (sought_of part sought.mode) now.found now.window.content left in
+        let fewer : count ≤ count_missing sought old.found now.window.content left = omega (
+          arith,
+          count_whole sought.set now.found part is sought.mode now.window.content left,
+          count_was sought old.found now.found now.window.content left so_far.kept,
+        ) in
+        let there : count ≤ count_missing sought old.found (window_at sought.set.slice_size file now.track.window_offset) left =
+        subst (λ (content : List ℕ). count ≤ count_missing sought old.found content left) (whole_there files reads_as) fewer in
+        subst (λ (n : ℕ). count ≤ count_missing sought old.found (window_at sought.set.slice_size file now.track.window_offset) n) rest there)
+        (finds_whole sought.set now.found part is (is_fitting_compared sought.mode now.window.content left) next.found marks) takes
 
 -- the way that is left: less of it, once the window slid on or went to the next file
 module _ (files file offset : ℕ) (there : file < files) (small : offset < 9223372036854775808) where
@@ -191,7 +205,8 @@ made_same sought u v capacity tails made =
     record { sized = capacity ∙ made.sized; tails_are = λ mode. tails ∙ made.tails_are mode; few = made.few }
 
 module _ (sought : Sought) (old now : SurveyState) (reads : ReadsOnly old.shelf now.shelf)
-    (m : ℕ) (there : m < length old.found) (unsettled : is_settled sought.set now.found m ≡ false) (left : ℕ) (fits : set_has_fit sought.set left ≡ true)
+    (m : ℕ) (there : m < length old.found) (unsettled : is_settled sought.set now.found m ≡ false)
+    (left : ℕ) (fits : set_has_fit (missing_set sought.set old.found) left ≡ true)
     (room : now.track.window_offset + left ≡ slice_index old.shelf.lengths now.track.file) (sized : now.window.capacity ≡ sought.set.slice_size)
     (so_far : Surveyed sought old now (cursor_of_track now.track)) (next : SurveyState) (found : next.found ≡ now.found)
     (older : Older now.shelf next.shelf) (tied : IsTied next.shelf next.window next.track) (window : next.window ≡ record now.window { content = next.window.content })
@@ -209,11 +224,11 @@ module _ (sought : Sought) (old now : SurveyState) (reads : ReadsOnly old.shelf 
 
   -- and the slices that are seen in it are found
   pub swept_look : ReadsOnly now.shelf next.shelf → length next.window.content ≡ next.window.capacity → now.track.file < length old.shelf.lengths
-      → 0 < left → (last : SurveyState) → last.shelf ≡ next.shelf → last.track ≡ next.track
-      → FindsMore (slice_passes sought.set.slices (is_fitting_compared sought.mode next.window.content left)) next.found last.found
-      → TakesDigests (count_missing sought next.found next.window.content left) next.window last.window
+      → 0 < left → (part : SliceSet) → IsPart sought.set next.found part → (last : SurveyState) → last.shelf ≡ next.shelf → last.track ≡ next.track
+      → FindsMore (slice_passes part.slices (is_fitting_compared sought.mode next.window.content left)) next.found last.found
+      → TakesDigests (count_missing (sought_of part sought.mode) next.found next.window.content left) next.window last.window
       → Surveyed sought old last (cursor_on (cursor_of_track next.track) 1)
-  swept_look only full counted some last still track marks takes =
+  swept_look only full counted some part is last still track marks takes =
       swept_here sought old next (ReadsOnly_more old.shelf now.shelf next.shelf reads only) tied
       (ap (λ (w : WindowState). w.capacity) window ∙ sized) full swept_fill (omega (arith, same.file_is)) left some
-      (rw (same.file_is, same.offset_is) room) last still track marks takes
+      (rw (same.file_is, same.offset_is) room) part is last still track marks takes

@@ -1,15 +1,14 @@
 -- What a survey has done once it is at a cursor, and how it goes on.
-use Rattle.std.proofs.Common.{◌≡◌, ℕ, ◌+◌, ◌<◌, ◌≤◌, Bool, true, false, ◌||◌, List, [], length, refl, sym, ap, ◌∙◌, subst, arith, inl, inr, slice_index}
-use Rattle.std.proofs.lemmas.Bool.{cases_eq, cases_lt, or_cases, or_left, or_parts, or_right, false_from_ne_true}
+use Rattle.std.proofs.Common.{◌≡◌, ℕ, ◌+◌, ◌<◌, ◌≤◌, Bool, true, false, ◌||◌, List, length, refl, sym, ap, ◌∙◌, subst, arith, inl, inr, slice_index}
+use Rattle.std.proofs.lemmas.Bool.{cases_Bool, cases_eq, cases_lt, or_cases, or_left, or_parts, or_right, false_from_ne_true}
 use Rattle.std.proofs.lemmas.List.{length-map}
 use Rattle.std.proofs.Math.Bool.{or-false, or_assoc}
 use Rattle.parshelf.specs.Shelf.{ShelfState, ReadsAs, Older, file_of}
-use Rattle.parwindow.specs.Index.{SliceSet, set_has_fit}
+use Rattle.parwindow.specs.Index.{set_has_fit}
 use Rattle.parwindow.specs.Window.{WindowState}
 use Rattle.parfind.specs.declared.cursors.cursor.Cursor.{Cursor}
-use Rattle.parfind.specs.declared.tracks.track.Track.{Track}
 use Rattle.parfind.specs.Fetched.{Place, upto, HandsUpTo}
-use Rattle.parfind.specs.Tracks.{IsTied, IsUnread, fetched_of}
+use Rattle.parfind.specs.Tracks.{IsUnread, fetched_of}
 use Rattle.parfind.proofs.track_laws.FetchedLaws.{upto-before, upto-here, upto-after, upto-most, upto-rises, hands_none, hands_more}
 use Rattle.parfind.specs.NextPlace.{IsAtPlace}
 use Rattle.parfind.specs.Noting.{FindsMore, TakesDigests}
@@ -18,52 +17,22 @@ use Rattle.parfind.specs.Sought.{Sought}
 use Rattle.parfind.specs.Order.{origin}
 use Rattle.parfind.specs.Places.{cursor_at, cursor_past, place_at}
 use Rattle.parfind.specs.OnePass.{IsNear}
-use Rattle.parfind.specs.Sightings.{Scan, is_slice_seen, sightings_between}
+use Rattle.parfind.specs.Sightings.{Scan, is_slice_seen}
 use Rattle.parfind.specs.Steps.{scan_of, lengths_of}
 use Rattle.parfind.specs.Handover.{HandsEachOnce, HandsAround}
 use Rattle.parfind.specs.Surveys.{is_sighted, is_sighted_before, lacks_sums, is_settled, AreAllSettled, FindsSighted, FindsNoOther, FindsUpToFault, KeepsFound, StopsOnceFound, survey_point}
-use Rattle.parwindow.specs.Missing.{found_at}
+use Rattle.parwindow.specs.Missing.{found_at, missing_set}
 use Rattle.parfind.specs.Surveying.{SurveyState, Surveyed, missing_between}
 use Rattle.parfind.specs.Tracks.{cursor_of_track}
-use Rattle.parfind.proofs.place_laws.UnfitPlaceLaws.{fits_more}
 use Rattle.parfind.proofs.place_laws.CrcMatchLaws.{counted_rises, counted_more, counted_most}
 use Rattle.parfind.proofs.place_laws.CursorOrderLaws.{From}
+use Rattle.parfind.proofs.survey_laws.NearLaws.{near_further}
 use Rattle.parfind.proofs.survey_laws.SettledLaws.{unknown_unseen}
-use Rattle.parfind.proofs.survey_laws.SightedLaws.{none_more, here_more, none_first, before_sighted, all_before, still_missing}
+use Rattle.parfind.proofs.survey_laws.SightedLaws.{sighted_on, here_more, none_first, before_sighted, all_before, still_missing}
 
 -- where a survey begins
 abbrev pub start : Place
 start = record { file = 0; offset = 0 }
-
--- a window that goes along a file has read little further than its place
-pub tied_near : (u : ShelfState) (w : WindowState) (t : Track) (size : ℕ) (c : Cursor) → IsTied u w t → w.capacity ≡ size
-    → t.file ≡ c.file → t.window_offset ≤ c.offset → IsNear size (fetched_of t) c
-tied_near u w t size c tied sized file held = record {
-  file_is = omega arith;
-  offset_is = λ _. omega (arith, tied.not_ahead, tied.within, tied.buffer_fits);
-}
-
--- of files without room for a slice nothing is read while another one is
-pub others_unread : (set : SliceSet) (lengths a b : List ℕ) (p q : Place) (left : ℕ) → p.file ≡ q.file → HandsUpTo lengths a b p q
-    → set_has_fit set left ≡ true → left ≤ slice_index lengths p.file
-    → (f : ℕ) → set_has_fit set (slice_index lengths f) ≡ false → slice_index b f ≤ slice_index a f
-others_unread set lengths a b p q left same hands fits room f none = elim (cases_eq f p.file) [
-  | inl here ↦
-      let file : set_has_fit set (slice_index lengths f) ≡ true = fits_more set left (slice_index lengths f) (omega (arith, ap (λ (k : ℕ). slice_index lengths k) here)) fits in
-      let both : true ≡ false = sym file ∙ none in cc
-  | inr other ↦ elim (cases_lt f p.file) [
-    | inl before ↦ omega (arith, hands.handed f, upto-before lengths p f before, upto-before lengths q f (omega arith))
-    | inr past ↦ omega (arith, hands.handed f, upto-after lengths p f (omega arith), upto-after lengths q f (omega arith))
-  ]
-]
-
-near_further : (size : ℕ) (q : Place) (c d : Cursor) → c.file ≤ d.file → (c.file ≡ d.file → c.offset ≤ d.offset) → IsNear size q c → IsNear size q d
-near_further size q c d file offset near = record {
-  file_is = omega (arith, near.file_is);
-  offset_is = λ same.
-      let files : c.file ≡ d.file = omega (arith, near.file_is) in
-      omega (arith, offset files, near.offset_is (omega arith));
-}
 
 -- at its beginning
 
@@ -108,18 +77,27 @@ module _ (sought : Sought) (old now : SurveyState) (c : Cursor) (so_far : Survey
         | inr unknown ↦ let both : true ≡ false = sym unknown ∙ parts.1 in cc
       ]
 
-  -- to a cursor before which no other slice has a sighting, while a slice is not settled
+  -- to a cursor before which no other slice that isn't found has a sighting, while a slice is not settled
   module _ (next : SurveyState) (d : Cursor) (same : next.found ≡ now.found) (on : From c d) (older : Older now.shelf next.shelf)
-      (none : (files : List (List ℕ)) → ReadsAs next.shelf files → sightings_between (scan_of sought files) c d ≡ []) where
+      (none : (files : List (List ℕ)) → ReadsAs next.shelf files → (n : ℕ) → found_at now.found n ≡ false
+      → is_sighted_before (scan_of sought files) c n ≡ is_sighted_before (scan_of sought files) d n) where
     moved_found : (files : List (List ℕ)) → ReadsAs next.shelf files → (n : ℕ)
         → found_at next.found n ≡ (found_at old.found n || is_sighted_before (scan_of sought files) d n)
     moved_found files reads n =
-        ap (λ marks. found_at marks n) same ∙ so_far.found files (older files reads) n
-        ∙ ap (λ b. found_at old.found n || b) (none_more (scan_of sought files) c d on (none files reads) n)
+        let s : Scan = scan_of sought files in
+        let had : found_at now.found n ≡ (found_at old.found n || is_sighted_before s c n) = so_far.found files (older files reads) n in
+        ap (λ marks. found_at marks n) same ∙ elim (cases_Bool (found_at now.found n)) [
+          | inl is ↦ is ∙ sym (elim (or_cases (found_at old.found n) (is_sighted_before s c n) (sym had ∙ is)) [
+            | inl before ↦ or_left (found_at old.found n) (is_sighted_before s d n) before
+            | inr seen ↦ or_right (found_at old.found n) (is_sighted_before s d n) (sighted_on s c d on n seen)
+          ])
+          | inr open_ ↦ had ∙ ap (λ b. found_at old.found n || b) (none files reads n open_)
+        ]
 
     pub surveyed_on : (m : ℕ) → m < length old.found → is_settled sought.set now.found m ≡ false
         → HandsUpTo old.shelf.lengths now.shelf.handed next.shelf.handed (fetched_of now.track) (fetched_of next.track)
-        → ((f : ℕ) → set_has_fit sought.set (slice_index old.shelf.lengths f) ≡ false → slice_index next.shelf.handed f ≤ slice_index now.shelf.handed f)
+        → ((f : ℕ) → set_has_fit (missing_set sought.set old.found) (slice_index old.shelf.lengths f) ≡ false
+        → slice_index next.shelf.handed f ≤ slice_index now.shelf.handed f)
         → IsNear sought.set.slice_size (fetched_of next.track) d → next.window.digests ≡ now.window.digests
         → next.window.capacity ≡ now.window.capacity → Surveyed sought old next d
     surveyed_on m there unsettled hands unfit near digests capacity = record {

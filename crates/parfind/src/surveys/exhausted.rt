@@ -1,5 +1,5 @@
-ghost use Rattle.std.specs.Prelude.{◌≡◌, ◌<◌, ◌≤◌, ◌+◌, length, replicate, if◌then◌else◌, None};
-ghost use Rattle.parwindow.specs.Index.{slice_passes, sums_of};
+ghost use Rattle.std.specs.Prelude.{◌≡◌, ◌<◌, ◌+◌, length, replicate, if◌then◌else◌};
+ghost use Rattle.parwindow.specs.Index.{slice_passes};
 ghost use Rattle.parfind.specs.Fitting.{is_fitting_compared, is_fitting_match, is_fitting_of};
 ghost use Rattle.parfind.specs.KeptDigests.{IsFullFor};
 ghost use Rattle.parfind.specs.Noting.{FindsMore, TakesDigests, AreExhausted};
@@ -14,10 +14,13 @@ use parwindow::Window;
 const MOST_LENGTHS: usize = MOST_TAILS + 1;
 
 /// For each compared length a CRC-32 of which each slice that fits is found, so that this is asked
-/// once in a run of equal windows, as of zeros.
+/// once in a run of equal windows, as of zeros; and what it cost to ask.
 #[derive(Drop)]
 pub struct Exhausted {
     pub crcs: [Option<u32>; MOST_LENGTHS],
+    /// How many looks found no slice missing: one for each compared length at a place where some slice
+    /// has the CRC-32, and one more for every sixteen slices that were looked through.
+    pub in_vain: u64,
 }
 
 impl Exhausted {
@@ -27,14 +30,15 @@ impl Exhausted {
     {
         Exhausted {
             crcs: [None; MOST_LENGTHS],
+            in_vain: 0,
         }
     }
 
-    /// None is known any more.
+    /// None is known any more. The count of looks stays.
     pub fn forget(&mut self)
         ensures { self.new.crcs ≡ replicate 257 None }
     {
-        *self = Exhausted::none();
+        self.crcs = [None; MOST_LENGTHS];
     }
 
     /// Notes as found each slice that has both checksums of what is compared of a full window for it,
@@ -80,6 +84,7 @@ impl Exhausted {
     {
         let crc = sought.crc_at(window, k);
         if self.crcs[k] == Some(crc) {
+            self.in_vain = self.in_vain.saturating_add(1);
             return;
         }
         if sought.is_missing_at(k, crc, left, found) {
@@ -87,6 +92,8 @@ impl Exhausted {
             note_matches(sought, k, (digest, crc), left, found);
         } else {
             self.crcs[k] = Some(crc);
+            let asked = u64::from(sought.index.count_crc(crc));
+            self.in_vain = self.in_vain.saturating_add(asked.min(1) + asked / 16);
         }
     }
 }

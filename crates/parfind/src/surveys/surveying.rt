@@ -1,20 +1,17 @@
-ghost use Rattle.std.specs.Prelude.{◌≡◌, ◌+◌, ◌≤◌, ◌<◌, ℕ, List, [], false, length, IsTrue, IfErr};
-ghost use Rattle.std.specs.List.{list_any};
-ghost use Rattle.parfind.specs.Tracks.{IsUnread};
-ghost use Rattle.parset.specs.Limits.{slice_size_limit};
+ghost use Rattle.std.specs.Prelude.{◌≡◌, ◌+◌, ◌≤◌, ◌<◌, ℕ, List, length, IfErr, IfOk};
 ghost use Rattle.parshelf.specs.Shelf.{ReadsAs};
-ghost use Rattle.parshelf.specs.Reads.{ReadsFile};
 ghost use Rattle.parfind.specs.Handover.{HandsEachOnce, SkipsUnfit};
 ghost use Rattle.parfind.specs.Marks.{missing_count};
 ghost use Rattle.parfind.specs.Steps.{scan_of};
-ghost use Rattle.parfind.specs.Surveys.{SurveyFinds, FindsUpToFault, KeepsFound, AreAllSettled, StopsOnceFound, ReadsNamed, SurveyLeaves, SurveyTellsTails, is_settled, survey_point};
+ghost use Rattle.parfind.specs.Surveys.{SurveyFinds, FindsUpToFault, KeepsFound, AreAllSettled, StopsOnceFound, ReadsNamed, SurveyLeaves, SurveyTellsTails, survey_point};
 ghost use Rattle.parwindow.specs.Missing.{missing_set};
-ghost use Rattle.parfind.specs.Surveying.{SurveyEnds, survey_at};
+ghost use Rattle.parfind.specs.Smaller.{IsPart, part_of};
 ghost use Rattle.parfind.specs.Sought.{HasFewTails, IsWindowFor, sought_of};
 ghost use Rattle.parfind.specs.declared.surveys.surveying.SurveyFault.TheVariants.{Memory};
 
-use crate::surveys::exhausted::Exhausted;
-use crate::tracks::{MOST_TAILS, Mode, Sought, Track};
+use crate::surveys::smaller::Smaller;
+use crate::surveys::walk::{next_missing, survey_by};
+use crate::tracks::{MOST_TAILS, Mode, Sought};
 use parshelf::{ReadFault, Shelf};
 use parwindow::{Index, Window};
 use std::alloc::{AllocError, Global};
@@ -41,9 +38,10 @@ impl From<AllocError> for SurveyFault {
 
 /// Finds each slice of the set that has a sighting. `found` has a flag for each slice, by number; the
 /// survey sets those of the slices that it sees, and takes none back. It looks only for slices that
-/// aren't found at the call and have checksums, and ends once it has found them all. Memory is taken
-/// for a window, and if some slices are found at the call and others aren't, for a second index; it
-/// takes none if nothing is to be looked for.
+/// aren't found at the call and have checksums, and ends once it has found them all. It takes memory
+/// for a window, and for a second index if some slices are found at the call and others aren't. If
+/// content repeats, it makes a second index on its way, without what it has found. If memory for that
+/// is refused, it goes on with the given one. It takes none if nothing is to be looked for.
 pub fn survey<H: Shelf>(
     alloc: Global,
     index: &Index,
@@ -77,25 +75,38 @@ pub fn survey<H: Shelf>(
     if next_missing(&sought, found, 0) == found.len() {
         return Ok(());
     }
-    if !is_any_found(found) {
-        return survey_few_tails(alloc, &sought, shelf, found);
-    }
-    let missing = index.missing(alloc, found)?;
-    let others = Sought {
-        index: &missing,
-        mode,
+    let mut smaller = first_smaller(alloc, index, found)?;
+    survey_few_tails(alloc, &sought, &mut smaller, shelf, found)
+}
+
+// The index without the slices that are found, if some are.
+fn first_smaller(alloc: Global, index: &Index, found: &[bool]) -> Result<Smaller, AllocError>
+    requires { length found.now ≡ length index.now.slices }
+    ensures { IfOk result (λ smaller. IsPart index.now found.now (part_of index.now smaller.index)) }
+{
+    let left_out = found.iter().filter(|found| **found).count();
+    let index = if left_out > 0 {
+        Some(index.missing(alloc, found)?)
+    } else {
+        None
     };
-    survey_few_tails(alloc, &others, shelf, found)
+    Ok(Smaller {
+        index,
+        left_out,
+        alloc: Some(alloc),
+    })
 }
 
 // Finds each slice of the set that has a sighting, if there are no more tails than a window may have.
 fn survey_few_tails<H: Shelf>(
     alloc: Global,
     sought: &Sought,
+    smaller: &mut Smaller,
     shelf: &mut H,
     found: &mut [bool],
 ) -> Result<(), SurveyFault>
     requires each { length found.old ≡ length sought.now.set.slices }
+    requires part { IsPart sought.now.set found.old (part_of sought.now.set smaller.old.index) }
     requires few { HasFewTails sought.now }
     ensures found { (files : List (List ℕ)) → ReadsAs (H.state shelf.new) files →
         SurveyFinds (scan_of sought.now files) found.old found.new result }
@@ -107,22 +118,27 @@ fn survey_few_tails<H: Shelf>(
         (survey_point (H.state shelf.new) found.new) result }
     ensures tails { SurveyTellsTails sought.now result }
     ensures handed { HandsEachOnce (H.state shelf.old) (H.state shelf.new) }
-    ensures unfit { SkipsUnfit sought.now.set (H.state shelf.old) (H.state shelf.new) }
-    ensures none { AreAllSettled sought.now.set found.old → H.state shelf.new ≡ H.state shelf.old }
+    ensures unfit { SkipsUnfit (missing_set sought.now.set found.old)
+        (H.state shelf.old) (H.state shelf.new) }
+    ensures none { AreAllSettled sought.now.set found.old
+        → H.state shelf.new ≡ H.state shelf.old }
 {
     let size = sought.index.size() as usize;
-    let mut window = Window::with_tails(alloc, size, sought.shorter_lengths())?;
-    match survey_in(sought.index, shelf, &mut window, found, sought.mode) {
+    let part = Sought {
+        index: smaller.or(sought.index),
+        mode: sought.mode,
+    };
+    let mut window = Window::with_tails(alloc, size, part.shorter_lengths())?;
+    match survey_by(sought, smaller, shelf, &mut window, found) {
         Ok(()) => Ok(()),
         Err((file, fault)) => Err(SurveyFault::Read(file, fault)),
     }
 }
 
 /// Finds each slice of the set that has a sighting, as `survey` does, by a window that is handed in
-/// and without memory. A fault comes with its file's number. Unlike `survey` it also reads files into
-/// which only slices fit that are found at the call. MD5s are taken no more often than there are pairs
-/// of a place and a compared length by which a slice that fits and isn't found at the call has the
-/// CRC-32. No more is read than around the place by which each slice with checksums is found.
+/// and without memory. A fault comes with its file's number. MD5s are taken no more often than there
+/// are pairs of a place and a compared length by which a slice that fits and isn't found at the call
+/// has the CRC-32. No more is read than around the place by which each slice with checksums is found.
 pub fn survey_in<H: Shelf>(
     index: &Index,
     shelf: &mut H,
@@ -152,91 +168,18 @@ pub fn survey_in<H: Shelf>(
     ensures kept { KeepsFound found.old found.new }
     ensures shelf { ReadsNamed (H.state shelf.old) (H.state shelf.new) result }
     ensures handed { HandsEachOnce (H.state shelf.old) (H.state shelf.new) }
-    ensures unfit { SkipsUnfit index.now (H.state shelf.old) (H.state shelf.new) }
+    ensures unfit { SkipsUnfit (missing_set index.now found.old)
+        (H.state shelf.old) (H.state shelf.new) }
     ensures none { AreAllSettled index.now found.old → H.state shelf.new ≡ H.state shelf.old }
     ensures window { window.new ≡ record window.old {
       content = window.new.content;
       digests = window.new.digests;
     } }
 {
-    let size = index.size();
-    prove!(window.size() as u64 == size);
-    window.clear();
-    let mut track = Track::new(0, 0);
-    let sought = Sought { index, mode };
-    match survey_files(&sought, shelf, window, &mut track, found) {
-        Ok(()) => Ok(()),
-        Err(fault) => Err((track.file(), fault)),
-    }
-}
-
-// Goes from the beginning of all files on, until each slice is found or has no checksums to be found by.
-fn survey_files<H: Shelf>(
-    sought: &Sought,
-    shelf: &mut H,
-    window: &mut Window,
-    track: &mut Track,
-    found: &mut [bool],
-) -> Result<(), ReadFault>
-    requires made { IsWindowFor sought.now window.old }
-    requires each { length found.old ≡ length sought.now.set.slices }
-    requires small { window.old.capacity ≤ slice_size_limit }
-    requires empty { window.old.content ≡ [] }
-    requires unread { IsUnread 0 0 track.old }
-    ensures ends { SurveyEnds sought.now
-        (survey_at (H.state shelf.old) window.old found.old track.old)
-        (survey_at (H.state shelf.new) window.new found.new track.new) result }
-    ensures shelf { ReadsFile track.new.file (H.state shelf.old) (H.state shelf.new) result }
-    ensures none { AreAllSettled sought.now.set found.old → H.state shelf.new ≡ H.state shelf.old }
-    ensures window { window.new ≡ record window.old {
-      content = window.new.content;
-      digests = window.new.digests;
-    } }
-{
-    let mut exhausted = Exhausted::none();
-    let mut missing = next_missing(sought, found, 0);
-    while missing < found.len() && track.file() < shelf.count() {
-        let left = track.rest(shelf);
-        if left == 0 || !sought.index.fits(left) {
-            let next = track.file() + 1;
-            track.enter_file(window, next, 0);
-            exhausted.forget();
-            continue;
-        }
-        track.fill(window, shelf)?;
-        exhausted.note_seen(window, sought, left, found);
-        missing = next_missing(sought, found, missing);
-        if missing == found.len() {
-            break;
-        }
-        track.slide_until_crc(window, sought.index, shelf, u64::MAX)?;
-    }
-    Ok(())
-}
-
-// The first slice from a number on that isn't found and has checksums; the number of all slices, if
-// there is none.
-fn next_missing(sought: &Sought, found: &[bool], from: usize) -> usize
-    requires each { length found.now ≡ length sought.now.set.slices }
-    requires from { from ≤ length found.now }
-    ensures onward { from ≤ result }
-    ensures within { result ≤ length found.now }
-    ensures missing { result < length found.now
-        → is_settled sought.now.set found.now result ≡ false }
-    ensures settled { (n : ℕ) → from ≤ n → n < result
-        → IsTrue (is_settled sought.now.set found.now n) }
-{
-    let count = sought.index.slices() as usize;
-    let mut number = from;
-    while number < count && (found[number] || !sought.index.has_sums(number as u32)) {
-        number += 1;
-    }
-    number
-}
-
-// Whether some slice is found.
-fn is_any_found(found: &[bool]) -> bool
-    ensures { result ≡ list_any (λ found. found) found.now }
-{
-    found.iter().any(|found| *found)
+    let mut none = Smaller {
+        index: None,
+        left_out: 0,
+        alloc: None,
+    };
+    survey_by(&Sought { index, mode }, &mut none, shelf, window, found)
 }

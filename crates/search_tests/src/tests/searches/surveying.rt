@@ -1,6 +1,7 @@
 // The slices that a survey finds.
 ghost use Rattle.std.specs.Prelude.{◌≡◌, length};
 
+mod shrinking;
 mod tails;
 
 use crate::tests::fixtures::{

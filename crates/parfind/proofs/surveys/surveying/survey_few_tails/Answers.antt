@@ -1,60 +1,35 @@
-use Rattle.std.proofs.lemmas.Grind.{common_steps}
-use Rattle.std.proofs.Common.{arith}
+use Rattle.std.proofs.Common.{length, sym, ap, ◌∙◌, subst, arith}
+use Rattle.parwindow.specs.Index.{SliceSet}
+use Rattle.parwindow.specs.Window.{WindowState}
+use Rattle.parfind.specs.declared.tracks.mode.Mode.{Mode}
+use Rattle.parfind.specs.Smaller.{part_of}
+use Rattle.parfind.specs.Sought.{Sought, HasFewTails, shorter_lengths, sought_of}
+use Rattle.parfind.proofs.survey_laws.PartLaws.{few_part, part_sized}
+use Rattle.parfind.proofs.survey_laws.LookLaws.{part_sought}
 use Rattle.parfind.proofs.surveys.surveying.survey_few_tails.Goals as goal
 
-pub returns-in_err-window-clause-found : goal.returns-in_err-window-clause-found
-returns-in_err-window-clause-found g c = grind (arith, common_steps) steps 100000
+pub with_tails-requires-clause-few : goal.with_tails-requires-clause-few
+with_tails-requires-clause-few g c =
+    let sought : Sought = c.args.sought.now in
+    let inner : Sought = sought_of c.sought.inside.index.now c.sought.inside.mode in
+    let smaller = c.args.smaller.now.index in
+    let few : HasFewTails (sought_of c.or.result.now inner.mode) =
+    subst HasFewTails (sym (part_sought sought inner c.or.result.now smaller c.sought.view_is c.or.ensures))
+    (few_part sought.set c.args.found.now (part_of sought.set smaller) c.requires.part sought.mode c.requires.few) in
+    omega (arith, few, ap length c.shorter_lengths.ensures.all)
 
-pub returns-in_err-window-clause-stops : goal.returns-in_err-window-clause-stops
-returns-in_err-window-clause-stops g c = grind (arith, common_steps) steps 100000
-
-pub returns-in_err-window-clause-kept : goal.returns-in_err-window-clause-kept
-returns-in_err-window-clause-kept g c = grind (arith, common_steps) steps 100000
-
-pub returns-in_err-window-clause-handed : goal.returns-in_err-window-clause-handed
-returns-in_err-window-clause-handed g c = grind (arith, common_steps) steps 100000
-
-pub returns-in_err-window-clause-unfit : goal.returns-in_err-window-clause-unfit
-returns-in_err-window-clause-unfit g c = grind (arith, common_steps) steps 100000
-
-pub returns-in_err-window-clause-none : goal.returns-in_err-window-clause-none
-returns-in_err-window-clause-none g c = grind (arith, common_steps) steps 100000
-
-pub returns-in-Ok-clause-found : goal.returns-in-Ok-clause-found
-returns-in-Ok-clause-found g c = grind (arith, common_steps)
-
-pub returns-in-Ok-clause-stops : goal.returns-in-Ok-clause-stops
-returns-in-Ok-clause-stops g c = rw (← c.sought.view_is) c.survey_in.ensures.stops
-
-pub returns-in-Ok-clause-kept : goal.returns-in-Ok-clause-kept
-returns-in-Ok-clause-kept g c = grind (arith, common_steps) steps 100000
-
-pub returns-in-Ok-clause-handed : goal.returns-in-Ok-clause-handed
-returns-in-Ok-clause-handed g c = grind (arith, common_steps) steps 100000
-
-pub returns-in-Ok-clause-unfit : goal.returns-in-Ok-clause-unfit
-returns-in-Ok-clause-unfit g c = rw (← c.sought.view_is) c.survey_in.ensures.unfit
-
-pub returns-in-Ok-clause-none : goal.returns-in-Ok-clause-none
-returns-in-Ok-clause-none g c = rw (← c.sought.view_is) c.survey_in.ensures.none
-
-pub returns-clause-found : goal.returns-clause-found
-returns-clause-found g c = grind (arith, common_steps)
-
-pub returns-clause-stops : goal.returns-clause-stops
-returns-clause-stops g c = rw (← c.sought.view_is) c.survey_in.ensures.stops
-
-pub returns-clause-kept : goal.returns-clause-kept
-returns-clause-kept g c = grind (arith, common_steps) steps 100000
-
-pub returns-clause-handed : goal.returns-clause-handed
-returns-clause-handed g c = grind (arith, common_steps) steps 100000
-
-pub returns-clause-unfit : goal.returns-clause-unfit
-returns-clause-unfit g c = rw (← c.sought.view_is) c.survey_in.ensures.unfit
-
-pub returns-clause-none : goal.returns-clause-none
-returns-clause-none g c = rw (← c.sought.view_is) c.survey_in.ensures.none
-
-pub survey_in-requires-clause-each : goal.survey_in-requires-clause-each
-survey_in-requires-clause-each g c = grind (arith, common_steps) steps 100000
+pub survey_by-requires-clause-made : goal.survey_by-requires-clause-made
+survey_by-requires-clause-made g c =
+    let sought : Sought = c.args.sought.now in
+    let inner : Sought = sought_of c.sought.inside.index.now c.sought.inside.mode in
+    let smaller = c.args.smaller.now.index in
+    let part : SliceSet = part_of sought.set smaller in
+    let part_is = part_sought sought inner c.or.result.now smaller c.sought.view_is c.or.ensures in
+    let window = c.in_ok-window.ensures in
+    let size = ap (λ (s : Sought). s.set.slice_size) c.sought.view_is in
+    record {
+      sized = ap (λ (w : WindowState). w.capacity) window ∙ c.size-size.ensures.size ∙ size ∙ sym (part_sized sought.set c.args.found.now part c.requires.part);
+      tails_are = λ is. ap (λ (w : WindowState). w.tails) window ∙ c.shorter_lengths.ensures.all
+          ∙ ap (λ (s : Sought). shorter_lengths s.mode s.set) part_is ∙ ap (λ (m : Mode). shorter_lengths m part) is;
+      few = few_part sought.set c.args.found.now part c.requires.part sought.mode c.requires.few;
+    }

@@ -1,6 +1,6 @@
 use Rattle.std.proofs.Common.{ℕ, ◌<◌, ◌≤◌, ◌-◌, length, IsTrue}
 use Rattle.parfind.specs.Surveys.{is_settled}
-use Rattle.parfind.proofs.surveys.surveying.next_missing.Given as goal
+use Rattle.parfind.proofs.surveys.walk.next_missing.Given as goal
 
 abbrev pub invariant-loop-number : goal.invariant-loop-number
 invariant-loop-number l = record {
