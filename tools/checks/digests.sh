@@ -108,6 +108,27 @@ short_set("twins.par2", b"y" * 64, b"y" * 64)
 write("zeros", bytes(10000))
 write("twin", b"y" * 64 + b"z")
 
+# Content that repeats, and in each set a slice that isn't in it.
+nowhere = b"x" * 64
+short_set("both.par2", bytes(64), b"y" * 64, nowhere)
+write("y", b"y" * 64)
+write("both", bytes(10000), b"y" * 10000)
+write("last", bytes(10000), nowhere)
+write("thousand", bytes(1000))
+for at in range(20):
+    write(f"few{at}", bytes(600))
+period = noise("period", 61)
+short_set("period.par2", *((period * 3)[at:at + 64] for at in range(61)), nowhere)
+write("period", period * 400)
+others = [noise(f"other {at}", 64) for at in range(200)]
+short_set("others.par2", *others, nowhere)
+write("others", *(other * 2 for other in others))
+# A slice of zeros that is longer than the file, and one of two letters.
+owners, content = ids_of(1, 5), bytes(16384) + b"ab"
+write("unfit.par2", set_of(main_body(16384, owners), ("filedesc", desc_body(owners[0], b"unfit", content)),
+                           ("ifsc", ifsc_body(owners[0], content, 16384))))
+write("unfit", bytes(12000))
+
 # Four tails of about 1,000 bytes, of which none stands in this file.
 write("tails.par2", packets_with_tails(4096, [(1000 + at, at) for at in range(4)]))
 write("long", noise("long", 65536))
@@ -213,6 +234,37 @@ costs "a mark where it begins at a cursor" "find --cursor $at:8192:6 s.par2 c" e
 # At the first window of zeros the slice of zeros gets its mark; at the next one no slice of its CRC-32 is missing, so
 # that none of the others is hashed.
 costs "a run of equal windows" "verify -q zero.par2 zeros" "result impossible" digests=1
+
+# The survey compares a window in vain if slices have its CRC-32 and none of them is missing. After slices / 2 + 1,024
+# such windows, the next one makes it replace its index by one of what is still missing, if it has found more since that
+# was made. So content that repeats soon stops it no more. The first index is that of all slices; if a file is whole, the
+# survey begins with a second one.
+# most_turns SLICES FOUND INDEXES LENGTH..: how many turns there may be if FOUND windows are missing slices, and INDEXES
+# are made on the way: a turn ends at a stop, at the end of 4,096 bytes of a file, or at the file's end.
+most_turns() {
+    local turns=$(($2 + $3 * ($1 / 2 + 1024 + 1))) length
+    shift 3
+    for length; do
+        turns=$((turns + (length + 4095) / 4096 + 1))
+    done
+    echo $turns
+}
+costs "a run of zeros" "verify -q zero.par2 zeros" "result impossible" indexes=2 "turns<=$(most_turns 2 1 1 10000)"
+costs "what is missing after a run of zeros" "verify -q zero.par2 last" "result possible" digests=2 indexes=2 \
+    "turns<=$(most_turns 2 2 1 10064)"
+costs "a run of a thousand zeros" "verify -q zero.par2 thousand" "result impossible" digests=1 indexes=1
+few=()
+for at in {0..19}; do few+=("few$at"); done
+costs "zeros in twenty files" "verify -q zero.par2 ${few[*]}" "result impossible" digests=1 indexes=2 \
+    "turns<=$(most_turns 2 1 1 "${few[@]/*/600}")"
+costs "a run of zeros and one of another byte" "verify -q both.par2 both" "result impossible" digests=2 indexes=3 \
+    "turns<=$(most_turns 3 2 2 20000)"
+costs "a run of zeros, and a file that is whole" "verify -q both.par2 y zeros" "result impossible" \
+    digests=1 indexes=3 "turns<=$(most_turns 3 1 1 64 10000)"
+costs "a period of 61 bytes, whose 61 windows are slices" "verify -q period.par2 period" "result impossible" \
+    digests=61 indexes=2 "turns<=$(most_turns 62 61 1 24400)"
+costs "zeros into which no slice fits" "verify -q unfit.par2 unfit" "result impossible" digests=0 indexes=1
+costs "two hundred slices, each twice" "verify -q others.par2 others" "result impossible" digests=200 indexes=1
 
 # A search goes on by what is read ahead of it, 4,096 bytes at most, so in five pieces of a file of 20,000 bytes, and in
 # more only where a slice is met.
