@@ -58,6 +58,14 @@ steps verify -q v.par2 x.bin
 steps verify --tails tails/two.par2 tails/turned
 steps find --tails tails/256.par2 tails/abcd
 
+# The survey makes a smaller index in the zeros. If there is no memory for it, the run is the undisturbed one.
+mkdir repeats
+head -c 4 /dev/zero > repeats/zeros
+printf 'abcd' > repeats/last
+"$tools/make/one_set.py" repeats.par2 4 0 repeats || exit 1
+{ head -c 9000 /dev/zero; printf 'abcd'; } > long
+steps verify repeats.par2 long
+
 # Neither recovery data nor a file's length is taken as memory: 64 MiB in one packet, a file of 1 GiB, also behind
 # packets, and 64 MiB to scan, in 4 MiB more than the least. Nor are bodies held more than once that lie in one
 # another, nor is more room asked for where there are more packet files; a search asks for one window.
