@@ -31,6 +31,10 @@ write("more", bytes(1 << 20))
 whole_set("tail.par2", 1 << 20, (b"zeros", bytes(1 << 20) + b"ab"))
 write("tail", b"x" * 5000 + bytes(60000))
 
+# 60 files of zeros, each of another length, and one of other bytes; and zeros of no such length.
+whole_set("lengths.par2", 64, *((b"%d" % at, bytes(3840 + at)) for at in range(1, 60)), (b"x", b"x" * 64))
+write("zeros", bytes(100000))
+
 # A file whose slices have no checksums.
 write("bare.par2", set_of(main_body(64, [bytes(16)]), ("filedesc", desc_body(bytes(16), b"bare", b"", 64))))
 with open("hole", "wb") as out:
@@ -58,6 +62,10 @@ wants "the verdict on many equal slices in a run of them" 2 "need 16384 have 0
 result impossible" "" "${ten[@]}" verify -q equal.par2 more
 wants "the verdict on those that are found in other files" 2 "need 1 have 0
 result impossible" "" "${ten[@]}" verify -q equal.par2 ones more
+wants "the same with --tails" 2 "need 1 have 0
+result impossible" "" "${ten[@]}" verify -q --tails equal.par2 ones more
+wants "zeros and 60 lengths, with --tails" 2 "need 1 have 0
+result impossible" "" "${ten[@]}" verify -q --tails lengths.par2 zeros
 wants "the verdict on slices longer than a tail of zeros" 2 "need 2 have 0
 result impossible" "" "${ten[@]}" verify -q tail.par2 tail
 wants "no slice without checksums in 1 TiB" 0 end "" "${ten[@]}" find bare.par2 hole
