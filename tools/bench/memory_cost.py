@@ -22,7 +22,7 @@ from make.packets import NO_ID, desc_body, ids_of, ifsc_body, main_body, md5, pa
 KIB, MIB = 1 << 10, 1 << 20
 MARGIN = MIB
 PACKET, UNNAMED, FILE, SLICE, TAIL, NAMED, SHOWN = 200, 150, 910, 180, 4500, 560, 5  # bytes for each
-SLICE_AGAIN, INDEX_AGAIN = 100, 512 * KIB  # where some slices are found by whole files and others are not
+SLICE_AGAIN, INDEX_AGAIN = 100, 512 * KIB  # for a second index, of the slices that verify still looks for
 OF_A_LENGTH = 80  # in verify, for each scanned file of a length of the set
 COMMANDS = ["packets", "set", "find", "verify"]
 SEARCHES = COMMANDS[2:]
@@ -148,6 +148,24 @@ def cost_of_slices_that_are_found(costs):
                      (SLICE + SLICE_AGAIN) * count + INDEX_AGAIN, ["verify"], ["p.par2", "z"])
 
 
+def cost_of_slices_that_repeat(costs):
+    """Slices of zeros and of ones are found again and again, so the survey makes a smaller index in the run of each.
+    If the file of another slice is whole, it begins with one. All the others are looked for to the end."""
+    costs.write("whole", b"wwww")
+    *owners, other = ids_of(4)
+    contents = {b"whole": b"wwww", b"zeros": bytes(4), b"ones": b"1111"}
+    found = [body for owner, (name, content) in zip(owners, contents.items())
+             for body in (("filedesc", desc_body(owner, name, content)), ("ifsc", ifsc_body(owner, content, 4)))]
+    for count in 4096, 32765:
+        run = 2 * (count + 3) + 9000  # more windows than are compared in vain before an index is made
+        costs.write("runs", bytes(run) + b"1" * run)
+        costs.write("p.par2", set_of(main_body(4, [*owners, other]), *found,
+                                     ("filedesc", desc_body(other, b"a", b"", 4 * count)), no_sums(other, count)))
+        for name, more in ("", []), (", and a file that is whole", ["whole"]):
+            costs.within(f"{count} slices beside two that are found again and again{name}",
+                         (SLICE + SLICE_AGAIN) * count + INDEX_AGAIN, ["verify"], ["p.par2", "runs", *more])
+
+
 def cost_of_tails(costs):
     costs.write("z", b"z" * 5000)
     for count in 64, 256:
@@ -222,8 +240,8 @@ def cost_of_most(costs):
 def main():
     costs = Costs()
     for cost in (cost_of_packets, cost_of_descriptions, cost_of_bodies, cost_of_recovery_data, cost_of_files,
-                 cost_of_slices, cost_of_slices_that_are_found, cost_of_tails, cost_of_slice_size, cost_of_lengths,
-                 cost_of_scanned_files, cost_of_packet_files, cost_of_most):
+                 cost_of_slices, cost_of_slices_that_are_found, cost_of_slices_that_repeat, cost_of_tails,
+                 cost_of_slice_size, cost_of_lengths, cost_of_scanned_files, cost_of_packet_files, cost_of_most):
         cost(costs)
     costs.runner.close()
     return 1 if costs.failed else 0
