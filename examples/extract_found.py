@@ -3,11 +3,17 @@
 
 usage: extract_found.py [-h] [--tails] [--set ID] FOLDER FILES
 
-For an image of a disc call it with --tails:
+For an image of a disc:
+  extract_found.py saved photos.par2 disc.img
+The last slice of a file is mostly shorter than the others. It is found where it
+belongs: at its distance from another slice of its file that is found. It is
+found too if the image ends after it, or goes on with zeros. If short slices are
+missing at the end, a line on standard error says so. Then call it again:
   extract_found.py --tails saved photos.par2 disc.img
-Without it the last slice of a file, mostly a short one, is found only where the
-image ends behind it, or goes on with zeros. Whole files may be told as damaged
-or missing then.
+With --tails it first does all of this. Then it looks at each byte for the short
+slices that are missing, so it finds files that are shorter than a slice too.
+This takes long if the missing ones have many lengths, and it is refused if they
+have more than 256.
 
 FILES are packet files of the set and files to be searched, as `parv find` takes
 them; they are only read. FOLDER is made, or is empty, or was filled by this
@@ -29,7 +35,9 @@ What was written stands in FOLDER/.extract_found. So a run that was stopped goes
 on where it was, when it is called again. A run with --tails may go on behind
 one without, in the same FOLDER; so may one with other FILES, which looks there
 for what is missing. A set that has a slice which is seen at each offset of an
-image, as one of zeros, is searched on without what is there already.
+image, as one of zeros, is searched on without what is there already. Such a
+slice tells little of its file: once it was seen some times more, no short slice
+is expected by it.
 
 A file of the set is refused where its name could lead out of FOLDER. So it is
 where something stands in its place that this script hasn't made, and where a
@@ -39,7 +47,7 @@ The exit status:
   0  each file of the set is complete
   1  not each is
   3  wrong words, no packet file, or FOLDER is of another set or not of this script
-  4  no set in the packet files, or with --tails too many lengths
+  4  no set in the packet files, or with --tails too many lengths are missing
   6  a file can't be read or written, or parv can't be run
   8  no memory
 PARV names the program, where it isn't in PATH.
@@ -59,17 +67,21 @@ import subprocess
 import sys
 import tempfile
 import time
+import zlib
 from typing import NamedTuple, Optional
 
 PARV = os.environ.get("PARV") or "parv"
 RECORD = ".extract_found"
+EXPECTED, TAILS = "expected", "tails"   # the two ways to search, as the record names them
 MAGIC = b"PAR2\0PKT"
 IFSC = b"PAR 2.0\0IFSC\0\0\0\0"
 PAIR = 20           # bytes of the MD5 and the CRC-32 of a slice
 BLOCK = 4096        # so many zeros that begin at a multiple of it are left as a hole
-PIECE = 1 << 20     # bytes read at a time of a file that was written
+PIECE = 1 << 20     # bytes read at a time of a file that was written, or where a slice is expected
 WASTE = 1 << 24     # how many bytes may be seen again in vain, each sighting being LINE more
 LINE = 4096
+AGAIN = 4           # how often a slice that isn't wanted any more may be seen until nothing is expected by it
+MOST_TAILS = 256    # lengths that parv looks for at once
 PAUSE = 4           # seconds at least from one entry into the record to the next
 MANY = 64           # files that are brought to the disc one by one
 SIGNALS = [signal.SIGHUP, signal.SIGINT, signal.SIGTERM]    # that end the script
@@ -270,6 +282,16 @@ def own_length(found, file, number):
     return min(found.size, file.length - number * found.size)
 
 
+def last_of(file):
+    """The number of a file's last slice in the whole set."""
+    return file.first + file.slices - 1
+
+
+def is_short(found, file):
+    """Whether the last slice of a file is shorter than the slice size."""
+    return file.length % found.size != 0
+
+
 # A search for the slices that are wanted still.
 
 def packets_for(found, wanted):
@@ -299,19 +321,58 @@ def mark_of(words):
     return mark.hexdigest()
 
 
+def crc_of(pieces):
+    """The CRC-32 of some pieces in turn, as a packet has it."""
+    crc = 0
+    for piece in pieces:
+        crc = zlib.crc32(piece, crc)
+    return crc.to_bytes(4, "little")
+
+
+def md5_of(pieces):
+    """The MD5 of some pieces in turn."""
+    hashed = hashlib.md5()
+    for piece in pieces:
+        hashed.update(piece)
+    return hashed.digest()
+
+
+def window(opened, offset, own, size):
+    """So many bytes of a file from an offset on, and zeros up to the slice size, in pieces."""
+    opened.seek(offset)
+    for at in range(0, own, PIECE):
+        yield opened.read(min(PIECE, own - at))
+    for at in range(own, size, PIECE):
+        yield bytes(min(PIECE, size - at))
+
+
+def is_there(source, offset, own, size, sums):
+    """Whether a file has so many bytes at an offset, and these have both sums with zeros up to the slice size.
+
+    The MD5 is taken only of what has the CRC-32, since it takes much longer."""
+    with faults_of("read", shown(os.fsencode(source))), open(source, "rb") as opened:
+        return (os.fstat(opened.fileno()).st_size >= offset + own
+                and crc_of(window(opened, offset, own, size)) == sums[16:]
+                and md5_of(window(opened, offset, own, size)) == sums[:16])
+
+
 class Search:
     """A search of files for slices of a set, by `parv find`, that goes on from a cursor.
 
     `wanted` has the numbers in the whole set of the slices that are looked for, and may lose some at
-    each sighting; `at` is where the search stands, the numbers of a cursor.
+    each sighting; `at` is where the search stands, the numbers of a cursor. If it `expects`, it looks
+    itself for a short last slice at its distance from each other slice of the same file that is seen.
     """
 
-    def __init__(self, found, scanned, tails, wanted, at=(0, 0, 0)):
-        self.found, self.scanned, self.wanted, self.at = found, scanned, wanted, at
+    def __init__(self, found, scanned, tails, wanted, at=(0, 0, 0), expects=False):
+        self.found, self.scanned, self.wanted, self.at, self.expects = found, scanned, wanted, at, expects
         self.flags = ["--tails"] if tails else []
         self.mark = mark_of(scanned)
         self.by_name = {shown(os.fsencode(word)): number for number, word in enumerate(scanned)}
         self.by_id = {file.id: file.first for file in found.files}
+        self.owners = [file for file in found.files for _ in numbers_of(file)]
+        self.looked = {}            # the file and the offset where a last slice was looked for, by its number
+        self.again = {}             # how often slices were seen that aren't wanted, by their numbers
 
     def cursor(self):
         return ":".join(map(str, ["2", self.found.id, self.mark, *self.at]))
@@ -323,8 +384,34 @@ class Search:
             packets = os.path.join(folder, "wanted.par2")
             while self.wanted and self.at[0] < len(self.scanned):
                 with open(packets, "wb") as out:
-                    out.write(packets_for(self.found, self.wanted))
+                    out.write(packets_for(self.found, self.asked()))
                 yield from self.part(packets)
+
+    def asked(self):
+        """The slices that parv looks for: those that are wanted, and those that lead to one of them."""
+        return self.wanted.union(filter(self.leads, range(len(self.owners))))
+
+    def leads(self, number):
+        """Whether the last slice of the same file is short, wanted still, and expected by this one.
+
+        A slice of zeros is seen at each offset of an empty part of a disc, and the sums of a slice are read and
+        compared for each. So nothing is expected any more by a slice that was seen AGAIN times after it was found."""
+        file = self.owners[number]
+        return (self.expects and number < last_of(file) and last_of(file) in self.wanted
+                and is_short(self.found, file) and self.again.get(number, 0) < AGAIN)
+
+    def led_to(self, file, offset, number):
+        """The sighting of the short last slice at its distance from this sighting, if it is there."""
+        if not self.leads(number):
+            return
+        owner = self.owners[number]
+        last = last_of(owner)
+        place = file, offset + (last - number) * self.found.size
+        if self.looked.get(last) != place:
+            self.looked[last] = place
+            own, sums = own_length(self.found, owner, last - owner.first), owner.sums[-1]
+            if is_there(self.scanned[file], place[1], own, self.found.size, sums):
+                yield *place, last
 
     def part(self, packets):
         """The sightings as far as it is worth while to search for these slices.
@@ -343,8 +430,11 @@ class Search:
                 if not line.endswith(b"\n"):
                     break
                 file, offset, number = self.sighting_of(line)
+                yield from self.led_to(file, offset, number)
                 if number in self.wanted:
                     yield file, offset, number
+                elif self.leads(number):
+                    self.again[number] = self.again.get(number, 0) + 1
                 else:
                     waste += self.found.size + LINE
                 self.at = (file, offset, number + 1)
@@ -543,6 +633,7 @@ class Writer:
         self.found, self.folder, self.record = found, folder, record
         self.refused = {}           # why files are refused, by their IDs
         self.touched = []           # files that were written to since that was saved
+        self.copied = 0             # slices that this run has written
         self.is_lossy = False       # whether this run has passed something that a later one may take
         self.saved = time.monotonic()
 
@@ -600,6 +691,7 @@ class Writer:
             except Refused as why:
                 self.refuse_for_now(file, why)
                 return False
+        self.copied += 1
         self.record.there.add(file.first + number)
         self.record.tell("slice", file.first + number)
         if file not in self.touched[-1:]:
@@ -636,7 +728,7 @@ class Writer:
             changed = os.fstat(place).st_ctime_ns
             if self.record.whole.get(file.id) == changed:
                 return "complete"
-            if md5_of(place) != file.whole:
+            if md5_of(pieces_of(place)) != file.whole:
                 return "wrong"
         self.record.tell("whole", file.id, changed)
         return "complete"
@@ -654,13 +746,12 @@ def has_length(place, length):
         raise Refused(f"it can't have {length} bytes: {fault.strerror}") from fault
 
 
-def md5_of(place):
-    """The MD5 of a whole file."""
-    hashed, at = hashlib.md5(), 0
+def pieces_of(place):
+    """The bytes of a whole file, in pieces."""
+    at = 0
     while data := os.pread(place, PIECE, at):
-        hashed.update(data)
+        yield data
         at += len(data)
-    return hashed.digest()
 
 
 # The run.
@@ -670,37 +761,33 @@ def says(text):
 
 
 def bytes_at(source, offset, own, size):
-    """So many bytes of a slice where it was seen, and their MD5 with zeros up to the slice size."""
+    """So many bytes of a slice where it was seen, and their sums with zeros up to the slice size."""
     with faults_of("read", shown(os.fsencode(source))), open(source, "rb") as opened:
         opened.seek(offset)
         data = opened.read(own)
-    hashed = hashlib.md5(data)
-    hashed.update(bytes(size - len(data)))
-    return data, hashed.digest()
+    pieces = [data, bytes(size - len(data))]
+    return data, md5_of(pieces) + crc_of(pieces)
 
 
 def copy(found, search, writer, way):
-    """Copies each slice that the search sees; how many it was."""
-    owners = [file for file in found.files for _ in numbers_of(file)]
-    copied, key, seen = 0, None, None
+    """Copies each slice that the search sees."""
+    key, seen = None, None
     for at, offset, number in search.sightings():
-        file, source = owners[number], search.scanned[at]
+        file, source = search.owners[number], search.scanned[at]
         own = own_length(found, file, number - file.first)
         if key != (at, offset, own):        # equal slices are seen at one place, one after another
             key, seen = (at, offset, own), bytes_at(source, offset, own, found.size)
-        if seen[1] != file.sums[number - file.first][:16]:
+        if seen[1] != file.sums[number - file.first]:
             writer.is_lossy = True
             says(f"{shown(os.fsencode(source))} has changed at {offset}")
         elif writer.takes(file, number - file.first, seen[0]):
             search.wanted.discard(number)
-            copied += 1
         else:
             search.wanted.difference_update(numbers_of(file))
         if time.monotonic() - writer.saved > PAUSE:
             writer.save(search, way)
             if sys.stderr.isatty():
-                says(f"at {offset} of {shown(os.fsencode(source))}, {copied} slices were copied")
-    return copied
+                says(f"at {offset} of {shown(os.fsencode(source))}, {writer.copied} slices were copied")
 
 
 def holes(found, file, there):
@@ -730,31 +817,54 @@ def told(found, file, writer):
             *[f"hole {at} {length} {file.shown}" for at, length in gaps]]
 
 
-def extract(asked):
-    """The whole run; its exit status."""
-    found = read_set(asked.files, asked.set)
-    scanned = list(dict.fromkeys(word for word in asked.files if not is_packet_file(word)))
-    search = Search(found, scanned, asked.tails, set())
-    folder = Folder(asked.folder)
-    record = Record(folder, found)
-    writer = Writer(found, folder, record)
-    writer.prepare()
-    way = "tails" if asked.tails else "plain"
-    search.wanted |= {number for file in found.files if file.sums and file.id not in writer.refused
-                      for number in numbers_of(file)} - record.there
-    if not writer.is_lossy:
-        search.at = record.reached.get((way, search.mark), search.at)
+def reached(search, writer, way):
+    """Where a search of these files goes on this way, the numbers of a cursor: an earlier run may have come there."""
+    nothing = 0, 0, 0
+    return nothing if writer.is_lossy else writer.record.reached.get((way, search.mark), nothing)
+
+
+def searches(found, search, writer, way):
+    """Copies what a search sees from where it goes on, and keeps in the record how far it came."""
+    search.at = reached(search, writer, way)
     try:
-        copied = copy(found, search, writer, way)
+        copy(found, search, writer, way)
     except BaseException:
         with contextlib.suppress(Fault, OSError):
             writer.save(search, way)
         raise
     writer.save(search, way)
-    return ending(found, writer, copied)
 
 
-def ending(found, writer, copied):
+def may_find(found, search, writer, short):
+    """Whether a search with --tails for these short slices has something to do still, and isn't refused."""
+    lengths = {search.owners[number].length % found.size for number in short}
+    return 0 < len(lengths) <= MOST_TAILS and reached(search, writer, TAILS)[0] < len(search.scanned)
+
+
+def extract(asked):
+    """The whole run; its exit status."""
+    found = read_set(asked.files, asked.set)
+    scanned = list(dict.fromkeys(word for word in asked.files if not is_packet_file(word)))
+    search = Search(found, scanned, False, set(), expects=True)
+    folder = Folder(asked.folder)
+    record = Record(folder, found)
+    writer = Writer(found, folder, record)
+    writer.prepare()
+    search.wanted |= {number for file in found.files if file.sums and file.id not in writer.refused
+                      for number in numbers_of(file)} - record.there
+    searches(found, search, writer, EXPECTED)
+    short = {number for number in search.wanted
+             if number == last_of(search.owners[number]) and is_short(found, search.owners[number])}
+    if asked.tails and short:
+        searches(found, Search(found, scanned, True, short), writer, TAILS)
+    status = ending(found, writer)
+    sys.stdout.flush()
+    if not asked.tails and may_find(found, search, writer, short):
+        says(f"short slices missing: {len(short)}; --tails might find more")
+    return status
+
+
+def ending(found, writer):
     """Tells what is there; the exit status."""
     parts = [told(found, file, writer) for file in found.files]
     writer.record.save()
@@ -762,7 +872,7 @@ def ending(found, writer, copied):
                 for number in numbers_of(file))
     for line in (line for part in parts for line in part):
         print(line)
-    print(f"slices {there}/{sum(file.slices for file in found.files)}, copied now {copied}")
+    print(f"slices {there}/{sum(file.slices for file in found.files)}, copied now {writer.copied}")
     return 0 if all(part[0].startswith("complete ") for part in parts) else 1
 
 
@@ -816,7 +926,7 @@ def answered(run, asked):
 
 def main():
     parser = parser_of(__doc__)
-    parser.add_argument("--tails", action="store_true", help="find short last slices before other bytes too")
+    parser.add_argument("--tails", action="store_true", help="look at each byte for short slices that are missing")
     parser.add_argument("--set", type=is_set_id, metavar="ID", help="the set of this ID, in place of the first")
     parser.add_argument("folder", metavar="FOLDER", help="where the files of the set are written")
     parser.add_argument("files", nargs="+", metavar="FILES", help="packet files, and files to be searched")

@@ -1,6 +1,7 @@
 #!/usr/bin/env bash
 # examples/extract_found.py: what it copies out of files is compared with the originals by an independent search, and
-# the holes that it tells; runs that go on, that were stopped, or have other files; slices that are seen at each offset.
+# the holes that it tells; images of discs, with short last slices where they are expected, decoys in their place, and
+# some elsewhere; runs that go on, that were stopped, or have other files; slices that are seen at each offset.
 . "$(dirname "$0")/wants.sh"
 cd "$work" || exit 1
 export PARV=$parv
@@ -12,9 +13,10 @@ record=.extract_found
 leaves() {
     diff -r --exclude=$record "$2" wanted > differ 2>&1 || fails "$1: $(head -c 300 differ)"
 }
-# extracts NAME STATUS COPIED ORIGINALS FOLDER [--tails] FILES: the files and lines of the independent search.
+# extracts NAME STATUS COPIED ORIGINALS FOLDER [--tails] FILES: the files and lines of the independent search, and without
+# --tails a line for the short slices that are missing.
 extracts() {
-    local name=$1 status=$2 copied=$3 originals=$4 folder=$5 tails=()
+    local name=$1 status=$2 copied=$3 originals=$4 folder=$5 tails=() line=
     shift 5
     if [ "$1" = --tails ]; then
         tails=(--tails)
@@ -22,15 +24,22 @@ extracts() {
     fi
     rm -rf wanted
     mkdir wanted
-    "$tools/models/place_slices.py" "${tails[@]}" "$originals" wanted "$@" | sed "\$s/\$/, copied now $copied/" > lines
-    gives "$name" "$status" lines "" "$extract" "${tails[@]}" "$folder" "$@"
+    "$tools/models/place_slices.py" "${tails[@]}" "$originals" wanted "$@" 2> short \
+        | sed "\$s/\$/, copied now $copied/" > lines
+    if [ ${#tails[@]} -eq 0 ] && [ -s short ]; then
+        line="${extract##*/}: $(< short); --tails might find more"
+    fi
+    gives "$name" "$status" lines "$line" "$extract" "${tails[@]}" "$folder" "$@"
     leaves "$name" "$folder"
 }
 
-# Some zeros, a whole file, the end of another at other places, one that was damaged, and a short one.
+# Some zeros, a file whose last slice is a byte further on, the end of another at other places, one that was damaged, and
+# a short one.
 {
     head -c 20000 /dev/zero
-    cat "$demo/beach.raw"
+    head -c 19456 "$demo/beach.raw"
+    printf 'x'
+    tail -c 544 "$demo/beach.raw"
     printf 'x'
     tail -c 9001 "$demo/harbour.raw"
     head -c 3000 "$demo/tower.raw"
@@ -39,10 +48,10 @@ extracts() {
     cat "$demo/notes.txt"
 } > 'disc image'
 words=("$demo/photos.par2" 'disc image')
-extracts "what an image has" 1 31 "$demo" 'out 1/in' "${words[@]}"
+extracts "what an image has" 1 32 "$demo" 'out 1/in' "${words[@]}"
 extracts "the same with --tails" 1 33 "$demo" out --tails "${words[@]}"
 grep -q '^hole ' lines || fails "there is no hole"
-extracts "with --tails where the rest is there" 1 2 "$demo" 'out 1/in' --tails "${words[@]}"
+extracts "with --tails where the rest is there" 1 1 "$demo" 'out 1/in' --tails "${words[@]}"
 
 # What parv is asked, and what is asked of it anew.
 cat > logs << 'END'
@@ -92,6 +101,63 @@ complete notes.txt
 complete tower.raw
 slices 38/38, copied now 38" "" "$extract" --tails joined.out "$demo/photos.par2" joined
 
+# Images of discs: all files whole, by what stands where it is expected.
+"$tools/make/extract_discs.py" . || exit 1
+image=(disc.par2 disc.img)
+rm calls
+for tails in "" --tails; do
+    # shellcheck disable=SC2086
+    PARV=$work/logs extracts "an image of a disc${tails:+, with $tails}" 0 19 disc "disc$tails out" $tails "${image[@]}"
+    diff -r --exclude=$record disc "disc$tails out" || fails "the files of the disc aren't whole"
+done
+if grep -q '^find ' calls && ! grep -q '^find --tails' calls; then
+    echo "ok: nothing is looked for with --tails where all is there"
+else
+    fails "parv was asked $(cat calls)"
+fi
+sed -i '/^slice/d; s/^at expected/at plain/' "disc out/$record"
+extracts "a search of an earlier version is done once more" 0 19 disc "disc out" "${image[@]}"
+PARV=$work/logs extracts "and not once more" 0 0 disc "disc out" "${image[@]}"
+# Decoys where they are expected.
+decoys=(disc.par2 decoys.img)
+extracts "one with the same CRC-32, and one with another byte" 1 17 disc decoys "${decoys[@]}"
+extracts "the same with --tails" 1 0 disc decoys --tails "${decoys[@]}"
+gives "what --tails didn't find isn't looked for by it again" 1 lines "" "$extract" decoys "${decoys[@]}"
+extracts "they stand elsewhere" 1 0 disc decoys "${decoys[@]}" elsewhere.img
+rm -f calls
+PARV=$work/logs extracts "they stand elsewhere, with --tails" 0 2 disc decoys --tails "${decoys[@]}" elsewhere.img
+[ "$(grep -c '^find --tails' calls)" -eq 1 ] || fails "parv was asked $(cat calls)"
+extracts "another copy has them" 0 19 disc copies "${decoys[@]}" again.img
+sed -i '$s/19$/2/' lines
+"$extract" later "${decoys[@]}" > text 2>&1
+gives "it has them in a later run" 0 lines "" "$extract" later disc.par2 again.img
+extracts "one with another CRC-32" 1 18 disc crc other_crc.par2 disc.img
+extracts "the same with --tails" 1 18 disc crc_tails --tails other_crc.par2 disc.img
+extracts "one far behind the slice that is there" 1 2 disc gap disc.par2 gap.img
+# More lengths than parv looks for with --tails, unless it is for a few of them.
+cat > sorts << 'END'
+#!/bin/bash
+"$@" | sort
+exit "${PIPESTATUS[0]}"
+END
+chmod +x sorts
+extracts "many lengths" 0 600 many many_out many.par2 many.img
+gives "the same with --tails" 0 lines "" "$extract" --tails many_tails many.par2 many.img
+leaves "many lengths, with --tails" many_tails
+extracts "many lengths, of which two are elsewhere" 1 598 many few many.par2 few.img
+wants "the same with --tails" 0 "$(seq -f 'complete %03g' 300)
+slices 600/600, copied now 2" "" ./sorts "$extract" --tails few many.par2 few.img
+diff -r --exclude=$record many few || fails "the two that are elsewhere aren't whole"
+wants "too many lengths are missing" 1 "$(seq -f 'damaged %03g 1/2' 300)
+$(seq -f 'hole 400 %g' 300 | awk '{ printf "%s %03d\n", $0, $3 }' | sort)
+slices 300/600, copied now 300" "" ./sorts "$extract" none many.par2 no_lasts.img
+wants "too many lengths are missing, with --tails" 4 "" "parv: no usable set: too many tails" \
+    "$extract" --tails none many.par2 no_lasts.img
+# Behind the end of a file, where zeros would make the slice whole.
+extracts "the file ends within a slice" 1 1 cut cut_within cut.par2 cut.img
+extracts "the file ends before a slice" 1 1 cut cut_before cut.par2 cut_off.img
+extracts "the same with --tails" 1 0 cut cut_before --tails cut.par2 cut_off.img
+
 # Stopped: parv ends behind 9 lines, or the script is killed while it waits for more.
 cat > ends << 'END'
 #!/bin/bash
@@ -107,6 +173,8 @@ echo $$ > waits
 exec sleep 60
 END
 chmod +x ends hangs
+PARV=$work/ends wants "a run on a disc that is stopped" 6 "" "" "$extract" stopped_disc "${image[@]}"
+extracts "it goes on" 0 $((19 - $(grep -c '^slice' stopped_disc/$record))) disc stopped_disc "${image[@]}"
 PARV=$work/ends wants "a run that is stopped" 6 "" "" "$extract" --tails stopped "${words[@]}"
 rm calls
 PARV=$work/logs extracts "it goes on" 1 24 "$demo" stopped --tails "${words[@]}"
@@ -149,7 +217,7 @@ slices 6/38, copied now 1" "" "$extract" --tails changed "$demo/photos.par2" not
 for tails in "" --tails; do
     rm -f calls
     # shellcheck disable=SC2086
-    PARV=$work/logs extracts "slices that are seen again and again${tails:+, with $tails}" 1 $((19 + ${#tails} / 3)) \
+    PARV=$work/logs extracts "slices that are seen again and again${tails:+, with $tails}" 1 21 \
         repeated "again$tails" $tails repeated.par2 repeated.img
     searches=$(grep -c '^find ' calls)
     if [ "$searches" -gt 1 ] && [ "$searches" -lt 12 ]; then
@@ -174,7 +242,7 @@ extract=$work/anew
 for tails in "" --tails; do
     # shellcheck disable=SC2086
     examples=${script%/*} extracts "slices that are seen again, each time anew${tails:+, with $tails}" \
-        1 $((19 + ${#tails} / 3)) repeated "again$tails anew" $tails repeated.par2 repeated.img
+        1 21 repeated "again$tails anew" $tails repeated.par2 repeated.img
 done
 extract=$script
 # Half a GiB of zeros, of which parv would take an MD5 of 64 KiB at each offset, before a file and behind it; one slice

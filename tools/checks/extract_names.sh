@@ -171,7 +171,7 @@ wants "a broken link in place of the folder" 6 "" "$me: cannot open broken: File
 [ ! -e none ] || fails "the broken link leads to something now"
 "$extract" other "$top/demo/photos.par2" > text
 wants "a folder of another set" 3 "" "$me: other/$record is of another set" "$extract" other "${names[@]}"
-sed -i 's/^at plain .*/at plain/' other/$record
+sed -i 's/^at expected .*/at expected/' other/$record
 wants "a record that was changed" 6 "" "$me: line 2 of other/$record is damaged" "$extract" other "$top/demo/photos.par2"
 again
 exec 9< out/$record

@@ -5,11 +5,15 @@ usage: place_slices.py [--tails] ORIGINALS FOLDER FILE...
 
 Takes the bytes of each slice that is seen anywhere from the file of its name in the folder ORIGINALS,
 and not from where it was seen. FOLDER gets what examples/extract_found.py must leave, and standard
-output its lines, the last one without how many were copied.
+output its lines, the last one without how many were copied. Without --tails a short last slice is seen
+also at its distance from each sighting of another slice of its file. Standard error gets how many short
+slices with known sums are missing, if some are.
 """
 
+import hashlib
 import os
 import sys
+import zlib
 
 sys.path[0] = os.path.dirname(os.path.dirname(os.path.realpath(__file__)))  # tools/, where imports begin
 
@@ -24,6 +28,27 @@ def parts_of(found):
     for at, (owner, number, own, _) in enumerate(slices_of(found)):
         parts.setdefault(owner, {})[at] = number * found.size, number * found.size + own
     return parts
+
+
+def led_to(found, slices, lasts, data, offset, at):
+    """The last slice of the same file, where the data has it at its distance from this sighting."""
+    last = lasts[slices[at][0]]
+    _, _, own, sums = slices[last]
+    begin = offset + (last - at) * found.size
+    looked = data[begin:begin + own]
+    window = looked.ljust(found.size, b"\0")
+    return {last} if len(looked) == own and (hashlib.md5(window).digest(), zlib.crc32(window)) == sums else set()
+
+
+def seen(found, contents, tails):
+    """The numbers of all slices that are seen."""
+    slices, there = slices_of(found), set()
+    lasts = {owner: at for at, (owner, *_) in enumerate(slices)}
+    for place, offset, at in sightings(found, contents, tails):
+        there.add(at)
+        if not tails:
+            there |= led_to(found, slices, lasts, contents[place], offset, at)
+    return there
 
 
 def placed(original, parts, there):
@@ -52,7 +77,7 @@ def main():
     originals, folder, *names = names
     found = set_of(packets_of(with_bytes(filter(is_packet_file, names))))
     scanned = with_bytes(name for name in names if not is_packet_file(name))
-    there = {at for _, _, at in sightings(found, [data for _, data in scanned], tails)}
+    there = seen(found, [data for _, data in scanned], tails)
     parts = parts_of(found)
     for file in found.files:
         [(_, original)] = with_bytes([os.path.join(originals, file.name)])
@@ -66,6 +91,10 @@ def main():
             with open(path, "wb") as out:
                 out.write(data)
     print(f"slices {len(there)}/{len(slices_of(found))}")
+    short = sum(own < found.size and sums is not None and at not in there
+                for at, (_, _, own, sums) in enumerate(slices_of(found)))
+    if short:
+        print(f"short slices missing: {short}", file=sys.stderr)
 
 
 if __name__ == "__main__":
