@@ -176,7 +176,7 @@ DAMAGED = ["renamed", "flipped", "left out", "in front", "every slice"]
 # How large the files of each kind are, in MiB, in the large sets, where ratios count. A set has at most 32,768 slices.
 REAL = {
     "virtual disk": 192, "database": 100, "one line": 64, "records of 1,000": 64, "records of 5,000": 64, "bitmap": 24,
-    "sound": 64, "volumes": 150, "small files": 60, "log": 64, "tar": 128,
+    "sound": 64, "volumes": 150, "small files": 36, "log": 64, "tar": 128,
 }
 
 
