@@ -1,3 +1,4 @@
 pub mod RolledLaws
+pub mod RolledFourLaws
 pub mod RollUntilLaws
 pub mod RollOverLaws

@@ -1,12 +1,15 @@
 pub mod FilterLaws
 pub mod OrderLaws
+pub mod UnlessFoundLaws
 pub mod KnownSumsLaws
 pub mod SearchLaws
-pub mod CountLaws
 pub mod EntryLaws
+pub mod WithCrcLaws
 pub mod LeastFromLaws
+pub mod DirectoryLaws
 pub mod HasOpenLaws
 pub mod MissingLaws
-pub mod UnlessFoundLaws
+pub mod MissingEntriesLaws
 pub mod OwnLengthsLaws
 pub mod TailLengthsLaws
+pub mod LowSetLaws

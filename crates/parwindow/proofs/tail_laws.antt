@@ -1,7 +1,9 @@
 pub mod TailContentLaws
+pub mod NextTailLaws
 pub mod PushTailsLaws
 pub mod TailFilterLaws
 pub mod RollTailsLaws
 pub mod RollAlongLaws
-pub mod InTurnLaws
 pub mod LookAheadLaws
+pub mod RunningLaws
+pub mod PlacesLaws

@@ -2,7 +2,7 @@
 use Rattle.std.specs.Prelude.{◌≡◌, ℕ, ◌<◌, ◌≤◌, ◌==◌, Bool, Option, None, Some, List, length, get_or, IsTrue, Contains, All, nat_le, nat_lt, not, ◌&&◌, min, if◌then◌else◌}
 use Rattle.std.specs.declared.cmp.Ordering.{Ordering}
 use Rattle.std.specs.declared.cmp.Ordering.TheVariants.{Less}
-use Rattle.std.specs.List.{count_by}
+use Rattle.std.specs.List.{count_by, range_with_len}
 use Rattle.std.specs.Ordering.{nat_cmp, then_cmp, on}
 use Rattle.std.specs.Cmp.Lexicographic.{slice_cmp}
 use Rattle.parset.specs.declared.recovery_set.SetSlice.{SetSlice}
@@ -30,13 +30,15 @@ abbrev pub entry_has_crc : ℕ → Entry → Bool
 entry_has_crc crc e = e.crc == crc
 
 -- each slice with sums has its entry, each entry is of such a slice, and of each CRC-32 there are as
--- many entries as slices
+-- many entries as slices, also among the slices whose numbers pass a test
 pub record IsIndexOf (slices : List SetSlice) (entries : List Entry) : Type 0 where
   pub sound : All (IsEntryOf slices) entries
   pub complete : (n crc : ℕ) (digest : List ℕ) → HasSums slices n crc digest
       → Contains entries (record { crc = crc; digest = digest; slice = n })
-  pub counts : (crc : ℕ)
-      → count_by (entry_has_crc crc) entries ≡ count_by (has_known_crc crc) slices
+  pub counts : (test : ℕ → Bool) (crc : ℕ)
+      → count_by (λ e. test e.slice && entry_has_crc crc e) entries
+      ≡ count_by (λ n. test n && slice_passes slices (has_known_crc crc) n)
+      (range_with_len 0 (length slices))
 
 -- the entries at and after `at` are those that are not below t
 pub record IsFloor (entries : List Entry) (t : Entry) (at : ℕ) : Type 0 where
@@ -44,11 +46,12 @@ pub record IsFloor (entries : List Entry) (t : Entry) (at : ℕ) : Type 0 where
   pub first : (x e : Entry) → Contains entries x → (entry_cmp x t ≡ Less → ⊥)
       → (at < length entries) × (entry_cmp x (get_or entries at e) ≡ Less → ⊥)
 
--- these are the entries that have a CRC-32, as many as there are
-pub record AreWithCrc (entries : List Entry) (crc : ℕ) (found : List Entry) : Type 0 where
-  pub sound : All (λ e. Contains entries e × (e.crc ≡ crc)) found
-  pub complete : (e : Entry) → Contains entries e → e.crc ≡ crc → Contains found e
-  pub counts : length found ≡ count_by (entry_has_crc crc) entries
+-- each entry is of a slice with sums, and each slice with these sums has its entry
+pub record HasAllOf (slices : List SetSlice) (crc : ℕ) (digest : List ℕ) (entries : List Entry)
+    : Type 0 where
+  pub sound : All (IsEntryOf slices) entries
+  pub complete : (n : ℕ) → HasSums slices n crc digest
+      → Contains entries (record { crc = crc; digest = digest; slice = n })
 
 -- the least number of entries that is at or above `from`; None says that there is none
 abbrev pub IsLeastOf : List Entry → ℕ → Option ℕ → Type 0
@@ -65,6 +68,10 @@ lesser from (Some least) n = if nat_lt n from then Some least else Some (min lea
 -- a slice has so many bytes of its file, from the least to the most
 abbrev pub is_between : ℕ → ℕ → SetSlice → Bool
 is_between least most slice = nat_le least slice.length && nat_le slice.length most
+
+-- the slice of an entry isn't found
+abbrev pub is_unfound : List Bool → Entry → Bool
+is_unfound found e = not (found_at found e.slice)
 
 -- the slice of an entry passes a test and isn't found
 abbrev pub is_open : List SetSlice → List Bool → (SetSlice → Bool) → Entry → Bool

@@ -11,13 +11,15 @@ use Rattle.parwindow.specs.declared.slices.bloom_filter.BloomFilter.{BloomFilter
 abbrev pub scattered_key : ℕ → ℕ
 scattered_key register = register * 0x9E3779B1 % 2 ^ 32
 
--- both bits of a register are set
+-- the three bits of a register are set: its own, that of its scattered key, and that of the key that
+-- comes of scattering this once more
 abbrev pub MayHave : BloomFilter → ℕ → Type 0
 MayHave filter register =
     HasBit filter.plain.words.items register
     × HasBit filter.scattered.words.items (scattered_key register)
+    × HasBit filter.scattered.words.items (scattered_key (scattered_key register))
 
--- both bits of the register of each CRC-32 of a slice are set
+-- the bits of the register of each CRC-32 of a slice are set
 abbrev pub HasSlices : List SetSlice → BloomFilter → Type 0
 HasSlices slices filter =
     (crc : ℕ) → IsTrue (list_any (has_known_crc crc) slices)
@@ -27,7 +29,7 @@ HasSlices slices filter =
 abbrev pub zeros_crc : ℕ → ℕ → ℕ
 zeros_crc zeros register = bit_xor (crc_steps (8 * zeros) register) 0xFFFFFFFF
 
--- both bits of each register are set of which the zeros up to the slice size make the CRC-32 of a
+-- the bits of each register are set of which the zeros up to the slice size make the CRC-32 of a
 -- shorter slice
 abbrev pub HasTails : ℕ → List SetSlice → BloomFilter → Type 0
 HasTails size slices filter =

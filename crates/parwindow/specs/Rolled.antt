@@ -1,6 +1,7 @@
 -- The fields of a window.
-use Rattle.std.specs.Prelude.{◌≡◌, ◌+◌, ◌≤◌, All, length}
+use Rattle.std.specs.Prelude.{◌≡◌, ◌+◌, ◌≤◌, All, IfSome, length}
 use Rattle.parwindow.specs.Crc32.{register_of}
+use Rattle.parwindow.specs.Running.{IsRun}
 use Rattle.parwindow.specs.Tails.{tail_lengths_of, IsTail}
 use Rattle.parwindow.specs.Window.{WindowState}
 use Rattle.parwindow.specs.declared.window.Window.TheInside.{Inside}
@@ -14,9 +15,11 @@ window_view w = record {
   digests = w.digests.count;
 }
 
--- its register is that of its bytes, and its tables and its tails are those of its size
+-- its register is that of its bytes, its tables and its tails are those of its size, and so is its
+-- running register, if there is one
 pub record IsRolled (w : Inside) : Type 0 where
   pub within : length w.ring.items ≤ w.ring.capacity
-  pub room : w.ring.capacity ≡ w.tables.others + 1
+  pub room : w.ring.capacity ≡ w.tables.narrow.others + 1
   pub rolled : w.register ≡ register_of w.ring.items
   pub tails : All (IsTail w.ring.capacity w.ring.items) w.tails.items
+  pub running : IfSome w.running (IsRun w.ring.capacity w.ring.items)

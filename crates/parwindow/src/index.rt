@@ -1,15 +1,19 @@
-ghost use Rattle.std.specs.Prelude.{◌≡◌, ℕ, ◌-◌, ◌<◌, ◌≤◌, ◌%◌, ◌↔◌, filter, length, map, zip, slice_get, slice_index, IfOk, IfSome, IsTrue};
+ghost use Rattle.std.specs.Prelude.{◌≡◌, ◌==◌, ℕ, ◌^◌, ◌-◌, ◌<◌, ◌≤◌, ◌%◌, ◌↔◌, filter, length, map, zip, slice_get, slice_index, IfOk, IfSome, IsTrue};
+ghost use Rattle.std.specs.List.{list_any};
 ghost use Rattle.std.specs.Option.{IsSomeAnd};
 ghost use Rattle.parwindow.specs.Index.{IsSliceSet, slice_set_of, slice_passes, has_own, has_sums, has_known_crc, has_known_sums, set_has_crc, set_has_fit, set_has_own_crc, tails_of};
+ghost use Rattle.parwindow.specs.Entries.{IsIndexOf};
 ghost use Rattle.parwindow.specs.FilterBits.{zeros_crc};
 ghost use Rattle.parwindow.specs.Indexed.{IsShortest};
 ghost use Rattle.parwindow.specs.Least.{IsLeastFrom};
+ghost use Rattle.parwindow.specs.LowSets.{HasLow};
 ghost use Rattle.parset.specs.Limits.{slice_size_limit, slice_limit};
 ghost use Rattle.parwindow.specs.Missing.{missing_set, set_has_fit_crc, set_has_missing, set_has_own_missing, unless_found};
 ghost use Rattle.parwindow.specs.Window.{AreTails};
 
+use crate::crcs::ZeroRuns;
 use crate::rolling::RegisterSet;
-use crate::slices::{BloomFilter, CrcList, Entries, OwnLengths, tail_lengths};
+use crate::slices::{BloomFilter, Entries, LowSet, LowSets, OwnLengths, tail_lengths};
 use parfield::{Hash16, Sequence};
 use parset::{RecoverySet, SetSlice};
 use std::alloc::{AllocError, Global};
@@ -22,7 +26,7 @@ pub struct Index {
     slices: Sequence<SetSlice>,
     filter: BloomFilter,
     tail_filter: BloomFilter,
-    crcs: CrcList,
+    lows: LowSets,
     entries: Entries,
     lengths: OwnLengths,
     shortest: Option<u64>,
@@ -58,7 +62,8 @@ impl Index {
         ensures { IfOk result (λ index. index ≡ slice_set_of set.now.size set.now.slices) }
     {
         let slices = Vec::from_slice(alloc, set.slices())?;
-        Index::of(alloc, set.size(), slices)
+        let entries = Entries::of(alloc, &slices)?;
+        Index::of(alloc, set.size(), slices, entries)
     }
 
     /// All slices by their numbers, but those that are found without their checksums, so that nothing
@@ -68,21 +73,29 @@ impl Index {
         ensures { IfOk result (λ index. index ≡ missing_set self.now found.now) }
     {
         let slices = each_unless_found(alloc, self.slices.as_slice(), found)?;
-        Index::of(alloc, self.size(), slices)
+        let entries = self.entries.missing(alloc, found)?;
+        Index::of(alloc, self.size(), slices, entries)
     }
 
-    // These slices, of this slice size.
-    fn of(alloc: Global, size: u64, slices: Vec<SetSlice>) -> Result<Index, AllocError>
-        requires { IsSliceSet (slice_set_of size slices.items) }
+    // These slices, of this slice size, with their entries.
+    fn of(
+        alloc: Global,
+        size: u64,
+        slices: Vec<SetSlice>,
+        entries: Entries,
+    ) -> Result<Index, AllocError>
+        requires set { IsSliceSet (slice_set_of size slices.items) }
+        requires entries { IsIndexOf slices.items entries.list.items }
         ensures { IfOk result (λ index. index ≡ slice_set_of size slices.items) }
     {
         let tails = tail_lengths(alloc, size, &slices)?;
+        let runs = ZeroRuns::new(alloc)?;
         Ok(Index {
             size,
             filter: BloomFilter::of(alloc, &slices)?,
-            tail_filter: BloomFilter::of_tails(alloc, size, &slices)?,
-            crcs: CrcList::of(alloc, &slices)?,
-            entries: Entries::of(alloc, &slices)?,
+            tail_filter: BloomFilter::of_tails(alloc, &runs, size, &slices)?,
+            lows: LowSets::of(alloc, &runs, size, &slices)?,
+            entries,
             lengths: OwnLengths::of(alloc, &slices)?,
             shortest: shortest_of(&slices),
             tails: Sequence::from_vec(tails),
@@ -157,11 +170,18 @@ impl Index {
         self.tails.as_slice()
     }
 
+    /// Whether this is one of them.
+    pub(crate) fn has_tail(&self, own: usize) -> bool
+        ensures { result ≡ list_any (λ tail. tail == own) (tails_of self.now) }
+    {
+        self.tail_lengths().iter().any(|tail| *tail == own)
+    }
+
     /// Whether some slice has this CRC-32.
     pub fn has_crc(&self, crc: u32) -> bool
         ensures { result ≡ set_has_crc self.now crc }
     {
-        self.filter.may_have(crc ^ 0xFFFF_FFFF) && self.crcs.has(crc)
+        self.filter.may_have(crc ^ 0xFFFF_FFFF) && self.entries.has_crc(crc)
     }
 
     /// Whether some slice has this CRC-32 and at most so many bytes of its file.
@@ -221,6 +241,16 @@ impl Index {
             (zeros_crc (self.now.slice_size - own) register) own) → IsTrue result }
     {
         self.tail_filter.may_have(register)
+    }
+
+    /// The low bytes of the registers of which zeros up to the slice size make the CRC-32 of a slice
+    /// of this own length.
+    pub(crate) fn low_set(&self, own: usize) -> &LowSet
+        requires { own < self.now.slice_size }
+        ensures { (register : ℕ) → register < 2 ^ 32 → IsTrue (set_has_own_crc self.now
+            (zeros_crc (self.now.slice_size - own) register) own) → HasLow result.now register }
+    {
+        self.lows.of_length(own as u32)
     }
 
     /// The first slice from a number on that has both sums.

@@ -24,4 +24,5 @@ mod window;
 pub use crate::crcs::crc32;
 pub use crate::index::Index;
 pub use crate::laws::{crc_removal_law, no_tails_law, push_until_law, tails_law, zero_fill_law};
+pub use crate::tails::WaitingTails;
 pub use crate::window::Window;

@@ -1,16 +1,23 @@
-ghost use Rattle.std.specs.Prelude.{◌≡◌, ℕ, ◌+◌, ◌<◌, ◌≤◌, ◌↔◌, ◌++◌, List, [], length, replicate, slice_index, take, IfOk, IsTrue};
+ghost use Rattle.std.specs.Prelude.{◌≡◌, ℕ, ◌+◌, ◌-◌, ◌<◌, ◌≤◌, ◌↔◌, ◌++◌, ◌&&◌, List, [], drop, fold, length, nat_le, replicate, slice_get, slice_index, take, IfOk, IfSome, IsTrue};
+ghost use Rattle.std.specs.List.{find};
 ghost use Rattle.md5.specs.Md5.{Holds};
 ghost use Rattle.parfield.specs.Md5.{md5};
 ghost use Rattle.parwindow.specs.Ahead.{PushesPast};
-ghost use Rattle.parwindow.specs.Crc32.{crc_of};
+ghost use Rattle.parwindow.specs.Crc32.{crc_of, register_after};
+ghost use Rattle.parwindow.specs.FilterBits.{zeros_crc};
+ghost use Rattle.parwindow.specs.Index.{set_has_own_crc, tails_of};
+ghost use Rattle.parwindow.specs.Tails.{is_tail_slice};
 ghost use Rattle.parset.specs.Limits.{slice_size_limit};
 ghost use Rattle.parwindow.specs.Until.{has_tail_slice, is_at_slice, pushed_content, pushed_window, PushesUntil};
 ghost use Rattle.parwindow.specs.Window.{content_after, empty_window, fallen_byte, tail_content, tail_limit, AreTails};
 
-use crate::crcs::after_bytes;
+use crate::crcs::{ZeroRun, after_bytes};
 use crate::index::Index;
-use crate::rolling::RollTables;
-use crate::tails::{Stream, Tail, clear_tails, pass_tails, push_tails, roll_tails, tails_for};
+use crate::rolling::WideTables;
+use crate::tails::{
+    Running, Stream, Tail, WaitingTails, clear_running, clear_tails, pass_tails, push_running,
+    push_tails, roll_tails, running_for, tails_for,
+};
 use circular_buffer::HeapCircularBuffer;
 use md5::{Digest, Md5};
 use parfield::{Hash16, Tally};
@@ -25,8 +32,9 @@ const LONGEST_PIECE: usize = 512;
 pub struct Window {
     ring: HeapCircularBuffer<u8>,
     register: u32,
-    tables: RollTables,
+    tables: WideTables,
     tails: Vec<Tail>,
+    running: Option<Running>,
     digests: Tally,
 }
 
@@ -56,6 +64,8 @@ impl Window {
     /// An empty window for `size` bytes, of which the first ones are looked at too, by up to 256
     /// shorter lengths. No call but this one and `new` takes memory.
     #[tactic(auto, unfolding(crate::specs::Crc32::register_of))]
+    // A call of its own in the program, so that windows can be counted.
+    #[inline(never)]
     pub fn with_tails(alloc: Global, size: usize, tails: &[usize]) -> Result<Window, AllocError>
         requires some { 0 < size }
         requires within { size ≤ slice_size_limit }
@@ -67,8 +77,9 @@ impl Window {
         Ok(Window {
             ring,
             register: 0xFFFF_FFFF,
-            tables: RollTables::new(size),
+            tables: WideTables::new(size),
             tails: tails_for(alloc, size, tails)?,
+            running: running_for(alloc, size, tails.len())?,
             digests: Tally::new(),
         })
     }
@@ -79,8 +90,9 @@ impl Window {
         ensures answer { result ≡ fallen_byte self.old }
     {
         push_tails(&mut self.tails, &self.ring, byte);
+        push_running(&mut self.running, byte);
         let fallen = self.ring.push_back(byte);
-        self.register = self.tables.pushed(self.register, fallen, byte);
+        self.register = self.tables.narrow.pushed(self.register, fallen, byte);
         fallen
     }
 
@@ -106,6 +118,7 @@ impl Window {
     {
         self.ring.extend_from_slice(bytes);
         self.register = after_bytes(self.register, bytes);
+        self.running = None;
     }
 
     /// Pushes bytes into a full window, of the slice size, until its CRC-32 is that of a slice, or
@@ -140,6 +153,7 @@ impl Window {
         };
         self.register = roll.register;
         self.ring.extend_from_slice(&bytes[..roll.count]);
+        self.running = None;
         roll.count
     }
 
@@ -183,6 +197,7 @@ impl Window {
     fn push_past(&mut self, index: &Index, bytes: &[u8]) -> usize
         requires full { length self.old.content ≡ self.old.capacity }
         requires sized { self.old.capacity ≡ index.now.slice_size }
+        requires few { length bytes.now ≤ 512 }
         ensures within { result ≤ length bytes.now }
         ensures all { result ≡ length bytes.now → PushesPast index.now self.old bytes.now self.new }
         ensures fewer { result < length bytes.now → self.new ≡ self.old }
@@ -196,7 +211,13 @@ impl Window {
             .tables
             .roll_over(index, front, back, bytes, self.register);
         let stream = Stream { front, back, bytes };
-        let passed = pass_tails(&mut self.tails, index, &stream, roll.passed());
+        let passed = pass_tails(
+            &mut self.tails,
+            &mut self.running,
+            index,
+            &stream,
+            roll.passed(),
+        );
         if passed < bytes.len() {
             return passed;
         }
@@ -223,8 +244,9 @@ impl Window {
         ensures slice { result ≡ has_tail_slice index.now self.new }
     {
         let has_tail = roll_tails(&mut self.tails, &self.ring, index);
+        push_running(&mut self.running, byte);
         let fallen = self.ring.push_back(byte);
-        self.register = self.tables.pushed(self.register, fallen, byte);
+        self.register = self.tables.narrow.pushed(self.register, fallen, byte);
         has_tail
     }
 
@@ -265,6 +287,70 @@ impl Window {
         let tail = &self.tails[k];
         let (own, zeros) = (tail.length, tail.zeros.len);
         self.hash(own, zeros)
+    }
+
+    /// The CRC-32 of the first `own` bytes and of zeros up to the capacity, computed from the bytes.
+    pub fn front_crc(&self, own: usize) -> u32
+        requires { own ≤ self.now.capacity }
+        ensures { result ≡ crc_of (tail_content self.now own) }
+    {
+        let zeros = ZeroRun::new(self.size() - own);
+        let (front, back) = self.first(own);
+        let register = after_bytes(after_bytes(0xFFFF_FFFF, front), back);
+        zeros.apply(register) ^ 0xFFFF_FFFF
+    }
+
+    /// The MD5 of the same bytes.
+    pub fn front_digest(&mut self, own: usize) -> Hash16
+        requires { own ≤ self.old.capacity }
+        ensures digest { result.0 ≡ md5 (tail_content self.old own) }
+        ensures counted { self.new ≡ record self.old { digests = self.old.digests + 1 } }
+    {
+        let behind = self.size() - own;
+        self.hash(own, behind)
+    }
+
+    /// The shortest length of a short slice, from this one on, such that the first bytes and zeros
+    /// have the CRC-32 of a slice of this own length. Goes over the content once.
+    // A call of its own in the program, so that it can be counted.
+    #[inline(never)]
+    pub fn next_tail(&self, index: &Index, from: usize) -> Option<usize>
+        requires { self.now.capacity ≡ index.now.slice_size }
+        ensures first { result ≡ find (λ own. nat_le from own
+            && is_tail_slice index.now self.now.capacity self.now.content own)
+            (tails_of index.now) }
+        ensures within { IfSome result (λ own. (from ≤ own) × (own < index.now.slice_size)) }
+    {
+        let mut register = 0xFFFF_FFFF;
+        let mut done = 0;
+        let lengths = index.tail_lengths();
+        for k in 0..lengths.len() {
+            let own = lengths[k];
+            register = self.after_front(register, done, own);
+            done = own;
+            if own >= from && is_tail_of(index, register, own) {
+                return Some(own);
+            }
+        }
+        None
+    }
+
+    // The register after the bytes from one place up to another.
+    fn after_front(&self, register: u32, done: usize, end: usize) -> u32
+        ensures { result ≡ fold register_after register (drop done (take end self.now.content)) }
+    {
+        let (front, back) = self.first(end);
+        let in_front = done.min(front.len());
+        let in_back = (done - in_front).min(back.len());
+        let middle = after_bytes(register, &front[in_front..]);
+        after_bytes(middle, &back[in_back..])
+    }
+
+    /// The byte at a place.
+    pub fn get(&self, place: usize) -> Option<u8>
+        ensures { result ≡ slice_get self.now.content place }
+    {
+        self.ring.get(place).copied()
     }
 
     // The MD5 of the first `count` bytes and of zeros, so many.
@@ -313,6 +399,17 @@ impl Window {
         self.ring.capacity()
     }
 
+    /// Looks by these tails from now on, in place of those before. The window has no byte.
+    pub fn look_by(&mut self, tails: WaitingTails)
+        requires empty { self.old.content ≡ [] }
+        requires sized { tails.size ≡ self.old.capacity }
+        ensures { self.new ≡ record self.old { tails = tails.lengths } }
+    {
+        let (list, running) = tails.into_parts();
+        self.tails = list;
+        self.running = running;
+    }
+
     /// Takes all bytes out.
     #[tactic(auto, unfolding(crate::specs::Crc32::register_of))]
     pub fn clear(&mut self)
@@ -321,7 +418,22 @@ impl Window {
         self.ring.clear();
         self.register = 0xFFFF_FFFF;
         clear_tails(&mut self.tails);
+        clear_running(&mut self.running);
     }
+}
+
+// Whether bytes with this register and zeros have the CRC-32 of a slice of this own length.
+fn is_tail_of(index: &Index, register: u32, own: usize) -> bool
+    requires { own < index.now.slice_size }
+    ensures { result ≡ set_has_own_crc index.now
+        (zeros_crc (index.now.slice_size - own) register) own }
+{
+    let zeros = index.size() as usize - own;
+    index.may_have_tail(register)
+        && index.has_crc_of(
+            ZeroRun::new(zeros).apply(register) ^ 0xFFFF_FFFF,
+            own as u64,
+        )
 }
 
 // Zeros go into a hasher, so many.

@@ -1,14 +1,15 @@
 -- The entries of an index, one slice at a time, and in another order.
-use Rattle.std.proofs.Common.{◌≡◌, ℕ, ◌+◌, ◌<◌, ◌≤◌, get_or, List, [], ◌∷◌, ◌++◌, length, take, Some, None, cond, arith, inl, inr, refl, sym, ◌∙◌}
+use Rattle.std.proofs.Common.{◌≡◌, ℕ, ◌+◌, ◌<◌, ◌≤◌, get_or, List, [], ◌∷◌, ◌++◌, length, Some, None, cond, arith, inl, inr, refl, sym, ◌∙◌, length-append, Bool, false, eqb, ◌&&◌, add-zero}
 use Rattle.std.specs.Prelude.{All, Contains}
-use Rattle.std.specs.List.{count_by}
+use Rattle.std.specs.List.{count_by, range_with_len}
 use Rattle.std.specs.List.Sorted.{IsPermutation}
 use Rattle.std.proofs.lemmas.Bool.{cases_lt}
 use Rattle.std.proofs.lemmas.Option.{slice_get-get_or}
-use Rattle.parwindow.specs.Index.{has_known_crc, has_sums}
+use Rattle.parwindow.specs.Index.{has_known_crc, has_sums, slice_passes}
+use Rattle.parwindow.proofs.ListLaws.{count_range_more}
+use Rattle.parwindow.proofs.slice_laws.UnlessFoundLaws.{and_false}
 use Rattle.std.proofs.lemmas.List.Elements.{All-push, Contains-push, Contains-append_left}
-use Rattle.std.proofs.lemmas.List.{take_all}
-use Rattle.std.proofs.lemmas.List.Sums.{count_by_more_no, sum_by_more, sum_by_push}
+use Rattle.std.proofs.lemmas.List.Sums.{sum_by_push}
 use Rattle.std.proofs.lemmas.List.Sorted.{All-permutation, Contains-permutation, sum_by-IsPermutation}
 use Rattle.parfield.specs.declared.hash16.Hash16.{Hash16}
 use Rattle.parset.specs.declared.recovery_set.SetSlice.{SetSlice}
@@ -18,21 +19,23 @@ use Rattle.parwindow.proofs.slice_laws.SearchLaws.{entry_of}
 use Rattle.parwindow.proofs.slice_laws.KnownSumsLaws.{sums_none, sums_same, sums_known, passes_within}
 
 -- each slice with sums below a number has its entry, each entry is of a slice with sums, and of each
--- CRC-32 there are as many entries as slices below the number
+-- CRC-32 there are as many entries as slices below the number, whatever test their numbers pass
 pub record IndexSoFar (slices : List SetSlice) (number : ℕ) (entries : List Entry) : Type 0 where
   pub sound : All (IsEntryOf slices) entries
   pub complete : (n crc : ℕ) (digest : List ℕ) → n < number → HasSums slices n crc digest
       → Contains entries (entry_of crc digest n)
-  pub counts : (crc : ℕ) → count_by (entry_has_crc crc) entries
-      ≡ count_by (has_known_crc crc) (take number slices)
+  pub counts : (test : ℕ → Bool) (crc : ℕ)
+      → count_by (λ e. test e.slice && entry_has_crc crc e) entries
+      ≡ count_by (λ n. test n && slice_passes slices (has_known_crc crc) n) (range_with_len 0 number)
+  pub few : length entries ≤ number
 
-pub index_all : (slices : List SetSlice) (xs : List Entry) (n : ℕ) → length slices ≤ n
+pub index_all : (slices : List SetSlice) (xs : List Entry) (n : ℕ) → n ≡ length slices
     → IndexSoFar slices n xs → IsIndexOf slices xs
 index_all slices xs n whole ix = record {
   sound = ix.sound;
   complete = λ k c d has. ix.complete k c d
       (omega (arith, passes_within (has_sums (record { 0 = d }, c)) slices k has)) has;
-  counts = λ c. rw (← take_all n slices whole) (ix.counts c);
+  counts = λ test c. rw (← whole) (ix.counts test c);
 }
 
 -- a slice without sums adds nothing
@@ -50,8 +53,13 @@ index_skip slices xs n empty within unknown ix = record {
         (slice_get-get_or slices n empty within) unknown
         (rw e at has))
   ];
-  counts = λ c. ix.counts c
-      ∙ sym (count_by_more_no (has_known_crc c) slices n empty within (rw unknown refl));
+  counts = λ test c.
+      let here = slice_get-get_or slices n empty within in
+      let more = count_range_more (λ k. test k && slice_passes slices (has_known_crc c) k) n in
+      let none : (test n && slice_passes slices (has_known_crc c) n) ≡ false =
+      rw (here, unknown) (and_false (test n)) in
+      ix.counts test c ∙ sym (more ∙ (rw none (add-zero _)));
+  few = omega (arith, ix.few);
 }
 
 -- a slice with sums adds its entry
@@ -73,10 +81,13 @@ index_push slices xs n empty md5 sum within known ix = record {
         (slice_get-get_or slices n empty within) known (rw e at has) in
         rw (e, same.0, same.1) (Contains-push xs (entry_of c d n))
   ];
-  counts = λ c.
-      let more = sum_by_more (λ s. cond (has_known_crc c s) 1 0) slices n empty within in
-      sum_by_push (λ e. cond (entry_has_crc c e) 1 0) xs (entry_of sum md5.0 n)
-      ∙ (rw (ix.counts c, more, known) refl);
+  counts = λ test c.
+      let here = slice_get-get_or slices n empty within in
+      let more = count_range_more (λ k. test k && slice_passes slices (has_known_crc c) k) n in
+      let same : slice_passes slices (has_known_crc c) n ≡ eqb sum c = rw (here, known) refl in
+      sum_by_push (λ e. cond (test e.slice && entry_has_crc c e) 1 0) xs (entry_of sum md5.0 n)
+      ∙ (rw (ix.counts test c, more, same) refl);
+  few = omega (arith, ix.few, length-append xs (entry_of sum md5.0 n ∷ []));
 }
 
 -- the same entries in another order
@@ -86,5 +97,7 @@ pub index_moved : (slices : List SetSlice) (xs ys : List Entry) → IsPermutatio
 index_moved slices xs ys moved ix = record {
   sound = All-permutation (IsEntryOf slices) xs ys moved ix.sound;
   complete = λ n c d has. Contains-permutation xs ys (entry_of c d n) moved (ix.complete n c d has);
-  counts = λ c. sum_by-IsPermutation (λ e. cond (entry_has_crc c e) 1 0) xs ys moved ∙ ix.counts c;
+  counts = λ test c.
+      sum_by-IsPermutation (λ e. cond (test e.slice && entry_has_crc c e) 1 0) xs ys moved
+      ∙ ix.counts test c;
 }

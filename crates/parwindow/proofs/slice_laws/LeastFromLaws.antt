@@ -1,22 +1,24 @@
 -- The least number of the entries that have a CRC-32.
-use Rattle.std.proofs.Common.{◌≡◌, ℕ, ◌+◌, ◌-◌, ◌<◌, ◌≤◌, List, [], ◌∷◌, ◌++◌, length, take, drop, get_or, Option, Some, None, nat_lt, min, eqb, eq-eqb, true, false, refl, sym, ap, ◌∙◌, inl, inr, arith, length-drop, length-take, get_or-drop}
+use Rattle.std.proofs.Common.{◌≡◌, ℕ, ◌+◌, ◌-◌, ◌<◌, ◌≤◌, List, [], ◌∷◌, ◌++◌, length, take, drop, get_or, Option, Some, None, nat_lt, min, eqb, eq-eqb, true, false, refl, sym, ap, ◌∙◌, inl, inr, arith, length-drop, get_or-drop}
 use Rattle.std.specs.Prelude.{Contains}
+use Rattle.std.specs.List.{filter}
 use Rattle.std.specs.List.Sorted.{IsSorted, IsPartitionedBy, IsPartitionPoint}
 use Rattle.std.specs.Ordering.{nat_cmp, is_lt, on}
 use Rattle.std.proofs.lemmas.Bool.{cases_lt, lt-ltb, eqb-true}
 use Rattle.std.proofs.lemmas.Bool.Decides.{nat_tests}
 use Rattle.std.proofs.lemmas.Cmp.{nat_cmp_total}
 use Rattle.std.proofs.lemmas.List.Sorted.{sorted_far, ranks_by}
-use Rattle.std.proofs.lemmas.List.{get_or-take, take_more}
-use Rattle.std.proofs.lemmas.List.Elements.{All-push, All-contains, All-contains_itself, Contains-push, Contains-append_left}
+use Rattle.std.proofs.lemmas.List.{take_more}
+use Rattle.std.proofs.lemmas.List.Elements.{All-push, All-contains, Contains-push, Contains-append_left}
 use Rattle.parset.specs.declared.recovery_set.SetSlice.{SetSlice}
 use Rattle.parwindow.specs.declared.slices.entries.Entry.{Entry}
-use Rattle.parwindow.specs.Entries.{entry_cmp, AreWithCrc, HasSums, entry_has_crc, IsIndexOf, IsLeastOf, lesser}
+use Rattle.parwindow.specs.Entries.{entry_cmp, HasSums, entry_has_crc, IsIndexOf, IsLeastOf, lesser}
 use Rattle.parwindow.specs.Index.{slice_passes, has_known_crc}
 use Rattle.parwindow.specs.Least.{IsLeastFrom}
 use Rattle.parwindow.proofs.slice_laws.SearchLaws.{entry_of, crc_rises}
 use Rattle.parwindow.proofs.slice_laws.KnownSumsLaws.{has_crc_at, crc_at}
-use Rattle.parwindow.proofs.slice_laws.CountLaws.{counted_from}
+use Rattle.parwindow.proofs.slice_laws.WithCrcLaws.{AreWithCrc}
+use Rattle.parwindow.proofs.ListLaws.{filter_between}
 
 -- one entry more
 least_from_none : (xs : List Entry) (from : ℕ) (e : Entry) → IsLeastOf xs from None
@@ -88,7 +90,7 @@ least_at xs i d from least now within is next =
     rw (next, take_more xs i d within) (least_more (take i xs) from least (get_or xs i d) is)
 
 -- the CRC-32s rise
-crcs_rise : (entries : List Entry) → IsSorted entry_cmp entries → (i j : ℕ) (d : Entry) → i ≤ j
+pub crcs_rise : (entries : List Entry) → IsSorted entry_cmp entries → (i j : ℕ) (d : Entry) → i ≤ j
     → j < length entries
     → (get_or entries i d).crc ≤ (get_or entries j d).crc
 crcs_rise entries rises i j d up within =
@@ -140,53 +142,22 @@ module _ (entries : List Entry) (c start : ℕ) (rises : IsSorted entry_cmp entr
       let less : nat_lt (get_or entries k d).crc c ≡ true = first.0 k d low high in
       grind (arith, nat_tests)
 
-  pub with_crc_is : (count : ℕ) → count ≤ length (drop start entries)
+  behind : (k : ℕ) (d : Entry) → start ≤ k
+      → get_or (drop start entries) (k - start) d ≡ get_or entries k d
+  behind k d low =
+      let back : start + (k - start) ≡ k = omega arith in
+      get_or-drop start entries (k - start) d ∙ ap (λ m. get_or entries m d) back
+
+  pub with_crc_is : start ≤ length entries → (count : ℕ) → count ≤ length (drop start entries)
       → IsPartitionPoint (λ (y : Entry). eqb y.crc c ≡ true) (λ (y : Entry). eqb y.crc c ≡ false)
       (drop start entries) count
-      → AreWithCrc entries c (take count (drop start entries))
-  with_crc_is count few second = record {
-    sound = λ k d within.
-        let short : k < count = omega (arith, length-take count (drop start entries)) in
-        let inside : start + k < length entries = omega (arith, length-drop start entries) in
-        let here : get_or (take count (drop start entries)) k d ≡ get_or entries (start + k) d =
-        get_or-take count (drop start entries) k d short ∙ get_or-drop start entries k d in
-        let same = eqb-true (get_or (drop start entries) k d).crc c
-        (second.0 k d (omega arith) short) in
-        rw here (
-          All-contains_itself entries (start + k) d inside,
-          ap (λ (e : Entry). e.crc) (sym (get_or-drop start entries k d)) ∙ same,
-        );
-    complete = λ e there is. elim (cases_lt there.0 start) [
-      | inl before ↦
-          let low : nat_lt (get_or entries there.0 e).crc c ≡ true =
-          first.0 there.0 e (omega arith) before in
-          let less : e.crc < c = let lower = rw there.2 at low in grind (arith, nat_tests) in
-          absurd (omega arith)
-      | inr after ↦
-          let k : ℕ = there.0 - start in
-          let back : start + (there.0 - start) ≡ there.0 = omega arith in
-          let within = there.1 in
-          let inside : there.0 - start < length (drop start entries) =
-          omega (arith, length-drop start entries) in
-          let here : get_or (drop start entries) (there.0 - start) e ≡ e =
-          get_or-drop start entries (there.0 - start) e ∙ ap (λ m. get_or entries m e) back
-          ∙ there.2 in
-          elim (cases_lt (there.0 - start) count) [
-            | inl short ↦ (
-              there.0 - start,
-              omega (arith, length-take count (drop start entries)),
-              get_or-take count (drop start entries) (there.0 - start) e short ∙ here,
-            )
-            | inr past ↦
-                let other : eqb (get_or (drop start entries) (there.0 - start) e).crc c ≡ false =
-                second.1 (there.0 - start) e past inside in
-                let wrong : eqb e.crc c ≡ false = rw here at other in
-                let right : eqb e.crc c ≡ true = eq-eqb e.crc c is in
-                cc
-          ]
-    ];
-    counts = counted_from (entry_has_crc c) entries start count none_before few second;
-  }
+      → take count (drop start entries) ≡ filter (entry_has_crc c) entries
+  with_crc_is inside count few second =
+      filter_between (entry_has_crc c) entries start count (omega (arith, length-drop start entries))
+      none_before
+      (λ k d low high. rw (behind k d low) at (second.0 (k - start) d (omega arith) (omega arith)))
+      (λ k d low high. rw (behind k d (omega arith)) at
+      (second.1 (k - start) d (omega arith) (omega (arith, length-drop start entries))))
 
 -- that is the least number of a slice that has the CRC-32
 pub next_crc_is : (slices : List SetSlice) (entries found : List Entry) (c from : ℕ)

@@ -9,11 +9,12 @@ use Rattle.std.proofs.lemmas.List.Folds.{Any-from_list_any, list_any-from_Any, l
 use Rattle.std.proofs.lemmas.List.FromFn.{length-range_with_len, get_or-range_with_len}
 use Rattle.parset.specs.declared.recovery_set.SetSlice.{SetSlice}
 use Rattle.parwindow.specs.declared.slices.entries.Entry.{Entry}
-use Rattle.parwindow.specs.Entries.{AreWithCrc, HasSums, IsIndexOf, is_between, is_open}
+use Rattle.parwindow.specs.Entries.{HasSums, IsIndexOf, is_between, is_open}
 use Rattle.parwindow.specs.Index.{has_known_crc, has_own, has_sums, slice_passes}
 use Rattle.parwindow.specs.Missing.{has_fit_crc_of, has_unfound, found_at}
 use Rattle.parwindow.proofs.slice_laws.HasOpenLaws.{between}
 use Rattle.parwindow.proofs.slice_laws.SearchLaws.{entry_of}
+use Rattle.parwindow.proofs.slice_laws.WithCrcLaws.{AreWithCrc}
 use Rattle.parwindow.proofs.slice_laws.KnownSumsLaws.{crc_at, has_crc_at, passes_within, same_bools}
 
 -- a number below n passes a test

@@ -15,7 +15,7 @@ use Rattle.parset.specs.declared.recovery_set.SetSlice.{SetSlice}
 use Rattle.parwindow.specs.declared.slices.entries.Entry.{Entry}
 use Rattle.parwindow.specs.Index.{slice_passes, has_sums}
 use Rattle.parwindow.specs.Least.{IsLeast}
-use Rattle.parwindow.specs.Entries.{entry_cmp, HasSums, IsIndexOf, IsFloor}
+use Rattle.parwindow.specs.Entries.{entry_cmp, HasAllOf, HasSums, IsFloor}
 use Rattle.parwindow.proofs.slice_laws.OrderLaws.{entry_cmp_total, nat_cmp-equal, slice_cmp-equal, squeezed}
 
 abbrev pub entry_of : ℕ → List ℕ → ℕ → Entry
@@ -74,15 +74,15 @@ nat_cmp-less m n h = rw (lt-ltb m n h) refl
 nat_cmp-not_less : (m n : ℕ) → n ≤ m → nat_cmp m n ≡ Less → ⊥
 nat_cmp-not_less m n h e = let p : m < n = ranked m n Less (sym e) in omega arith
 
-module _ (slices : List SetSlice) (entries : List Entry) (ix : IsIndexOf slices entries) (c : ℕ)
-    (d : List ℕ)
+module _ (slices : List SetSlice) (entries : List Entry) (c : ℕ) (d : List ℕ)
+    (ix : HasAllOf slices c d entries)
     (from at : ℕ)
     (lowest : IsFloor entries (entry_of c d from) at) where
   -- a slice at or above `from` with these sums has its entry at `at` or after it
   reaches : (n : ℕ) (e : Entry) → from ≤ n → HasSums slices n c d
       → (at < length entries) × (entry_cmp (entry_of c d n) (get_or entries at e) ≡ Less → ⊥)
   reaches n e above has =
-      lowest.first (entry_of c d n) e (ix.complete n c d has)
+      lowest.first (entry_of c d n) e (ix.complete n has)
       (λ less. nat_cmp-not_less n from above (sym (entry_cmp-same c d n from) ∙ less))
 
   pub next_found : (e : Entry) → at < length entries → get_or entries at e ≡ e → e.crc ≡ c

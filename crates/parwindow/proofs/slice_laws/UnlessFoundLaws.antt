@@ -1,14 +1,28 @@
 -- The slices of which those that are found lose their checksums.
-use Rattle.std.proofs.Common.{◌≡◌, ℕ, ◌+◌, ◌<◌, ◌≤◌, Bool, true, false, List, [], ◌∷◌, ◌++◌, length, map, take, get_or, sym, ap, ◌∙◌, arith}
+use Rattle.std.proofs.Common.{◌≡◌, ℕ, ◌+◌, ◌<◌, ◌≤◌, zero, suc, Bool, true, false, not, ◌&&◌, None, List, [], ◌∷◌, ◌++◌, length, map, take, get_or, refl, sym, ap, ◌∙◌, arith}
 use Rattle.std.specs.Prelude.{zip}
 use Rattle.std.proofs.lemmas.List.{length-map, get_or-map, take_more, take_all}
 use Rattle.std.proofs.lemmas.List.Elements.{All-map}
 use Rattle.std.proofs.lemmas.Slice.Zip.{get_or-zip, length-zip}
 use Rattle.parset.specs.declared.recovery_set.SetSlice.{SetSlice}
-use Rattle.parwindow.specs.Index.{SliceSet, IsSliceSet}
-use Rattle.parwindow.specs.Missing.{missing_set, unless_found}
+use Rattle.parwindow.specs.Index.{SliceSet, IsSliceSet, slice_passes}
+use Rattle.parwindow.specs.Missing.{found_at, missing_set, unless_found}
 
-length-unless_found : (slices : List SetSlice) (found : List Bool) → length found ≡ length slices
+pub and_false : (a : Bool) → (a && false) ≡ false
+and_false true = refl
+and_false false = refl
+
+pub and_assoc : (a b c : Bool) → ((a && b) && c) ≡ (a && (b && c))
+and_assoc true b c = refl
+and_assoc false b c = refl
+
+pub and_swap : (a b c : Bool) → ((a && b) && c) ≡ (b && (a && c))
+and_swap true true c = refl
+and_swap true false c = refl
+and_swap false true c = refl
+and_swap false false c = refl
+
+pub length-unless_found : (slices : List SetSlice) (found : List Bool) → length found ≡ length slices
     → length (map unless_found (zip slices found)) ≡ length slices
 length-unless_found slices found each =
     omega (arith, length-map (zip slices found) unless_found, length-zip slices found)
@@ -40,6 +54,21 @@ missing_good set found each good =
           (length_kept set.slice_size (get_or set.slices i d.0) (get_or found i d.1)
           (good.own i d.0 inside)));
     }
+
+-- the slices without the checksums of those that are found pass a test of checksums if they aren't
+-- found and pass it with them
+pub passes_unless_found : (test : SetSlice → Bool)
+    → ((s : SetSlice) → test (record s { sums = None }) ≡ false)
+    → (slices : List SetSlice) (found : List Bool) (n : ℕ) → length found ≡ length slices
+    → slice_passes (map unless_found (zip slices found)) test n
+    ≡ (not (found_at found n) && slice_passes slices test n)
+passes_unless_found test none [] [] n each = refl
+passes_unless_found test none [] (f ∷ fs) n each = absurd (omega arith)
+passes_unless_found test none (s ∷ ss) [] n each = absurd (omega arith)
+passes_unless_found test none (s ∷ ss) (true ∷ fs) zero each = none s
+passes_unless_found test none (s ∷ ss) (false ∷ fs) zero each = refl
+passes_unless_found test none (s ∷ ss) (f ∷ fs) (suc n) each =
+    passes_unless_found test none ss fs n (omega arith)
 
 -- one slice more
 pub unless_found_more : (slices : List SetSlice) (found : List Bool) (list : List SetSlice) (i : ℕ)

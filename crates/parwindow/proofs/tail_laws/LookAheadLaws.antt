@@ -5,7 +5,7 @@ use Rattle.std.proofs.lemmas.List.{get_or_default, length-map}
 use Rattle.std.specs.Prelude.{All, IsTrue}
 use Rattle.parwindow.specs.Ahead.{window_bytes, is_tail_register, own_register, passed_of, AreOneTail, HasPassed}
 use Rattle.parwindow.specs.Index.{SliceSet}
-use Rattle.parwindow.specs.InTurn.{ComesAlong, ComesHere}
+use Rattle.parwindow.specs.Rolling.{StopsAt}
 use Rattle.parwindow.specs.Tails.{tail_lengths_of, IsTail}
 use Rattle.parwindow.specs.declared.rolling.roll.Roll.{Roll}
 use Rattle.parwindow.specs.declared.tails.stream.Stream.{Stream}
@@ -13,6 +13,17 @@ use Rattle.parwindow.specs.declared.tails.tail.Tail.{Tail}
 use Rattle.parwindow.specs.declared.tails.tail_slices.TailSlices.{TailSlices}
 use Rattle.parwindow.proofs.tail_laws.RollAlongLaws.{tail_passed}
 use Rattle.parwindow.proofs.tail_laws.RollTailsLaws.{rolled_tail}
+
+-- a roll went from place to place, at none before this one the register had a property, and it hit
+-- exactly where this one has it
+abbrev pub ComesHere : (ℕ → Type 0) → (ℕ → ℕ) → Roll → Type 0
+ComesHere Has at roll = StopsAt Has at roll.count roll
+
+-- a tail came so along a stream, at no place before with the register of a slice of its length
+abbrev pub ComesAlong : Stream → TailSlices → Roll → Type 0
+ComesAlong stream slices =
+    ComesHere (λ register. IsTrue (is_tail_register slices.index.now slices.tail.now register))
+    (own_register slices.tail.now.length (window_bytes stream) stream.bytes.now)
 
 -- as many lengths are as many tails
 pub as_long : (a b : List Tail) → tail_lengths_of a ≡ tail_lengths_of b → length a ≡ length b

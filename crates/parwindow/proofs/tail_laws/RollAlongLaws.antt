@@ -15,7 +15,7 @@ use Rattle.parwindow.proofs.rolling_laws.RollOverLaws.{stretch}
 use Rattle.parwindow.proofs.rolling_laws.RollUntilLaws.{along, begins, ends, joined}
 
 -- the first bytes of a window, once k are pushed
-own_front : (items bytes : List ℕ) (own k : ℕ) → own ≤ length items → k ≤ length bytes
+pub own_front : (items bytes : List ℕ) (own k : ℕ) → own ≤ length items → k ≤ length bytes
     → take own (pushed_content items bytes k) ≡ take own (drop k (items ++ bytes))
 own_front items bytes own k few within =
     let sum : length items + k ≡ k + length items = omega arith in
@@ -38,7 +38,7 @@ own_pushed items bytes own k few within =
     ∙ sym (own_front items bytes own k few within)
 
 -- what stands in a piece of a stream
-piece_at : (piece stream : List ℕ) (place j : ℕ) → piece ≡ take (length piece) (drop place stream)
+pub piece_at : (piece stream : List ℕ) (place j : ℕ) → piece ≡ take (length piece) (drop place stream)
     → j < length piece → get_or stream (place + j) 0 ≡ get_or piece j 0
 piece_at piece stream place j is inside =
     sym (ap (λ l. get_or l j 0) is

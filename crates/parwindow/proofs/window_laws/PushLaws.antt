@@ -1,7 +1,7 @@
 -- A byte is pushed into a full window: its register, its content and what falls out.
 use Rattle.std.proofs.Common.{◌≡◌, ℕ, ◌+◌, ◌-◌, ◌*◌, ◌/◌, ◌<◌, ◌≤◌, ◌⊎◌, List, [], ◌∷◌, ◌++◌, length, drop, get_or, Option, Some, None, cond, nat_lt, nat_eq, true, false, refl, sym, ap, ◌∙◌, inl, inr, arith, length-append, length-drop}
 use Rattle.std.specs.List.{slice_get}
-use Rattle.std.specs.Int.Bits.{bit_and, bit_xor}
+use Rattle.std.specs.Int.Bits.{bit_and, bit_xor, xor_zero_r}
 use Rattle.std.proofs.lemmas.Bool.{cases_lt, lt-ltb}
 use Rattle.std.proofs.lemmas.Bool.Decides.{nat_tests}
 use Rattle.circular_buffer.specs.Buffer.{keep_last}
@@ -18,6 +18,12 @@ removal_of-more x n =
     let e : 8 * n + 8 ≡ 8 * (n + 1) = omega arith in
     sym (crc_steps-add (8 * n) 8 (bit_xor 0xFFFFFFFF (register_after 0xFFFFFFFF x)))
     ∙ ap (λ k. crc_steps k (bit_xor 0xFFFFFFFF (register_after 0xFFFFFFFF x))) e
+
+pub removal_followed : (r x n : ℕ) → r ≡ removal_of x n
+    → register_after r 0 ≡ removal_of x (n + 1)
+unfolding register_after
+removal_followed r x n is =
+    ap (crc_steps 8) (xor_zero_r r ∙ is) ∙ removal_of-more x n
 
 pub once_rolled : (n r x y : ℕ) → bit_xor (register_after r y)
     (removal_of x (n + 1)) ≡ rolled_register n r x y

@@ -3,6 +3,7 @@ use Rattle.std.proofs.Common.{◌≡◌, ℕ, ◌+◌, ◌<◌, ◌≤◌, true,
 use Rattle.std.proofs.lemmas.Bool.{cases_Bool, cases_lt}
 use Rattle.std.proofs.lemmas.List.{drop-append-le, drop-drop}
 use Rattle.std.proofs.Math.Seq.{take-add}
+use Rattle.circular_buffer.specs.Buffer.{keep_last}
 use Rattle.parwindow.specs.Ahead.{PushesPast}
 use Rattle.parwindow.specs.Crc32.{crc_of, register_of}
 use Rattle.parwindow.specs.Index.{SliceSet}
@@ -15,6 +16,14 @@ use Rattle.parwindow.proofs.rolling_laws.RollOverLaws.{pushes_one_by_one}
 
 pub no_tails : NoTails
 no_tails set w none = rw none refl
+
+-- what a full ring keeps once it takes the first k bytes at once
+pub keep_last-some : (items bytes : List ℕ) (cap k : ℕ) → length items ≡ cap → k ≤ length bytes
+    → keep_last cap (items ++ take k bytes) ≡ pushed_content items bytes k
+keep_last-some items bytes cap k full few =
+    let gone : length (items ++ take k bytes) - cap ≡ k =
+    omega (arith, length-append items (take k bytes), length-take k bytes) in
+    rw gone refl
 
 -- what a roll says of a window without tails
 pub pushes_until : (set : SliceSet) (w : WindowState) (bytes : List ℕ) (s : Roll) → w.tails ≡ []

@@ -62,3 +62,12 @@ pub fn after_byte(register: u32, byte: u8) -> u32
 {
     (register >> 8) ^ STEPPED_BYTES[((register ^ u32::from(byte)) & 0xFF) as usize]
 }
+
+/// The register after two more bytes, by two look-ups that don't wait for one another.
+pub fn after_two(register: u32, first: u8, second: u8) -> u32
+    ensures { result ≡ register_after (register_after register first) second }
+{
+    (register >> 16)
+        ^ STEPPED_TWICE[((register ^ u32::from(first)) & 0xFF) as usize]
+        ^ STEPPED_BYTES[(((register >> 8) ^ u32::from(second)) & 0xFF) as usize]
+}

@@ -33,17 +33,6 @@ impl Roll {
         }
     }
 
-    /// A roll to a register, and whether it hit there.
-    pub fn new(count: usize, register: u32, hit: bool) -> Roll
-        ensures { result ≡ record { count = count; register = register; hit = hit } }
-    {
-        Roll {
-            count,
-            register,
-            hit,
-        }
-    }
-
     /// A roll that hit at this register.
     pub fn hit(count: usize, register: u32) -> Roll
         ensures { result ≡ record { count = count; register = register; hit = true } }

@@ -1,9 +1,8 @@
-ghost use Rattle.std.specs.Prelude.{◌≡◌, ◌+◌, ◌<◌, ◌≤◌, ◌++◌, length, min, IsTrue};
+ghost use Rattle.std.specs.Prelude.{◌≡◌, ◌+◌, ◌<◌, ◌≤◌, length, min, IsTrue};
 ghost use Rattle.parset.specs.Limits.{slice_size_limit};
 ghost use Rattle.parwindow.specs.Tables.{IsRemovalTable, IsStepTable};
 
 use crate::crcs::{STEPPED_BYTES, STEPPED_TWICE, after_byte, removal_table};
-use crate::index::Index;
 use crate::rolling::register_set::RegisterSet;
 use crate::rolling::roll::Roll;
 
@@ -28,9 +27,7 @@ pub struct RollTables {
 }
 
 impl RollTables {
-    ghost use Rattle.parwindow.specs.Crc32.{register_of};
-    ghost use Rattle.parwindow.specs.Rolling.{rolled_register, pushed_register, rolled_over, HasRegister, StopsAt};
-    ghost use Rattle.parwindow.specs.Until.{pushed_content};
+    ghost use Rattle.parwindow.specs.Rolling.{rolled_register, pushed_register, rolled_over, StopsAt};
 
     /// The tables for a window of `size` bytes, by squaring: no byte runs through it.
     pub fn new(size: usize) -> RollTables
@@ -66,8 +63,15 @@ impl RollTables {
             ^ self.once[gone as usize]
     }
 
-    // The register once two bytes go and two come. It doesn't wait for the register in between.
-    fn rolled_twice(&self, register: u32, gone: u8, come: u8, next_gone: u8, next_come: u8) -> u32
+    /// The register once two bytes go and two come. It doesn't wait for the register in between.
+    pub fn rolled_twice(
+        &self,
+        register: u32,
+        gone: u8,
+        come: u8,
+        next_gone: u8,
+        next_come: u8,
+    ) -> u32
         ensures { result ≡ rolled_register self.now.others
             (rolled_register self.now.others register gone come) next_gone next_come }
     {
@@ -108,42 +112,6 @@ impl RollTables {
             count: len,
             register: last,
             hit: set.has(last),
-        }
-    }
-
-    /// Rolls the register of a full window, whose content is in two parts, over the bytes that
-    /// come: what goes is the content, and after it the bytes themselves.
-    pub fn roll_over(
-        &self,
-        index: &Index,
-        front: &[u8],
-        back: &[u8],
-        bytes: &[u8],
-        start: u32,
-    ) -> Roll
-        requires full { length (front.now ++ back.now) ≡ self.now.others + 1 }
-        requires start { start ≡ register_of (front.now ++ back.now) }
-        ensures { StopsAt (HasRegister index.now)
-            (λ k. register_of (pushed_content (front.now ++ back.now) bytes.now k))
-            (length bytes.now) result }
-    {
-        let first = self.roll_until(index, front, bytes, start);
-        if first.hit || first.count == bytes.len() {
-            return first;
-        }
-        let rest = &bytes[first.count..];
-        let second = self.roll_until(index, back, rest, first.register);
-        if second.hit || second.count == rest.len() {
-            return Roll {
-                count: first.count + second.count,
-                ..second
-            };
-        }
-        let last = &rest[second.count..];
-        let third = self.roll_until(index, bytes, last, second.register);
-        Roll {
-            count: first.count + second.count + third.count,
-            ..third
         }
     }
 }

@@ -39,13 +39,13 @@ impl BloomFilter {
     /// size, before the zeros that fill it.
     pub fn of_tails(
         alloc: Global,
+        runs: &ZeroRuns,
         size: u64,
         slices: &[SetSlice],
     ) -> Result<BloomFilter, AllocError>
         requires { size ≤ slice_size_limit }
         ensures { IfOk result (HasTails size slices.now) }
     {
-        let runs = ZeroRuns::new(alloc)?;
         let mut filter = BloomFilter {
             plain: BitSet::new(alloc)?,
             scattered: BitSet::new(alloc)?,
@@ -61,20 +61,25 @@ impl BloomFilter {
         Ok(filter)
     }
 
-    // Sets both bits of a register.
+    // Sets the three bits of a register.
     fn insert(&mut self, register: u32)
         ensures has { MayHave self.new register }
         ensures keeps { (other : ℕ) → MayHave self.old other → MayHave self.new other }
     {
         self.plain.insert(register);
-        self.scattered.insert(scattered_key(register));
+        let key = scattered_key(register);
+        self.scattered.insert(key);
+        self.scattered.insert(scattered_key(key));
     }
 
-    /// Whether both bits of a register are set.
+    /// Whether the three bits of a register are set.
     pub fn may_have(&self, register: u32) -> bool
         ensures { IsTrue result ↔ MayHave self.now register }
     {
-        self.plain.has(register) && self.scattered.has(scattered_key(register))
+        let key = scattered_key(register);
+        self.plain.has(register)
+            && self.scattered.has(key)
+            && self.scattered.has(scattered_key(key))
     }
 }
 

@@ -4,9 +4,11 @@ ghost use Rattle.parset.specs.declared.recovery_set.SetSlice.{SetSlice};
 ghost use Rattle.parwindow.specs.Index.{has_known_crc, has_sums, slice_passes, slice_set_of};
 ghost use Rattle.parwindow.specs.Least.{IsLeastFrom};
 ghost use Rattle.parset.specs.Limits.{slice_limit};
-ghost use Rattle.parwindow.specs.Entries.{entry_cmp, AreWithCrc, IsFloor, IsIndexOf, IsLeastOf, is_between, is_open, lesser};
+ghost use Rattle.parwindow.specs.Directory.{AreStarts};
+ghost use Rattle.parwindow.specs.Entries.{entry_cmp, entry_has_crc, HasAllOf, IsFloor, IsIndexOf, IsLeastOf, is_between, is_open, is_unfound, lesser};
 ghost use Rattle.parwindow.specs.Missing.{set_has_missing, set_has_own_missing};
 
+use crate::slices::directory::{part_of, starts_of};
 use parfield::Hash16;
 use parset::SetSlice;
 use std::alloc::{AllocError, Global};
@@ -23,7 +25,11 @@ pub struct Entry {
 #[derive(Drop)]
 pub struct Entries {
     pub list: Vec<Entry>,
+    /// The number of the first entry of each key.
+    pub starts: Vec<u16>,
     ghost rises: { IsSorted entry_cmp list.items },
+    ghost parts: { AreStarts list.items starts.items },
+    ghost few: { length list.items ≤ slice_limit },
 }
 
 impl Entries {
@@ -34,7 +40,37 @@ impl Entries {
     {
         let mut list = listed(alloc, slices)?;
         list.sort_unstable();
-        Ok(Entries { list })
+        let starts = starts_of(alloc, &list)?;
+        Ok(Entries { list, starts })
+    }
+
+    /// Takes the entries of the slices that aren't found. `found` has a flag for each slice, by number.
+    pub fn missing(&self, alloc: Global, found: &[bool]) -> Result<Entries, AllocError>
+        requires { All (λ e. e.slice < length found.now) self.now.list.items }
+        ensures { IfOk result (λ entries.
+            entries.list.items ≡ filter (is_unfound found.now) self.now.list.items) }
+    {
+        let list = unfound(alloc, &self.list, found)?;
+        let starts = starts_of(alloc, &list)?;
+        Ok(Entries { list, starts })
+    }
+
+    // Finds the entries that have this CRC-32, which are side by side.
+    fn with_crc(&self, crc: u32) -> &[Entry]
+        ensures all { result.now ≡ filter (entry_has_crc crc) self.now.list.items }
+        ensures sorted { IsSorted entry_cmp result.now }
+    {
+        with_crc_in(part_of(&self.list, &self.starts, crc), crc)
+    }
+
+    /// Whether some slice has this CRC-32. Nearly no register comes so far, so it stays out of the
+    /// loop that rolls.
+    #[inline(never)]
+    pub fn has_crc(&self, crc: u32) -> bool
+        ensures { (slices : List SetSlice) → IsIndexOf slices self.now.list.items
+            → result ≡ list_any (has_known_crc crc) slices }
+    {
+        self.count_crc(crc) > 0
     }
 
     /// The first slice from a number on that has this CRC-32.
@@ -42,7 +78,7 @@ impl Entries {
         ensures { (slices : List SetSlice) → IsIndexOf slices self.now.list.items
             → IsLeastFrom (slice_passes slices (has_known_crc crc)) from result }
     {
-        least_from(with_crc(&self.list, crc), from)
+        least_from(self.with_crc(crc), from)
     }
 
     /// How many slices have this CRC-32.
@@ -50,7 +86,7 @@ impl Entries {
         ensures { (slices : List SetSlice) → IsIndexOf slices self.now.list.items
             → result ≡ length (filter (has_known_crc crc) slices) }
     {
-        with_crc(&self.list, crc).len()
+        self.with_crc(crc).len()
     }
 
     /// The first slice from a number on that has both sums.
@@ -58,7 +94,7 @@ impl Entries {
         ensures { (slices : List SetSlice) → IsIndexOf slices self.now.list.items
             → IsLeastFrom (slice_passes slices (has_sums (digest, crc))) from result }
     {
-        next_match_in(&self.list, crc, digest, from)
+        next_match_in(self.with_crc(crc), crc, digest, from)
     }
 
     /// Whether some slice that isn't found has this CRC-32 and at most so many bytes of its file.
@@ -68,7 +104,7 @@ impl Entries {
         ensures { (size : ℕ)
             → result ≡ set_has_missing (slice_set_of size slices.now) found.now crc left }
     {
-        has_open(with_crc(&self.list, crc), slices, 0, left, found)
+        has_open(self.with_crc(crc), slices, 0, left, found)
     }
 
     /// Whether `is_missing` holds of the slices with so many bytes of their files alone.
@@ -85,14 +121,15 @@ impl Entries {
         ensures { (size : ℕ)
             → result ≡ set_has_own_missing (slice_set_of size slices.now) found.now crc own left }
     {
-        own <= left && has_open(with_crc(&self.list, crc), slices, own, own, found)
+        own <= left && has_open(self.with_crc(crc), slices, own, own, found)
     }
 }
 
 // The entries of these slices, in the order of the slices.
 fn listed(alloc: Global, slices: &[SetSlice]) -> Result<Vec<Entry>, AllocError>
     requires { length slices.now ≤ slice_limit }
-    ensures { IfOk result (λ list. IsIndexOf slices.now list.items) }
+    ensures index { IfOk result (λ list. IsIndexOf slices.now list.items) }
+    ensures few { IfOk result (λ list. length list.items ≤ length slices.now) }
 {
     let mut list = Vec::with_capacity(alloc, slices.len())?;
     for (number, slice) in slices.iter().enumerate() {
@@ -103,6 +140,20 @@ fn listed(alloc: Global, slices: &[SetSlice]) -> Result<Vec<Entry>, AllocError>
                 digest,
                 slice: number as u32,
             })?;
+        }
+    }
+    Ok(list)
+}
+
+// Takes the entries of the slices that aren't found, in their order.
+fn unfound(alloc: Global, entries: &[Entry], found: &[bool]) -> Result<Vec<Entry>, AllocError>
+    requires { All (λ e. e.slice < length found.now) entries.now }
+    ensures { IfOk result (λ list. list.items ≡ filter (is_unfound found.now) entries.now) }
+{
+    let mut list = Vec::with_capacity(alloc, entries.len())?;
+    for entry in entries {
+        if !found[entry.slice as usize] {
+            list.push(*entry)?;
         }
     }
     Ok(list)
@@ -122,7 +173,7 @@ fn first_not_below(entries: &[Entry], wanted: &Entry) -> usize
 // The first slice of these entries from a number on that has both sums.
 fn next_match_in(entries: &[Entry], crc: u32, digest: Hash16, from: u32) -> Option<u32>
     requires { IsSorted entry_cmp entries.now }
-    ensures { (slices : List SetSlice) → IsIndexOf slices entries.now
+    ensures { (slices : List SetSlice) → HasAllOf slices crc digest.0 entries.now
         → IsLeastFrom (slice_passes slices (has_sums (digest, crc))) from result }
 {
     let wanted = Entry {
@@ -136,10 +187,11 @@ fn next_match_in(entries: &[Entry], crc: u32, digest: Hash16, from: u32) -> Opti
     }
 }
 
-// The entries that have this CRC-32, which stand side by side.
-fn with_crc(entries: &[Entry], crc: u32) -> &[Entry]
+// Finds the entries that have this CRC-32, among some that are sorted.
+fn with_crc_in(entries: &[Entry], crc: u32) -> &[Entry]
     requires { IsSorted entry_cmp entries.now }
-    ensures { AreWithCrc entries.now crc result.now }
+    ensures all { result.now ≡ filter (entry_has_crc crc) entries.now }
+    ensures sorted { IsSorted entry_cmp result.now }
 {
     let rest = &entries[entries.partition_point(|entry| entry.crc < crc)..];
     &rest[..rest.partition_point(|entry| entry.crc == crc)]

@@ -1,36 +1,58 @@
-ghost use Rattle.std.specs.Prelude.{◌≡◌, ◌≢◌, ℕ, ◌+◌, ◌<◌, ◌≤◌, List, All, IsTrue, length, get_or};
-ghost use Rattle.parwindow.specs.Ahead.{window_bytes, is_tail_register, own_register, AreOneTail, HasPassed, IsAhead};
-ghost use Rattle.parwindow.specs.Rolling.{StopsAt};
+ghost use Rattle.std.specs.Prelude.{◌≡◌, ◌≢◌, ℕ, ◌+◌, ◌<◌, ◌≤◌, List, All, IfSome, IsTrue, length, get_or};
+ghost use Rattle.circular_buffer.specs.Buffer.{keep_last};
+ghost use Rattle.parwindow.specs.Ahead.{window_bytes, stream_of, AreOneTail, HasPassed, IsAhead};
+ghost use Rattle.parwindow.specs.Along.{AreAlong};
+ghost use Rattle.parwindow.specs.Running.{IsRun};
 ghost use Rattle.parwindow.specs.Tails.{tail_lengths_of, some_tail_slice, IsTail};
 ghost use Rattle.parwindow.specs.Until.{pushed_content};
 
 use crate::index::Index;
-use crate::tails::four::Four;
-use crate::tails::in_turn::{passed_in_turn, roll_in_turn};
+use crate::tails::places::{Places, RegisterStream};
+use crate::tails::running::Running;
 use crate::tails::stream::Stream;
 use crate::tails::tail::Tail;
 use crate::tails::tail_slices::TailSlices;
 
+// From how many bytes for all tails on a running register saves more than its places cost.
+const LEAST_WORK: usize = 1024;
+
 /// Moves each tail past all bytes of a stream, if the limit is as many, and at no place a tail has
 /// the CRC-32 of a slice of its length. Otherwise no register moves, and the answer is fewer: how
 /// many places all tails passed.
-pub fn pass_tails(tails: &mut [Tail], index: &Index, stream: &Stream<'_>, limit: usize) -> usize
+pub fn pass_tails(
+    tails: &mut [Tail],
+    running: &mut Option<Running>,
+    index: &Index,
+    stream: &Stream<'_>,
+    limit: usize,
+) -> usize
     requires tails { All (IsTail (length (window_bytes stream.now)) (window_bytes stream.now)) tails.old }
+    requires running { IfSome running.old
+        (IsRun (length (window_bytes stream.now)) (window_bytes stream.now)) }
     requires sized { length (window_bytes stream.now) ≡ index.now.slice_size }
     requires within { limit ≤ length stream.now.bytes.now }
+    requires few { length stream.now.bytes.now ≤ 512 }
     ensures lengths { tail_lengths_of tails.new ≡ tail_lengths_of tails.old }
     ensures within { result ≤ limit }
     ensures all { result ≡ length stream.now.bytes.now
         → All (IsTail (length (window_bytes stream.now)) (pushed_content (window_bytes stream.now)
         stream.now.bytes.now (length stream.now.bytes.now))) tails.new }
+    ensures ran { result ≡ length stream.now.bytes.now
+        → IfSome running.new (IsRun (length (window_bytes stream.now))
+        (keep_last (length (window_bytes stream.now)) (stream_of stream.now))) }
     ensures none { result ≡ length stream.now.bytes.now → (k : ℕ) → 0 < k
         → k ≤ length stream.now.bytes.now → ¬ IsTrue (some_tail_slice index.now
         (length (window_bytes stream.now))
         (pushed_content (window_bytes stream.now) stream.now.bytes.now k) (tail_lengths_of tails.new)) }
     ensures fewer { result < length stream.now.bytes.now
         → All (IsTail (length (window_bytes stream.now)) (window_bytes stream.now)) tails.new }
+    ensures stays { result < length stream.now.bytes.now → IfSome running.new
+        (IsRun (length (window_bytes stream.now)) (window_bytes stream.now)) }
 {
-    let passed = look_ahead(tails, index, stream, limit);
+    let passed = match running {
+        Some(run) => look_and_run(tails, run, index, stream, limit),
+        None => look_ahead(tails, index, stream, None, limit),
+    };
     if passed < stream.bytes.len() {
         return passed;
     }
@@ -38,12 +60,63 @@ pub fn pass_tails(tails: &mut [Tail], index: &Index, stream: &Stream<'_>, limit:
     passed
 }
 
+// How many places all tails pass, as below. If these are all places, the running register goes past
+// them too. Not inlined, since its places take much room on the stack.
+#[inline(never)]
+fn look_and_run(
+    tails: &mut [Tail],
+    running: &mut Running,
+    index: &Index,
+    stream: &Stream<'_>,
+    limit: usize,
+) -> usize
+    requires tails { All (IsTail (length (window_bytes stream.now)) (window_bytes stream.now)) tails.old }
+    requires running { IsRun (length (window_bytes stream.now)) (window_bytes stream.now) running.old }
+    requires sized { length (window_bytes stream.now) ≡ index.now.slice_size }
+    requires within { limit ≤ length stream.now.bytes.now }
+    requires few { length stream.now.bytes.now ≤ 512 }
+    ensures lengths { tail_lengths_of tails.new ≡ tail_lengths_of tails.old }
+    ensures each { All (IsTail (length (window_bytes stream.now)) (window_bytes stream.now)) tails.new }
+    ensures within { result ≤ limit }
+    ensures passed { result ≡ length stream.now.bytes.now → All (HasPassed index.now
+        (window_bytes stream.now) stream.now.bytes.now) tails.new }
+    ensures ran { result ≡ length stream.now.bytes.now
+        → IsRun (length (window_bytes stream.now))
+        (keep_last (length (window_bytes stream.now)) (stream_of stream.now)) running.new }
+    ensures stays { result < length stream.now.bytes.now → running.new ≡ running.old }
+{
+    let coming = running.coming(stream.bytes);
+    let come = &coming.registers[..stream.bytes.len()];
+    let work = stream.bytes.len().saturating_mul(tails.len());
+    let passed = if work < LEAST_WORK {
+        look_ahead(tails, index, stream, None, limit)
+    } else {
+        let (front, back) = running.before.as_slices();
+        let registers = RegisterStream { front, back, come };
+        let places = Places::new(*stream, registers);
+        look_ahead(tails, index, stream, Some(&places), limit)
+    };
+    if passed == stream.bytes.len() {
+        running.extend(come, coming.last);
+    }
+    passed
+}
+
 // How many places all tails pass, up to a limit. If these are all places of a stream, `ahead` is the
-// register of each tail after them.
-fn look_ahead(tails: &mut [Tail], index: &Index, stream: &Stream<'_>, limit: usize) -> usize
+// register of each tail after them. A running register takes the place of a register for each tail, if
+// there is one.
+fn look_ahead(
+    tails: &mut [Tail],
+    index: &Index,
+    stream: &Stream<'_>,
+    places: Option<&Places<'_, '_>>,
+    limit: usize,
+) -> usize
     requires tails { All (IsTail (length (window_bytes stream.now)) (window_bytes stream.now)) tails.old }
     requires sized { length (window_bytes stream.now) ≡ index.now.slice_size }
     requires within { limit ≤ length stream.now.bytes.now }
+    requires places { IfSome places (λ places. (places.now.stream ≡ stream.now)
+        × AreAlong places.now) }
     ensures lengths { tail_lengths_of tails.new ≡ tail_lengths_of tails.old }
     ensures each { All (IsTail (length (window_bytes stream.now)) (window_bytes stream.now)) tails.new }
     ensures within { result ≤ limit }
@@ -51,15 +124,11 @@ fn look_ahead(tails: &mut [Tail], index: &Index, stream: &Stream<'_>, limit: usi
         (window_bytes stream.now) stream.now.bytes.now) tails.new }
 {
     let mut passed = limit;
-    let mut done = 0;
-    while done < tails.len() {
-        if tails.len() - done < 4 {
-            passed = look_ahead_alone(tails, done, index, stream, passed);
-            done += 1;
-        } else {
-            passed = look_ahead_in_turn(tails, done, index, stream, passed);
-            done += 4;
-        }
+    for k in 0..tails.len() {
+        passed = match places {
+            Some(places) => look_ahead_by(tails, k, index, places, passed),
+            None => look_ahead_alone(tails, k, index, stream, passed),
+        };
     }
     passed
 }
@@ -90,42 +159,33 @@ fn look_ahead_alone(
     roll.passed()
 }
 
-// How many places four tails pass, this one and the next three.
-fn look_ahead_in_turn(
+// The same by a running register.
+fn look_ahead_by(
     tails: &mut [Tail],
     first: usize,
     index: &Index,
-    stream: &Stream<'_>,
+    places: &Places<'_, '_>,
     limit: usize,
 ) -> usize
-    requires tails { All (IsTail (length (window_bytes stream.now)) (window_bytes stream.now)) tails.old }
-    requires there { first + 3 < length tails.old }
-    requires sized { length (window_bytes stream.now) ≡ index.now.slice_size }
-    requires within { limit ≤ length stream.now.bytes.now }
+    requires tails { All (IsTail (length (window_bytes places.now.stream))
+        (window_bytes places.now.stream)) tails.old }
+    requires there { first < length tails.old }
+    requires sized { length (window_bytes places.now.stream) ≡ index.now.slice_size }
+    requires within { limit ≤ length places.now.stream.bytes.now }
+    requires along { AreAlong places.now }
     ensures lengths { tail_lengths_of tails.new ≡ tail_lengths_of tails.old }
-    ensures each { All (IsTail (length (window_bytes stream.now)) (window_bytes stream.now)) tails.new }
+    ensures each { All (IsTail (length (window_bytes places.now.stream))
+        (window_bytes places.now.stream)) tails.new }
     ensures within { result ≤ limit }
     ensures before { (k : ℕ) (d : Tail) → k < first
         → get_or tails.new k d ≡ get_or tails.old k d }
-    ensures passed { result ≡ length stream.now.bytes.now → (k : ℕ) (d : Tail) → first ≤ k
-        → k < first + 4
-        → HasPassed index.now (window_bytes stream.now) stream.now.bytes.now (get_or tails.new k d) }
+    ensures passed { result ≡ length places.now.stream.bytes.now → (k : ℕ) (d : Tail) → first ≤ k
+        → k < first + 1 → HasPassed index.now (window_bytes places.now.stream)
+        places.now.stream.bytes.now (get_or tails.new k d) }
 {
-    let rolls = roll_in_turn(
-        &Four {
-            one: TailSlices::new(index, &tails[first]),
-            two: TailSlices::new(index, &tails[first + 1]),
-            three: TailSlices::new(index, &tails[first + 2]),
-            four: TailSlices::new(index, &tails[first + 3]),
-        },
-        stream,
-        limit,
-    );
-    set_ahead(tails, first, rolls.one.register);
-    set_ahead(tails, first + 1, rolls.two.register);
-    set_ahead(tails, first + 2, rolls.three.register);
-    set_ahead(tails, first + 3, rolls.four.register);
-    passed_in_turn(&rolls)
+    let roll = TailSlices::new(index, &tails[first]).roll_by(places, limit);
+    set_ahead(tails, first, roll.register);
+    roll.passed()
 }
 
 // Notes a register that is ahead of a tail.

@@ -1,7 +1,7 @@
 ghost use Rattle.std.specs.Prelude.{◌≡◌, ◌+◌, ◌<◌, ◌≤◌, length, slice_index};
 ghost use Rattle.parset.specs.Limits.{slice_size_limit};
 
-use crate::crcs::{ZeroRun, after_byte};
+use crate::crcs::{LowBytes, ZeroRun, after_byte};
 use crate::index::Index;
 use crate::rolling::RollTables;
 use circular_buffer::HeapCircularBuffer;
@@ -18,8 +18,11 @@ pub struct Tail {
     pub tables: RollTables,
     /// What fills the window behind these bytes.
     pub zeros: ZeroRun,
+    /// A run of zeros of the same length.
+    pub lows: LowBytes,
     ghost short: { length ≤ slice_size_limit },
     ghost own: { tables.others + 1 ≡ length },
+    ghost own_zeros: { lows.len ≡ length },
 }
 
 impl Tail {

@@ -4,7 +4,7 @@ ghost use Rattle.parset.specs.Limits.{slice_size_limit};
 ghost use Rattle.parwindow.specs.Tails.{tail_lengths_of, some_tail_slice, IsTail};
 ghost use Rattle.parwindow.specs.Window.{AreTails};
 
-use crate::crcs::ZeroRun;
+use crate::crcs::{LowBytes, ZeroRun};
 use crate::index::Index;
 use crate::rolling::RollTables;
 use crate::tails::tail::{Tail, first_of};
@@ -26,6 +26,7 @@ pub fn tails_for(alloc: Global, size: usize, lengths: &[usize]) -> Result<Vec<Ta
             ahead: 0xFFFF_FFFF,
             tables: RollTables::new(length),
             zeros: ZeroRun::new(size - length),
+            lows: LowBytes::new(length),
         })?;
     }
     Ok(tails)

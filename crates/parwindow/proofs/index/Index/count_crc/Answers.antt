@@ -1,6 +1,6 @@
 use Rattle.std.proofs.Common.{arith}
 use Rattle.parwindow.specs.Index.{has_known_crc}
-use Rattle.parwindow.proofs.slice_laws.CountLaws.{few_pass}
+use Rattle.parwindow.proofs.ListLaws.{few_pass}
 use Rattle.parwindow.proofs.index.Index.count_crc.Goals as goal
 
 pub overflow_cast-result : goal.overflow_cast-result

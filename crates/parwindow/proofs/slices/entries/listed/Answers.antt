@@ -18,8 +18,11 @@ loop-number-preserved c =
           w.in_default.is c.loop-number.invariant)
     ]
 
-pub returns : goal.returns
-returns c = index_all c.args.slices.now c.loop-number.list.items c.loop-number.number (omega arith)
+pub returns-clause-few : goal.returns-clause-few
+returns-clause-few c = omega (arith, c.loop-number.invariant.few)
+
+pub returns-clause-index : goal.returns-clause-index
+returns-clause-index c = index_all c.args.slices.now c.loop-number.list.items c.loop-number.number (omega arith)
     c.loop-number.invariant
 
 pub returns-in_err-list : goal.returns-in_err-list

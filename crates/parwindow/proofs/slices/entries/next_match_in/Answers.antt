@@ -9,7 +9,7 @@ returns-in-Some c =
     let same = same_bytes c.in-Some.entry.now.digest c.args.digest.0
     (sym c.if-eq.true ∙ c.eq.ensures) in
     λ slices indexed.
-    next_found slices c.args.entries.now indexed c.args.crc c.args.digest.0 c.args.from
+    next_found slices c.args.entries.now c.args.crc c.args.digest.0 indexed c.args.from
     c.first_not_below.result
     c.first_not_below.ensures
     c.in-Some.entry.now there.3.0 (sym there.1) c.if-entry-crc.true same
@@ -18,7 +18,7 @@ pub returns-in_default : goal.returns-in_default
 returns-in_default c =
     let there = c.in-Some.ensures.lookup in
     λ slices indexed.
-    none_other slices c.args.entries.now indexed c.args.crc c.args.digest.0 c.args.from
+    none_other slices c.args.entries.now c.args.crc c.args.digest.0 indexed c.args.from
     c.first_not_below.result
     c.first_not_below.ensures
     c.in-Some.entry.now there.3.0 (sym there.1)
@@ -29,7 +29,7 @@ pub returns-in_default-2 : goal.returns-in_default-2
 returns-in_default-2 c =
     let there = c.in-Some.ensures.lookup in
     λ slices indexed.
-    none_other slices c.args.entries.now indexed c.args.crc c.args.digest.0 c.args.from
+    none_other slices c.args.entries.now c.args.crc c.args.digest.0 indexed c.args.from
     c.first_not_below.result
     c.first_not_below.ensures
     c.in-Some.entry.now there.3.0 (sym there.1)
@@ -40,7 +40,7 @@ returns-in_default-3 c =
     let past : length c.args.entries.now ≤ c.first_not_below.result =
     rw c.in_default.is at c.get.ensures.lookup.3 in
     λ slices indexed.
-    none_past slices c.args.entries.now indexed c.args.crc c.args.digest.0 c.args.from
+    none_past slices c.args.entries.now c.args.crc c.args.digest.0 indexed c.args.from
     c.first_not_below.result
     c.first_not_below.ensures past
 

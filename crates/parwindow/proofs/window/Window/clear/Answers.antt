@@ -15,4 +15,5 @@ invariant_of-self c =
       tails = rw (refilled w.tails.items c.clear_tails.new.tails w.tails.len w.tails.ok.0 same)
           (c.clear_tails.ensures.each w.ring.capacity w.ring.items
           (rw c.deref_mut.ensures.value c.self.invariant.tails));
+      running = c.clear_running.ensures w.ring.capacity w.ring.items c.self.invariant.running;
     })

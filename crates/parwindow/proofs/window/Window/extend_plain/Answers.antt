@@ -20,6 +20,7 @@ invariant_of-self c =
       room = held.room;
       rolled = register_of-piece w.ring.items bytes;
       tails = each_of_none (IsTail w.ring.capacity (w.ring.items ++ bytes)) w.tails.items none;
+      running = tt;
     })
 
 pub returns : goal.returns

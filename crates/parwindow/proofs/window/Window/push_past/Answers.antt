@@ -29,6 +29,8 @@ invariant_of-self-2 c =
       tails = rw (refilled w.tails.items c.pass_tails-passed.new.tails w.tails.len w.tails.ok.0
           lengths)
           (rw (c.as_slices.ensures, full) at (c.pass_tails-passed.ensures.all all));
+      running = rw (← pushed_all w.ring.items bytes w.ring.capacity full)
+          (rw (c.as_slices.ensures, full) at (c.pass_tails-passed.ensures.ran all));
     })
 
 pub returns-clause-all : goal.returns-clause-all

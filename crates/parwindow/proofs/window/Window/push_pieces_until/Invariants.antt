@@ -13,4 +13,4 @@ invariant-loop-done l = record {
 }
 
 abbrev pub decreases-loop-done : goal.decreases-loop-done
-decreases-loop-done l = (length l.bytes - l.done) * 1024 + l.most
+decreases-loop-done l = (length l.bytes - l.done) * 2048 + l.most

@@ -4,20 +4,21 @@ use Rattle.parwindow.specs.Entries.{is_between}
 use Rattle.parwindow.specs.Index.{has_own}
 use Rattle.parwindow.specs.Missing.{has_fit_crc_of}
 use Rattle.parwindow.proofs.slice_laws.MissingLaws.{entries_there, none_unfound, own_between, own_past, unfound_is}
+use Rattle.parwindow.proofs.slice_laws.WithCrcLaws.{with_crc}
 use Rattle.parwindow.proofs.slices.entries.Entries.is_missing_of.Goals as goal
 
 pub has_open-requires-clause-there : goal.has_open-requires-clause-there
 has_open-requires-clause-there c =
-    entries_there c.args.slices.now c.deref.result.now c.with_crc.result.now
-    (rw c.deref.ensures.value c.requires.indexed) c.args.crc
-    c.with_crc.ensures
+    entries_there c.args.slices.now c.args.self.now.list.items c.with_crc.result.now
+    c.requires.indexed c.args.crc
+    (rw c.with_crc.ensures.all (with_crc c.args.self.now.list.items c.args.crc))
 
 pub returns-then-own-left : goal.returns-then-own-left
 returns-then-own-left c =
     λ size. c.has_open.ensures
-    ∙ unfound_is c.args.slices.now c.deref.result.now c.with_crc.result.now
-    (rw c.deref.ensures.value c.requires.indexed) c.args.crc
-    c.with_crc.ensures (has_own c.args.own (has_fit_crc_of c.args.crc c.args.left))
+    ∙ unfound_is c.args.slices.now c.args.self.now.list.items c.with_crc.result.now
+    c.requires.indexed c.args.crc
+    (rw c.with_crc.ensures.all (with_crc c.args.self.now.list.items c.args.crc)) (has_own c.args.own (has_fit_crc_of c.args.crc c.args.left))
     (is_between c.args.own c.args.own)
     (own_between c.args.crc c.args.own c.args.left c.if-own-left.true) c.args.found.now
 

@@ -15,4 +15,4 @@ returns-in_err-list c = grind (arith, common_steps) steps 100000
 pub returns : goal.returns
 returns c =
     index_moved c.args.slices.now c.in_ok-list.list.items c.sort_unstable.new.self.items
-    c.sort_unstable.ensures.permutation c.in_ok-list.ensures
+    c.sort_unstable.ensures.permutation c.in_ok-list.ensures.index
