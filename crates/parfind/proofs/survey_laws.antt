@@ -8,6 +8,8 @@ pub mod SurveyGoesOnLaws
 pub mod SurveyedSoFarLaws
 pub mod SurveyFilesLaws
 pub mod LookLaws
+pub mod ExpectingLaws
+pub mod RoundLaws
 pub mod NearLaws
 pub mod SurveyStates
 pub mod MissingSetLaws

@@ -3,11 +3,25 @@ use Rattle.std.specs.Prelude.{◌≡◌, ◌+◌, ◌≤◌, ℕ, false, slice_i
 use Rattle.parshelf.specs.Shelf.{ShelfState}
 use Rattle.parwindow.specs.Index.{SliceSet, set_has_fit}
 use Rattle.parfind.specs.Fetched.{Place, ahead_limit, upto}
+use Rattle.parfind.specs.declared.tracks.mode.Mode.{Mode}
+use Rattle.parfind.specs.declared.tracks.mode.Mode.TheVariants.{Plain, Tails}
 
 -- of each file at most its length
 abbrev pub HandsEachOnce : ShelfState → ShelfState → Type 0
 HandsEachOnce old new =
     (f : ℕ) → slice_index new.handed f ≤ slice_index old.handed f + slice_index old.lengths f
+
+-- how much of a file of this length a survey reads at most: twice its length, if short slices are
+-- looked for anywhere
+abbrev pub surveyed_length : Mode → ℕ → ℕ
+surveyed_length Plain size = size
+surveyed_length Tails size = size + size
+
+-- of each file at most what a survey of it reads
+abbrev pub HandsInMode : Mode → ShelfState → ShelfState → Type 0
+HandsInMode mode old new =
+    (f : ℕ) → slice_index new.handed f
+    ≤ slice_index old.handed f + surveyed_length mode (slice_index old.lengths f)
 
 -- the place a window of this size and 4,096 bytes after another
 abbrev pub further : ℕ → Place → Place

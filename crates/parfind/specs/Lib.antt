@@ -1,9 +1,11 @@
+pub mod Expecting
 pub mod Fetched
 pub mod Sought
 pub mod KeptDigests
 pub mod Starts
 pub mod Fitting
 pub mod Tracks
+pub mod Rounds
 pub mod Runs
 pub mod AnswersToldOf
 pub mod CursorText
@@ -21,7 +23,9 @@ pub mod Finders
 pub mod NextPlace
 pub mod PlaceVisit
 pub mod Surveys
+pub mod Waiting
 pub mod Noting
+pub mod ShortFields
 pub mod Smaller
 pub mod Surveying
 pub use Rattle.parshelf.specs.Reads

@@ -3,6 +3,7 @@ use Rattle.std.specs.Prelude.{◌≡◌, ℕ, ◌+◌, ◌≤◌, ◌||◌, ◌�
 use Rattle.std.specs.List.{sum_by}
 use Rattle.parshelf.specs.Shelf.{ShelfState, ReadsAs}
 use Rattle.parshelf.specs.declared.shelves.reading.ReadFault.{ReadFault}
+use Rattle.parfind.specs.Expecting.{ShortState, is_strict}
 use Rattle.parfind.specs.Sought.{Sought}
 use Rattle.parwindow.specs.Window.{WindowState}
 use Rattle.parfind.specs.declared.cursors.cursor.Cursor.{Cursor}
@@ -37,30 +38,31 @@ missing_between scan found c d =
     sum_by (missing_at scan found) (places_between (map length scan.contents) c d)
 
 -- from the beginning of all files it has come to a cursor; finds, stops and digests are those of any
--- files that the shelf reads as so far
-pub record Surveyed (sought : Sought) (old now : SurveyState) (c : Cursor) : Type 0 where
+-- files that the shelf reads as so far. How far it has read ahead, at which place it stops and how often
+-- it has hashed is said only of a strict survey, which expects no slice anywhere
+pub record Surveyed (short : ShortState) (sought : Sought) (old now : SurveyState) (c : Cursor) : Type 0 where
   pub found : (files : List (List ℕ)) → ReadsAs now.shelf files → (n : ℕ)
       → found_at now.found n ≡ (found_at old.found n || is_sighted_before (scan_of sought files) c n)
   pub kept : (n : ℕ) → found_at old.found n ≡ true → found_at now.found n ≡ true
   pub hands :
       ReadsUpTo old.shelf now.shelf (record { file = 0; offset = 0 }) (fetched_of now.track)
-  pub unfit : SkipsUnfit (missing_set sought.set old.found) old.shelf now.shelf
-  pub near : IsNear sought.set.slice_size (fetched_of now.track) c
-  pub stops : (files : List (List ℕ)) → ReadsAs now.shelf files → (p : Place)
+  pub unfit : SkipsUnfit (missing_set short.set old.found) old.shelf now.shelf
+  pub near : is_strict short ≡ true → IsNear sought.set.slice_size (fetched_of now.track) c
+  pub stops : is_strict short ≡ true → (files : List (List ℕ)) → ReadsAs now.shelf files → (p : Place)
       → AllSightedBy (scan_of sought files) old.found p
       → IsNear sought.set.slice_size (fetched_of now.track) (cursor_at p)
-  pub digests : (files : List (List ℕ)) → ReadsAs now.shelf files → now.window.digests
+  pub digests : is_strict short ≡ true → (files : List (List ℕ)) → ReadsAs now.shelf files → now.window.digests
       ≤ old.window.digests + missing_between (scan_of sought files) old.found origin c
   pub capacity : now.window.capacity ≡ old.window.capacity
 
 -- it ends at a cursor: each slice is settled there, or all files are before it, or a file could
--- not be read; it reads nothing if each slice is settled at the beginning
+-- not be read; a strict one reads nothing if each slice is settled at the beginning
 pub record SurveyEnds
-    (sought : Sought) (old new : SurveyState) (result : Result Unit ReadFault) : Type 0 where
+    (short : ShortState) (sought : Sought) (old new : SurveyState) (result : Result Unit ReadFault) : Type 0 where
   pub cursor : Cursor
-  pub surveyed : Surveyed sought old new cursor
+  pub surveyed : Surveyed short sought old new cursor
   pub first : cursor.slice ≡ 0
   pub file_is : cursor.file ≡ new.track.file
-  pub none : AreAllSettled sought.set old.found → new.shelf ≡ old.shelf
+  pub none : is_strict short ≡ true → AreAllSettled sought.set old.found → new.shelf ≡ old.shelf
   pub all : OnOk result
       (AreAllSettled sought.set new.found ⊎ (length old.shelf.lengths ≤ cursor.file))

@@ -10,11 +10,12 @@ use Rattle.parset.specs.RecoverySet.{SetView}
 use Rattle.parwindow.specs.Index.{SliceSet, slice_set_of, has_fit_of, set_has_fit}
 use Rattle.parwindow.specs.Missing.{missing_set}
 use Rattle.parfind.specs.Fetched.{Place, ReadsUpTo}
-use Rattle.parfind.specs.Handover.{HandsEachOnce, SkipsUnfit}
+use Rattle.parfind.specs.Handover.{HandsInMode, SkipsUnfit, surveyed_length}
 use Rattle.parfind.specs.OnePass.{room_of}
 use Rattle.parfind.specs.Places.{place_at}
 use Rattle.parfind.specs.Points.{SearchState}
 use Rattle.parfind.specs.declared.cursors.cursor.Cursor.{Cursor}
+use Rattle.parfind.specs.declared.tracks.mode.Mode.{Mode}
 use Rattle.parfind.proofs.track_laws.FetchedLaws.{hands_more}
 use Rattle.parfind.proofs.survey_laws.MissingSetLaws.{any_missing}
 use Rattle.parfind.proofs.search_laws.ReachLaws.{reach_adds_up}
@@ -121,22 +122,23 @@ skips_more set found old new skips f none =
     let both : true ≡ false = sym (any_missing (has_fit_of left) (λ slice. refl) set.slices found fits) ∙ none in cc))
 
 -- a search for those of its slices that have no mark
-pub searched_once : (set : SetView) (index : SliceSet) (found : List Bool) (s t : ShelfState) → index ≡ slice_set_of set.size set.slices
-    → HandsEachOnce s t → SkipsUnfit (missing_set index found) s t
-    → HandsPerFile (λ file. searched_length_of set (slice_index s.lengths file)) s t
-searched_once set index found s t is once skips file =
+pub searched_once : (mode : Mode) (set : SetView) (index : SliceSet) (found : List Bool) (s t : ShelfState) → index ≡ slice_set_of set.size set.slices
+    → HandsInMode mode s t → SkipsUnfit (missing_set index found) s t
+    → HandsPerFile (λ file. searched_length_of set mode (slice_index s.lengths file)) s t
+searched_once mode set index found s t is hands skips file =
     let n = slice_index s.lengths file in
     let none : set_has_fit index n ≡ false → slice_index t.handed file ≤ slice_index s.handed file
     = skips_more index found s t skips file in
-    once_if (set_has_fit (slice_set_of set.size set.slices) n) n (slice_index s.handed file) (slice_index t.handed file) (once file) (rw is at none)
+    once_if (set_has_fit (slice_set_of set.size set.slices) n) (surveyed_length mode n) (slice_index s.handed file) (slice_index t.handed file)
+    (hands file) (rw is at none)
 
 -- before it, files were checked
-pub only_checked : (set : SetView) (s t : ShelfState) → ReadsCandidates set.files s t
-    → HandsPerFile (λ file. verified_length_of set (slice_index s.lengths file)) s t
-only_checked set s t checked file = omega (arith, checked file)
+pub only_checked : (mode : Mode) (set : SetView) (s t : ShelfState) → ReadsCandidates set.files s t
+    → HandsPerFile (λ file. verified_length_of set mode (slice_index s.lengths file)) s t
+only_checked mode set s t checked file = omega (arith, checked file)
 
-pub checked_and_searched : (set : SetView) (s t u : ShelfState) → t.lengths ≡ s.lengths → ReadsCandidates set.files s t
-    → HandsPerFile (λ file. searched_length_of set (slice_index t.lengths file)) t u
-    → HandsPerFile (λ file. verified_length_of set (slice_index s.lengths file)) s u
-checked_and_searched set s t u same checked searched file =
+pub checked_and_searched : (mode : Mode) (set : SetView) (s t u : ShelfState) → t.lengths ≡ s.lengths → ReadsCandidates set.files s t
+    → HandsPerFile (λ file. searched_length_of set mode (slice_index t.lengths file)) t u
+    → HandsPerFile (λ file. verified_length_of set mode (slice_index s.lengths file)) s u
+checked_and_searched mode set s t u same checked searched file =
     let later = rw same at (searched file) in omega (arith, checked file, later)

@@ -6,11 +6,14 @@ use Rattle.parset.specs.RecoverySet.{SetView}
 use Rattle.parwindow.specs.Index.{slice_set_of, set_has_fit}
 use Rattle.parfind.specs.Order.{origin}
 use Rattle.parfind.specs.OnePass.{room_of}
+use Rattle.parfind.specs.Handover.{surveyed_length}
 use Rattle.parfind.specs.declared.cursors.cursor.Cursor.{Cursor}
+use Rattle.parfind.specs.declared.tracks.mode.Mode.{Mode}
 use Rattle.parfind.specs.declared.cursors.cursor_text.CursorText.{CursorText}
 use Rattle.parplan.specs.declared.command.Command.{Command}
 use Rattle.parplan.specs.declared.command.Command.TheVariants as command
 use Rattle.parreport.specs.Contents.{HandsPerFile, checked_length_of}
+use Rattle.parreport.specs.SetSearch.{mode_of}
 
 -- of each packet file no more than one salvage of its bytes may be handed, in any files of which that
 -- was read
@@ -24,16 +27,16 @@ abbrev pub cursor_asked_of : Option CursorText → Cursor
 cursor_asked_of None = origin
 cursor_asked_of (Some text) = text.at
 
--- how many bytes of a file of this length may be searched for slices of a set: all, where a slice
--- with sums fits into it, else none
-abbrev pub searched_length_of : SetView → ℕ → ℕ
-searched_length_of set n =
-    if set_has_fit (slice_set_of set.size set.slices) n then n else 0
+-- how many bytes of a file of this length may be handed to a search for slices of a set: what a survey
+-- may be handed, if a slice with sums fits into it, else none
+abbrev pub searched_length_of : SetView → Mode → ℕ → ℕ
+searched_length_of set mode n =
+    if set_has_fit (slice_set_of set.size set.slices) n then surveyed_length mode n else 0
 
--- how many bytes of a file of this length `verify` may read for a set: what it is checked by, and
--- what of it may be searched
-abbrev pub verified_length_of : SetView → ℕ → ℕ
-verified_length_of set n = checked_length_of set.files n + searched_length_of set n
+-- how many bytes of a file of this length `verify` may be handed for a set: what it is checked by, and
+-- those of a search
+abbrev pub verified_length_of : SetView → Mode → ℕ → ℕ
+verified_length_of set mode n = checked_length_of set.files n + searched_length_of set mode n
 
 -- how many bytes of a scanned file, by the lengths of all and its number, a command over a set may be
 -- handed: `find` what is ahead of the cursor
@@ -41,7 +44,7 @@ abbrev pub scanned_limit_of : Command → SetView → List ℕ → ℕ → ℕ
 scanned_limit_of (command.Find limit cursor tails) set lengths file =
     room_of lengths (cursor_asked_of cursor) file
 scanned_limit_of (command.Verify quiet tails) set lengths file =
-    verified_length_of set (slice_index lengths file)
+    verified_length_of set (mode_of tails) (slice_index lengths file)
 scanned_limit_of _ set lengths file = 0
 
 -- of each scanned file no more than its limit

@@ -33,7 +33,7 @@ unknown_fits : (slice : Option SetSlice) (left : ℕ) → option_map_or has_know
 unknown_fits None left lacks = refl
 unknown_fits (Some slice) left lacks = no_sums (nat_le slice.length left) slice.sums lacks
 
-some_sums : {A : Type 0} (fits : Bool) (sums : Option A) → is_some sums ≡ true → option_map_or (λ known. fits) sums false ≡ fits
+pub some_sums : {A : Type 0} (fits : Bool) (sums : Option A) → is_some sums ≡ true → option_map_or (λ known. fits) sums false ≡ fits
 some_sums fits None e = cc
 some_sums fits (Some known) e = refl
 

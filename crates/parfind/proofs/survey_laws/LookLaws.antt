@@ -1,6 +1,7 @@
 -- A survey looks into a full window by the index that is lent to it: what it finds there, and whether a slice that was missing fits.
 use Rattle.std.proofs.Common.{◌≡◌, ℕ, ◌-◌, ◌^◌, ◌<◌, ◌≤◌, Bool, true, false, nat_le, List, length, sym, ap, ◌∙◌, subst, arith, Option, slice_index}
 use Rattle.std.proofs.lemmas.Bool.{false_from_ne_true, le-leb, leb-true}
+use Rattle.parfind.specs.Expecting.{ShortState, is_strict}
 use Rattle.parwindow.specs.Index.{SliceSet, set_has_fit, slice_passes}
 use Rattle.parwindow.specs.Missing.{missing_set}
 use Rattle.parwindow.specs.Window.{WindowState}
@@ -15,10 +16,10 @@ use Rattle.parfind.proofs.survey_laws.SurveyGoesOnLaws.{made_same}
 use Rattle.parfind.proofs.survey_laws.SurveyedSoFarLaws.{IsNextMissing}
 
 -- whether a slice that was missing fits into what is left of a file, by the least length of these
-module _ (sought : Sought) (part : SliceSet) (old now : SurveyState) (missing : ℕ) (exhausted : List (Option ℕ)) (left least : ℕ)
-    (at : Missing sought part old now missing exhausted left)
+module _ (short : ShortState) (sought : Sought) (part : SliceSet) (old now : SurveyState) (missing : ℕ) (exhausted : List (Option ℕ)) (left least : ℕ)
+    (at : Missing short sought part old now missing exhausted left)
     (is : (left : ℕ) → left < 2 ^ 64 - 1 → set_has_fit (missing_set sought.set old.found) left ≡ nat_le least left)
-    (short : slice_index now.shelf.lengths now.track.file < 2 ^ 63) where
+    (below : slice_index now.shelf.lengths now.track.file < 2 ^ 63) where
   small : left < 2 ^ 64 - 1
   small = omega (arith, at.left_is)
 
@@ -38,18 +39,20 @@ module _ (sought inner : Sought) (given : SliceSet) (smaller : Option SliceSet) 
   part_sought = ap (λ (s : SliceSet). sought_of s inner.mode) part_lent ∙ ap (λ (s : Sought). sought_of (part_of sought.set smaller) s.mode) view
 
   -- by it the slices are found that are seen in the window
-  pub compared_at : (filled : SurveyState) (left : ℕ) (w : WindowState) (more : List Bool) (missing last : ℕ)
+  pub compared_at : (short : ShortState) (filled : SurveyState) (left : ℕ) (w : WindowState) (more : List Bool) (missing last : ℕ)
       → length filled.window.content ≡ filled.window.capacity → 0 < left → length more ≡ length filled.found
       → FindsMore (slice_passes given.slices (is_fitting_compared inner.mode filled.window.content left)) filled.found more
-      → TakesDigests (count_missing (sought_of given inner.mode) filled.found filled.window.content left) filled.window w
-      → IsNextMissing sought.set more missing last → ComparedAt sought (part_of sought.set smaller) filled left w more missing last
-  compared_at filled left w more missing last full some each found takes next = record {
+      → w ≡ record filled.window { digests = w.digests }
+      → (is_strict short ≡ true → TakesDigests (count_missing (sought_of given inner.mode) filled.found filled.window.content left) filled.window w)
+      → IsNextMissing sought.set more missing last → ComparedAt short sought (part_of sought.set smaller) filled left w more missing last
+  compared_at short filled left w more missing last full some each found window takes next = record {
     full = full;
     some = some;
     each = each;
     found = subst (λ (s : Sought). FindsMore (slice_passes s.set.slices (is_fitting_compared s.mode filled.window.content left)) filled.found more)
         part_sought found;
-    takes = subst (λ (s : Sought). TakesDigests (count_missing s filled.found filled.window.content left) filled.window w) part_sought takes;
+    window_is = window;
+    takes = λ is. subst (λ (s : Sought). TakesDigests (count_missing s filled.found filled.window.content left) filled.window w) part_sought (takes is);
     next = next;
   }
 
@@ -65,6 +68,6 @@ module _ (sought : Sought) (u v w : WindowState) (before : v ≡ record u { cont
   pub made_filled : IsWindowFor sought w
   made_filled = made_same sought u w capacity tails made
 
-  pub made_noted : (count : ℕ) (x : WindowState) → TakesDigests count w x → IsWindowFor sought x
-  made_noted count x takes =
-      made_same sought u x (ap (λ (y : WindowState). y.capacity) takes ∙ capacity) (ap (λ (y : WindowState). y.tails) takes ∙ tails) made
+  pub made_noted : (x : WindowState) → x ≡ record w { digests = x.digests } → IsWindowFor sought x
+  made_noted x is =
+      made_same sought u x (ap (λ (y : WindowState). y.capacity) is ∙ capacity) (ap (λ (y : WindowState). y.tails) is ∙ tails) made

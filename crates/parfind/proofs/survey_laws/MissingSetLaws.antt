@@ -121,7 +121,7 @@ module _ (set : SliceSet) (found : List Bool) (each : length found ≡ length se
         ap (λ (s : Option SetSlice). option_map_or (is_seen mode set.slice_size (content_of all x.file) x.offset) s false)
         (same_slice set.slices found x.slice each none)
 
-    found_alike : (n : ℕ) → found_at found n ≡ false → (test : Sighting → Bool) → ((x : Sighting) → test x ≡ true → x.slice ≡ n)
+    pub found_alike : (n : ℕ) → found_at found n ≡ false → (test : Sighting → Bool) → ((x : Sighting) → test x ≡ true → x.slice ≡ n)
         → list_any test (sightings_of part) ≡ list_any test (sightings_of all)
     unfolding sightings_of
     found_alike n none test one =

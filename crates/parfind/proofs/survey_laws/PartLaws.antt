@@ -29,7 +29,7 @@ none_set : (count : ℕ) → list_any (λ found. found) (replicate count false) 
 none_set zero = refl
 none_set (suc count) = none_set count
 
-never_set : (count n : ℕ) → found_at (replicate count false) n ≡ true → ⊥
+pub never_set : (count n : ℕ) → found_at (replicate count false) n ≡ true → ⊥
 never_set zero n h = cc
 never_set (suc count) zero h = cc
 never_set (suc count) (suc n) h = never_set count n h

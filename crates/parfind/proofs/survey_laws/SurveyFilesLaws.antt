@@ -1,6 +1,7 @@
 -- A survey on its way over the files: it enters the next one, fills its window, notes what is seen there, and slides on.
 use Rattle.std.proofs.Common.{◌≡◌, ℕ, ◌+◌, ◌<◌, ◌≤◌, Bool, true, false, List, [], length, replicate, refl, sym, ap, ◌∙◌, arith, Option, None, Ok, Err, inl, inr, slice_index}
 use Rattle.std.proofs.lemmas.Bool.{cases_lt, or_cases, or_left, or_right}
+use Rattle.parfind.specs.Expecting.{ShortState, is_strict}
 use Rattle.parshelf.specs.Shelf.{ShelfState, ReadsAs, file_of}
 use Rattle.parshelf.specs.Reads.{ReadsOnly}
 use Rattle.parshelf.specs.declared.shelves.reading.ReadFault.{ReadFault}
@@ -24,29 +25,29 @@ use Rattle.parfind.proofs.survey_laws.SurveyStates.{ComparedAt, Missing, ReadOn,
 use Rattle.parfind.proofs.survey_laws.SurveyedSoFarLaws.{SurveySoFar, never_all}
 use Rattle.parfind.proofs.survey_laws.SurveyGoesOnLaws.{swept_enter, swept_fill, swept_look, swept_pass, swept_read, kept_capacity}
 
-module _ (sought : Sought) (part : SliceSet) (old now : SurveyState) (missing : ℕ) (exhausted : List (Option ℕ)) (left : ℕ)
-    (at : Missing sought part old now missing exhausted left) where
-  there : missing < length old.found
-  there = omega (arith, at.open_is, at.each)
+module _ (short : ShortState) (sought : Sought) (part : SliceSet) (old now : SurveyState) (missing : ℕ) (exhausted : List (Option ℕ)) (left : ℕ)
+    (at : Missing short sought part old now missing exhausted left) where
+  there : is_strict short ≡ true → missing < length old.found
+  there is = omega (arith, at.open_is is, at.each)
 
-  unsettled : is_settled sought.set now.found missing ≡ false
-  unsettled = let so_far = at.so_far in so_far.first at.open_is
+  unsettled : is_strict short ≡ true → is_settled sought.set now.found missing ≡ false
+  unsettled is = let so_far = at.so_far in so_far.first (at.open_is is)
 
-  room : now.track.window_offset + left ≡ slice_index old.shelf.lengths now.track.file
+  pub room : now.track.window_offset + left ≡ slice_index old.shelf.lengths now.track.file
   room =
       let so_far = at.so_far in
       omega (arith, at.left_is, so_far.inside at.counted, ap (λ (u : ShelfState). slice_index u.lengths now.track.file) so_far.reads.counts)
 
-  sized : now.window.capacity ≡ sought.set.slice_size
+  pub sized : now.window.capacity ≡ sought.set.slice_size
   sized = let so_far = at.so_far in so_far.surveyed.capacity ∙ at.capacity_is
 
   -- then not each slice was settled
-  some_missing : AreAllSettled sought.set old.found → ⊥
-  some_missing = never_all sought part old now missing exhausted at.so_far at.open_is at.each
+  some_missing : is_strict short ≡ true → AreAllSettled sought.set old.found → ⊥
+  some_missing is = never_all short sought part old now missing exhausted at.so_far (at.open_is is) at.each
 
   -- no slice that was missing fits, and the next file is entered
   pub enters : set_has_fit (missing_set sought.set old.found) left ≡ false → (w : WindowState) (t : Track) → IsUnread (now.track.file + 1) 0 t
-      → w ≡ record now.window { content = [] } → SurveySoFar sought part old (survey_at now.shelf w now.found t) missing (replicate 257 None)
+      → w ≡ record now.window { content = [] } → SurveySoFar short sought part old (survey_at now.shelf w now.found t) missing (replicate 257 None)
   enters full w t unread window =
       let so_far = at.so_far in
       record {
@@ -62,28 +63,29 @@ module _ (sought : Sought) (part : SliceSet) (old now : SurveyState) (missing : 
         none = so_far.none;
         window_is = kept_capacity old.window now.window w so_far.window_is (ap (λ (x : WindowState). x.capacity) window)
             (ap (λ (x : WindowState). x.tails) window);
-        surveyed = swept_enter sought old now so_far.reads missing there unsettled left room at.each_slice full so_far.surveyed
+        surveyed = swept_enter short sought old now so_far.reads missing there unsettled left room at.each_slice full so_far.surveyed
             (survey_at now.shelf w now.found t) refl refl unread window;
       }
 
   -- the window is filled
-  module _ (fits : set_has_fit (missing_set sought.set old.found) left ≡ true) (filled : SurveyState) (fill : ReadOn now filled) where
-    pub fill_fails : (fault : ReadFault) → SurveyEnds sought old filled (Err fault)
+  module _ (fit : ℕ) (fits : set_has_fit (missing_set short.set old.found) fit ≡ true)
+      (within : fit ≤ slice_index old.shelf.lengths now.track.file) (filled : SurveyState) (fill : ReadOn now filled) where
+    pub fill_fails : (fault : ReadFault) → SurveyEnds short sought old filled (Err fault)
     fill_fails fault =
         let so_far = at.so_far in
         record {
           cursor = cursor_of_track filled.track;
-          surveyed = swept_fill sought old now so_far.reads missing there unsettled left fits room sized so_far.surveyed filled fill.found_is
+          surveyed = swept_fill short sought old now so_far.reads missing there unsettled left fit fits within room sized so_far.surveyed filled fill.found_is
               fill.older fill.tied fill.window_is fill.same fill.hands;
           first = refl;
           file_is = refl;
-          none = λ all. absurd (some_missing all);
+          none = λ is all. absurd (some_missing is all);
           all = tt;
         }
 
     -- the slices that are seen in it are found
     module _ (only : ReadsOnly now.shelf filled.shelf) (w : WindowState) (more : List Bool) (last : ℕ)
-        (look : ComparedAt sought part filled left w more missing last) where
+        (look : ComparedAt short sought part filled left w more missing last) where
       abbrev seen : SurveyState
       seen = survey_at filled.shelf w more filled.track
 
@@ -95,13 +97,13 @@ module _ (sought : Sought) (part : SliceSet) (old now : SurveyState) (missing : 
           let so_far = at.so_far in
           part_kept sought.set now.found more part (λ n had. look.found n ∙ or_left _ _ (ap (λ xs. found_at xs n) fill.found_is ∙ had)) so_far.part_is
 
-      looked : Surveyed sought old seen (cursor_on (cursor_of_track filled.track) 1)
+      looked : Surveyed short sought old seen (cursor_on (cursor_of_track filled.track) 1)
       looked =
           let so_far = at.so_far in
-          swept_look sought old now so_far.reads missing there unsettled left fits room sized so_far.surveyed filled fill.found_is
+          swept_look short sought old now so_far.reads missing there unsettled left fit fits within room sized so_far.surveyed filled fill.found_is
           fill.older fill.tied fill.window_is fill.same fill.hands only look.full
           (omega (arith, at.counted, ap (λ (u : ShelfState). length u.lengths) so_far.reads.counts)) look.some
-          part filled_part seen refl refl look.found look.takes
+          part filled_part seen refl refl look.found (ap (λ (x : WindowState). x.capacity) look.window_is) look.takes
 
       all_read : ReadsOnly old.shelf filled.shelf
       all_read = let so_far = at.so_far in ReadsOnly_more old.shelf now.shelf filled.shelf so_far.reads only
@@ -119,44 +121,44 @@ module _ (sought : Sought) (part : SliceSet) (old now : SurveyState) (missing : 
       ]
 
       capacity : w.capacity ≡ now.window.capacity
-      capacity = ap (λ (x : WindowState). x.capacity) look.takes ∙ ap (λ (x : WindowState). x.capacity) fill.window_is
+      capacity = ap (λ (x : WindowState). x.capacity) look.window_is ∙ ap (λ (x : WindowState). x.capacity) fill.window_is
 
       tails : w.tails ≡ now.window.tails
-      tails = ap (λ (x : WindowState). x.tails) look.takes ∙ ap (λ (x : WindowState). x.tails) fill.window_is
+      tails = ap (λ (x : WindowState). x.tails) look.window_is ∙ ap (λ (x : WindowState). x.tails) fill.window_is
 
-      pub look_ends : length more ≤ last → SurveyEnds sought old seen (Ok tt)
+      pub look_ends : length more ≤ last → SurveyEnds short sought old seen (Ok tt)
       look_ends over = record {
         cursor = cursor_on (cursor_of_track filled.track) 1;
         surveyed = looked;
         first = refl;
         file_is = refl;
-        none = λ all. absurd (some_missing all);
+        none = λ is all. absurd (some_missing is all);
         all = inl (λ n less. all_settled n (omega arith));
       }
 
       -- the window slides on
-      module _ (some : last < length more) (t : ShelfState) (v : WindowState) (a : Track) (slid : SlidOn filled w t v a) where
+      module _ (some : is_strict short ≡ true → last < length more) (t : ShelfState) (v : WindowState) (a : Track) (slid : SlidOn filled w t v a) where
         abbrev on : SurveyState
         on = survey_at t v more a
 
-        still_there : last < length old.found
-        still_there = omega (arith, some, look.each, ap length fill.found_is, at.each)
+        still_there : is_strict short ≡ true → last < length old.found
+        still_there is = omega (arith, some is, look.each, ap length fill.found_is, at.each)
 
-        still_unsettled : is_settled sought.set more last ≡ false
-        still_unsettled = let next = look.next in next.first some
+        still_unsettled : is_strict short ≡ true → is_settled sought.set more last ≡ false
+        still_unsettled is = let next = look.next in next.first (some is)
 
-        within_file : left ≤ slice_index old.shelf.lengths filled.track.file
-        within_file = let same = fill.same in omega (arith, room, ap (λ (f : ℕ). slice_index old.shelf.lengths f) same.file_is)
+        within_file : fit ≤ slice_index old.shelf.lengths filled.track.file
+        within_file = let same = fill.same in omega (arith, within, ap (λ (f : ℕ). slice_index old.shelf.lengths f) same.file_is)
 
-        pub slide_fails : (fault : ReadFault) → a.window_offset ≡ filled.track.window_offset → SurveyEnds sought old on (Err fault)
+        pub slide_fails : (fault : ReadFault) → a.window_offset ≡ filled.track.window_offset → SurveyEnds short sought old on (Err fault)
         slide_fails fault stays = record {
           cursor = cursor_on (cursor_of_track filled.track) 1;
-          surveyed = swept_read sought old seen all_read last still_there still_unsettled left
+          surveyed = swept_read short sought old seen all_read last still_there still_unsettled fit
               (cursor_on (cursor_of_track filled.track) 1) looked on refl slid.older slid.tied slid.window_is (capacity ∙ sized) slid.file_is
               (omega (arith, stays)) slid.file_is slid.hands fits within_file;
           first = refl;
           file_is = sym slid.file_is;
-          none = λ all. absurd (some_missing all);
+          none = λ is all. absurd (some_missing is all);
           all = tt;
         }
 
@@ -177,7 +179,7 @@ module _ (sought : Sought) (part : SliceSet) (old now : SurveyState) (missing : 
           pub slides : (crcs : List (Option ℕ)) → AreExhausted (sought_of part sought.mode) more left crcs
               → ((files : List (List ℕ)) → ReadsAs t files
               → HaveNoComparedCrc (sought_of part sought.mode) (file_of files filled.track.file) filled.track.window_offset n)
-              → SurveySoFar sought part old on last crcs
+              → SurveySoFar short sought part old on last crcs
           slides crcs exhausted_is none =
               let so_far = at.so_far in
               let next = look.next in
@@ -197,10 +199,10 @@ module _ (sought : Sought) (part : SliceSet) (old now : SurveyState) (missing : 
                 first = next.first;
                 settled = all_settled;
                 exhausted_is = exhausted_on (sought_of part sought.mode) left crcs more (rest_of t.lengths (cursor_of_track a)) less_left exhausted_is;
-                none = λ all. absurd (some_missing all);
+                none = λ is all. absurd (some_missing is all);
                 window_is = kept_capacity old.window now.window v so_far.window_is
                     (ap (λ (x : WindowState). x.capacity) slid.window_is ∙ capacity)
                     (ap (λ (x : WindowState). x.tails) slid.window_is ∙ tails);
-                surveyed = swept_pass sought old seen all_read last still_there still_unsettled left part more_part n passes.some looked on refl
+                surveyed = swept_pass short sought old seen all_read last still_there still_unsettled fit part more_part n passes.some looked on refl
                     slid.older slid.tied slid.window_is (capacity ∙ sized) slid.file_is passes.offset_is slid.hands none fits within_file;
               }

@@ -1,6 +1,7 @@
 -- A survey that goes on: to the next file, to the next place with the CRC-32 of a slice, over reads, and past a place that it looked at.
-use Rattle.std.proofs.Common.{◌≡◌, ℕ, ◌+◌, ◌-◌, ◌*◌, ◌<◌, ◌≤◌, true, false, List, [], length, refl, sym, ap, ◌∙◌, subst, arith, inl, inr, slice_index}
+use Rattle.std.proofs.Common.{◌≡◌, ℕ, ◌+◌, ◌-◌, ◌*◌, ◌<◌, ◌≤◌, Bool, true, false, List, [], length, refl, sym, ap, ◌∙◌, subst, arith, inl, inr, slice_index}
 use Rattle.std.proofs.lemmas.Bool.{cases_eq}
+use Rattle.parfind.specs.Expecting.{ShortState, is_strict}
 use Rattle.parshelf.specs.Shelf.{ShelfState, ReadsAs, Older, file_of}
 use Rattle.parshelf.specs.Reads.{ReadsOnly}
 use Rattle.parshelf.proofs.ReadLaws.{ReadsOnly_more}
@@ -36,37 +37,41 @@ use Rattle.parfind.proofs.place_laws.SeenLaws.{fit_seen, seen_inside}
 use Rattle.parfind.proofs.survey_laws.SurveyedLaws.{surveyed_on, surveyed_here}
 use Rattle.parfind.proofs.survey_laws.NearLaws.{others_unread, tied_near}
 
-module _ (sought : Sought) (old now : SurveyState) (reads : ReadsOnly old.shelf now.shelf) where
+module _ (short : ShortState) (sought : Sought) (old now : SurveyState) (reads : ReadsOnly old.shelf now.shelf) where
   -- the slices that were missing at the beginning
   abbrev missing_then : SliceSet
   missing_then = missing_set sought.set old.found
+
+  -- the same with those that are expected
+  abbrev all_then : SliceSet
+  all_then = missing_set short.set old.found
 
   same_lengths : now.shelf.lengths ≡ old.shelf.lengths
   same_lengths = ap (λ (s : ShelfState). s.lengths) reads.counts
 
   -- while a slice is not settled
-  module _ (m : ℕ) (there : m < length old.found) (unsettled : is_settled sought.set now.found m ≡ false) (left : ℕ) where
+  module _ (m : ℕ) (there : is_strict short ≡ true → m < length old.found) (unsettled : is_strict short ≡ true → is_settled sought.set now.found m ≡ false) (left : ℕ) where
     -- over a read of the file in which the window is
-    pub swept_read : (c : Cursor) → Surveyed sought old now c → (next : SurveyState) → next.found ≡ now.found → Older now.shelf next.shelf → IsTied next.shelf next.window next.track
+    pub swept_read : (c : Cursor) → Surveyed short sought old now c → (next : SurveyState) → next.found ≡ now.found → Older now.shelf next.shelf → IsTied next.shelf next.window next.track
         → next.window ≡ record now.window { content = next.window.content } → now.window.capacity ≡ sought.set.slice_size
         → next.track.file ≡ c.file → next.track.window_offset ≤ c.offset → next.track.file ≡ now.track.file
         → ReadsUpTo now.shelf next.shelf (fetched_of now.track) (fetched_of next.track)
-        → set_has_fit missing_then left ≡ true → left ≤ slice_index old.shelf.lengths now.track.file → Surveyed sought old next c
+        → set_has_fit all_then left ≡ true → left ≤ slice_index old.shelf.lengths now.track.file → Surveyed short sought old next c
     swept_read c so_far next same older tied window sized file held stays hands fits room =
         let hands' = rw same_lengths at hands in
         let capacity : next.window.capacity ≡ now.window.capacity = ap (λ (w : WindowState). w.capacity) window in
-        surveyed_on sought old now c so_far next c same (From-refl c) older (λ files _ n _. refl) m there unsettled hands'
-        (others_unread missing_then old.shelf.lengths now.shelf.handed next.shelf.handed (fetched_of now.track) (fetched_of next.track) left (sym stays) hands' fits room)
-        (tied_near next.shelf next.window next.track sought.set.slice_size c tied (capacity ∙ sized) file held)
+        surveyed_on short sought old now c so_far next c same (From-refl c) older (λ files _ n _. refl) m there unsettled hands'
+        (others_unread all_then old.shelf.lengths now.shelf.handed next.shelf.handed (fetched_of now.track) (fetched_of next.track) left (sym stays) hands' fits room)
+        (λ _. tied_near next.shelf next.window next.track sought.set.slice_size c tied (capacity ∙ sized) file held)
         (ap (λ (w : WindowState). w.digests) window) capacity
 
     -- past places whose windows have no CRC-32 of a slice that remains
-    pub swept_pass : (part : SliceSet) → IsPart sought.set now.found part → (n : ℕ) → 0 < n → Surveyed sought old now (cursor_on (cursor_of_track now.track) 1) → (next : SurveyState) → next.found ≡ now.found
+    pub swept_pass : (part : SliceSet) → IsPart sought.set now.found part → (n : ℕ) → 0 < n → Surveyed short sought old now (cursor_on (cursor_of_track now.track) 1) → (next : SurveyState) → next.found ≡ now.found
         → Older now.shelf next.shelf → IsTied next.shelf next.window next.track → next.window ≡ record now.window { content = next.window.content }
         → now.window.capacity ≡ sought.set.slice_size → next.track.file ≡ now.track.file → next.track.window_offset ≡ now.track.window_offset + n
         → ReadsUpTo now.shelf next.shelf (fetched_of now.track) (fetched_of next.track)
         → ((files : List (List ℕ)) → ReadsAs next.shelf files → HaveNoComparedCrc (sought_of part sought.mode) (file_of files now.track.file) now.track.window_offset n)
-        → set_has_fit missing_then left ≡ true → left ≤ slice_index old.shelf.lengths now.track.file → Surveyed sought old next (cursor_of_track next.track)
+        → set_has_fit all_then left ≡ true → left ≤ slice_index old.shelf.lengths now.track.file → Surveyed short sought old next (cursor_of_track next.track)
     swept_pass part is n some so_far next same older tied window sized stays held hands none fits room =
         let hands' = rw same_lengths at hands in
         let capacity : next.window.capacity ≡ now.window.capacity = ap (λ (w : WindowState). w.capacity) window in
@@ -75,13 +80,13 @@ module _ (sought : Sought) (old now : SurveyState) (reads : ReadsOnly old.shelf 
         let at : d ≡ cursor_of_track next.track =
         ap (λ (f : ℕ). record { file = f; offset = c.offset + n; slice = 0 }) (sym stays)
         ∙ ap (λ (o : ℕ). record { file = next.track.file; offset = o; slice = 0 }) (sym held) in
-        subst (Surveyed sought old next) at
-        (surveyed_on sought old now (cursor_on c 1) so_far next d same (From-on c 1 n some) older
+        subst (Surveyed short sought old next) at
+        (surveyed_on short sought old now (cursor_on c 1) so_far next d same (From-on c 1 n some) older
         (λ files reads_as. none_whole sought.set now.found part is sought.mode files (cursor_on c 1) d (From-on c 1 n some)
         (on_unseen (scan_of (sought_of part sought.mode) files) c n some (none files reads_as)))
         m there unsettled hands'
-        (others_unread missing_then old.shelf.lengths now.shelf.handed next.shelf.handed (fetched_of now.track) (fetched_of next.track) left (sym stays) hands' fits room)
-        (tied_near next.shelf next.window next.track sought.set.slice_size d tied (capacity ∙ sized) stays (omega (arith, held)))
+        (others_unread all_then old.shelf.lengths now.shelf.handed next.shelf.handed (fetched_of now.track) (fetched_of next.track) left (sym stays) hands' fits room)
+        (λ _. tied_near next.shelf next.window next.track sought.set.slice_size d tied (capacity ∙ sized) stays (omega (arith, held)))
         (ap (λ (w : WindowState). w.digests) window) capacity)
 
     -- to the next file, where no slice that was missing fits into what is left of this one
@@ -115,8 +120,8 @@ module _ (sought : Sought) (old now : SurveyState) (reads : ReadsOnly old.shelf 
             }
           ])
 
-      pub swept_enter : Surveyed sought old now (cursor_of_track now.track) → (next : SurveyState) → next.found ≡ now.found → next.shelf ≡ now.shelf
-          → IsUnread (now.track.file + 1) 0 next.track → next.window ≡ record now.window { content = [] } → Surveyed sought old next (cursor_of_track next.track)
+      pub swept_enter : Surveyed short sought old now (cursor_of_track now.track) → (next : SurveyState) → next.found ≡ now.found → next.shelf ≡ now.shelf
+          → IsUnread (now.track.file + 1) 0 next.track → next.window ≡ record now.window { content = [] } → Surveyed short sought old next (cursor_of_track next.track)
       swept_enter so_far next same still unread window =
           let c : Cursor = cursor_of_track now.track in
           let d : Cursor = cursor_of_track next.track in
@@ -127,14 +132,14 @@ module _ (sought : Sought) (old now : SurveyState) (reads : ReadsOnly old.shelf 
             by_offset = λ e. absurd (omega (arith, unread.file_is));
             by_slice = λ e _. absurd (omega (arith, unread.file_is));
           } in
-          surveyed_on sought old now c so_far next d same on still_reads
+          surveyed_on short sought old now c so_far next d same on still_reads
           (λ files reads_as n open_. none_whole sought.set old.found missing_then (missing_part sought.set old.found each) sought.mode files c d on
           (none_there files (still_reads files reads_as) d unread.file_is unread.offset_is refl) n
           (was_none old.found now.found n (so_far.kept n) open_))
           m there unsettled
           (rw handed (hands_enter old.shelf.lengths now.shelf.handed (fetched_of now.track) (fetched_of next.track) (omega (arith, unread.file_is))))
           (λ f none. omega (arith, ap (λ (xs : List ℕ). slice_index xs f) handed))
-          (record {
+          (λ _. record {
             file_is = omega arith;
             offset_is = λ _. omega (arith, unread.buffer_offset_is, unread.buffer_len_is);
           })
@@ -142,7 +147,7 @@ module _ (sought : Sought) (old now : SurveyState) (reads : ReadsOnly old.shelf 
 
   -- past the place of a full window, once the slices that fit are found
   module _ (tied : IsTied now.shelf now.window now.track) (sized : now.window.capacity ≡ sought.set.slice_size)
-      (full : length now.window.content ≡ now.window.capacity) (so_far : Surveyed sought old now (cursor_of_track now.track))
+      (full : length now.window.content ≡ now.window.capacity) (so_far : Surveyed short sought old now (cursor_of_track now.track))
       (counted : now.track.file < length old.shelf.lengths) (left : ℕ) (some : 0 < left)
       (room : now.track.window_offset + left ≡ slice_index old.shelf.lengths now.track.file) where
     whole_there : (files : List (List ℕ)) → ReadsAs now.shelf files
@@ -157,10 +162,11 @@ module _ (sought : Sought) (old now : SurveyState) (reads : ReadsOnly old.shelf 
 
     pub swept_here : (part : SliceSet) → IsPart sought.set now.found part → (next : SurveyState) → next.shelf ≡ now.shelf → next.track ≡ now.track
         → FindsMore (slice_passes part.slices (is_fitting_compared sought.mode now.window.content left)) now.found next.found
-        → TakesDigests (count_missing (sought_of part sought.mode) now.found now.window.content left) now.window next.window
-        → Surveyed sought old next (cursor_on (cursor_of_track now.track) 1)
-    swept_here part is next still track marks takes =
-        surveyed_here sought old now (cursor_of_track now.track) so_far refl same_lengths counted (omega arith) next still track
+        → next.window.capacity ≡ now.window.capacity
+        → (is_strict short ≡ true → TakesDigests (count_missing (sought_of part sought.mode) now.found now.window.content left) now.window next.window)
+        → Surveyed short sought old next (cursor_on (cursor_of_track now.track) 1)
+    swept_here part is next still track marks capacity takes =
+        surveyed_here short sought old now (cursor_of_track now.track) so_far refl same_lengths counted (omega arith) next still track
         (slice_passes sought.set.slices (is_fitting_compared sought.mode now.window.content left))
         (count_missing (sought_of part sought.mode) now.found now.window.content left)
         (λ files reads_as n.
@@ -180,7 +186,7 @@ module _ (sought : Sought) (old now : SurveyState) (reads : ReadsOnly old.shelf 
         let there : count ≤ count_missing sought old.found (window_at sought.set.slice_size file now.track.window_offset) left =
         subst (λ (content : List ℕ). count ≤ count_missing sought old.found content left) (whole_there files reads_as) fewer in
         subst (λ (n : ℕ). count ≤ count_missing sought old.found (window_at sought.set.slice_size file now.track.window_offset) n) rest there)
-        (finds_whole sought.set now.found part is (is_fitting_compared sought.mode now.window.content left) next.found marks) takes
+        (finds_whole sought.set now.found part is (is_fitting_compared sought.mode now.window.content left) next.found marks) capacity takes
 
 -- the way that is left: less of it, once the window slid on or went to the next file
 module _ (files file offset : ℕ) (there : file < files) (small : offset < 9223372036854775808) where
@@ -204,31 +210,32 @@ pub made_same : (sought : Sought) (u v : WindowState) → v.capacity ≡ u.capac
 made_same sought u v capacity tails made =
     record { sized = capacity ∙ made.sized; tails_are = λ mode. tails ∙ made.tails_are mode; few = made.few }
 
-module _ (sought : Sought) (old now : SurveyState) (reads : ReadsOnly old.shelf now.shelf)
-    (m : ℕ) (there : m < length old.found) (unsettled : is_settled sought.set now.found m ≡ false)
-    (left : ℕ) (fits : set_has_fit (missing_set sought.set old.found) left ≡ true)
+module _ (short : ShortState) (sought : Sought) (old now : SurveyState) (reads : ReadsOnly old.shelf now.shelf)
+    (m : ℕ) (there : is_strict short ≡ true → m < length old.found) (unsettled : is_strict short ≡ true → is_settled sought.set now.found m ≡ false)
+    (left fit : ℕ) (fits : set_has_fit (missing_set short.set old.found) fit ≡ true) (within : fit ≤ slice_index old.shelf.lengths now.track.file)
     (room : now.track.window_offset + left ≡ slice_index old.shelf.lengths now.track.file) (sized : now.window.capacity ≡ sought.set.slice_size)
-    (so_far : Surveyed sought old now (cursor_of_track now.track)) (next : SurveyState) (found : next.found ≡ now.found)
+    (so_far : Surveyed short sought old now (cursor_of_track now.track)) (next : SurveyState) (found : next.found ≡ now.found)
     (older : Older now.shelf next.shelf) (tied : IsTied next.shelf next.window next.track) (window : next.window ≡ record now.window { content = next.window.content })
     (same : SameTrack now.track next.track)
     (hands : ReadsUpTo now.shelf next.shelf (fetched_of now.track) (fetched_of next.track)) where
   -- the window is filled
-  pub swept_fill : Surveyed sought old next (cursor_of_track next.track)
+  pub swept_fill : Surveyed short sought old next (cursor_of_track next.track)
   swept_fill =
       let at : cursor_of_track now.track ≡ cursor_of_track next.track =
       ap (λ (f : ℕ). record { file = f; offset = now.track.window_offset; slice = 0 }) (sym same.file_is)
       ∙ ap (λ (o : ℕ). record { file = next.track.file; offset = o; slice = 0 }) (sym same.offset_is) in
-      subst (Surveyed sought old next) at
-      (swept_read sought old now reads m there unsettled left (cursor_of_track now.track) so_far next found older tied window sized
-      same.file_is (omega (arith, same.offset_is)) same.file_is hands fits (omega arith))
+      subst (Surveyed short sought old next) at
+      (swept_read short sought old now reads m there unsettled fit (cursor_of_track now.track) so_far next found older tied window sized
+      same.file_is (omega (arith, same.offset_is)) same.file_is hands fits within)
 
   -- and the slices that are seen in it are found
   pub swept_look : ReadsOnly now.shelf next.shelf → length next.window.content ≡ next.window.capacity → now.track.file < length old.shelf.lengths
       → 0 < left → (part : SliceSet) → IsPart sought.set next.found part → (last : SurveyState) → last.shelf ≡ next.shelf → last.track ≡ next.track
       → FindsMore (slice_passes part.slices (is_fitting_compared sought.mode next.window.content left)) next.found last.found
-      → TakesDigests (count_missing (sought_of part sought.mode) next.found next.window.content left) next.window last.window
-      → Surveyed sought old last (cursor_on (cursor_of_track next.track) 1)
-  swept_look only full counted some part is last still track marks takes =
-      swept_here sought old next (ReadsOnly_more old.shelf now.shelf next.shelf reads only) tied
+      → last.window.capacity ≡ next.window.capacity
+      → (is_strict short ≡ true → TakesDigests (count_missing (sought_of part sought.mode) next.found next.window.content left) next.window last.window)
+      → Surveyed short sought old last (cursor_on (cursor_of_track next.track) 1)
+  swept_look only full counted some part is last still track marks capacity takes =
+      swept_here short sought old next (ReadsOnly_more old.shelf now.shelf next.shelf reads only) tied
       (ap (λ (w : WindowState). w.capacity) window ∙ sized) full swept_fill (omega (arith, same.file_is)) left some
-      (rw (same.file_is, same.offset_is) room) part is last still track marks takes
+      (rw (same.file_is, same.offset_is) room) part is last still track marks capacity takes

@@ -1,5 +1,6 @@
 -- What holds of a survey in the turns of its loop: before the window is filled, once it is, and once it was looked into and slid on.
-use Rattle.std.proofs.Common.{◌≡◌, ℕ, ◌<◌, Bool, List, length, ◌∙◌, Option}
+use Rattle.std.proofs.Common.{◌≡◌, ℕ, ◌<◌, Bool, true, List, length, ◌∙◌, Option}
+use Rattle.parfind.specs.Expecting.{ShortState, is_strict}
 use Rattle.parshelf.specs.Shelf.{ShelfState, Older}
 use Rattle.parwindow.specs.Index.{SliceSet, slice_passes}
 use Rattle.parwindow.specs.Window.{WindowState}
@@ -15,22 +16,22 @@ use Rattle.parfind.specs.Tracks.{IsTied, SameTrack, cursor_of_track, fetched_of}
 use Rattle.parfind.proofs.survey_laws.PartLaws.{part_sized}
 use Rattle.parfind.proofs.survey_laws.SurveyedSoFarLaws.{SurveySoFar, IsNextMissing}
 
--- a slice is not settled, and so much of a file is left
+-- a slice is not settled, if the survey is short, and so much of a file is left
 pub record Missing
-    (sought : Sought) (part : SliceSet) (old now : SurveyState) (missing : ℕ) (exhausted : List (Option ℕ)) (left : ℕ) : Type 0 where
-  pub so_far : SurveySoFar sought part old now missing exhausted
-  pub open_is : missing < length now.found
+    (short : ShortState) (sought : Sought) (part : SliceSet) (old now : SurveyState) (missing : ℕ) (exhausted : List (Option ℕ)) (left : ℕ) : Type 0 where
+  pub so_far : SurveySoFar short sought part old now missing exhausted
+  pub open_is : is_strict short ≡ true → missing < length now.found
   pub each : length now.found ≡ length old.found
   pub each_slice : length old.found ≡ length sought.set.slices
   pub capacity_is : old.window.capacity ≡ sought.set.slice_size
   pub counted : now.track.file < length now.shelf.lengths
   pub left_is : left ≡ rest_of now.shelf.lengths (cursor_of_track now.track)
 
-pub missing_left : (sought : Sought) (part : SliceSet) (old now : SurveyState) (missing : ℕ) (exhausted : List (Option ℕ)) (left : ℕ)
-    → SurveySoFar sought part old now missing exhausted → missing < length now.found → length now.found ≡ length old.found
+pub missing_left : (short : ShortState) (sought : Sought) (part : SliceSet) (old now : SurveyState) (missing : ℕ) (exhausted : List (Option ℕ)) (left : ℕ)
+    → SurveySoFar short sought part old now missing exhausted → (is_strict short ≡ true → missing < length now.found) → length now.found ≡ length old.found
     → length old.found ≡ length sought.set.slices → now.track.file < length now.shelf.lengths
-    → left ≡ rest_of now.shelf.lengths (cursor_of_track now.track) → Missing sought part old now missing exhausted left
-missing_left sought part old now missing exhausted left so_far open_ each each_slice counted left_is = record {
+    → left ≡ rest_of now.shelf.lengths (cursor_of_track now.track) → Missing short sought part old now missing exhausted left
+missing_left short sought part old now missing exhausted left so_far open_ each each_slice counted left_is = record {
   so_far = so_far;
   open_is = open_;
   each = each;
@@ -51,12 +52,13 @@ pub record ReadOn (now filled : SurveyState) : Type 0 where
 
 -- in the full window of a state the slices that are seen were noted, and the next that is not settled was looked for
 pub record ComparedAt
-    (sought : Sought) (part : SliceSet) (filled : SurveyState) (left : ℕ) (w : WindowState) (more : List Bool) (missing last : ℕ) : Type 0 where
+    (short : ShortState) (sought : Sought) (part : SliceSet) (filled : SurveyState) (left : ℕ) (w : WindowState) (more : List Bool) (missing last : ℕ) : Type 0 where
   pub full : length filled.window.content ≡ filled.window.capacity
   pub some : 0 < left
   pub each : length more ≡ length filled.found
   pub found : FindsMore (slice_passes part.slices (is_fitting_compared sought.mode filled.window.content left)) filled.found more
-  pub takes : TakesDigests (count_missing (sought_of part sought.mode) filled.found filled.window.content left) filled.window w
+  pub window_is : w ≡ record filled.window { digests = w.digests }
+  pub takes : is_strict short ≡ true → TakesDigests (count_missing (sought_of part sought.mode) filled.found filled.window.content left) filled.window w
   pub next : IsNextMissing sought.set more missing last
 
 -- the window slid on, or a read failed

@@ -3,6 +3,7 @@ use Rattle.std.proofs.Common.{◌≡◌, ℕ, ◌+◌, ◌<◌, ◌≤◌, Bool,
 use Rattle.std.proofs.lemmas.Bool.{cases_Bool, cases_eq, cases_lt, or_cases, or_left, or_parts, or_right, false_from_ne_true}
 use Rattle.std.proofs.lemmas.List.{length-map}
 use Rattle.std.proofs.Math.Bool.{or-false, or_assoc}
+use Rattle.parfind.specs.Expecting.{ShortState, is_strict}
 use Rattle.parshelf.specs.Shelf.{ShelfState, ReadsAs, Older, file_of}
 use Rattle.parwindow.specs.Index.{set_has_fit}
 use Rattle.parwindow.specs.Window.{WindowState}
@@ -42,32 +43,32 @@ near_first size q c first = record {
   offset_is = λ _. omega (arith, ap (λ (p : Place). p.offset) first);
 }
 
-surveyed_first : (sought : Sought) (now : SurveyState) → fetched_of now.track ≡ start → Surveyed sought now now origin
-surveyed_first sought now fetched = record {
+surveyed_first : (short : ShortState) (sought : Sought) (now : SurveyState) → fetched_of now.track ≡ start → Surveyed short sought now now origin
+surveyed_first short sought now fetched = record {
   found = λ files _ n. sym (ap (λ b. found_at now.found n || b) (none_first (scan_of sought files) n) ∙ or-false (found_at now.found n));
   kept = λ n marked. marked;
   hands = subst (HandsUpTo now.shelf.lengths now.shelf.handed now.shelf.handed start) (sym fetched) (hands_none now.shelf.lengths now.shelf.handed start);
   unfit = λ f none. omega arith;
-  near = near_first sought.set.slice_size (fetched_of now.track) origin fetched;
-  stops = λ _ _ p _. near_first sought.set.slice_size (fetched_of now.track) (cursor_at p) fetched;
-  digests = λ _ _. omega arith;
+  near = λ _. near_first sought.set.slice_size (fetched_of now.track) origin fetched;
+  stops = λ _ _ _ p _. near_first sought.set.slice_size (fetched_of now.track) (cursor_at p) fetched;
+  digests = λ _ _ _. omega arith;
   capacity = refl;
 }
 
-pub surveyed_none : (sought : Sought) (now : SurveyState) → IsUnread 0 0 now.track → Surveyed sought now now (cursor_of_track now.track)
-surveyed_none sought now unread =
+pub surveyed_none : (short : ShortState) (sought : Sought) (now : SurveyState) → IsUnread 0 0 now.track → Surveyed short sought now now (cursor_of_track now.track)
+surveyed_none short sought now unread =
     let fetched : fetched_of now.track ≡ start =
     ap (λ (f : ℕ). record { file = f; offset = now.track.buffer_offset + now.track.buffer_len }) unread.file_is
     ∙ ap (λ (o : ℕ). record { file = 0; offset = o }) (omega (arith, unread.buffer_offset_is, unread.buffer_len_is)) in
     let at : cursor_of_track now.track ≡ origin =
     ap (λ (f : ℕ). record { file = f; offset = now.track.window_offset; slice = 0 }) unread.file_is
     ∙ ap (λ (o : ℕ). record { file = 0; offset = o; slice = 0 }) unread.offset_is in
-    subst (Surveyed sought now now) (sym at) (surveyed_first sought now fetched)
+    subst (Surveyed short sought now now) (sym at) (surveyed_first short sought now fetched)
 
 from_origin : (c : Cursor) → From origin c
 from_origin c = record { by_file = omega arith; by_offset = λ _. omega arith; by_slice = λ _ _. omega arith }
 
-module _ (sought : Sought) (old now : SurveyState) (c : Cursor) (so_far : Surveyed sought old now c) where
+module _ (short : ShortState) (sought : Sought) (old now : SurveyState) (c : Cursor) (so_far : Surveyed short sought old now c) where
   -- a slice that is not settled was not at the beginning
   pub not_all : (m : ℕ) → m < length old.found → is_settled sought.set now.found m ≡ false → AreAllSettled sought.set old.found → ⊥
   not_all m there unsettled all =
@@ -94,12 +95,12 @@ module _ (sought : Sought) (old now : SurveyState) (c : Cursor) (so_far : Survey
           | inr open_ ↦ had ∙ ap (λ b. found_at old.found n || b) (none files reads n open_)
         ]
 
-    pub surveyed_on : (m : ℕ) → m < length old.found → is_settled sought.set now.found m ≡ false
+    pub surveyed_on : (m : ℕ) → (is_strict short ≡ true → m < length old.found) → (is_strict short ≡ true → is_settled sought.set now.found m ≡ false)
         → HandsUpTo old.shelf.lengths now.shelf.handed next.shelf.handed (fetched_of now.track) (fetched_of next.track)
-        → ((f : ℕ) → set_has_fit (missing_set sought.set old.found) (slice_index old.shelf.lengths f) ≡ false
+        → ((f : ℕ) → set_has_fit (missing_set short.set old.found) (slice_index old.shelf.lengths f) ≡ false
         → slice_index next.shelf.handed f ≤ slice_index now.shelf.handed f)
-        → IsNear sought.set.slice_size (fetched_of next.track) d → next.window.digests ≡ now.window.digests
-        → next.window.capacity ≡ now.window.capacity → Surveyed sought old next d
+        → (is_strict short ≡ true → IsNear sought.set.slice_size (fetched_of next.track) d) → next.window.digests ≡ now.window.digests
+        → next.window.capacity ≡ now.window.capacity → Surveyed short sought old next d
     surveyed_on m there unsettled hands unfit near digests capacity = record {
       found = moved_found;
       kept = λ n marked. ap (λ marks. found_at marks n) same ∙ so_far.kept n marked;
@@ -107,14 +108,14 @@ module _ (sought : Sought) (old now : SurveyState) (c : Cursor) (so_far : Survey
           so_far.hands hands;
       unfit = λ f none. omega (arith, so_far.unfit f none, unfit f none);
       near = near;
-      stops = λ files reads p all.
-          let parts = or_parts (found_at now.found m) (lacks_sums sought.set m) unsettled in
+      stops = λ is files reads p all.
+          let parts = or_parts (found_at now.found m) (lacks_sums sought.set m) (unsettled is) in
           let open_ = sym (moved_found files reads m) ∙ (ap (λ marks. found_at marks m) same ∙ parts.0) in
-          let before = still_missing (scan_of sought files) old.found d m p there parts.1 open_ all in
-          near_further sought.set.slice_size (fetched_of next.track) d (cursor_at p) before.0 before.1 near;
-      digests = λ files reads. omega (
+          let before = still_missing (scan_of sought files) old.found d m p (there is) parts.1 open_ all in
+          near_further sought.set.slice_size (fetched_of next.track) d (cursor_at p) before.0 before.1 (near is);
+      digests = λ is files reads. omega (
         arith,
-        so_far.digests files (older files reads),
+        so_far.digests is files (older files reads),
         counted_rises (missing_at (scan_of sought files) old.found) (lengths_of (scan_of sought files)) origin c d (from_origin c) on,
       );
       capacity = capacity ∙ so_far.capacity;
@@ -125,23 +126,24 @@ module _ (sought : Sought) (old now : SurveyState) (c : Cursor) (so_far : Survey
       (next : SurveyState) (same : next.shelf ≡ now.shelf) (track : next.track ≡ now.track) (test : ℕ → Bool) (count : ℕ)
       (seen : (files : List (List ℕ)) → ReadsAs now.shelf files → (n : ℕ) → test n ≡ is_slice_seen sought (file_of files c.file) c.offset n)
       (most : (files : List (List ℕ)) → ReadsAs now.shelf files → count ≤ missing_at (scan_of sought files) old.found (place_at c))
-      (marks : FindsMore test now.found next.found) (takes : TakesDigests count now.window next.window) where
+      (marks : FindsMore test now.found next.found) (capacity : next.window.capacity ≡ now.window.capacity)
+      (takes : is_strict short ≡ true → TakesDigests count now.window next.window) where
     still : (files : List (List ℕ)) → ReadsAs next.shelf files → ReadsAs now.shelf files
     still files reads = subst (λ (u : ShelfState). ReadsAs u files) same reads
 
     length_each : (files : List (List ℕ)) → ReadsAs now.shelf files → lengths_of (scan_of sought files) ≡ old.shelf.lengths
     length_each files reads = reads.lengths ∙ lengths
 
-    digests_more : (files : List (List ℕ)) → ReadsAs now.shelf files
+    digests_more : is_strict short ≡ true → (files : List (List ℕ)) → ReadsAs now.shelf files
         → next.window.digests ≤ old.window.digests + missing_between (scan_of sought files) old.found origin (cursor_past (place_at c))
-    digests_more files reads =
+    digests_more is files reads =
         let each = length_each files reads in
         let counts = counted_more (missing_at (scan_of sought files) old.found) (lengths_of (scan_of sought files)) origin c (from_origin c)
         (rw each counted) (rw each there) in
-        let all : next.window.digests ≡ now.window.digests + count = ap (λ (x : WindowState). x.digests) takes in
-        omega (arith, so_far.digests files reads, counts, most files reads)
+        let all : next.window.digests ≡ now.window.digests + count = ap (λ (x : WindowState). x.digests) (takes is) in
+        omega (arith, so_far.digests is files reads, counts, most files reads)
 
-    pub surveyed_here : Surveyed sought old next (cursor_past (place_at c))
+    pub surveyed_here : Surveyed short sought old next (cursor_past (place_at c))
     surveyed_here = record {
       found = λ files reads_as n.
           let reads = still files reads_as in
@@ -155,10 +157,10 @@ module _ (sought : Sought) (old now : SurveyState) (c : Cursor) (so_far : Survey
       kept = λ n had. marks n ∙ or_left (found_at now.found n) (test n) (so_far.kept n had);
       hands = rw (same, track) so_far.hands;
       unfit = rw same so_far.unfit;
-      near = rw track (near_further sought.set.slice_size (fetched_of now.track) c (cursor_past (place_at c)) (omega arith) (λ _. omega arith) so_far.near);
-      stops = λ files reads. rw track (so_far.stops files (still files reads));
-      digests = λ files reads. digests_more files (still files reads);
-      capacity = ap (λ (x : WindowState). x.capacity) takes ∙ so_far.capacity;
+      near = λ is. rw track (near_further sought.set.slice_size (fetched_of now.track) c (cursor_past (place_at c)) (omega arith) (λ _. omega arith) (so_far.near is));
+      stops = λ is files reads. rw track (so_far.stops is files (still files reads));
+      digests = λ is files reads. digests_more is files (still files reads);
+      capacity = capacity ∙ so_far.capacity;
     }
 
   -- what it has done in the end
@@ -191,8 +193,8 @@ module _ (sought : Sought) (old now : SurveyState) (c : Cursor) (so_far : Survey
     surveyed_end lengths past n there =
         so_far.found files reads n ∙ ap (λ b. found_at old.found n || b) (all_before scan c (rw (reads.lengths ∙ lengths) past) n)
 
-    pub surveyed_digests : now.window.digests ≤ old.window.digests + missing_count scan old.found
-    surveyed_digests = omega (arith, so_far.digests files reads, counted_most (missing_at scan old.found) (lengths_of scan) origin c)
+    pub surveyed_digests : is_strict short ≡ true → now.window.digests ≤ old.window.digests + missing_count scan old.found
+    surveyed_digests is = omega (arith, so_far.digests is files reads, counted_most (missing_at scan old.found) (lengths_of scan) origin c)
 
   pub surveyed_once : HandsEachOnce old.shelf now.shelf
   surveyed_once f = omega (arith, so_far.hands.handed f, upto-most old.shelf.lengths (fetched_of now.track) f)
@@ -213,15 +215,15 @@ module _ (sought : Sought) (old now : SurveyState) (c : Cursor) (so_far : Survey
       ] in
       omega (arith, so_far.hands.handed f, less)
 
-  pub surveyed_stops : (files : List (List ℕ)) → ReadsAs now.shelf files
+  pub surveyed_stops : is_strict short ≡ true → (files : List (List ℕ)) → ReadsAs now.shelf files
       → StopsOnceFound (scan_of sought files) old.shelf now.shelf old.found
-  surveyed_stops files reads p all = around p (so_far.stops files reads p all)
+  surveyed_stops is files reads p all = around p (so_far.stops is files reads p all)
 
-  pub surveyed_fault : c.slice ≡ 0 → (file : ℕ) → c.file ≡ file → FindsUpToFault sought (survey_point old.shelf old.found) (survey_point now.shelf now.found) file
-  surveyed_fault first file is = record {
+  pub surveyed_fault : is_strict short ≡ true → c.slice ≡ 0 → (file : ℕ) → c.file ≡ file → FindsUpToFault sought (survey_point old.shelf old.found) (survey_point now.shelf now.found) file
+  surveyed_fault strictly first file is = record {
     place = place_at c;
     file_is = is;
     sighted = λ files reads n there. so_far.found files reads n
         ∙ ap (λ (k : ℕ). found_at old.found n || is_sighted_before (scan_of sought files) (record { file = c.file; offset = c.offset; slice = k }) n) first;
-    around = around (place_at c) (record { file_is = so_far.near.file_is; offset_is = so_far.near.offset_is });
+    around = let near = so_far.near strictly in around (place_at c) (record { file_is = near.file_is; offset_is = near.offset_is });
   }

@@ -1,5 +1,6 @@
 -- What a survey has come to on its way over the files, at its beginning and at its end.
 use Rattle.std.proofs.Common.{◌≡◌, ℕ, ◌<◌, ◌≤◌, ◌⊎◌, Bool, true, false, List, [], length, replicate, refl, sym, ap, ◌∙◌, subst, arith, Option, None, Ok, inl, inr, slice_index}
+use Rattle.parfind.specs.Expecting.{ShortState, is_strict}
 use Rattle.parshelf.specs.Reads.{ReadsOnly}
 use Rattle.parshelf.proofs.ReadLaws.{ReadsOnly-refl}
 use Rattle.parset.specs.Limits.{slice_size_limit}
@@ -20,7 +21,7 @@ use Rattle.parfind.proofs.survey_laws.PartLaws.{part_sized}
 use Rattle.parfind.proofs.survey_laws.SurveyedLaws.{surveyed_none, not_all}
 
 -- what a survey has come to, which goes by a part of the set, looks for slices from this number on, and for no slice with one of these CRC-32s
-pub record SurveySoFar (sought : Sought) (part : SliceSet) (old now : SurveyState) (missing : ℕ) (exhausted : List (Option ℕ)) : Type 0 where
+pub record SurveySoFar (short : ShortState) (sought : Sought) (part : SliceSet) (old now : SurveyState) (missing : ℕ) (exhausted : List (Option ℕ)) : Type 0 where
   pub part_is : IsPart sought.set now.found part
   pub made : IsWindowFor (sought_of part sought.mode) old.window
   pub reads : ReadsOnly old.shelf now.shelf
@@ -30,9 +31,9 @@ pub record SurveySoFar (sought : Sought) (part : SliceSet) (old now : SurveyStat
   pub first : missing < length now.found → is_settled sought.set now.found missing ≡ false
   pub settled : (n : ℕ) → n < missing → is_settled sought.set now.found n ≡ true
   pub exhausted_is : AreExhausted (sought_of part sought.mode) now.found (rest_of now.shelf.lengths (cursor_of_track now.track)) exhausted
-  pub none : AreAllSettled sought.set old.found → now.shelf ≡ old.shelf
+  pub none : is_strict short ≡ true → AreAllSettled sought.set old.found → now.shelf ≡ old.shelf
   pub window_is : now.window ≡ record old.window { content = now.window.content; digests = now.window.digests }
-  pub surveyed : Surveyed sought old now (cursor_of_track now.track)
+  pub surveyed : Surveyed short sought old now (cursor_of_track now.track)
 
 -- the next slice that is not settled
 pub record IsNextMissing (set : SliceSet) (marks : List Bool) (from missing : ℕ) : Type 0 where
@@ -40,10 +41,10 @@ pub record IsNextMissing (set : SliceSet) (marks : List Bool) (from missing : �
   pub first : missing < length marks → is_settled set marks missing ≡ false
   pub settled : (n : ℕ) → from ≤ n → n < missing → is_settled set marks n ≡ true
 
-pub begins : (sought : Sought) (part : SliceSet) (old : SurveyState) (missing : ℕ) → IsPart sought.set old.found part
+pub begins : (short : ShortState) (sought : Sought) (part : SliceSet) (old : SurveyState) (missing : ℕ) → IsPart sought.set old.found part
     → IsWindowFor (sought_of part sought.mode) old.window → old.window.capacity ≤ slice_size_limit → old.window.content ≡ [] → IsUnread 0 0 old.track
-    → IsNextMissing sought.set old.found 0 missing → SurveySoFar sought part old old missing (replicate 257 None)
-begins sought part old missing is made few empty unread next = record {
+    → IsNextMissing sought.set old.found 0 missing → SurveySoFar short sought part old old missing (replicate 257 None)
+begins short sought part old missing is made few empty unread next = record {
   part_is = is;
   made = made;
   reads = ReadsOnly-refl old.shelf;
@@ -54,9 +55,9 @@ begins sought part old missing is made few empty unread next = record {
   first = next.first;
   settled = λ n less. next.settled n (omega arith) less;
   exhausted_is = exhausted_none (sought_of part sought.mode) old.found (rest_of old.shelf.lengths (cursor_of_track old.track)) 257;
-  none = λ _. refl;
+  none = λ _ _. refl;
   window_is = refl;
-  surveyed = surveyed_none sought old unread;
+  surveyed = surveyed_none short sought old unread;
 }
 
 -- a window that is made for one part is made for another, unless shorter lengths are compared
@@ -70,11 +71,11 @@ made_part set found Plain part smaller w was is same made = record {
 made_part set found Tails part smaller w was is same made = subst (λ (s : SliceSet). IsWindowFor (sought_of s Tails) w) (sym (same refl)) made
 
 -- it goes on by another part, if there is one
-pub shrunk : (sought : Sought) (before after : Option SliceSet) (old now : SurveyState) (missing : ℕ) (exhausted crcs : List (Option ℕ))
-    → SurveySoFar sought (part_of sought.set before) old now missing exhausted → IsPart sought.set now.found (part_of sought.set after)
+pub shrunk : (short : ShortState) (sought : Sought) (before after : Option SliceSet) (old now : SurveyState) (missing : ℕ) (exhausted crcs : List (Option ℕ))
+    → SurveySoFar short sought (part_of sought.set before) old now missing exhausted → IsPart sought.set now.found (part_of sought.set after)
     → (sought.mode ≡ Tails → after ≡ before) → (crcs ≡ replicate 257 None) ⊎ ((crcs ≡ exhausted) × (after ≡ before))
-    → SurveySoFar sought (part_of sought.set after) old now missing crcs
-shrunk sought before after old now missing exhausted crcs so_far is same which = record {
+    → SurveySoFar short sought (part_of sought.set after) old now missing crcs
+shrunk short sought before after old now missing exhausted crcs so_far is same which = record {
   part_is = is;
   made = made_part sought.set now.found sought.mode (part_of sought.set before) (part_of sought.set after) old.window so_far.part_is is
       (λ tails. ap (part_of sought.set) (same tails)) so_far.made;
@@ -96,10 +97,10 @@ shrunk sought before after old now missing exhausted crcs so_far is same which =
 }
 
 -- each slice is settled, or all files are passed
-pub ends_all : (sought : Sought) (part : SliceSet) (old now : SurveyState) (missing : ℕ) (exhausted : List (Option ℕ))
-    → SurveySoFar sought part old now missing exhausted
-    → (length now.found ≤ missing) ⊎ (length old.shelf.lengths ≤ now.track.file) → SurveyEnds sought old now (Ok tt)
-ends_all sought part old now missing exhausted so_far all = record {
+pub ends_all : (short : ShortState) (sought : Sought) (part : SliceSet) (old now : SurveyState) (missing : ℕ) (exhausted : List (Option ℕ))
+    → SurveySoFar short sought part old now missing exhausted
+    → (length now.found ≤ missing) ⊎ (length old.shelf.lengths ≤ now.track.file) → SurveyEnds short sought old now (Ok tt)
+ends_all short sought part old now missing exhausted so_far all = record {
   cursor = cursor_of_track now.track;
   surveyed = so_far.surveyed;
   first = refl;
@@ -112,8 +113,8 @@ ends_all sought part old now missing exhausted so_far all = record {
 }
 
 -- where a slice is not settled, not each was at the beginning
-pub never_all : (sought : Sought) (part : SliceSet) (old now : SurveyState) (missing : ℕ) (exhausted : List (Option ℕ))
-    → SurveySoFar sought part old now missing exhausted
+pub never_all : (short : ShortState) (sought : Sought) (part : SliceSet) (old now : SurveyState) (missing : ℕ) (exhausted : List (Option ℕ))
+    → SurveySoFar short sought part old now missing exhausted
     → missing < length now.found → length now.found ≡ length old.found → AreAllSettled sought.set old.found → ⊥
-never_all sought part old now missing exhausted so_far some each all =
-    not_all sought old now (cursor_of_track now.track) so_far.surveyed missing (omega (arith, some, each)) (so_far.first some) all
+never_all short sought part old now missing exhausted so_far some each all =
+    not_all short sought old now (cursor_of_track now.track) so_far.surveyed missing (omega (arith, some, each)) (so_far.first some) all

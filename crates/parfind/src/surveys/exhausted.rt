@@ -6,6 +6,7 @@ ghost use Rattle.parfind.specs.Noting.{FindsMore, TakesDigests, AreExhausted};
 ghost use Rattle.parfind.specs.Marks.{count_missing, has_compared_missing};
 ghost use Rattle.parfind.specs.Sought.{is_compared, compared_lengths, nth_compared};
 
+use crate::surveys::noted::Noted;
 use crate::tracks::{MOST_TAILS, Sought};
 use parfield::Hash16;
 use parwindow::Window;
@@ -21,6 +22,8 @@ pub struct Exhausted {
     /// How many looks found no slice missing: one for each compared length at a place where some slice
     /// has the CRC-32, and one more for every sixteen slices that were looked through.
     pub in_vain: u64,
+    /// The slices that were found last.
+    pub noted: Noted,
 }
 
 impl Exhausted {
@@ -31,6 +34,7 @@ impl Exhausted {
         Exhausted {
             crcs: [None; MOST_LENGTHS],
             in_vain: 0,
+            noted: Noted::none(),
         }
     }
 
@@ -89,27 +93,36 @@ impl Exhausted {
         }
         if sought.is_missing_at(k, crc, left, found) {
             let digest = sought.digest_at(window, k);
-            note_matches(sought, k, (digest, crc), left, found);
+            self.note_matches(sought, k, (digest, crc), left, found);
         } else {
             self.crcs[k] = Some(crc);
             let asked = u64::from(sought.index.count_crc(crc));
             self.in_vain = self.in_vain.saturating_add(asked.min(1) + asked / 16);
         }
     }
-}
 
-// Notes as found each slice of compared length `k` that has both checksums and fits into what is left
-// of the file.
-fn note_matches(sought: &Sought, k: usize, sums: (Hash16, u32), left: u64, found: &mut [bool])
-    requires there { k < length (compared_lengths sought.now) }
-    requires each { length found.old ≡ length sought.now.set.slices }
-    ensures found { FindsMore (slice_passes sought.now.set.slices (is_compared sought.now
-        (nth_compared sought.now k) (is_fitting_match sums left)))
-        found.old found.new }
-{
-    let mut from = 0;
-    while let Some(slice) = sought.first_match_at(k, sums, left, from) {
-        found[slice as usize] = true;
-        from = slice + 1;
+    // Notes as found each slice of compared length `k` that has both checksums and fits into what is
+    // left of the file.
+    fn note_matches(
+        &mut self,
+        sought: &Sought,
+        k: usize,
+        sums: (Hash16, u32),
+        left: u64,
+        found: &mut [bool],
+    )
+        requires there { k < length (compared_lengths sought.now) }
+        requires each { length found.old ≡ length sought.now.set.slices }
+        ensures found { FindsMore (slice_passes sought.now.set.slices (is_compared sought.now
+            (nth_compared sought.now k) (is_fitting_match sums left)))
+            found.old found.new }
+        ensures crcs { self.new.crcs ≡ self.old.crcs }
+    {
+        let mut from = 0;
+        while let Some(slice) = sought.first_match_at(k, sums, left, from) {
+            found[slice as usize] = true;
+            self.noted.push(slice);
+            from = slice + 1;
+        }
     }
 }

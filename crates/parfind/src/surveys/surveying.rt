@@ -1,6 +1,6 @@
 ghost use Rattle.std.specs.Prelude.{◌≡◌, ◌+◌, ◌≤◌, ◌<◌, ℕ, List, length, IfErr, IfOk};
 ghost use Rattle.parshelf.specs.Shelf.{ReadsAs};
-ghost use Rattle.parfind.specs.Handover.{HandsEachOnce, SkipsUnfit};
+ghost use Rattle.parfind.specs.Handover.{HandsEachOnce, HandsInMode, SkipsUnfit};
 ghost use Rattle.parfind.specs.Marks.{missing_count};
 ghost use Rattle.parfind.specs.Steps.{scan_of};
 ghost use Rattle.parfind.specs.Surveys.{SurveyFinds, FindsUpToFault, KeepsFound, AreAllSettled, StopsOnceFound, ReadsNamed, SurveyLeaves, SurveyTellsTails, survey_point};
@@ -8,7 +8,10 @@ ghost use Rattle.parwindow.specs.Missing.{missing_set};
 ghost use Rattle.parfind.specs.Smaller.{IsPart, part_of};
 ghost use Rattle.parfind.specs.Sought.{HasFewTails, IsWindowFor, sought_of};
 ghost use Rattle.parfind.specs.declared.surveys.surveying.SurveyFault.TheVariants.{Memory};
+ghost use Rattle.parfind.specs.declared.tracks.mode.Mode.TheVariants.{Plain};
 
+use crate::surveys::rounds::survey_twice;
+use crate::surveys::short::Short;
 use crate::surveys::smaller::Smaller;
 use crate::surveys::walk::{next_missing, survey_by};
 use crate::tracks::{MOST_TAILS, Mode, Sought};
@@ -54,7 +57,7 @@ pub fn survey<H: Shelf>(
     // What is found, in any files that the shelf is read as.
     ensures found { (files : List (List ℕ)) → ReadsAs (H.state shelf.new) files →
         SurveyFinds (scan_of (sought_of index.now mode) files) found.old found.new result }
-    ensures stops { (files : List (List ℕ)) → ReadsAs (H.state shelf.new) files →
+    ensures stops { mode ≡ Plain → (files : List (List ℕ)) → ReadsAs (H.state shelf.new) files →
         StopsOnceFound (scan_of (sought_of index.now mode) files)
         (H.state shelf.old) (H.state shelf.new) found.old }
 
@@ -63,7 +66,7 @@ pub fn survey<H: Shelf>(
     ensures leaves { SurveyLeaves (survey_point (H.state shelf.old) found.old)
         (survey_point (H.state shelf.new) found.new) result }
     ensures tails { SurveyTellsTails (sought_of index.now mode) result }
-    ensures handed { HandsEachOnce (H.state shelf.old) (H.state shelf.new) }
+    ensures handed { HandsInMode mode (H.state shelf.old) (H.state shelf.new) }
     ensures unfit { SkipsUnfit (missing_set index.now found.old)
         (H.state shelf.old) (H.state shelf.new) }
     ensures none { AreAllSettled index.now found.old → H.state shelf.new ≡ H.state shelf.old }
@@ -75,8 +78,13 @@ pub fn survey<H: Shelf>(
     if next_missing(&sought, found, 0) == found.len() {
         return Ok(());
     }
-    let mut smaller = first_smaller(alloc, index, found)?;
-    survey_few_tails(alloc, &sought, &mut smaller, shelf, found)
+    match mode {
+        Mode::Plain => {
+            let mut smaller = first_smaller(alloc, index, found)?;
+            survey_once(alloc, index, &mut smaller, shelf, found)
+        }
+        Mode::Tails => survey_twice(alloc, index, shelf, found),
+    }
 }
 
 // The index without the slices that are found, if some are.
@@ -97,39 +105,36 @@ fn first_smaller(alloc: Global, index: &Index, found: &[bool]) -> Result<Smaller
     })
 }
 
-// Finds each slice of the set that has a sighting, if there are no more tails than a window may have.
-fn survey_few_tails<H: Shelf>(
+// Finds each slice of the set that has a sighting by the whole window.
+fn survey_once<H: Shelf>(
     alloc: Global,
-    sought: &Sought,
+    index: &Index,
     smaller: &mut Smaller,
     shelf: &mut H,
     found: &mut [bool],
 ) -> Result<(), SurveyFault>
-    requires each { length found.old ≡ length sought.now.set.slices }
-    requires part { IsPart sought.now.set found.old (part_of sought.now.set smaller.old.index) }
-    requires few { HasFewTails sought.now }
+    requires each { length found.old ≡ length index.now.slices }
+    requires part { IsPart index.now found.old (part_of index.now smaller.old.index) }
     ensures found { (files : List (List ℕ)) → ReadsAs (H.state shelf.new) files →
-        SurveyFinds (scan_of sought.now files) found.old found.new result }
+        SurveyFinds (scan_of (sought_of index.now Plain) files) found.old found.new result }
     ensures stops { (files : List (List ℕ)) → ReadsAs (H.state shelf.new) files →
-        StopsOnceFound (scan_of sought.now files)
+        StopsOnceFound (scan_of (sought_of index.now Plain) files)
         (H.state shelf.old) (H.state shelf.new) found.old }
     ensures kept { KeepsFound found.old found.new }
     ensures leaves { SurveyLeaves (survey_point (H.state shelf.old) found.old)
         (survey_point (H.state shelf.new) found.new) result }
-    ensures tails { SurveyTellsTails sought.now result }
+    ensures tails { SurveyTellsTails (sought_of index.now Plain) result }
     ensures handed { HandsEachOnce (H.state shelf.old) (H.state shelf.new) }
-    ensures unfit { SkipsUnfit (missing_set sought.now.set found.old)
+    ensures unfit { SkipsUnfit (missing_set index.now found.old)
         (H.state shelf.old) (H.state shelf.new) }
-    ensures none { AreAllSettled sought.now.set found.old
-        → H.state shelf.new ≡ H.state shelf.old }
 {
-    let size = sought.index.size() as usize;
-    let part = Sought {
-        index: smaller.or(sought.index),
-        mode: sought.mode,
+    let sought = Sought {
+        index,
+        mode: Mode::Plain,
     };
-    let mut window = Window::with_tails(alloc, size, part.shorter_lengths())?;
-    match survey_by(sought, smaller, shelf, &mut window, found) {
+    let mut window = Window::new(alloc, index.size() as usize)?;
+    let mut short = Short::nowhere(index);
+    match survey_by(&sought, smaller, shelf, &mut window, found, &mut short) {
         Ok(()) => Ok(()),
         Err((file, fault)) => Err(SurveyFault::Read(file, fault)),
     }
@@ -181,5 +186,13 @@ pub fn survey_in<H: Shelf>(
         left_out: 0,
         alloc: None,
     };
-    survey_by(&Sought { index, mode }, &mut none, shelf, window, found)
+    let mut short = Short::nowhere(index);
+    survey_by(
+        &Sought { index, mode },
+        &mut none,
+        shelf,
+        window,
+        found,
+        &mut short,
+    )
 }

@@ -70,7 +70,7 @@ pub(crate) fn findings_on<Q: Shelf>(
     ensures states { IfOk result (λ findings. length findings.states ≡ length set.now.files) }
     ensures slices { IfOk result (λ findings. length findings.found ≡ length set.now.slices) }
     ensures handed { HandsPerFile
-        (λ file. verified_length_of set.now (slice_index (Q.state shelf.old).lengths file))
+        (λ file. verified_length_of set.now mode (slice_index (Q.state shelf.old).lengths file))
         (Q.state shelf.old) (Q.state shelf.new) }
     ensures ok { OnOk result (ReadsOnly (Q.state shelf.old) (Q.state shelf.new)) }
     ensures fault { IfErr result (FilesLeave (Q.state shelf.old) (Q.state shelf.new)) }

@@ -8,6 +8,7 @@ ghost use Rattle.parshelf.specs.Shelf.{ReadsAs};
 ghost use Rattle.parwindow.specs.Index.{slice_set_of};
 ghost use Rattle.parfind.specs.Sought.{HasFewTails};
 ghost use Rattle.parfind.specs.Surveys.{is_sighted, StopsOnceFound};
+ghost use Rattle.parfind.specs.declared.tracks.mode.Mode.TheVariants.{Plain};
 ghost use Rattle.parreport.specs.Contents.{HandsPerFile};
 ghost use Rattle.parreport.specs.Costs.{searched_length_of};
 ghost use Rattle.parreport.specs.Files.{FilesLeave};
@@ -73,14 +74,14 @@ pub fn found_slices<Q: Shelf>(
         → IfOk result (λ found. found.items ≡ map (λ slice. contains id_cmp whole.now slice.1.id
         || is_sighted (set_scan_of set.now mode files) slice.0)
         (enumerate_from 0 set.now.slices)) }
-    ensures stops { (files : List (List ℕ)) → ReadsAs (Q.state shelf.new) files
+    ensures stops { mode ≡ Plain → (files : List (List ℕ)) → ReadsAs (Q.state shelf.new) files
         → StopsOnceFound (set_scan_of set.now mode files) (Q.state shelf.old) (Q.state shelf.new)
         (map (is_in_whole_file whole.now) set.now.slices) }
 
     // Whatever was read.
     ensures slices { IfOk result (λ found. length found.items ≡ length set.now.slices) }
     ensures handed { HandsPerFile
-        (λ file. searched_length_of set.now (slice_index (Q.state shelf.old).lengths file))
+        (λ file. searched_length_of set.now mode (slice_index (Q.state shelf.old).lengths file))
         (Q.state shelf.old) (Q.state shelf.new) }
     ensures none { All (λ slice. IsTrue (needs_no_search whole.now slice)) set.now.slices →
         Q.state shelf.new ≡ Q.state shelf.old }

@@ -233,14 +233,15 @@ fn scanned_reads(
 // Each read of the scanned file failing in turn, by 1 byte and by 64: as many bytes are read as the
 // text needs at least, and as are ahead at most.
 fn scanned_reads_fail(rt: &(impl Abort + AllocGlobal), row: &Row<'_>, needs: &str, bytes: &str) {
-    let (least, most) = cut(rt, needs.trim(), " ");
+    let (least, rest) = cut(rt, needs.trim(), " ");
+    let (most, times) = rest.split_once(' ').unwrap_or((rest, "1"));
     let (least, most) = (number::<u64>(rt, least), number::<u64>(rt, most));
     let made = scanned_reads(rt, row, 1, number(rt, bytes));
     holds(rt, &row.words, least <= made);
     holds(rt, &row.words, made <= most);
     // One read gives the whole scanned file then, so its failing leaves no text.
     let made = scanned_reads(rt, row, 64, 0);
-    is_same(rt, &row.words, &made, &most.min(1));
+    is_same(rt, &row.words, &made, &most.min(number(rt, times)));
 }
 
 // Each read of both shelves of a row failing in turn, by 1 byte and by 64.

@@ -1,8 +1,9 @@
 // Command lines whose reads and writes fail in turn.
 
 /// Beside the exit status: how many reads of 1 byte each packet file has; how many of 64; how many
-/// bytes of the scanned file the text needs, and how many of them are ahead; how many bytes of the
-/// text the last of the failing reads of the scanned file leaves.
+/// bytes of the scanned file the text needs, how many of them are ahead, and, if it is gone over
+/// more than once, how often; how many bytes of the text the last of the failing reads of the
+/// scanned file leaves.
 pub const WHOLE: &str = r"
 $ packets v.par2 | g
 v.par2 0 92 main 617cdc72ba53d94fe713fea2ae18f776
@@ -127,7 +128,7 @@ set 2b5d19a47ee4561a2c85b51d7f6d65c4 size 4 slices 2
 missing a.bin 2/2
 need 0 have 0
 result possible
-= 1 | 340 | 6 | 7 7 | 0
+= 1 | 340 | 6 | 7 14 2 | 0
 ";
 
 /// How many there are.

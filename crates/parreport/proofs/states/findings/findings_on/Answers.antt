@@ -84,7 +84,7 @@ pub returns-in_err-contents-clause-handed : goal.returns-in_err-contents-clause-
 returns-in_err-contents-clause-handed g c =
     let old : ShelfState = g.Q.Shelf.state c.args.shelf.now in
     let now : ShelfState = g.Q.Shelf.state c.contents.new.shelf in
-    only_checked c.args.set.now old now (subst (λ files. ReadsCandidates files old now) c.files-set_files.ensures.field c.contents.ensures.bytes)
+    only_checked c.args.mode c.args.set.now old now (subst (λ files. ReadsCandidates files old now) c.files-set_files.ensures.field c.contents.ensures.bytes)
 
 pub returns-in_err-contents-clause-unsearched : goal.returns-in_err-contents-clause-unsearched
 returns-in_err-contents-clause-unsearched g c = λ contents reads needs.
@@ -111,7 +111,7 @@ pub returns-in_err-states-clause-handed : goal.returns-in_err-states-clause-hand
 returns-in_err-states-clause-handed g c =
     let old : ShelfState = g.Q.Shelf.state c.args.shelf.now in
     let now : ShelfState = g.Q.Shelf.state c.contents.new.shelf in
-    only_checked c.args.set.now old now (subst (λ files. ReadsCandidates files old now) c.files-set_files.ensures.field c.in_ok-contents.ensures.bytes)
+    only_checked c.args.mode c.args.set.now old now (subst (λ files. ReadsCandidates files old now) c.files-set_files.ensures.field c.in_ok-contents.ensures.bytes)
 
 pub returns-in_err-states-clause-unsearched : goal.returns-in_err-states-clause-unsearched
 returns-in_err-states-clause-unsearched g c = λ contents reads needs.
@@ -141,7 +141,7 @@ pub returns-in_err-whole-clause-handed : goal.returns-in_err-whole-clause-handed
 returns-in_err-whole-clause-handed g c =
     let old : ShelfState = g.Q.Shelf.state c.args.shelf.now in
     let now : ShelfState = g.Q.Shelf.state c.contents.new.shelf in
-    only_checked c.args.set.now old now (subst (λ files. ReadsCandidates files old now) c.files-set_files.ensures.field c.in_ok-contents.ensures.bytes)
+    only_checked c.args.mode c.args.set.now old now (subst (λ files. ReadsCandidates files old now) c.files-set_files.ensures.field c.in_ok-contents.ensures.bytes)
 
 pub returns-in_err-whole-clause-unsearched : goal.returns-in_err-whole-clause-unsearched
 returns-in_err-whole-clause-unsearched g c = λ contents reads needs.
@@ -191,7 +191,7 @@ pub returns-in_err-found-clause-handed : goal.returns-in_err-found-clause-handed
 returns-in_err-found-clause-handed g c =
     let old : ShelfState = g.Q.Shelf.state c.args.shelf.now in
     let now : ShelfState = g.Q.Shelf.state c.contents.new.shelf in
-    checked_and_searched c.args.set.now old now (g.Q.Shelf.state c.found_slices.new.shelf) (lengths_same old now c.in_ok-contents.ensures.ok)
+    checked_and_searched c.args.mode c.args.set.now old now (g.Q.Shelf.state c.found_slices.new.shelf) (lengths_same old now c.in_ok-contents.ensures.ok)
     (subst (λ files. ReadsCandidates files old now) c.files-set_files.ensures.field c.in_ok-contents.ensures.bytes)
     c.found_slices.ensures.handed
 
@@ -199,6 +199,6 @@ pub returns-clause-handed : goal.returns-clause-handed
 returns-clause-handed g c =
     let old : ShelfState = g.Q.Shelf.state c.args.shelf.now in
     let now : ShelfState = g.Q.Shelf.state c.contents.new.shelf in
-    checked_and_searched c.args.set.now old now (g.Q.Shelf.state c.found_slices.new.shelf) (lengths_same old now c.in_ok-contents.ensures.ok)
+    checked_and_searched c.args.mode c.args.set.now old now (g.Q.Shelf.state c.found_slices.new.shelf) (lengths_same old now c.in_ok-contents.ensures.ok)
     (subst (λ files. ReadsCandidates files old now) c.files-set_files.ensures.field c.in_ok-contents.ensures.bytes)
     c.found_slices.ensures.handed

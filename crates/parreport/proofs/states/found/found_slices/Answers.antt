@@ -74,7 +74,7 @@ returns-in_err-survey-clause-slices g c = grind (arith, common_steps) steps 1500
 
 pub returns-in_err-survey-clause-handed : goal.returns-in_err-survey-clause-handed
 returns-in_err-survey-clause-handed g c =
-    searched_once c.args.set.now c.args.index.now c.deref_mut.result.now (g.Q.Shelf.state c.args.shelf.now) (g.Q.Shelf.state c.survey.new.shelf)
+    searched_once c.args.mode c.args.set.now c.args.index.now c.deref_mut.result.now (g.Q.Shelf.state c.args.shelf.now) (g.Q.Shelf.state c.survey.new.shelf)
     c.requires.index c.survey.ensures.handed c.survey.ensures.unfit
 
 pub returns-in_err-survey-clause-ok : goal.returns-in_err-survey-clause-ok
@@ -94,7 +94,7 @@ returns-clause-slices g c = grind (arith, common_steps) steps 1500000
 
 pub returns-clause-handed : goal.returns-clause-handed
 returns-clause-handed g c =
-    searched_once c.args.set.now c.args.index.now c.deref_mut.result.now (g.Q.Shelf.state c.args.shelf.now) (g.Q.Shelf.state c.survey.new.shelf)
+    searched_once c.args.mode c.args.set.now c.args.index.now c.deref_mut.result.now (g.Q.Shelf.state c.args.shelf.now) (g.Q.Shelf.state c.survey.new.shelf)
     c.requires.index c.survey.ensures.handed c.survey.ensures.unfit
 
 pub returns-clause-ok : goal.returns-clause-ok
@@ -104,7 +104,7 @@ pub returns-clause-fault : goal.returns-clause-fault
 returns-clause-fault g c = grind (arith, common_steps) steps 100000
 
 pub returns-clause-stops : goal.returns-clause-stops
-returns-clause-stops g c = λ files reads.
+returns-clause-stops g c = λ plain files reads.
     let scan = set_scan_of c.args.set.now c.args.mode files in
     let old : ShelfState = g.Q.Shelf.state c.args.shelf.now in
     let new : ShelfState = g.Q.Shelf.state c.survey.new.shelf in
@@ -112,10 +112,10 @@ returns-clause-stops g c = λ files reads.
     = c.deref_mut.ensures.value ∙ (c.in_ok-found.ensures ∙ ap (map (is_in_whole_file c.args.whole.now)) c.slices.ensures.field) in
     subst (λ marks. StopsOnceFound scan old new marks) was
     (subst (λ set. StopsOnceFound (scan_of (sought_of set c.args.mode) files) old new c.deref_mut.result.now) c.requires.index
-    (c.survey.ensures.stops files reads))
+    (c.survey.ensures.stops plain files reads))
 
 pub returns-in_err-survey-clause-stops : goal.returns-in_err-survey-clause-stops
-returns-in_err-survey-clause-stops g c = λ files reads.
+returns-in_err-survey-clause-stops g c = λ plain files reads.
     let scan = set_scan_of c.args.set.now c.args.mode files in
     let old : ShelfState = g.Q.Shelf.state c.args.shelf.now in
     let new : ShelfState = g.Q.Shelf.state c.survey.new.shelf in
@@ -123,4 +123,4 @@ returns-in_err-survey-clause-stops g c = λ files reads.
     = c.deref_mut.ensures.value ∙ (c.in_ok-found.ensures ∙ ap (map (is_in_whole_file c.args.whole.now)) c.slices.ensures.field) in
     subst (λ marks. StopsOnceFound scan old new marks) was
     (subst (λ set. StopsOnceFound (scan_of (sought_of set c.args.mode) files) old new c.deref_mut.result.now) c.requires.index
-    (c.survey.ensures.stops files reads))
+    (c.survey.ensures.stops plain files reads))

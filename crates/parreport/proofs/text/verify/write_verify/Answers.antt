@@ -99,10 +99,10 @@ pub returns-clause-sink : goal.returns-clause-sink
 returns-clause-sink g c = grind (arith, common_steps)
 
 pub returns-in_err-findings-clause-handed : goal.returns-in_err-findings-clause-handed
-returns-in_err-findings-clause-handed g c = c.findings_on.ensures.handed
+returns-in_err-findings-clause-handed g c = rw c.mode_of-mode.ensures at c.findings_on.ensures.handed
 
 pub returns-clause-handed : goal.returns-clause-handed
-returns-clause-handed g c = c.findings_on.ensures.handed
+returns-clause-handed g c = rw c.mode_of-mode.ensures at c.findings_on.ensures.handed
 
 pub returns-in_err-findings-clause-unsearched : goal.returns-in_err-findings-clause-unsearched
 returns-in_err-findings-clause-unsearched g c = rw c.as_slice-files.ensures at c.findings_on.ensures.unsearched

@@ -35,9 +35,9 @@ offset_bounds-self-k-else-is_missing_at c =
 pub returns-then-is_missing_at-clause-exhausted : goal.returns-then-is_missing_at-clause-exhausted
 returns-then-is_missing_at-clause-exhausted c =
     let sought = c.args.sought.now in
-    exhausted_more sought c.args.left c.args.self.now.crcs c.args.found.now c.note_matches.new.found
+    rw c.note_matches.ensures.crcs (exhausted_more sought c.args.left c.args.self.now.crcs c.args.found.now c.note_matches.new.found
     (slice_passes c.args.sought.now.set.slices (is_compared sought (slice_index (compared_lengths sought) c.args.k)
-    (is_fitting_match (c.digest_at-digest.result, c.crc_at-crc.result) c.args.left))) c.note_matches.ensures.found c.requires.exhausted
+    (is_fitting_match (c.digest_at-digest.result, c.crc_at-crc.result) c.args.left))) c.note_matches.ensures.found c.requires.exhausted)
 
 pub returns-else-is_missing_at-clause-exhausted : goal.returns-else-is_missing_at-clause-exhausted
 returns-else-is_missing_at-clause-exhausted c =

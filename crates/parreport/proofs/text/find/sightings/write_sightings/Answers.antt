@@ -37,7 +37,7 @@ pub write_from-requires-clause-limit : goal.write_from-requires-clause-limit
 write_from-requires-clause-limit g c = grind (arith, common_steps) steps 100000
 
 pub write_from-requires-clause-index : goal.write_from-requires-clause-index
-write_from-requires-clause-index g c = grind (arith, common_steps) steps 100000
+write_from-requires-clause-index g c = grind (arith, common_steps) steps 400000
 
 pub write_from-requires-clause-belongs : goal.write_from-requires-clause-belongs
 write_from-requires-clause-belongs g c = grind (arith, common_steps) steps 100000
