@@ -11,12 +11,16 @@ and peak memory. Each case is run once before it is measured, to see that it is 
 verdicts, and what parv lists. A case isn't measured where a run would take longer than the limit:
 where parv hashes each window anew, that is told by the smallest set, and such a run isn't begun.
 
-par2 has no --tails, so in the cases with that flag parv without it stands in par2's place, as `plain`.
-Their numbers are those of own lengths below the slice size. `find` meets no slice there. `verify` has so many
-files, the last of which has another last byte, and needs the last slice of that one alone.
+par2 has no --tails, so in the cases `find --tails` and `verify --tails` parv without the flag stands in par2's
+place, as `plain`. Their numbers are those of own lengths below the slice size. `find` meets no slice there. `verify`
+has so many files, the last of which has another last byte, and needs the last slice of that one alone.
 
-The last cases are of content as people have it, which repeats or doesn't: each kind whole, damaged at one place, and
+The next cases are of content as people have it, which repeats or doesn't: each kind whole, damaged at one place, and
 with a part left out, in slices of the size that par2 chooses ("par2's") and of 4 KiB.
+
+In the last cases only an image is scanned, by `verify --tails`. It has all files of the set, or a tenth of them is
+missing. A "disc of 200" has 200 files, each padded to 2,048 bytes. The ISO image needs genisoimage, and the ext4
+image mke2fs: a case whose program isn't installed is left out. `find --tails` goes over the discs too.
 
 With BEFORE, another parv runs in turn with them. Each case then has a second line, of that one beside
 par2, and at the end of the first the processor time of parv by that of the one before. Both must give the
@@ -40,7 +44,8 @@ from typing import NamedTuple
 
 sys.path[0] = os.path.dirname(os.path.dirname(os.path.realpath(__file__)))  # tools/, where imports begin
 
-from bench.bench_sets import INDEX, OTHER, SHAPES, data_files, packet_files, sets_of, size_text
+from bench import disc_images
+from bench.bench_sets import INDEX, OTHER, SHAPES, TAILS, data_files, packet_files, sets_of, size_text, slices_in
 from bench.real_content import KINDS
 from hostile.runs import PARV
 
@@ -62,21 +67,19 @@ VERIFIED, LISTED, SEEN = r"^need (\d+) have \d+$", r"^\S+ \d+ \d+ recvslic ", r"
 
 class Case(NamedTuple):
     """What is measured: a folder of the sets, parv's command, the exit status over that folder of par2 or of
-    what stands in its place, and whether parv gets --tails."""
+    what stands in its place, whether parv gets --tails, which of the two it is measured beside, and the program
+    that makes the folder's image."""
     name: str
     folder: str
     command: str
     status: int
     tails: bool = False
+    beside: str = "par2"
+    program: str = ""
 
     @property
     def words(self):
         return [self.command, "--tails"] if self.tails else [self.command]
-
-    @property
-    def beside(self):
-        """What the program is measured beside."""
-        return "plain" if self.tails else "par2"
 
 
 CASES = [
@@ -94,10 +97,14 @@ CASES = [
     Case("61 of 64, a byte flipped", "61 of 64, flipped", "verify", 2),
     Case("2,000 of 2,000 files", "2000 of 2000", "verify", 0),
     Case("1,998 of 2,000 files", "1998 of 2000", "verify", 2),
-    *[Case(f"find --tails, {count}", f"{count} tails", "find", 0, True) for count in (1, 16, 256)],
-    *[Case(f"verify --tails, {count}", f"{count} tails, flipped", "verify", 1, True) for count in (1, 16, 256)],
+    *[Case(f"find --tails, {count}", f"{count} tails", "find", 0, True, "plain") for count in TAILS],
+    *[Case(f"verify --tails, {count}", f"{count} tails, flipped", "verify", 1, True, "plain") for count in TAILS],
     *[Case(kind + more, kind + more, "verify", status if kind != "volumes" else 2 * status)
       for kind in KINDS for more, status in (("", 0), (", flipped", 1), (", left out", 1))],
+    *[Case(kind + more, kind + more, "verify", status, True, program=image.program)
+      for kind, image in disc_images.IMAGES.items() for more, status in (("", 1), (", tenth missing", 2))],
+    *[Case(f"find --tails, {kind}", kind, "find", 0, True, "plain")
+      for kind in disc_images.IMAGES if kind.startswith("disc of ")],
 ]
 
 
@@ -165,7 +172,7 @@ def one_thread():
 
 def beside(case, folder, alone):
     """What stands beside parv: par2 on one thread and par2 by itself, or twice parv without the flag."""
-    if case.tails:
+    if case.beside == "plain":
         return [by_parv(PARV, case._replace(tails=False), folder)] * 2
     words, options = alone
     return [words + by_par2(folder, options), by_par2(folder)]
@@ -176,7 +183,7 @@ def expected(case, shape, folder):
     if case.command == "packets":
         return shape.volume // shape.slice_size
     lost = shape.lost(case.folder, folder)
-    return lost if case.command == "verify" else shape.slices - lost
+    return lost if case.command == "verify" else slices_in(folder) - lost
 
 
 def told(case, text):
@@ -307,6 +314,14 @@ def chosen():
     return size, cases
 
 
+def makeable(cases):
+    """The cases that can be made; of each other one a line is printed."""
+    lacking = [case for case in cases if case.program and not disc_images.found(case.program)]
+    for case in lacking:
+        print(f"{case.name}: left out, since {case.program} isn't installed")
+    return [case for case in cases if case not in lacking]
+
+
 def main():
     size, cases = chosen()
     if not shutil.which("par2"):
@@ -318,7 +333,7 @@ def main():
     programs = [PARV, BEFORE] if BEFORE else [PARV]
     rounds = int(os.environ.get("ROUNDS") or ROUNDS[size])
     limit = float(os.environ.get("LIMIT") or LIMIT[size])
-    alone = one_thread()
+    cases, alone = makeable(cases), one_thread()
     probe = SHAPES["small"][0]
     probes, sets = sets_for(cases, "small", [probe]), sets_for(cases, size, SHAPES[size])
     say_machine(size, rounds, limit, alone)

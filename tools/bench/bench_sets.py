@@ -12,16 +12,20 @@ import shutil
 import subprocess
 from typing import NamedTuple
 
+from bench.disc_images import IMAGES, lost_in, write_image
 from bench.real_content import KINDS
 from bench.search_cost import packets_with_tails, searched, tails_about, written
 from make.content import write
 from make.damage import flip, in_file, insert, remove, zero
+from models.describe_set import packets_of, set_of
+from models.find_slices import slices_of
 from models.list_packets import packets_in
 
 VERSION = 1  # of what is made here
 KIB, MIB = 1 << 10, 1 << 20
 DATA, OTHER, INDEX, LOST = "data.bin", "other.bin", "set.par2", "lost"
 VOLUME_SLICES = 32  # input slices of a set that is made for its volume
+DISC_RECOVERY = 20  # recovery slices of a set with images, for those that an ext4 image lacks: it stores no zeros
 
 
 class Shape(NamedTuple):
@@ -39,13 +43,9 @@ class Shape(NamedTuple):
     def folders(self):
         return ["intact", *DAMAGED, "many", *(["volume"] if self.volume else [])]
 
-    @property
-    def slices(self):
-        return self.data // self.slice_size
-
     def lost(self, folder, _path):
         """How many slices aren't there."""
-        return {"flipped": 1, "left out": 1, "every slice": self.slices}.get(folder, 0)
+        return {"flipped": 1, "left out": 1, "every slice": self.data // self.slice_size}.get(folder, 0)
 
     def make(self, folder):
         intact = os.path.join(folder, "intact")
@@ -81,10 +81,6 @@ class Files(NamedTuple):
     def data(self):
         return self.files * self.length
 
-    @property
-    def slices(self):
-        return self.data // self.slice_size
-
     def lost(self, folder, _path):
         gone = self.gone * self.length // self.slice_size
         return dict(zip(self.folders, [0, gone, gone + self.flipped]))[folder]
@@ -110,15 +106,11 @@ class Tails(NamedTuple):
 
     @property
     def name(self):
-        return f"{self.files}tails"
+        return f"{self.files}tails-{size_text(self.slice_size).replace(' ', '')}"
 
     @property
     def folders(self):
         return [f"{self.files} tails", f"{self.files} tails, flipped"]
-
-    @property
-    def slices(self):
-        return self.files
 
     def lost(self, folder, _path):
         return dict(zip(self.folders, [self.files, 1]))[folder]
@@ -150,8 +142,7 @@ class Real(NamedTuple):
         return [self.kind, f"{self.kind}, flipped", f"{self.kind}, left out"]
 
     def lost(self, _folder, path):
-        with open(os.path.join(path, LOST)) as file:
-            return int(file.read())
+        return noted_lost(path)
 
     def make(self, folder):
         whole, flipped, left_out = [os.path.join(folder, name) for name in self.folders]
@@ -171,6 +162,41 @@ class Real(NamedTuple):
         write(os.path.join(whole, LOST), b"0")
 
 
+class Disc(NamedTuple):
+    """A set whose files are scanned in an image only: one has them all, and in the other one a tenth is missing. The
+    slice size is as of Real."""
+    kind: str
+    slice_size: int
+    data: int
+
+    @property
+    def name(self):
+        return self.kind.replace(" ", "-")
+
+    @property
+    def folders(self):
+        return [self.kind, f"{self.kind}, tenth missing"]
+
+    def lost(self, _folder, path):
+        return noted_lost(path)
+
+    def make(self, folder):
+        files, contents = os.path.join(folder, "files"), IMAGES[self.kind].files(self.data)
+        os.makedirs(files)
+        for name, content in contents.items():
+            write(os.path.join(files, name), content)
+        create(files, self.slice_size, DISC_RECOVERY)
+        size, names = slice_size_of(os.path.join(files, INDEX)), data_files(files)
+        rest = [name for number, name in enumerate(names) if number % 10 != 5]
+        for target, some in zip(self.folders, (names, rest)):
+            target = os.path.join(folder, target)
+            image = os.path.join(target, OTHER)
+            link_all(files, target, [])
+            write_image(self.kind, files, some, image)
+            write(os.path.join(target, LOST), str(lost_in(image, contents.values(), size)).encode())
+        shutil.rmtree(files)
+
+
 DAMAGED = ["renamed", "flipped", "left out", "in front", "every slice"]
 
 # How large the files of each kind are, in MiB, in the large sets, where ratios count. A set has at most 32,768 slices.
@@ -179,6 +205,24 @@ REAL = {
     "sound": 64, "volumes": 150, "small files": 36, "log": 64, "tar": 128,
 }
 
+# The slice size of each image and how large its files are, in KiB and MiB.
+DISCS = {
+    "disc of 40": (256, 300), "disc of 200": (64, 300), "disc of 256": (64, 300), "ISO image": (0, 96),
+    "tar image": (0, 96), "ext4 image": (0, 96),
+}
+
+
+# How many bytes are searched for so many tails, in MiB.
+TAILS = {1: 64, 4: 64, 16: 32, 64: 32, 200: 16, 256: 16}
+
+
+def tails(slice_size, divisor):
+    """Sets of each number of tails, so much smaller. Files that are longer than a slice have all but one byte of
+    their last one, and so less and less."""
+    for count, data in TAILS.items():
+        longest = data * MIB // divisor // count
+        yield Tails(slice_size, (longest - longest % slice_size or longest) * count, count)
+
 
 def real(divisor):
     """The sets of each kind, so much smaller, in the slices that par2 chooses and in slices of 4 KiB."""
@@ -186,15 +230,21 @@ def real(divisor):
             for kind in KINDS for slice_size, most in ((0, 192), (4 * KIB, 96))]
 
 
+def discs(divisor):
+    """The set of each image, so much smaller, and in slices that are as much smaller."""
+    return [Disc(kind, slice_size * KIB // divisor, data * MIB // divisor)
+            for kind, (slice_size, data) in DISCS.items()]
+
+
 SHAPES = {
     "small": [Shape(2 * KIB, 64 * KIB, 16, 0), Shape(64 * KIB, 4 * MIB, 16, 4 * MIB),
               Shape(MIB, 16 * MIB, 16, 32 * MIB),
               Files(16 * KIB, 64 * KIB, 64, 3, 1), Files(KIB, 4 * KIB, 2000, 2, 0),
-              Tails(KIB, 4 * MIB, 1), Tails(KIB, 4 * MIB, 16), Tails(KIB, MIB, 256), *real(64)],
+              *tails(KIB, 16), *real(64), *discs(64)],
     "large": [Shape(2 * KIB, 64 * MIB, 256, 0), Shape(64 * KIB, 256 * MIB, 256, 128 * MIB),
               Shape(MIB, 256 * MIB, 256, 128 * MIB),
               Files(MIB, 4 * MIB, 64, 3, 1), Files(4 * KIB, 32 * KIB, 2000, 2, 0),
-              Tails(4 * KIB, 64 * MIB, 1), Tails(4 * KIB, 16 * MIB, 16), Tails(4 * KIB, 4 * MIB, 256), *real(1)],
+              *tails(4 * KIB, 1), *tails(64 * KIB, 1), *tails(2 * MIB, 1), *real(1), *discs(1)],
 }
 
 
@@ -229,12 +279,24 @@ def create(folder, slice_size, recovery):
                    env={**os.environ, "OMP_NUM_THREADS": "1"})
 
 
+def noted_lost(path):
+    """How many slices aren't in a folder of a set, which a file there tells."""
+    with open(os.path.join(path, LOST)) as file:
+        return int(file.read())
+
+
 def slice_size_of(path):
     """The slice size of a packet file's set."""
     with open(path, "rb") as file:
         data = file.read()
     at = next(at for at, _, kind, _ in packets_in(data) if kind == "main")
     return int.from_bytes(data[at + 64:at + 72], "little")
+
+
+def slices_in(path):
+    """How many slices the set of a folder has."""
+    with open(os.path.join(path, packet_files(path)[0]), "rb") as file:
+        return len(slices_of(set_of(packets_of([(b"index", file.read())]))))
 
 
 def flip_each(data, size):

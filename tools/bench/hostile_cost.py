@@ -90,8 +90,9 @@ def cost_of_tails(runner):
         data = set_of(main_body(size, ids), *bodies)
         runner.write("p.par2", data)
         runner.write("z.bin", bytes(size + 99))
-        told(runner, f"tails, find in {size + 99} zeros, slices of {size // KIB} KiB",
-             [PARV, "find", "--tails", "p.par2", "z.bin"], len(data))
+        for command in ("find", "verify"):
+            told(runner, f"tails, {command} in {size + 99} zeros, slices of {size // KIB} KiB",
+                 [PARV, command, "--tails", "p.par2", "z.bin"], len(data))
 
 
 def cost_of_names(runner):

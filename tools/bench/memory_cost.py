@@ -21,8 +21,9 @@ from make.packets import NO_ID, desc_body, ids_of, ifsc_body, main_body, md5, pa
 
 KIB, MIB = 1 << 10, 1 << 20
 MARGIN = MIB
-PACKET, UNNAMED, FILE, SLICE, TAIL, NAMED, SHOWN = 200, 150, 910, 180, 4500, 560, 5  # bytes for each
-SLICE_AGAIN, INDEX_AGAIN = 100, 512 * KIB  # for a second index, of the slices that verify still looks for
+PACKET, UNNAMED, FILE, SLICE, TAIL, NAMED, SHOWN = 200, 150, 910, 180, 5150, 560, 5  # bytes for each
+RUNNING = 4  # for each byte of a window of up to 8 MiB, if there are six tails or more
+SLICE_AGAIN, INDEX_AGAIN = 100, 528 * KIB  # for a second index, of the slices that verify still looks for
 OF_A_LENGTH = 80  # in verify, for each scanned file of a length of the set
 COMMANDS = ["packets", "set", "find", "verify"]
 SEARCHES = COMMANDS[2:]
@@ -145,7 +146,7 @@ def cost_of_slices_that_are_found(costs):
                                      ("ifsc", ifsc_body(whole, b"zzzz", 4)),
                                      ("filedesc", desc_body(other, b"a", b"", 4 * count)), no_sums(other, count)))
         costs.within(f"a file that is whole, and {count} slices of another",
-                     (SLICE + SLICE_AGAIN) * count + INDEX_AGAIN, ["verify"], ["p.par2", "z"])
+                     (SLICE + SLICE_AGAIN) * count + INDEX_AGAIN, ["verify", "verify --tails"], ["p.par2", "z"])
 
 
 def cost_of_slices_that_repeat(costs):
@@ -172,6 +173,10 @@ def cost_of_tails(costs):
         costs.write("p.par2", set_of(main_body(1024, ids_of(count)),
                                      *files_of_one_slice(count, length=lambda at: at + 1)))
         costs.within(f"{count} tails", (FILE + TAIL) * count, ["find --tails", "verify --tails"], ["p.par2", "z"])
+    for size, more in (4 * MIB, RUNNING), (8 * MIB, RUNNING), (8 * MIB + 4, 0):
+        costs.write("p.par2", set_of(main_body(size, ids_of(6)), *files_of_one_slice(6, length=lambda at: at + 1)))
+        costs.within(f"6 tails in slices of {size} bytes", (FILE + TAIL) * 6 + (1 + more) * size,
+                     ["find --tails", "verify --tails"], ["p.par2", "z"])
 
 
 def cost_of_slice_size(costs):
@@ -231,7 +236,7 @@ def cost_of_most(costs):
                                  ("ifsc", ifsc_body(whole, b"zzzz", size)), *files)
                 + packet(md5(main), "creator", b"") * packets + packet(md5(main), "filedesc", bytes(MIB)) * bodies)
     # What is reckoned for a file has one of its slices.
-    allowed = ((FILE + 3 * 100 + (pairs - 1) * SLICE) * len(ids) + PACKET * packets + bodies * MIB + size + 256 * TAIL
+    allowed = ((FILE + 3 * 100 + (pairs - 1) * SLICE) * len(ids) + PACKET * packets + bodies * MIB + (1 + RUNNING) * size + 256 * TAIL
                + (NAMED + 4) * scanned)
     for command, again in ("find --tails", 0), ("verify --tails", SLICE_AGAIN * pairs * len(ids) + INDEX_AGAIN):
         costs.within("most of these", allowed + again, [command], ["p.par2", *["z"] * scanned])

@@ -4,7 +4,7 @@
 usage: place_slices.py [--tails] ORIGINALS FOLDER FILE...
 
 Takes the bytes of each slice that is seen anywhere from the file of its name in the folder ORIGINALS,
-and not from where it was seen. FOLDER gets what examples/extract_found.py must leave, and standard
+and not from where it was seen. FOLDER gets what parv-rescue must leave, and standard
 output its lines, the last one without how many were copied. Without --tails a short last slice is seen
 also at its distance from each sighting of another slice of its file. Standard error gets how many short
 slices with known sums are missing, if some are.
