@@ -1,39 +1,49 @@
 #!/usr/bin/env python3
 """Compares the built program with a plain model over hostile packet files.
 
-usage: hostile.py [--seed N] [--cases N] [--jobs N] [--keep FOLDER]
+usage: hostile.py [--joined | --repeated] [--seed N] [--cases N] [--jobs N] [--keep FOLDER]
 
 Each case is made by the grammar of hostile_files.py from the seed and its own number. `packets` and
 `set`, one of them with --set too, and `find` and `verify`, without --tails and with it, where there
 is a set, now and then also where there is none, must give the status, standard output and standard
 error that list_packets.py, describe_set.py, find_slices.py, tell_states.py and cursor_texts.py have
 by their own reading. Cursors are of both versions, also of another set or of other files, or damaged.
-FOLDER gets the files of the first case that differs. From 1,000 cases on each reason, cause, state
+FOLDER gets a folder with the files of each case that differs. From 1,000 cases on each reason, cause, state
 and result must come, each answer to a cursor, a tail before other bytes, and more tails than may be
 looked for.
+
+With --joined the cases are made by the grammar of joined_files.py: files that are joined, as on the image
+of a disc. Only `find` and `verify` run over them, and most runs tell everything. From 1,000 cases on there must
+be some whose short slices are all right after the slice before them, and some with a short slice elsewhere only.
+
+With --repeated they are made by the grammar of repeated_files.py: files whose bytes repeat. From 1,000 cases
+on there must be some in which slices that were found before are met at 2,000 offsets, while others are missing.
 
 PARV is the program (crates/parv/out/parv).
 """
 
 import argparse
 import collections
+import functools
 import os
 import random
 import sys
 from concurrent.futures import ProcessPoolExecutor
-from typing import NamedTuple
+from typing import Callable, NamedTuple
 
 sys.path[0] = os.path.dirname(os.path.dirname(os.path.realpath(__file__)))  # tools/, where imports begin
 
-from hostile.hostile_files import case
+from hostile import hostile_files, joined_files, repeated_files
 from hostile.runs import Runner, as_text
+from make.content import write
 from models.cursor_texts import BOUNDS, Cursor, mark_of, read, text_of
 from models.describe_set import NoSet, description, packets_of, set_of
 from models.find_slices import TOO_MANY_TAILS, has_too_many_tails, line_of, sightings, slices_of, wanted_of
 from models.list_packets import listing, shown
-from models.tell_states import verdict
+from models.tell_states import state_of, verdict
 
 CHUNK = 100             # cases that one process makes at once
+HUNG = 200              # seconds; some runs take six, and several times that on a busy machine
 DEAR = 128 << 20        # bytes of windows that the model hashes in a search; slices may have 256 MiB
 
 WANTED = """packets 0,set 0,find 0,find 3,verify 0,verify 1,verify 2,no main,no description,
@@ -41,14 +51,40 @@ name twice,too many slices,main 1,main 2,main 3,main 4,main 7,filedesc 1,filedes
 ifsc 1,ifsc 7,recvslic 1,recvslic 7,creator 7,complete,renamed,damaged,missing,cursor,creator,
 unknown,tail before other bytes,find too many tails,verify too many tails,version 1,version 2,
 cursor of another set,cursor of other files,bad cursor,bad cursor and no set,cursor and no set"""
+WANTED_OF_JOINED = """find 0,find 3,find 4,verify 0,verify 1,verify 2,verify 4,complete,renamed,damaged,missing,cursor,
+tail before other bytes,find too many tails,verify too many tails,1 tail,2 to 16 tails,17 to 256 tails,256 tails,
+short slices right after,short slices elsewhere,short slices not there,short slice left,no short slice left,
+17 short slices after one offset"""
+WANTED_OF_REPEATED = """find 0,find 3,verify 0,verify 1,verify 2,complete,renamed,damaged,missing,cursor,
+tail before other bytes,found slices are met again and again"""
+AFTER_ONE = 17          # short slices, more than a survey expects at one offset
+
+
+AGAIN = 2_000           # offsets, more than a survey stops at in vain before it makes its index again
+
+
+class Grammar(NamedTuple):
+    """What cases are made of, and what must come in a thousand of them."""
+    case: Callable
+    wanted: str
+
+
+GRAMMARS = {
+    "hostile": Grammar(hostile_files.case, WANTED),
+    "joined": Grammar(joined_files.case, WANTED_OF_JOINED),
+    "repeated": Grammar(repeated_files.case, WANTED_OF_REPEATED),
+}
 
 
 class Case:
     """Files of a case, and what the model has of them."""
 
-    def __init__(self, seed, number):
+    def __init__(self, kind, seed, number):
         self.chance = random.Random(f"{seed} {number}")
-        self.files, self.scanned = case(self.chance)
+        self.searched = kind != "hostile"
+        self.files, self.scanned = GRAMMARS[kind].case(self.chance)
+        # Whether searches begin at the beginning and are told as a whole.
+        self.whole = self.searched and self.chance.randrange(4) > 0
         self.packets = packets_of(self.files)
         self.owners = sorted({owner for _, _, _, owner, _ in self.packets})
         self.met = collections.Counter()
@@ -209,10 +245,10 @@ def find_run(made, found, line, tails, seen, near):
     """A search whose sightings are `seen`, from a cursor near one of `near` or from the beginning."""
     options, begun, start, limit, given = ["--tails"] * tails, None, (0, 0, 0), None, given_in(made)
     slices = [] if found is None else slices_of(found)
-    if made.chance.randrange(2):
+    if not made.whole and made.chance.randrange(2):
         begun = cursor_near(made, found, slices, near, given.names)
         options += ["--cursor", begun]
-    if made.chance.randrange(2):
+    if not made.whole and made.chance.randrange(2):
         limit = made.chance.choice([1, 1, 2, 3, max(1, len(seen)), 2**64 - 1])
         options = ["--limit", str(limit), *options]
     words = words_of(made, "find", options, given)
@@ -242,7 +278,7 @@ def find_run(made, found, line, tails, seen, near):
 
 
 def verify_run(made, found, line, tails, seen):
-    quiet = made.chance.choice([0, 0, 0, 1, 2, 3])
+    quiet = 0 if made.whole else made.chance.choice([0, 0, 0, 1, 2, 3])
     given = given_in(made)
     words = words_of(made, "verify", ["-q"] * quiet + ["--tails"] * tails, given)
     refused = refusal(made, "verify", found, line, tails)
@@ -252,6 +288,55 @@ def verify_run(made, found, line, tails, seen):
     made.met.update(line.split()[0] for line in lines[1:-2])
     lines = lines if quiet == 0 else lines[-2:] if quiet == 1 else []
     return words, (status, text(lines), b"")
+
+
+def note_tails(made, found):
+    """Notes how many lengths below the slice size there are to look for."""
+    tails = len({own for _, _, own, sums in slices_of(found) if sums and own < found.size})
+    made.met["1 tail"] += tails == 1
+    made.met["2 to 16 tails"] += 1 < tails <= 16
+    made.met["17 to 256 tails"] += 16 < tails
+    made.met["256 tails"] += tails == 256
+
+
+def short_slices(made, found):
+    """The short slices that `verify --tails` looks for: those with checksums, of files that aren't there whole."""
+    short, first = set(), 0
+    for file in found.files:
+        first += file.slices
+        state, _ = state_of(file, made.scanned)
+        if file.sums and file.length % found.size and state in ("damaged", "missing"):
+            short.add(first - 1)
+    return short
+
+
+def note_short_slices(made, found, seen):
+    """Notes where these slices are: right after the slice before them in their file, elsewhere only, or nowhere."""
+    slices, short = slices_of(found), short_slices(made, found)
+    before = [(place, offset, at) for place, offset, at in seen
+              if at + 1 in short and slices[at][0] == slices[at + 1][0]]
+    right_after = {(place, offset + found.size, at + 1) for place, offset, at in before}
+    after = {at for _, _, at in right_after.intersection(seen)}
+    elsewhere = {at for _, _, at in seen if at in short} - after
+    expected = collections.Counter((place, offset) for place, offset, _ in before)
+    made.met["short slices right after"] += len(after) > 0
+    made.met["short slices elsewhere"] += len(elsewhere) > 0
+    made.met["short slices not there"] += short > after | elsewhere
+    made.met["no short slice left"] += after == short != set()
+    made.met["short slice left"] += after != short
+    made.met[f"{AFTER_ONE} short slices after one offset"] += max(expected.values(), default=0) >= AFTER_ONE
+
+
+def note_repeats(made, found, seen):
+    """Notes if slices are met at very many offsets where all that are met were found before, and some are missing."""
+    met, again, offsets = set(), 0, collections.defaultdict(list)
+    for place, offset, at in seen:
+        offsets[place, offset].append(at)
+    for slices in offsets.values():
+        again += met.issuperset(slices)
+        met.update(slices)
+    missing = any(state_of(file, made.scanned)[0] not in ("complete", "renamed") for file in found.files)
+    made.met["found slices are met again and again"] += again >= AGAIN and missing
 
 
 def searches_of(made):
@@ -268,22 +353,35 @@ def searches_of(made):
             seen = list(sightings(found, contents, tails))
             made.met["tail before other bytes"] += tails and not set(seen) <= set(near)
             near = near + seen
+            if made.searched and tails:
+                note_tails(made, found)
+                note_short_slices(made, found, seen)
+            elif made.searched:
+                note_repeats(made, found, seen)
         runs += [find_run(made, found, line, tails, seen, near), verify_run(made, found, line, tails, seen)]
     return runs
 
 
 def runs_of(made):
     """The words of each run, and the status, output and errors that it must have."""
+    if made.searched:
+        return searches_of(made)
     choice = made.choice()
     return [packets_run(made, None), set_run(made, None),
             made.chance.choice([packets_run, set_run])(made, choice), *searches_of(made)]
 
 
-def chunk(seed, numbers, keep):
+def keep_files(made, folder):
+    os.makedirs(folder, exist_ok=True)
+    for name, data in made.files + made.scanned:
+        write(os.path.join(os.fsencode(folder), name), data)
+
+
+def chunk(kind, seed, numbers, keep):
     """Some cases: how many runs there were, what came in them, and how they differ."""
-    runner, runs, met, wrong = Runner(), 0, collections.Counter(), []
+    runner, runs, met, wrong = Runner(HUNG), 0, collections.Counter(), []
     for number in numbers:
-        made = Case(seed, number)
+        made = Case(kind, seed, number)
         runner.clear()
         for name, data in made.files + made.scanned:
             runner.write(name, data)
@@ -296,11 +394,7 @@ def chunk(seed, numbers, keep):
                 wrong.append(f"seed {seed}, case {number}: parv {command}: {as_text(ran)}; the "
                              f"model has status {wanted[0]}, {wanted[1][:300]!r}, {wanted[2]!r}")
                 if keep:
-                    os.makedirs(keep, exist_ok=True)
-                    for name, data in made.files + made.scanned:
-                        with open(os.path.join(os.fsencode(keep), name), "wb") as out:
-                            out.write(data)
-                    keep = None
+                    keep_files(made, os.path.join(keep, str(number)))
         met.update(made.met)
     runner.close()
     return runs, met, wrong
@@ -311,22 +405,26 @@ def main():
     for option, value in [("--seed", 1), ("--cases", 3000), ("--jobs", 1)]:
         parser.add_argument(option, type=int, default=value)
     parser.add_argument("--keep")
+    kinds = parser.add_mutually_exclusive_group()
+    for kind in ("joined", "repeated"):
+        kinds.add_argument(f"--{kind}", dest="kind", action="store_const", const=kind, default="hostile")
     asked = parser.parse_args()
     runs, met, wrong = 0, collections.Counter(), []
     parts = [range(at, min(at + CHUNK, asked.cases)) for at in range(0, asked.cases, CHUNK)]
     with ProcessPoolExecutor(asked.jobs) as pool:
-        for more in pool.map(chunk, [asked.seed] * len(parts), parts, [asked.keep] * len(parts)):
+        run_parts = functools.partial(chunk, asked.kind, asked.seed, keep=asked.keep)
+        for more in pool.map(run_parts, parts):
             runs += more[0]
             met.update(more[1])
             wrong += more[2]
     for line in wrong[:20]:
         print(f"FAILED: {line}")
     print(", ".join(f"{name} {count}" for name, count in sorted(met.items())))
-    lacking = [name for name in WANTED.replace("\n", "").split(",") if not met[name]]
+    lacking = [name for name in GRAMMARS[asked.kind].wanted.replace("\n", "").split(",") if not met[name]]
     if lacking and asked.cases >= 1000:
         print(f"FAILED: no case has {', '.join(lacking)}")
     elif not wrong:
-        print(f"ok: {asked.cases} hostile cases of seed {asked.seed}, {runs} runs, each as the "
+        print(f"ok: {asked.cases} {asked.kind} cases of seed {asked.seed}, {runs} runs, each as the "
               "model has it")
     return 1 if wrong or (lacking and asked.cases >= 1000) else 0
 
