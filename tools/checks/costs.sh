@@ -1,8 +1,8 @@
 #!/usr/bin/env bash
 # What a search costs, in processor time: sets whose slices are equal or nearly all filling, over files that are
 # full of them, a file of 1 TiB for a set whose slices have no checksums, a large set over 64 MiB in which nothing
-# stands, beside md5sum, and tails of 60 KiB beside such of 1 KiB. Then what many words cost, and the states of many
-# files.
+# stands, beside md5sum, one over a file that is full of its slices, and tails of 60 KiB beside such of 1 KiB. Then
+# what many words cost, and the states of many files.
 . "$(dirname "$0")/wants.sh"
 cd "$work" || exit 1
 
@@ -46,6 +46,11 @@ owner, length = bytes(16), 64 * 32768
 write("many.par2", set_of(main_body(64, [owner]), ("filedesc", desc_body(owner, b"many", b"", length)),
                           ("ifsc", owner + chance.randbytes(20 * 32768))))
 write("random", chance.randbytes(64 << 20))
+
+# 32,768 slices of 64 bytes, and a file that has each of them four times.
+there = chance.randbytes(length)
+whole_set("there.par2", 64, (b"there", there))
+write("there", there * 4)
 
 # Four tails of about 1 KiB, and four of about 60 KiB, before zeros up to 64 KiB.
 for name, length in ("short", 1 << 10), ("long", 60 << 10):
@@ -93,6 +98,13 @@ if [ "$found" -le $((8 * hashed + 300)) ]; then
     echo "ok: a search of 64 MiB takes $found ms, and their MD5 $hashed ms"
 else
     fails "a search of 64 MiB takes $found ms, and their MD5 $hashed ms"
+fi
+
+there=$(least_of_three "$parv" find there.par2 there)
+if [ "$(tail -n 1 "$said/text")" = end ] && [ "$there" -le $((8 * hashed + 2000)) ]; then
+    echo "ok: 131,072 sightings of 32,768 slices take $there ms, and the MD5 of 64 MiB $hashed ms"
+else
+    fails "131,072 sightings of 32,768 slices take $there ms, and the MD5 of 64 MiB $hashed ms: $(head -c 200 "$said/line")"
 fi
 
 for name in short long; do

@@ -34,6 +34,7 @@ place turns parfind::tracks::track::Track::slide_until_crc
 place halves parwindow::crcs::zero_run::ZeroRun::new
 place marks parshelf::shelves::names::list_mark
 place pieces parwindow::tails::stream::Stream::piece_from
+place fronts parwindow::window::Window::next_tail
 
 PYTHONPATH=$tools python3 - << 'END' || exit 1
 import zlib
@@ -94,6 +95,15 @@ forged = with_crc(noise("forged", size - 4), zlib.crc32(seventh))
 assert len(forged) == size and forged != seventh
 write("cf", contents["c"][:6 * size], forged, contents["c"][7 * size:])
 write("other", noise("other", 20000))
+# An image, in which each file begins at a multiple of 512 after zeros, the same files without anything between them,
+# and 4,000 blocks of 512 bytes that end in a zero, in which no file is.
+def filled_up(content):
+    return content + bytes(-len(content) % 512)
+
+a, b, c = contents.values()
+write("image", noise("header", 2000), bytes(48), *map(filled_up, [b, a, c]))
+write("joined", b, a, c)
+write("blocks", *(noise(f"block {at}", 511) + bytes(1) for at in range(4000)))
 
 # Files of one slice of 64 bytes each.
 def short_set(name, *slices):
@@ -202,13 +212,17 @@ costs "files without checksums of slices" "verify n.par2 a cc" "result impossibl
 
 # Where some slices have a mark and others none, a second index has those that are missing.
 # A window is hashed once at each place where a slice that is missing has its CRC-32: the 12 of 13 slices of `c` that
-# are left, and one that has the CRC-32 alone. `find` looks for all, wherever they are.
+# are left, and one that has the CRC-32 alone. `find` looks for all, wherever they are. With --tails a second
+# index has the full-length slices that are missing, even if none is found, and a third one the short slices that are
+# left then, if there are any.
 slice=$(blocks_of 8192)
 for tails in "" --tails; do
     with=${tails:+, with $tails}
+    none=1
+    [ -z "$tails" ] || none=3
     costs "a byte is another$with" "verify -q $tails s.par2 a b cc" "result impossible" \
         blocks=$((whole + 12 * slice)) digests=12 windows=1 indexes=2
-    costs "no file is whole$with" "verify -q $tails s.par2 cc" "result impossible" digests=12 windows=1 indexes=1
+    costs "no file is whole$with" "verify -q $tails s.par2 cc" "result impossible" digests=12 windows=1 indexes=$none
     costs "a slice that has its CRC-32 alone$with" "verify -q $tails s.par2 a b cf" "result impossible" \
         blocks=$((whole + 13 * slice)) digests=13 windows=1
     costs "a file that isn't there$with" "verify -q $tails s.par2 a b" "result impossible" \
@@ -219,6 +233,14 @@ for tails in "" --tails; do
         blocks=$((base + 17 * slice)) digests=17 windows=1
     costs "nothing$with" "find $tails s.par2 other" end blocks=$base digests=0 windows=1
 done
+# With --tails a short slice is tested right after the slice before it, and a file that is shorter than a slice where
+# it may begin: each of the 17 slices is hashed once, and no short one is left. Where no file is, the first bytes are
+# gone over 64 times, and once more for every 8,192 bytes.
+for image in image joined; do
+    costs "each slice of this $image" "verify -q --tails s.par2 $image" "result possible" digests=17 windows=1 indexes=2
+done
+costs "files that may begin in 4,000 blocks" "verify -q --tails s.par2 a c blocks" "result impossible" \
+    "fronts<=$((64 + (20000 + 100000 + 2048000) / 8192))" indexes=3
 costs "two slices of the same bytes at one place" "find twins.par2 twin" end digests=1 windows=1
 
 # The mark of a list of files, here of one name and length in 17 bytes, is made for each cursor that is read or written.
@@ -271,10 +293,10 @@ costs "two hundred slices, each twice" "verify -q others.par2 others" "result im
 costs "a search by pieces" "find s.par2 other" end "turns<=5"
 costs "the same for a missing file" "verify -q s.par2 a b other" "result impossible" "turns<=14"
 
-# Four tails look ahead over up to 512 bytes in one go. For each stretch they ask for five pieces, of what goes and of
+# Tails look ahead over up to 512 bytes in one go. For each stretch four of them ask for eight pieces, of what goes and of
 # what comes to each, and they are stopped where the register of one may be a slice's. That is so nearly nowhere: far
 # less often than at each twentieth place.
-costs "four tails in turn" "find --tails tails.par2 long" end "pieces<=$((65536 / 4))"
+costs "four tails" "find --tails tails.par2 long" end "pieces<=$((65536 / 4))"
 
 # What zeros behind a window make of a register is worked out by halves of their number: of 8,192, of one more, of 1.
 costs "tables by halves" "find s.par2 other" end "halves<=$((15 + 15 + 2))"

@@ -197,14 +197,16 @@ whole=("s.par2 0 1076" "a 0 20000" "b 0 3000" "c 0 32768*3 1696")
 reads "files that are complete" "verify s.par2 a other1696 b c" "result complete" "s.par2 a other1696 b c" "${whole[@]}"
 reads "the same twice" "verify s.par2 a a b c" "result complete" "s.par2 a a b c" \
     "s.par2 0 1076" "a 0 20000" "${whole[@]:1}"
-for tails in "" " --tails"; do
-    reads "a damaged file, by one search of all$tails" "verify$tails -q s.par2 a b cc" "result impossible" \
-        "s.par2 a b cc" "${whole[@]:0:3}" "cc 0 32768*3 1696" "${a[@]}" "${b[@]}" "cc 0 4096*24 1696"
-done
+reads "a damaged file, by one search of all" "verify -q s.par2 a b cc" "result impossible" \
+    "s.par2 a b cc" "${whole[@]:0:3}" "cc 0 32768*3 1696" "${a[@]}" "${b[@]}" "cc 0 4096*24 1696"
+# With --tails the first round passes `b`, into which no slice of 8,192 bytes fits. It sees the short slice of `c` behind
+# the one before it, so the second one reads nothing.
+reads "a damaged file, by one round" "verify --tails -q s.par2 a b cc" "result impossible" \
+    "s.par2 a b cc" "${whole[@]:0:3}" "cc 0 32768*3 1696" "${a[@]}" "cc 0 4096*24 1696"
 reads "a file inside another whose last slice isn't seen" "verify s.par2 a b j" "result impossible" "s.par2 a b j" \
     "${whole[@]:0:3}" "${a[@]}" "${b[@]}" "j 0 4096*39 256"
 reads "a search up to the last slice, of 8,192 bytes from 108,304 on" "verify --tails s.par2 a b j" "result possible" \
-    "s.par2 a b j" "${whole[@]:0:3}" "${a[@]}" "${b[@]}" "j 0 4096*29"
+    "s.par2 a b j" "${whole[@]:0:3}" "${a[@]}" "j 0 4096*29"
 reads "a search that is over in the first file" "verify s.par2 k a c" "result possible" "s.par2 k a c" \
     "s.par2 0 1076" "a 0 20000" "c 0 32768*3 1696" "k 0 4096*4"
 reads "nothing of a file into which only slices fit that are found" "verify s.par2 other1696 a c" "result impossible" \
