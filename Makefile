@@ -6,7 +6,10 @@ BASHDIR ?= $(PREFIX)/share/bash-completion/completions
 ZSHDIR ?= $(PREFIX)/share/zsh/site-functions
 FISHDIR ?= $(PREFIX)/share/fish/vendor_completions.d
 DOCDIR ?= $(PREFIX)/share/doc/parv
+LIBDIR ?= $(PREFIX)/lib/parv
 EXAMPLES = $(notdir $(wildcard examples/*))
+COMMANDS = $(notdir $(wildcard commands/bin/*))
+MODULES = $(notdir $(wildcard commands/parv_commands/*.py))
 CRATE ?= parv
 SIZE ?= small
 PARV = crates/parv/out/parv
@@ -71,18 +74,30 @@ format:
 install:
 	@test -x $(PARV) || { echo "There is no program at $(PARV): 'make build' builds it." >&2; exit 1; }
 	install -D -m 755 $(PARV) "$(DESTDIR)$(PREFIX)/bin/parv"
-	install -D -m 644 docs/parv.1 "$(DESTDIR)$(MANDIR)/man1/parv.1"
-	install -D -m 644 completions/parv.bash "$(DESTDIR)$(BASHDIR)/parv"
+	install -m 755 $(COMMANDS:%=commands/bin/%) "$(DESTDIR)$(PREFIX)/bin"
+	install -d "$(DESTDIR)$(LIBDIR)/parv_commands"
+	install -m 644 $(MODULES:%=commands/parv_commands/%) "$(DESTDIR)$(LIBDIR)/parv_commands"
+	for name in parv $(COMMANDS); do \
+		install -D -m 644 docs/$$name.1 "$(DESTDIR)$(MANDIR)/man1/$$name.1" \
+			&& install -D -m 644 completions/parv.bash "$(DESTDIR)$(BASHDIR)/$$name" \
+			&& install -D -m 644 completions/parv.fish "$(DESTDIR)$(FISHDIR)/$$name.fish" || exit 1; \
+	done
 	install -D -m 644 completions/_parv "$(DESTDIR)$(ZSHDIR)/_parv"
-	install -D -m 644 completions/parv.fish "$(DESTDIR)$(FISHDIR)/parv.fish"
 	install -D -m 644 docs/FORMATS.md "$(DESTDIR)$(DOCDIR)/FORMATS.md"
 	install -d "$(DESTDIR)$(DOCDIR)/examples"
 	install -m 755 $(EXAMPLES:%=examples/%) "$(DESTDIR)$(DOCDIR)/examples"
 
-# Removes these files, and no folder.
+# Removes these files, and no folder but that of the commands' own modules, if nothing else is in it.
 uninstall:
-	rm -f "$(DESTDIR)$(PREFIX)/bin/parv" "$(DESTDIR)$(MANDIR)/man1/parv.1"
-	rm -f "$(DESTDIR)$(BASHDIR)/parv" "$(DESTDIR)$(ZSHDIR)/_parv" "$(DESTDIR)$(FISHDIR)/parv.fish"
+	for name in parv $(COMMANDS); do \
+		rm -f "$(DESTDIR)$(PREFIX)/bin/$$name" "$(DESTDIR)$(MANDIR)/man1/$$name.1" \
+			"$(DESTDIR)$(BASHDIR)/$$name" "$(DESTDIR)$(FISHDIR)/$$name.fish"; \
+	done
+	rm -f "$(DESTDIR)$(ZSHDIR)/_parv"
+	rm -f $(MODULES:%="$(DESTDIR)$(LIBDIR)/parv_commands/%")
+	for folder in "$(DESTDIR)$(LIBDIR)/parv_commands" "$(DESTDIR)$(LIBDIR)"; do \
+		[ ! -d "$$folder" ] || rmdir --ignore-fail-on-non-empty "$$folder"; \
+	done
 	rm -f "$(DESTDIR)$(DOCDIR)/FORMATS.md" $(EXAMPLES:%="$(DESTDIR)$(DOCDIR)/examples/%")
 
 # The archive that installs without the toolchain, out/dist/parv-VERSION-x86_64-linux.tar.gz.

@@ -1,16 +1,18 @@
-# Completion of parv for bash. The package bash-completion loads it once it is installed as
-# share/bash-completion/completions/parv; without that package: . completions/parv.bash
+# Completion of parv, parv-repair and parv-rescue for bash. The package bash-completion loads it once it is installed
+# below share/bash-completion/completions under each of these names; without that package: . completions/parv.bash
 
-# The IDs of the sets of the packet files that were typed.
+# The IDs of the sets of the packet files that were typed, or that are in a folder that was typed for parv-repair.
 _parv_sets() {
-    local typed files=()
-    for typed in "${COMP_WORDS[@]:2}"; do
+    local typed program=${COMP_WORDS[0]} files=()
+    [[ $program != *parv-re* ]] || program=${PARV:-parv}
+    for typed in "${COMP_WORDS[@]:1}"; do
         typed=${typed//[\\\'\"]/}
         case $typed in
         *.[Pp][Aa][Rr]2) [ ! -f "$typed" ] || files+=("$typed") ;;
+        *) [[ ${COMP_WORDS[0]} != *parv-repair || ! -d $typed ]] || files+=("$typed"/*.[Pp][Aa][Rr]2) ;;
         esac
     done
-    [ ${#files[@]} -eq 0 ] || "${COMP_WORDS[0]}" packets -- "${files[@]}" 2> /dev/null \
+    [ ${#files[@]} -eq 0 ] || "$program" packets -- "${files[@]}" 2> /dev/null \
         | sed -n 's/^.* main \([0-9a-f]\{32\}\)$/\1/p' | sort -u
 }
 
@@ -71,3 +73,33 @@ _parv() {
 }
 
 complete -F _parv parv
+
+# Completes a command that has these options, of which each stands once, and then words of this kind.
+_parv_command() {
+    local word=${COMP_WORDS[COMP_CWORD]} options="$1 --help -h" given ended=''
+    COMPREPLY=()
+    for given in "${COMP_WORDS[@]:1:COMP_CWORD - 1}"; do
+        [ "$given" != -- ] || ended=1
+        case $given in
+        --*) options=${options/$given/} ;;
+        esac
+    done
+    if [ -z "$ended" ] && [ "${COMP_WORDS[COMP_CWORD - 1]}" = --set ]; then
+        mapfile -t COMPREPLY < <(compgen -W "$(_parv_sets)" -- "$word")
+    elif [ -z "$ended" ] && [[ $word == -* ]]; then
+        mapfile -t COMPREPLY < <(compgen -W "$options" -- "$word")
+    else
+        compopt -o "$2" -o filenames
+    fi
+}
+
+_parv_repair() {
+    _parv_command '--dry-run --remove-backups --set' dirnames
+}
+
+_parv_rescue() {
+    _parv_command '--tails --set' default
+}
+
+complete -F _parv_repair parv-repair
+complete -F _parv_rescue parv-rescue

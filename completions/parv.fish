@@ -1,4 +1,5 @@
-# Completion of parv for fish, which loads it from share/fish/vendor_completions.d.
+# Completion of parv, parv-repair and parv-rescue for fish, which loads it from share/fish/vendor_completions.d, where it
+# is under each of these names.
 
 # Whether the command that was typed is one of these.
 function __parv_is
@@ -26,16 +27,20 @@ function __parv_behind
     test (count $words) -gt 2; and contains -- $words[-1] $argv
 end
 
-# The IDs of the sets of the packet files that were typed.
+# The IDs of the sets of the packet files that were typed, or that are in a folder that was typed for parv-repair.
 function __parv_sets
     set -l files
+    set -l program parv
+    test -n "$PARV"; and set program $PARV
     for word in (commandline -o)
         if string match -qi '*.par2' -- $word; and test -f $word
             set -a files $word
+        else if test (commandline -o)[1] = parv-repair; and test -d $word
+            set -a files (find $word -maxdepth 1 -iname '*.par2' -type f)
         end
     end
     test (count $files) -gt 0; or return 1
-    parv packets -- $files 2> /dev/null \
+    $program packets -- $files 2> /dev/null \
         | string replace -rf '^.* main ([0-9a-f]{32})$' '$1' | sort -u
 end
 
@@ -62,3 +67,24 @@ complete -c parv -n '__parv_is find verify; and not __fish_contains_opt tails' -
 complete -c parv -n '__parv_is verify' -s q -d 'leave out all but the last two lines; twice, all'
 complete -c parv -n '__parv_file_of find verify' -F
 complete -c parv -n '__parv_file_of packets set' -k -a '(__fish_complete_suffix .par2)'
+
+# Whether a name is typed: no option and no value of one.
+function __parv_name
+    set -l words (commandline -opc)
+    contains -- -- $words; and return 0
+    test "$words[-1]" != --set; and not string match -q -- '-*' (commandline -ct)
+end
+
+for name in parv-repair parv-rescue
+    complete -c $name -f
+    complete -c $name -s h -l help -d 'print what it does'
+    complete -c $name -n '__parv_behind --set' -a '(__parv_sets)'
+    complete -c $name -n 'not __fish_contains_opt set' -l set -x -a '(__parv_sets)' -d 'say which set, if there are several'
+end
+complete -c parv-repair -n 'not __fish_contains_opt dry-run' -l dry-run -d 'tell what would be done, and write nothing'
+complete -c parv-repair -n 'not __fish_contains_opt remove-backups' -l remove-backups \
+    -d 'remove the damaged files that this run has kept'
+complete -c parv-repair -n __parv_name -a '(__fish_complete_directories)'
+complete -c parv-rescue -n 'not __fish_contains_opt tails' -l tails \
+    -d 'then look at each byte for the short slices that are missing'
+complete -c parv-rescue -n __parv_name -F

@@ -421,7 +421,8 @@ sets_in() {
     done
 }
 
-if ! find . -name .verify_and_repair -prune -o -type f -iname '*.par2' -print0 > "$work/found" 2> "$work/said"; then
+if ! find . \( -name .verify_and_repair -o -name .parv-repair \) -prune -o -type f -iname '*.par2' -print0 \
+    > "$work/found" 2> "$work/said"; then
     say "$root: $(sed 's/^find: //' "$work/said")"
     greatest=6
 fi

@@ -9,8 +9,8 @@
 #   123 MiB of at most 4567 MiB, 89 MiB/s
 # At most are read: of a packet file three times its length, and more only where
 # its packets lie in one another. Of another file it is its length by `find`, and
-# twice its length by `verify`. Mostly it is less: that is no sign that anything is
-# left out.
+# twice its length by `verify`, or with --tails three times. Mostly it is less:
+# that is no sign that anything is left out.
 #
 # Where standard error is no terminal nothing is shown. Nor is it where `find`
 # writes its lines to one: these tell how far it is. What parv says on a terminal
@@ -42,6 +42,7 @@ command -v -- "$parv" > /dev/null || {
 
 times=1
 [ "$1" = find ] || times=2
+case "$1 $* " in "verify "*" --tails "*) times=3 ;; esac
 most=0
 for word in "${@:2}"; do
     [ -f "$word" ] || continue

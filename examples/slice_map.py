@@ -6,6 +6,13 @@ usage: slice_map.py [-h] [--tails] [--set ID] [-B DIR] [--width N] [--html FILE]
 In the folder of the files:
   slice_map.py -B . ./*
 
+  --tails         sees short last slices before other bytes too, as in an image
+  --set ID        says which set, if the packet files have several
+  -B DIR          takes DIR/ off the names of scanned files; so does --base DIR
+  --width N       writes lines of N characters
+  --html FILE     writes a page too
+  --svg FILE      writes a drawing too
+
 FILES are packet files of the set and files to be scanned, and -B takes a folder
 off their names, all as for `parv verify`. A slice is in place where a scanned
 file of its file's name has it at its offset. It is moved where it is seen at
@@ -23,8 +30,8 @@ and where moved slices stand. --svg FILE writes a picture to show elsewhere.
 Cells there show the worst of their slices too. Neither writes over a file that
 is there, and nothing else is written.
 
-With --tails short last slices are seen before other bytes too, as in the image
-of a disc. It needs extract_found.py beside it.
+It needs the package of parv-repair and parv-rescue, as it is installed or
+in the sources.
 
 The exit status:
   0  whatever is seen
@@ -39,14 +46,25 @@ import hashlib
 import html
 import os
 import shutil
+import signal
 import sys
 import zlib
 from typing import NamedTuple
 
+if signal.getsignal(signal.SIGINT) is signal.default_int_handler:
+    signal.signal(signal.SIGINT, signal.SIG_DFL)    # until the run takes it
 sys.dont_write_bytecode = True
+HERE = os.path.dirname(os.path.realpath(__file__))
+sys.path[:1] = [os.path.join(HERE, way) for way in ("../../../../lib/parv", "../commands")
+                if os.path.isdir(os.path.join(HERE, way, "parv_commands"))][:1]
 
-from extract_found import (Fault, Search, ended, faults_of, is_packet_file, is_set_id, listed, numbers_of, own_length,
-                           parser_of, read_set, shown)
+from parv_commands import output, programs, words
+from parv_commands.faults import Fault, faults_of
+from parv_commands.given import Given, read_given
+from parv_commands.names import shown
+from parv_commands.parv import Links, Parv, temporary_folder
+from parv_commands.placing import md5_of, pieces_of_file
+from parv_commands.search import Search
 
 IN_PLACE, MOVED, NOT_KNOWN, MISSING = range(4)      # from the best to the worst
 WORDS = ["in place", "moved", "not known", "missing"]
@@ -75,14 +93,14 @@ class Map(NamedTuple):
 
 def bare(word, base):
     """The name of a scanned file, without the folder of -B."""
-    name, front = os.fsencode(word), os.fsencode(base)
+    name, front = word, os.fsencode(base)
     front += b"" if front.endswith(b"/") else b"/"
     return name[len(front):] if base and name.startswith(front) else name
 
 
 def is_in_place(found, file, number, opened, tails):
     """Whether an open file has the slice at its offset, looked at as parv does."""
-    own = own_length(found, file, number)
+    own = found.own_length(file, number)
     opened.seek(number * found.size)
     data = opened.read(own if tails else found.size)
     if len(data) < own:
@@ -95,43 +113,45 @@ def map_in_place(found, file, words, tails):
     """The map of a file by the scanned files of its name: all else is missing, or not known."""
     states = [NOT_KNOWN if file.sums is None else MISSING] * file.slices
     for word in words if file.sums else []:
-        with faults_of("read", shown(os.fsencode(word))), open(word, "rb") as opened:
+        with faults_of("read", shown(word)), open(word, "rb") as opened:
             for number in range(file.slices):
                 if states[number] != IN_PLACE and is_in_place(found, file, number, opened, tails):
                     states[number] = IN_PLACE
     return Map(file, states, {})
 
 
-def maps_of(found, asked):
+def map_of_unknown(file, state, words):
+    """The map of a file whose checksums aren't known, by what parv says of the whole file."""
+    if state.word is None:
+        return Map(file, [NOT_KNOWN] * file.slices, {})
+    return Map(file, [IN_PLACE if any(has_content(word, file) for word in words) else MOVED] * file.slices, {})
+
+
+def has_content(word, file):
+    with faults_of("read", shown(word)), open(word, "rb") as opened:
+        return md5_of(pieces_of_file(opened.fileno())) == file.whole
+
+
+def maps_of(found, answer, given, parv, asked):
     """The maps of all files."""
-    scanned = list(dict.fromkeys(word for word in asked.files if not is_packet_file(word)))
-    search = Search(found, scanned, asked.tails, set())
+    search = Search(found, parv, given.scanned, asked.tails, set())
     by_name = {}
-    for word in scanned:
-        by_name.setdefault(bare(word, asked.base), []).append(word)
-    verdict = states_told(found, asked)
+    for each in given.scanned:
+        by_name.setdefault(bare(given.paths[each.word], asked.base), []).append(given.paths[each.word])
     maps = [map_in_place(found, file, by_name.get(file.name, []), asked.tails) for file in found.files]
-    search.wanted |= {number for each in maps for number, state in zip(numbers_of(each.file), each.states)
+    if any(file.sums is None for file in found.files):
+        verdict = parv.verify(answer, given.packet_words, [each.word for each in given.scanned])
+        maps = [map_of_unknown(each.file, state, by_name.get(each.file.name, [])) if each.file.sums is None else each
+                for each, state in zip(maps, verdict.states)]
+    search.wanted |= {number for each in maps for number, state in zip(each.file.numbers, each.states)
                       if state == MISSING}
     owners = [each for each in maps for _ in each.states]
     for at, offset, number in search.sightings():
         search.wanted.discard(number)
         each = owners[number]
         each.states[number - each.file.first] = MOVED
-        each.where[number - each.file.first] = shown(os.fsencode(scanned[at])), offset
-    for each, told in zip(maps, verdict):
-        if each.file.sums is None and told in ("complete", "renamed"):
-            each.states[:] = [IN_PLACE if told == "complete" else MOVED] * len(each.states)
+        each.where[number - each.file.first] = given.scanned[at].shown, offset
     return maps
-
-
-def states_told(found, asked):
-    """The first word of the line of each file by `parv verify`, where some file has no known checksums."""
-    if all(file.sums is not None for file in found.files):
-        return []
-    base = ["-B", asked.base] if asked.base else []
-    lines = listed("verify", ["--set", found.id, *base, "--", *asked.files], answers=(0, 1, 2))
-    return [line.split(" ", 1)[0] for line in lines[1:]]
 
 
 # The picture as text.
@@ -174,14 +194,13 @@ def text_of(each, width, colour):
     return ["", *head, *rows]
 
 
-def print_maps(found, maps, width, colour):
+def lines_of(found, maps, width, colour):
     states = [state for each in maps for state in each.states]
-    print(found.line)
     signs = [f"{painted(sign, colour)} {word}" for sign, word in zip(SIGNS, WORDS)]
-    print(("  " if width >= 48 else "\n").join(signs))
+    lines = [found.line, ("  " if width >= 48 else "\n").join(signs)]
     for each in maps:
-        print("\n".join(text_of(each, width, colour)))
-    print(f"\n{tally(states)}; {need(found, states)}")
+        lines += text_of(each, width, colour)
+    return [*lines, "", f"{tally(states)}; {need(found, states)}"]
 
 
 def need(found, states):
@@ -297,14 +316,19 @@ def write_new(path, text):
 
 def draw(asked):
     """The whole run; its exit status."""
+    program = words.needed_parv()
     for path in filter(None, [asked.html, asked.svg]):
         if os.path.lexists(path):
             raise Fault(6, f"{shown(os.fsencode(path))} is there already")
-    found = read_set(asked.files, asked.set)
-    maps = maps_of(found, asked)
-    is_terminal = sys.stdout.isatty()
-    print_maps(found, maps, asked.width or shutil.get_terminal_size().columns,
-               is_terminal and not os.environ.get("NO_COLOR"))
+    programs.raise_file_limit()
+    with temporary_folder() as temporary:
+        parv = Parv(program, Links(temporary, ()))
+        given = Given(parv.links, list(map(os.fsencode, asked.files)))
+        answer, found = read_given(parv, given, asked.set)
+        maps = maps_of(found, answer, given, parv, asked)
+    is_terminal = os.isatty(1)
+    output.tell(lines_of(found, maps, asked.width or shutil.get_terminal_size().columns,
+                         is_terminal and not os.environ.get("NO_COLOR")))
     if asked.html:
         write_new(asked.html, page_of(found, maps))
     if asked.svg:
@@ -313,18 +337,26 @@ def draw(asked):
 
 
 def main():
-    parser = parser_of(__doc__)
-    parser.add_argument("--tails", action="store_true", help="see short last slices before other bytes too")
-    parser.add_argument("--set", type=is_set_id, metavar="ID", help="the set of this ID, in place of the first")
-    parser.add_argument("-B", "--base", default="", metavar="DIR", help="take DIR/ off the names of scanned files")
-    parser.add_argument("--width", type=int, metavar="N", help="characters in a line")
-    parser.add_argument("--html", metavar="FILE", help="write a page too")
-    parser.add_argument("--svg", metavar="FILE", help="write a drawing too")
-    parser.add_argument("files", nargs="+", metavar="FILES", help="packet files, and files to be scanned")
-    asked = parser.parse_intermixed_args()
-    if asked.width is not None and asked.width < 1:
-        parser.error("a line has one character at least")
-    return ended(draw, asked)
+    parser = words.parser_of(__doc__.split("\n\n", 1)[1])
+    parser.add_argument("--tails", action="store_true")
+    parser.add_argument("--set", type=words.is_set_id)
+    parser.add_argument("-B", "--base", default="", metavar="DIR")
+    parser.add_argument("--width", type=int, metavar="N")
+    parser.add_argument("--html", metavar="FILE")
+    parser.add_argument("--svg", metavar="FILE")
+    parser.add_argument("files", nargs="*", metavar="FILES")
+
+    def run():
+        asked = parser.parse_intermixed_args()
+        if asked.help:
+            usage, _, rest = __doc__.split("\n\n", 1)[1].partition("\n\n")
+            return words.help_lines(f"{usage}\n\n{__doc__.splitlines()[0]}\n\n{rest}")
+        if not asked.files:
+            parser.error("there are no FILES")
+        if asked.width is not None and asked.width < 1:
+            parser.error("a line has one character at least")
+        return draw(asked)
+    return words.ended("slice_map.py", run)
 
 
 if __name__ == "__main__":

@@ -1,17 +1,19 @@
 #!/usr/bin/env python3
-"""Compares examples/verify_and_repair.sh with `par2 repair` on sets that are damaged and renamed at random.
+"""Compares parv-repair with `par2 repair` on sets that are damaged and renamed at random.
 
-usage: try_repairs.py [--count N] [--seed N] [--first N] [--keep FOLDER]
+usage: try_repairs.py [--count N] [--seed N] [--first N] [--sets N] [--keep FOLDER]
 
-Each of N sets (200), from number --first (0) on, is made by par2 of 1 to 9 files of up to 60,000 bytes, with
-names that have blanks, line feeds, dashes, bytes that are no UTF-8 and folders, some of one content or with
-equal slices, all by the seed (1) and the set's number. Then files are damaged, joined, renamed, swapped,
-copied and removed, and packet files damaged and removed. The script and par2 get a copy each, par2 with each
-packet file first in turn, until it has repaired all. The script must end with 0 and each file complete where
-par2 can repair the set, and where it can't it may, or must leave each file and folder as it was, and say why.
-Where it ends with 0 nothing is lost: each content that was there is there. Prints a line for each set and
-then how many ended how; the exit status is 1 where one should have ended otherwise. --keep has the folders
-of these. Needs par2 (Debian package par2). PARV is the program (crates/parv/out/parv).
+Each of N folders (200), from number --first (0) on, has --sets N (1) sets made by par2 of 1 to 9 files of up to
+60,000 bytes, with names that have blanks, line feeds, dashes, bytes that are no UTF-8 and folders, some of one
+content or with equal slices, all by the seed (1) and the folder's number; further sets may share names with the
+first. Then files are damaged, joined, renamed, swapped, copied and removed, and packet files damaged and
+removed. The command gets the folder for each set in turn, and par2 gets copies, with each packet file of the set
+first in turn, until it has repaired all. The command must end with 0 and each file complete if par2 can repair
+the set; if it can't the command may, or must leave each file and folder as it was, and say why. Nothing is
+lost: each content that was there is there. Each exit status, of a trial too, must be what follows from the files
+and from `parv verify --tails` over copies of them under plain names. Prints a line for each set and then how many
+ended how; the exit status is 1 if one should have ended otherwise. --keep has the folders of these. Needs par2
+(Debian package par2). PARV is the program (crates/parv/out/parv).
 """
 
 import argparse
@@ -30,7 +32,8 @@ from hostile.runs import PARV
 from make import damage
 from make.damaged_sets import cut, joined, left_out, one_of, put_in, swapped, turned_round
 
-SCRIPT = os.path.join(os.path.dirname(sys.path[0]), "examples", "verify_and_repair.sh")
+COMMAND = os.path.join(os.path.dirname(sys.path[0]), "commands", "bin", "parv-repair")
+STAGE = ".parv-repair"
 NAMES = ["plain.bin", "with blank", " two  blanks ", "-dash", "--set", "caf\udce9", "café", "line\nfeed", "st*r", "que?tion",
          "[x]", "quo'te", 'quo"te', "$HOME", "`id`", "hash#", "100%", "%41x", "a\\b", "sub/one", "sub/two three", "sub/deep/er",
          ".hidden", "semi;colon", "tab\tbed", "x.1", "plain.bin.1", "&and", "~tilde", "(paren)", "\udcff\udcfe", "to from to"]
@@ -103,28 +106,41 @@ DAMAGES = [put_in, left_out, cut, joined, turned_round, swapped, flipped, flippe
            renamed, renamed, renamed, turned_names, turned_names, copied, as_target]
 
 
-def make(folder, seed, number):
-    """Puts a set into the folder; returns its files and what was done to them."""
-    chance = random.Random(f"repairs {seed} {number}")
-    size = 4 * chance.choice([16, 25, 128, 256, 1024])
-    files = {}
-    for name in chance.sample(NAMES, chance.randrange(1, 10)):
-        files[name] = content(chance, size, list(files.values()))
-    whole = {name: bytes(data) for name, data in files.items()}
+def create(folder, files, base, size, recovery):
+    """Puts a set of these files into the folder; returns its ID."""
     write(folder, files)
-    recovery = chance.choice([0, 1, 3, 10, 40])
-    base = chance.choice(["set", "a set", "-set"])
     subprocess.run(["par2", "create", "-q", "-q", "-t1", f"-s{size}", f"-c{recovery}",
                     *([f"-n{min(recovery, 3)}"] if recovery else []), f"./{base}.par2",
                     *[f"./{name}" for name in files]], cwd=folder, check=True, stdout=subprocess.DEVNULL)
     for name in files:
         os.remove(os.path.join(folder, name))
+    return read(os.path.join(folder, f"{base}.par2"))[32:48].hex()
+
+
+def make(folder, seed, number, count):
+    """Puts sets into the folder; returns the files of each by its ID, and what was done to them."""
+    chance = random.Random(f"repairs {seed} {number}" if count == 1 else f"repairs {seed} {number} of {count}")
+    wholes, there, told = {}, {}, []
+    for base in chance.sample(["set", "a set", "-set"], count):
+        size = 4 * chance.choice([16, 25, 128, 256, 1024])
+        files = {}
+        for name in chance.sample(NAMES, chance.randrange(1, 10)):
+            if name in there and chance.randrange(3):
+                continue
+            files[name] = content(chance, size, list({**there, **files}.values()))
+        if not files:
+            continue
+        recovery = chance.choice([0, 1, 3, 10, 40])
+        wholes[create(folder, files, base, size, recovery)] = {name: bytes(data) for name, data in files.items()}
+        told.append(f"slices of {size}, {len(files)} files, {recovery} recovery slices")
+        for name, data in files.items():
+            there[name if name not in there else chance.choice(OTHER_NAMES)] = data
     done = []
     for damaged in chance.choices(DAMAGES, k=chance.choice([1, 1, 2, 3, 5, 8])):
-        if files:
-            damaged(chance, files)
+        if there:
+            damaged(chance, there)
             done.append(damaged.__name__.replace("_", " "))
-    write(folder, {name: data for name, data in files.items() if not os.path.isdir(os.path.join(folder, name))})
+    write(folder, {name: data for name, data in there.items() if not os.path.isdir(os.path.join(folder, name))})
     packets = [name for name in sorted(os.listdir(folder)) if name.endswith(".par2")]
     for name in packets[1:] if chance.randrange(2) else packets:
         what = chance.randrange(6)
@@ -135,7 +151,7 @@ def make(folder, seed, number):
         elif what == 1:
             damage.in_file(path, damage.flip, chance.randrange(os.path.getsize(path)))
             done.append(f"{name} damaged")
-    return whole, f"slices of {size}, {len(whole)} files, {recovery} recovery slices: {', '.join(done)}"
+    return wholes, f"{'; '.join(told)}: {', '.join(done)}"
 
 
 def standing(folder):
@@ -160,10 +176,12 @@ def regular(folder):
     return sorted(path for path, (kind, _, _) in standing(folder).items() if kind == stat.S_IFREG)
 
 
-def by_par2(folder, whole):
-    """Whether par2 repairs all of it, with some packet file first."""
+def by_par2(folder, whole, owner):
+    """Whether par2 repairs all of it, with some packet file of the set first."""
     names = regular(folder)
     for first in [name for name in names if name.endswith(".par2")]:
+        if bytes.fromhex(owner) not in read(os.path.join(folder, first)):
+            continue
         copy = folder + ".par2"
         shutil.copytree(folder, copy)
         subprocess.run(["par2", "repair", "-q", "-q", "-t1", f"./{first}", *[f"./{name}" for name in names]], cwd=copy,
@@ -175,20 +193,56 @@ def by_par2(folder, whole):
     return False
 
 
-def by_script(script, folder, whole):
-    """How the script ends, what is wrong with it, and its reason."""
+def verdict_of(folder, whole, owner):
+    """The status of `parv verify --tails` over copies of what the command looks at, under plain names."""
+    copy = folder + ".plain"
+    os.mkdir(copy)
+    words = []
+    for name in regular(folder):
+        is_packet_file = name.lower().endswith(".par2") and name not in whole
+        above = os.path.dirname(name)
+        if (is_packet_file and above) or (above and above not in map(os.path.dirname, whole)):
+            continue
+        words.append(f"plain{len(words)}{'.par2' if is_packet_file else ''}")
+        shutil.copy(os.path.join(folder, name), os.path.join(copy, words[-1]))
+    if not any(word.endswith(".par2") for word in words):
+        status = 3
+    else:
+        status = subprocess.run([PARV, "verify", "-q", "-q", "--tails", "--set", owner, "--", *words], cwd=copy,
+                                stderr=subprocess.DEVNULL).returncode
+    shutil.rmtree(copy)
+    return status
+
+
+def wanted_statuses(folder, whole, owner, can_par2):
+    """The statuses that a trial and a run may have."""
+    status = verdict_of(folder, whole, owner)
+    if status >= 2:
+        return {status}, {status}
+    if is_whole(folder, whole):
+        return {0}, {0}
+    return {1}, {0} if can_par2 else {0, 5}
+
+
+def by_command(folder, whole, owner, statuses):
+    """How the command ends, what is wrong with it, and its reason."""
     before = standing(folder)
-    run = subprocess.run(["bash", script, folder], capture_output=True, env={**os.environ, "PARV": PARV})
+    words = [COMMAND, "--set", owner, folder]
+    trial = subprocess.run([*words, "--dry-run"], capture_output=True, env={**os.environ, "PARV": PARV})
+    if trial.returncode not in statuses[0] or standing(folder) != before:
+        return trial.returncode, f"the trial, which should have ended with {statuses[0]}", os.fsdecode(trial.stderr)
+    run = subprocess.run(words, capture_output=True, env={**os.environ, "PARV": PARV})
     after = standing(folder)
     reason = os.fsdecode(run.stderr).replace(folder, "FOLDER").strip()
     wrong = ""
-    if run.returncode == 0:
-        held = Counter(data[1] for kind, _, data in after.values() if data)
-        lost = [path for path, (_, _, data) in before.items() if data and not held[data[1]]]
-        if not is_whole(folder, whole):
-            wrong = "said to be complete, and isn't"
-        elif lost or ".verify_and_repair" in after:
-            wrong = f"lost: {lost}, or something is left"
+    held = Counter(data[1] for kind, _, data in after.values() if data)
+    lost = [path for path, (_, _, data) in before.items() if data and not held[data[1]]]
+    if lost or STAGE in after:
+        wrong = f"lost: {lost}, or something is left"
+    elif run.returncode not in statuses[1]:
+        wrong = f"it should have ended with {statuses[1]}"
+    elif run.returncode == 0:
+        wrong = "" if is_whole(folder, whole) else "said to be complete, and isn't"
     elif before != after:
         wrong = "not left as it was: " + ", ".join(sorted(path for path in {*before, *after}
                                                           if before.get(path) != after.get(path)))
@@ -197,38 +251,37 @@ def by_script(script, folder, whole):
     return run.returncode, wrong, reason
 
 
-def end_of(script, folder, seed, number):
-    """Of one set what was done to it, and how it ended."""
-    whole, told = make(folder, seed, number)
-    was_whole, by_them = is_whole(folder, whole), by_par2(folder, whole)
-    status, wrong, reason = by_script(script, folder, whole)
-    if not wrong and by_them and status != 0:
-        wrong = "par2 can repair it"
+def end_of(folder, whole, owner):
+    """How one set ended."""
+    was_whole, by_them = is_whole(folder, whole), by_par2(folder, whole, owner)
+    status, wrong, reason = by_command(folder, whole, owner, wanted_statuses(folder, whole, owner, by_them))
     if wrong:
-        return told, f"WRONG: {wrong}; status {status}, {reason}"
+        return f"WRONG: {wrong}; status {status}, {reason}"
     if status != 0:
-        return told, f"left as it was, status {status}: {reason}"
-    return told, "complete" + (" as it was" if was_whole else ", as by par2" if by_them else ", which par2 can't do")
+        return f"left as it was, status {status}: {reason}"
+    return "complete" + (" as it was" if was_whole else ", as by par2" if by_them else ", which par2 can't do")
 
 
 def main():
     parser = argparse.ArgumentParser(usage=__doc__.split("\n\n")[1][7:])
-    for option, value in [("--count", 200), ("--seed", 1), ("--first", 0)]:
+    for option, value in [("--count", 200), ("--seed", 1), ("--first", 0), ("--sets", 1)]:
         parser.add_argument(option, type=int, default=value)
     parser.add_argument("--keep")
     asked = parser.parse_args()
     ends = Counter()
     for number in range(asked.first, asked.first + asked.count):
         with tempfile.TemporaryDirectory() as work:
-            script, folder = shutil.copy(SCRIPT, work), os.path.join(work, "folder")
+            folder = os.path.join(work, "folder")
             os.mkdir(folder)
-            told, end = end_of(script, folder, asked.seed, number)
-        if asked.keep and end.startswith("WRONG"):
-            folder = os.path.join(asked.keep, f"{asked.seed}_{number:03}")
+            wholes, told = make(folder, asked.seed, number, asked.sets)
+            some = [end_of(folder, whole, owner) for owner, whole in wholes.items()]
+        if asked.keep and any(end.startswith("WRONG") for end in some):
+            folder = os.path.join(asked.keep, f"{asked.seed}_{number:03}_{asked.sets}")
             os.makedirs(folder)
-            make(folder, asked.seed, number)
-        print(f"{number}, {told}: {end}".encode("utf-8", "backslashreplace").decode(), flush=True)
-        ends[end.split(":")[0]] += 1
+            make(folder, asked.seed, number, asked.sets)
+        for end in some:
+            print(f"{number}, {told}: {end}".encode("utf-8", "backslashreplace").decode(), flush=True)
+            ends[end.split(":")[0]] += 1
     for end, count in sorted(ends.items()):
         print(f"{count} {end}")
     return 1 if ends["WRONG"] else 0

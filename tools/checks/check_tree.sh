@@ -165,8 +165,10 @@ mkfifo tree/set/sub/bad.txt
 wants "a FIFO at a name" 2 "2 $id need 2 have 0 set/set" "" "$script" tree
 rm tree/set/sub/bad.txt
 cp outer/bad.txt tree/set/sub
-mkdir -p tree/set/.verify_and_repair/files
-cp v.par2 tree/set/.verify_and_repair/files
+for name in .verify_and_repair .parv-repair; do
+    mkdir -p tree/set/$name/files
+    cp v.par2 tree/set/$name/files
+done
 wants "a file in a subfolder" 0 "0 $id need 0 have 0 set/set" "" "$script" tree
 
 # Ends of parv that are no answers, and an end of the script.

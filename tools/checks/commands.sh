@@ -1,12 +1,13 @@
 # Read after wants.sh: the commands that people call, each with the words that come first. A check of what becomes of
-# files names no program of its own, so a command that takes the place of another one has its checks. EXAMPLES names
-# the folder of other scripts.
+# files names no program of its own, so a command that takes the place of another one has its checks. EXAMPLES and
+# COMMANDS name the folders of other scripts and commands.
 examples=${EXAMPLES:-$top/examples}
-repair=("$examples/verify_and_repair.sh")
+commands=${COMMANDS:-$top/commands/bin}
+repair=("$commands/parv-repair")
 repair_dry=("${repair[@]}" --dry-run)
 repair_set=("${repair[@]}" --set)
 repair_set_dry=("${repair[@]}" --dry-run --set)
-rescue_tails=("$examples/extract_found.py" --tails)
+rescue_tails=("$commands/parv-rescue" --tails)
 draw_tails=("$examples/slice_map.py" --tails)
 tree=("$examples/check_tree.sh")
 tree_quiet=("${tree[@]}" -q)
@@ -14,10 +15,10 @@ tree_beside=("${tree[@]}" -j)
 watch=("$examples/watch_folder.sh")
 search=("$examples/search_in_parts.sh")
 # Below a folder that is repaired: what a run works in, and its list of moves.
-repair_stage=.verify_and_repair
-repair_list=$repair_stage/moves
+repair_stage=.parv-repair
+repair_list=$repair_stage/journal
 # What their messages begin with.
-repair_says="verify_and_repair.sh:"
+repair_says="parv-repair:"
 tree_says="check_tree.sh:"
 search_says="search_in_parts.sh:"
 export PARV=$parv LC_ALL=C

@@ -8,7 +8,11 @@ mkdir 'a folder' folder typed
 mkdir sets
 cp "$top/demo/photos.par2" sets/photos.par2
 cat "$top/demo/photos.par2" "$top/crates/parv/data/v.par2" > 'sets/two sets.par2'
-export PATH="$(dirname "$parv"):$PATH"
+mkdir bin
+ln -s "$parv" bin/parv
+ln -s "$top"/commands/bin/* bin
+export PATH="$work/bin:$PATH"
+unset PARV
 touch photos.par2 'more photos.PAR2' 'a picture.raw' -- -odd.raw folder/inner.par2
 cat > type.py << 'PYTHON'
 """Types each line of standard input into the shell named first, on a terminal of its own. A line is
@@ -138,6 +142,15 @@ parv other -|TAB|parv other -
 parv verify --set |TAB|parv verify --set
 parv verify sets/photos.par2 --set 5|TAB|parv verify sets/photos.par2 --set 589c76e09f0580b9203c5b64963b8957
 parv find sets/two\ sets.par2 --set 61|TAB|parv find sets/two\ sets.par2 --set 617cdc72ba53d94fe713fea2ae18f776
+parv-repair -|ALL|parv-repair --dry-run --remove-backups --set --help -h
+parv-rescue -|ALL|parv-rescue --tails --set --help -h
+parv-repair --d|TAB|parv-repair --dry-run
+parv-repair --dry-run --|ALL|parv-repair --dry-run --remove-backups --set --help
+parv-repair se|TAB|parv-repair sets/
+parv-repair sets --set 6|TAB|parv-repair sets --set 617cdc72ba53d94fe713fea2ae18f776
+parv-rescue --t|TAB|parv-rescue --tails
+parv-rescue --tails new ph|TAB|parv-rescue --tails new photos.par2
+parv-rescue new sets/photos.par2 --set 5|TAB|parv-rescue new sets/photos.par2 --set 589c76e09f0580b9203c5b64963b8957
 parv set sets/photos.par2 sets/two\ sets.par2 --set |ALL|parv set sets/photos.par2 sets/two\ sets.par2 --set 589c76e09f0580b9203c5b64963b8957 617cdc72ba53d94fe713fea2ae18f776
 LINES
 

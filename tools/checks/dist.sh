@@ -29,15 +29,16 @@ grep -q "version $version" "$top/README.md" && grep -q "version $version" "$top/
 
 path=$work/path
 mkdir "$path"
-for tool in sh dirname sha256sum find install sed; do ln -s "$(command -v $tool)" "$path"; done
+for tool in sh dirname sha256sum install sed; do ln -s "$(command -v $tool)" "$path"; done
 if env -i PATH="$path" "$room/install.sh" "$work/a place" > said 2>&1 \
     && cmp -s "$parv" "a place/bin/parv" && cmp -s "$top/docs/parv.1" "a place/share/man/man1/parv.1" \
-    && [ "$(cd "a place" && find . -type f | wc -l)" -eq "$(cd "$room" && find bin share -type f | wc -l)" ]; then
+    && [ "$(cd "a place" && find . -type f | wc -l)" -eq "$(cd "$room" && find bin lib share -type f | wc -l)" ]; then
     echo "ok: the archive installs without a toolchain"
 else
     fails "the archive doesn't install: $(head -c 300 said)"
 fi
-last="parv is installed in $work/a place/bin, and its scripts in $work/a place/share/doc/parv/examples."
+last="parv, parv-repair and parv-rescue are installed in $work/a place/bin, and scripts in \
+$work/a place/share/doc/parv/examples."
 if [ "$(cat said)" = "PATH has no $work/a place/bin yet, by which the shell finds parv and man its page.
 $last" ]; then
     echo "ok: it says where parv and its scripts are, and that PATH has no such folder"
@@ -46,9 +47,20 @@ else
 fi
 wants "where PATH has the folder it says no more of that" 0 "$last" "" \
     env -i PATH="$path:$work/a place/bin" "$room/install.sh" "$work/a place/"
-wants "a folder below that of the archive is told whole" 0 "${last//"$work/a place"/"$work/$room/below"}" "" \
-    env -i PATH="$path:$work/$room/below/bin" "$room/install.sh" below
-rm -r "$room/below"
+wants "a relative folder is below that of the caller, and is told whole" 0 "${last//"$work/a place"/"$work/below"}" "" \
+    env -i PATH="$path:$work/below/bin" "$room/install.sh" below
+mkdir elsewhere
+wants "another folder for cd has no say" 0 "$last" "" \
+    env -i CDPATH="$work/elsewhere" PATH="$path:$work/a place/bin" "$room/install.sh" "$work/a place/"
+for name in parv-repair parv-rescue; do
+    wants "what the archive installs runs: $name" 0 "$("$top/commands/bin/$name" -h)" "" "a place/bin/$name" -h
+done
+printf '#!/bin/sh\n' > "$room/bin/planted"
+if env -i PATH="$path" "$room/install.sh" "$work/a place" > said 2>&1 && [ ! -e "a place/bin/planted" ]; then
+    echo "ok: what its sums don't have isn't installed"
+else
+    fails "a planted file: $(head -c 300 said)"
+fi
 wants "what the archive installs runs" 0 "$("$parv" packets "$top/demo/photos.par2")" "" \
     "a place/bin/parv" packets "$top/demo/photos.par2"
 printf x >> "$room/bin/parv"

@@ -3,17 +3,23 @@
 # without a toolchain, and nothing of them behind the removal.
 . "$(dirname "$0")/wants.sh"
 
-places="/usr/bin/parv
-/usr/share/bash-completion/completions/parv
-/usr/share/doc/parv/FORMATS.md
-$(cd "$top/examples" && ls | LC_ALL=C sort | sed 's|^|/usr/share/doc/parv/examples/|')
-/usr/share/fish/vendor_completions.d/parv.fish
-/usr/share/man/man1/parv.1
-/usr/share/zsh/site-functions/_parv"
+commands="parv parv-repair parv-rescue"
+places=$({
+    for name in $commands; do
+        echo "/usr/bin/$name
+/usr/share/bash-completion/completions/$name
+/usr/share/fish/vendor_completions.d/$name.fish
+/usr/share/man/man1/$name.1"
+    done
+    cd "$top/examples" && ls | sed 's|^|/usr/share/doc/parv/examples/|'
+    cd "$top/commands/parv_commands" && ls ./*.py | sed 's|^.|/usr/lib/parv/parv_commands|'
+    echo /usr/share/doc/parv/FORMATS.md
+    echo /usr/share/zsh/site-functions/_parv
+} | LC_ALL=C sort)
 room="$work/a room"
 path=$work/path
 mkdir "$path"
-for tool in bash make install rm test sed; do ln -s "$(command -v $tool)" "$path"; done
+for tool in bash make install rm rmdir test sed; do ln -s "$(command -v $tool)" "$path"; done
 ln -s "$(python3 -c 'import sys; print(sys.executable)')" "$path/python3"
 
 # make with a PATH that has no rt, and nothing else from outside.
@@ -37,13 +43,18 @@ if cmp -s "$parv" "$room/usr/bin/parv" && [ -x "$room/usr/bin/parv" ] \
     && cmp -s "$top/completions/_parv" "$room/usr/share/zsh/site-functions/_parv" \
     && cmp -s "$top/completions/parv.fish" "$room/usr/share/fish/vendor_completions.d/parv.fish" \
     && cmp -s "$top/docs/FORMATS.md" "$room/usr/share/doc/parv/FORMATS.md" \
+    && cmp -s "$top/docs/parv-repair.1" "$room/usr/share/man/man1/parv-repair.1" \
+    && cmp -s "$top/docs/parv-rescue.1" "$room/usr/share/man/man1/parv-rescue.1" \
+    && cmp -s "$top/commands/bin/parv-repair" "$room/usr/bin/parv-repair" && [ -x "$room/usr/bin/parv-repair" ] \
+    && cmp -s "$top/commands/bin/parv-rescue" "$room/usr/bin/parv-rescue" && [ -x "$room/usr/bin/parv-rescue" ] \
+    && diff -rq --exclude=__pycache__ "$top/commands/parv_commands" "$room/usr/lib/parv/parv_commands" > /dev/null \
     && diff -rq "$top/examples" "$room/usr/share/doc/parv/examples" > /dev/null; then
     echo "ok: what is installed is what was built"
 else
     fails "what is installed is another"
 fi
-# Each script tells its help, and where there is no parv, that alone.
-for script in "$room"/usr/share/doc/parv/examples/*; do
+# Each script and command tells its help, and where there is no parv, that alone.
+for script in "$room"/usr/share/doc/parv/examples/* "$room"/usr/bin/parv-*; do
     name=${script##*/}
     env -i PATH="$path" "$script" -h > "$work/help" 2> "$work/line"
     got=$?
@@ -54,12 +65,17 @@ for script in "$room"/usr/share/doc/parv/examples/*; do
         fails "the help of $name: status $got, $(head -c 300 "$work/help" "$work/line")"
     fi
     words=(verify 1 x.par2)
-    case $name in check_tree.sh | verify_and_repair.sh) words=("$work") ;; esac
+    case $name in check_tree.sh | parv-repair) words=("$work") ;; esac
     wants "$name without parv" 6 "" "$name: cannot run parv: put parv in PATH, or name it by PARV" \
         env -i PATH="$path" "$script" "${words[@]}"
 done
+# The program that was installed beside it is found.
+cp -r "$top/demo" "$work/demo"
+rm "$work/demo/tower.raw"
+wants "the repair that was installed" 1 "repair tower.raw
+a repair can be tried: need 5 have 14" "" env -i PATH="$room/usr/bin:$path" "$room/usr/bin/parv-repair" --dry-run "$work/demo"
 touch "$room/usr/bin/other"
-if made uninstall && [ "$(standing)" = /usr/bin/other ]; then
+if made uninstall && [ "$(standing)" = /usr/bin/other ] && [ ! -e "$room/usr/lib/parv" ]; then
     echo "ok: what is removed is what was installed"
 else
     fails "removed: $(head -c 300 "$work/made"), $(standing)"

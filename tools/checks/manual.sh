@@ -1,33 +1,53 @@
 #!/usr/bin/env bash
-# The manual page: mandoc and man have nothing to say of it, where they are there, it has each
-# option and each line of standard error, and each of its examples is run in a folder with the files
-# that it names.
+# The manual pages: mandoc and man have nothing to say of them, where they are there. That of parv has each option and
+# each line of standard error, and each of its examples is run in a folder with the files that it names. Those of the
+# commands have each option and exit status of their help, and their examples are run too.
 . "$(dirname "$0")/wants.sh"
 cd "$work" || exit 1
 page=$top/docs/parv.1
 
-# Of the pages of others that this one names, some may not be installed here.
-if command -v mandoc > /dev/null; then
-    mandoc -T lint "$page" 2>&1 \
-        | grep -v 'not found: Xr par2 1\|outdated mandoc.db lacks par2(1) entry' > said
-    if [ ! -s said ]; then
-        echo "ok: mandoc -T lint is silent"
+pages=("$top"/docs/*.1)
+[ ${#pages[@]} -eq 3 ] || fails "there are ${#pages[@]} pages"
+for page in "${pages[@]}"; do
+    # Of the pages that this one names, some may not be installed here.
+    if command -v mandoc > /dev/null; then
+        mandoc -T lint "$page" 2>&1 \
+            | grep -v 'not found: Xr par[a-z0-9-]* 1\|outdated mandoc.db lacks par[a-z0-9-]*(1) entry' > said
+        if [ ! -s said ]; then
+            echo "ok: mandoc -T lint is silent: ${page##*/}"
+        else
+            fails "mandoc -T lint: ${page##*/}: $(head -c 600 said)"
+        fi
     else
-        fails "mandoc -T lint: $(head -c 600 said)"
+        echo "not run: there is no mandoc"
     fi
-else
-    echo "not run: there is no mandoc"
-fi
-if command -v man > /dev/null; then
-    MANWIDTH=80 man --warnings -E UTF-8 -l "$page" 2> said > text
-    if [ $? -eq 0 ] && [ ! -s said ] && grep -q '^EXIT STATUS' text; then
-        echo "ok: man --warnings is silent"
+    if command -v man > /dev/null; then
+        MANWIDTH=80 man --warnings -E UTF-8 -l "$page" 2> said > text
+        if [ $? -eq 0 ] && [ ! -s said ] && grep -q '^EXIT STATUS' text; then
+            echo "ok: man --warnings is silent: ${page##*/}"
+        else
+            fails "man --warnings: ${page##*/}: $(head -c 600 said)"
+        fi
     else
-        fails "man --warnings: $(head -c 600 said)"
+        echo "not run: there is no man"
     fi
-else
-    echo "not run: there is no man"
-fi
+done
+
+# Of a command the page has each option and each exit status that its help has, and no others.
+for name in parv-repair parv-rescue; do
+    page=$top/docs/$name.1
+    "$top/commands/bin/$name" -h > help
+    sed -nE 's/^  (-h, --help|--[a-z-]*).*/\1/p; s/^  ([0-9]) .*/\1/p' help | sed 's/^-h, //' | sort > wanted
+    { sed -nE 's/^\.It Fl (h , )?-([a-z-]+).*/--\2/p' "$page"
+        sed -n '/^\.Sh EXIT STATUS/,/^\.El/s/^\.It \([0-9]\)$/\1/p' "$page"; } | sort > told
+    if [ "$(wc -l < wanted)" -ge 8 ] && cmp -s wanted told; then
+        echo "ok: the page of $name has each option and exit status"
+    else
+        fails "the page of $name: $(diff wanted told | tr '\n' ' ')"
+    fi
+done
+grep -q 'No bytes that were in the folder are lost' "$top/docs/parv-repair.1" || fails "parv-repair's page has no promise"
+page=$top/docs/parv.1
 
 for word in --set -B --base --limit --cursor --tails -q; do
     grep -q "^\.It.* Fl ${word#-}\b" "$page" || fails "the page has no $word"
@@ -47,6 +67,33 @@ grep -o '/usr/local/share/doc/parv/[A-Za-z_./]*' "$page" | sed 's|^/usr/local/sh
 while IFS= read -r path; do
     [ -e "$top/$path" ] || [ -e "$top/docs/$path" ] || fails "the page names $path, which isn't there"
 done < paths
+# The calls of commands in the pages: each in a copy of a folder with what it names, and how it ends.
+{ sed -n 's/^\.Dl \$ \(parv-re[a-z]* .*\)/\1/p' "$top"/docs/*.1
+    sed -n '/^\.Bd/,/^\.Ed/s/^\(\$ \|  *\)\(.*\)/\2/p' "$top/docs/parv-repair.1" | tr '\n' ' '; } | sed 's/\\-/-/g' > calls
+[ "$(wc -l < calls)" -ge 6 ] || fails "the pages have $(wc -l < calls) calls of commands"
+mkdir -p whole/download bin
+cp "$top"/demo/{photos.par2,*.raw,notes.txt} whole/download
+mv whole/download/beach.raw whole/download/other
+cp -r whole/download whole/photos
+cp whole/photos/photos.par2 whole
+cat whole/photos/*.raw whole/photos/other whole/photos/notes.txt > whole/disc.img
+printf more >> whole/disc.img
+ln -s "$parv" bin/parv
+ln -s "$top"/commands/bin/* bin
+while IFS= read -r call; do
+    rm -rf part
+    cp -r whole part
+    wanted=0
+    case $call in *--dry-run* | "parv-rescue saved"*) wanted=1 ;; esac
+    (cd part && env -u PARV PATH="$work/bin:$PATH" bash -c "$call" > ../text 2> ../line)
+    status=$?
+    last=$(tail -n 1 text)
+    if [ $status -eq $wanted ] && [[ $last == complete || $last == "a repair can be tried"* || $last == "slices "* ]]; then
+        echo "ok: $call"
+    else
+        fails "$call: status $status, $(cat text line)"
+    fi
+done < calls
 # Its line for cron, of a folder that is whole and of one that has lost a file.
 sed -n 's/^17 3 \* \* \* //p' "$page" > cron
 [ "$(wc -l < cron)" -eq 1 ] || fails "the page has no line for cron"

@@ -34,7 +34,7 @@ links = paths = 0
 for page in PAGES:
     text = open(page).read()
     if page != "CHANGELOG.md":
-        for path in re.findall(r"`((?:tools|crates|docs|examples|demo|completions)/[\w./-]+)", text):
+        for path in re.findall(r"`((?:tools|crates|docs|examples|commands|demo|completions)/[\w./-]+)", text):
             paths += 1
             if not os.path.exists(path.rstrip(".")):
                 fails("%s names %s, which isn't there" % (page, path))
@@ -113,9 +113,10 @@ cd "$top/demo" || exit 1
 # shellcheck disable=SC2086
 wants "the example of README" 1 "$(sed 1d "$work/example")" "" "$parv" $words
 
-# Its calls of scripts, each in a folder with what it names: how it ends, and its last line.
+# Its calls of scripts and commands, each in a folder with what it names: how it ends, and its last line.
 cd "$work" || exit 1
-mkdir -p download backup/whole
+mkdir -p download backup/whole bin
+ln -s "$parv" bin/parv
 cp "$top"/demo/{photos.par2,*.raw,notes.txt} backup/whole
 cp backup/whole/* download
 cp backup/whole/photos.par2 .
@@ -123,13 +124,13 @@ mv download/harbour.raw download/port.raw
 { head -c 5000 /dev/zero; cat backup/whole/*.raw backup/whole/notes.txt; printf 'more'; } > disc.img
 wanted=("1 a repair can be tried: need 0 have 0" "0 complete" "0 slices 38/38, copied now 38" "0 " "0 result complete"
     "0 38 in place; need 0 have 0")
-sed -nE 's/^    ([a-z_]+\.(sh|py) .*)/\1/p' "$top/README.md" > calls
-[ "$(wc -l < calls)" -eq ${#wanted[@]} ] || fails "README has $(wc -l < calls) calls of scripts"
+sed -nE 's/^    (([a-z_]+\.(sh|py)|parv-re[a-z]+) .*)/\1/p' "$top/README.md" > calls
+[ "$(wc -l < calls)" -eq ${#wanted[@]} ] || fails "README has $(wc -l < calls) calls of scripts and commands"
 number=0
 while IFS= read -r call; do
     place=.
     [[ $call != *" ./*" ]] || place=download
-    got=$(cd "$place" && env -u PARV PATH="$top/examples:$(dirname "$parv"):$PATH" timeout 60 \
+    got=$(cd "$place" && env -u PARV PATH="$top/examples:$top/commands/bin:$work/bin:$PATH" timeout 60 \
         bash -c "${call/\/srv/$work}" 2> "$work/line" < /dev/null > "$work/text"; echo $?)
     if [ "$got $(tail -n 1 text)" = "${wanted[number]-}" ] && [ ! -s line ]; then
         echo "ok: README's $call"

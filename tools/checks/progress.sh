@@ -75,6 +75,7 @@ on_terminal() {
     fi
 }
 on_terminal "verify on a terminal" 13 "the text of verify" verify one.PAR2 five.bin
+on_terminal "verify --tails on a terminal" 18 "the text of verify" verify --tails one.PAR2 five.bin
 
 # `find` shows nothing beside its own lines, and something where they go to a file.
 touch go

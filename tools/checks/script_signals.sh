@@ -60,9 +60,11 @@ def running(session):
 
 def wait_for(holds, seconds):
     until = time.monotonic() + seconds
-    while not holds() and time.monotonic() < until:
+    while not holds():          # (Once is enough: a program that reads may end soon.)
+        if time.monotonic() > until:
+            return False
         time.sleep(0.05)
-    return holds()
+    return True
 
 
 def reading(session):

@@ -87,7 +87,7 @@ wants "the name of -B ends in a slash" 0 "$(sed 's/2 moved/2 in place/; s/++/##/
     "$map" --base renamed/ photos/photos.par2 renamed/beach.raw
 
 # Slices that are seen at many offsets, and files whose sums aren't known.
-"$tools/make/extract_sets.py" . || exit 1
+"$tools/make/rescue_sets.py" . || exit 1
 cd repeated || exit 1
 for tails in "" --tails; do
     # shellcheck disable=SC2086
@@ -320,13 +320,13 @@ else
 fi
 
 # Words, and files that can't be read.
-usage="usage: $me [-h] [--tails] [--set ID] [-B DIR] [--width N] [--html FILE] [--svg FILE] FILES"
-wants "no files" 3 "" "$me: the following arguments are required: FILES
+usage="$me: usage: $me [-h] [--tails] [--set ID] [-B DIR] [--width N] [--html FILE] [--svg FILE] FILES"
+wants "no files" 3 "" "$me: there are no FILES
 $usage" "$map"
 wants "no width" 3 "" "$me: a line has one character at least
 $usage" "$map" --width 0 photos.par2
-wants "no packet file" 3 "" "parv: no packet file" "$map" beach.raw
-wants "no set" 4 "" "parv: no usable set: no main" "$map" --set 00000000000000000000000000000000 photos.par2
+wants "no packet file" 3 "" "$me: no packet file" "$map" beach.raw
+wants "no set" 4 "" "$me: no usable set: no main" "$map" --set 00000000000000000000000000000000 photos.par2
 wants "a file that isn't there" 6 "" "$me: cannot open none.raw: No such file or directory" "$map" photos.par2 none.raw
 wants "a FIFO" 6 "" "$me: cannot open fifo: no regular file" "$map" photos.par2 fifo
 wants "a full device" 6 "" "$me: cannot write standard output: No space left on device" \
@@ -338,7 +338,7 @@ for name in ./none parv-that-is-not-there; do
 done
 # Its help has its usage first, each option, and each exit status.
 help=$("$map" -h)
-[ "${help%%$'\n'*}" = "$usage" ] || fails "its help begins with ${help%%$'\n'*}"
+[ "${help%%$'\n'*}" = "${usage#"$me: "}" ] || fails "its help begins with ${help%%$'\n'*}"
 for word in --tails --set -B --width --html --svg 0 3 4 6 8; do
     grep -q -- "^  $word " <<< "$help" || fails "its help has no $word"
 done

@@ -8,7 +8,7 @@ run; names as par2cmdline 0.8.1 reads them: a backslash as a slash, a control ch
 a slash as % and two digits. The set is that of the first packet of the first packet file. It ends with 2
 where more slices are needed than there are recovery slices, a short one being seen where a file ends; else
 it does what par2 does: moves a damaged file to name.1, renames one that is another, for which it makes no
-folder, and writes the rest, which it takes from the folder ORIGINALS. If the set has an empty file, it ends
+folder, and writes the rest, which it takes from the folder ORIGINALS, whatever the files are called there. If the set has an empty file, it ends
 with 5 whatever it has done. GIVEN is a file to which it adds a line for each file that it sees, with the
 file's MD5.
 
@@ -69,7 +69,18 @@ def go_wrong(path, data):
         time.sleep(30)
 
 
-def repair(file, name, scanned, moved):
+def original(file):
+    """The bytes that a file of the set has, from some file below ORIGINALS."""
+    for above, _, names in os.walk(os.fsencode(os.environ["ORIGINALS"])):
+        for name in names:
+            with open(os.path.join(above, name), "rb") as whole:
+                data = whole.read()
+            if len(data) == file.length and hashlib.md5(data).digest() == file.whole:
+                return data
+    end(6, f"There is no original of {os.fsdecode(file.name)}")
+
+
+def repair(file, scanned, moved):
     """Makes a file complete; `moved` has where files are now that were moved."""
     state, other = state_of(file, scanned)
     if state == "complete":
@@ -84,8 +95,7 @@ def repair(file, name, scanned, moved):
         except FileNotFoundError:
             end(6, f"{os.fsdecode(other)} cannot be renamed to {os.fsdecode(file.name)}")
         return
-    with open(os.path.join(os.fsencode(os.environ["ORIGINALS"]), name), "rb") as whole:
-        data = whole.read()
+    data = original(file)
     go_wrong(file.name, data)
     write(file.name, data[::-1] if WRONG == "lies" else data)
 
@@ -111,8 +121,8 @@ def main():
     if status == 2:
         end(2, f"You need more recovery blocks: {lines[-2]}")
     moved = {}
-    for file, original in zip(files, found.files):
-        repair(file, original.name, scanned, moved)
+    for file in files:
+        repair(file, scanned, moved)
     if any(file.length == 0 for file in files):
         end(5, "Repair Failed.")
     end(0, "Repair complete.")

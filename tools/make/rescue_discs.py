@@ -1,7 +1,7 @@
 #!/usr/bin/env python3
 """Writes sets with images of discs, of which some have decoys where short last slices are expected.
 
-usage: extract_discs.py FOLDER
+usage: rescue_discs.py FOLDER
 
 FOLDER gets the packet files disc.par2, many.par2 and cut.par2, and their files below a folder of the
 same name. Slices have 4,000 bytes, or 400 in many.par2. In other_crc.par2 the files of disc.par2 have

@@ -1,15 +1,15 @@
 #!/usr/bin/env bash
-# examples/verify_and_repair.sh on real damage, with a stand-in for par2: what becomes of each file, that nothing is
+# parv-repair on real damage, with a stand-in for par2: what becomes of each file, that nothing is
 # overwritten or lost, that all is left as it was where it fails, is interrupted or refuses a name, and why.
 . "$(dirname "$0")/wants.sh"
 . "$tools/checks/rooms.sh"
 cd "$work" || exit 1
-export LC_ALL=C
-export PARV=$parv PAR2=$tools/stand_in/par2.py ORIGINALS=$work/whole GIVEN=$work/given
-script=$top/examples/verify_and_repair.sh
+export PAR2=$tools/stand_in/par2.py ORIGINALS=$work/whole GIVEN=$work/given
+. "$tools/checks/commands.sh"
+script=${repair[0]}
 one_set=$tools/make/one_set.py
 
-# ends NAME STATUS TEXT LINE WORDS..: the script over `room` ends so.
+# ends NAME STATUS TEXT LINE WORDS..: the command over `room` ends so.
 ends() {
     wants "$1" "$2" "$3" "$4" "$script" "${@:5}" room
 }
@@ -21,29 +21,37 @@ fails_with() {
     as_before "$1"
 }
 
-usage='usage: verify_and_repair.sh [--dry-run] [--remove-backups] [--set ID] FOLDER'
-say='verify_and_repair.sh: room:'
+usage='usage: parv-repair [--dry-run] [--remove-backups] [--set ID] FOLDER'
+say='parv-repair: room:'
 named="$say the name"
-# Its help is its head comment, with each option at the beginning of a line, and with each exit status.
-help=$(awk 'NR > 1 { if (!/^#/) exit; sub(/^# ?/, ""); print }' "$script")
+refused_names="$say the set is refused for its names"
+# Its help has its promise, and each option and each exit status at the beginning of a line.
+help=$("$script" -h)
 [ "${help%%$'\n'*}" = "$usage" ] || fails "its help begins with ${help%%$'\n'*}"
+grep -q "No bytes that were in the folder are$" <<< "$help" || fails "its help has no promise"
 for word in --dry-run --remove-backups '--set ID' 0 1 2 3 4 5 6 8; do
     grep -q -- "^  $word  *[a-z]" <<< "$help" || fails "its help has no $word"
 done
 for word in -h --help; do wants "its help by $word" 0 "$help" "" "$script" $word; done
-for words in '' '--wrong room' 'room room' '--set'; do
-    # shellcheck disable=SC2086
-    wants "wrong words: $words" 3 "" "$usage" "$script" $words
-done
-wants "a folder that isn't there" 6 "" "verify_and_repair.sh: cannot open none\\x0a" "$script" $'none\n'
+wants "no word" 3 "" "parv-repair: there is no FOLDER
+parv-repair: $usage" "$script"
+wants "an option that there isn't" 3 "" "parv-repair: unrecognized arguments: --wrong
+parv-repair: $usage" "$script" --wrong room
+wants "an option of other bytes" 3 "" "parv-repair: unrecognized arguments: --\\x1b[31m\\xff
+parv-repair: $usage" "$script" $'--\e[31m\xff' room
+wants "two folders" 3 "" "parv-repair: unrecognized arguments: room
+parv-repair: $usage" "$script" room room
+wants "an ID that is left out" 3 "" "parv-repair: argument --set: expected one argument
+parv-repair: $usage" "$script" --set
+wants "a folder that isn't there" 6 "" "parv-repair: cannot open none\\x0a: No such file or directory" "$script" $'none\n'
 mkdir room path
-for tool in bash sed; do ln -s "$(command -v $tool)" path; done
+ln -s "$(python3 -c 'import sys; print(sys.executable)')" path/python3
 # No parv is told once, ahead of all else.
 for folder in room none; do
     wants "no parv, and the folder $folder" 6 "" \
-        "verify_and_repair.sh: cannot run ./none: put parv in PATH, or name it by PARV" env PARV=./none "$script" $folder
+        "parv-repair: cannot run ./none: put parv in PATH, or name it by PARV" env PARV=./none "$script" $folder
     wants "no parv in PATH, and the folder $folder" 6 "" \
-        "verify_and_repair.sh: cannot run parv: put parv in PATH, or name it by PARV" \
+        "parv-repair: cannot run parv: put parv in PATH, or name it by PARV" \
         env -u PARV PATH="$work/path" "$script" $folder
 done
 ends "a folder without packet files" 3 "" "$say no packet file"
@@ -139,11 +147,23 @@ whole_now "files with names of any bytes are repaired"
 
 furnish 8 1 $'line\nfeed' 0123456789 other abcdefgh
 printf 'abcd' > room/other
-ends "a name that par2 reads as another, where little can be repaired" 0 "repair other
+ends "a name that par2 reads as another, and a backup that has no slice of its file" 0 "repair other
 keep other as other.1
-remove other.1
-complete" "" --remove-backups
-whole_now "a name that par2 reads as another, where little can be repaired"
+complete" "$say other.1 has no slice of other, and stays" --remove-backups
+whole_now "a name that par2 reads as another, and a backup that has no slice of its file" other.1 abcd
+
+# A set that anyone may have made has a file of the folder as an empty one, or as one of which nothing is there.
+furnish 4 20 film abcdefgh thesis ""
+printf 'my thesis, of a year' > room/thesis
+ends "a foreign file at the name of an empty one" 0 "make thesis
+keep thesis as thesis.1
+complete" "$say thesis.1 has no slice of thesis, and stays" --remove-backups
+whole_now "a foreign file at the name of an empty one" thesis.1 'my thesis, of a year'
+printf 'my film, of a year' > room/film
+ends "a foreign file at the name of another" 0 "repair film
+keep film as film.1
+complete" "$say film.1 has no slice of film, and stays" --remove-backups
+whole_now "a foreign file at the name of another" thesis.1 'my thesis, of a year' film.1 'my film, of a year'
 
 # Two files of one content, and empty files.
 furnish 4 0 one same-same two same-same three "" four other
@@ -177,8 +197,7 @@ complete" ""
 whole_now "slices that par2 doesn't see" image 'Some text. abcdefghijklmnopqrstuvwxyz and 01234 behind it'
 rm room/long room/short
 printf 'Some text. abcdefghijklmnopqrstuvwxyz and 0123' > room/image
-PAR2=none fails_with "no par2" 5 "" \
-    "$say par2 repair has failed with status 127: env: 'none': No such file or directory"
+PAR2=none fails_with "no par2" 5 "" "$say cannot run none: put par2 in PATH, or name it by PAR2"
 ends "slices that par2 doesn't see, and one that is gone" 0 "repair short
 repair long
 complete" ""
@@ -199,137 +218,9 @@ for signal in INT:130 HUP:129 TERM:143; do
     WRONG=SIG${signal%:*} fails_with "a repair that is ended by SIG${signal%:*}" "${signal#*:}" "" ""
 done
 
-# Each move in turn is the last one that is made, or isn't made any more; SIGKILL leaves that to the next run.
-mkdir bin
-ln -s "$tools/stand_in/mv" bin
-export CALLS=$work/calls
-moving() {
-    echo 0 > calls
-    MV_AT="$1 $2" SIGNAL=$3 PATH="$work/bin:$PATH" "$script" room > text 2> line
-    status=$?
-}
-listed room > before
-again="$say a run was ended here, and is undone"
-for number in 1 2 3 4 5 6; do
-    for end in 'kills before' 'kills behind'; do
-        moving $number "$end" TERM
-        if [ $status -eq 143 ] && [ ! -s text ] && [ ! -s line ] && cmp -s before <(listed room); then
-            echo "ok: undone where SIGTERM $end move $number"
-        else
-            fails "SIGTERM $end move $number: status $status, $(cat text line; diff before <(listed room))"
-        fi
-        moving $number "$end" KILL 2> "$said/ended"
-        [ $status -eq 137 ] || fails "SIGKILL $end move $number: status $status"
-        listed room > ended
-        wants "a trial where a run was ended" 6 "" \
-            "$say a run was ended here, and is undone by the next without --dry-run" "$script" --dry-run room
-        cmp -s ended <(listed room) || fails "a trial has changed something"
-        WRONG=fails "$script" room > text 2> line
-        if [ $? -eq 5 ] && [ "$(head -n 1 line)" = "$again" ] && cmp -s before <(listed room); then
-            echo "ok: undone by the next run where SIGKILL $end move $number"
-        else
-            fails "behind SIGKILL $end move $number: $(cat text line; diff before <(listed room))"
-        fi
-    done
-    # (The first move is one to the stage.)
-    [ $number -gt 1 ] || continue
-    moving $number taken TERM
-    find room -type f -size 6c -exec grep -lx taken {} + > other
-    first=$(head -n 1 line)
-    if [ $status -eq 6 ] && [ ! -s text ] && [ "${first#"$say "*:}" = " cannot move it" ] \
-        && [ "$(wc -l < other)" -eq 1 ] && rm "$(< other)"; then
-        # What has come where a file stood keeps it from going back, until that goes.
-        [ ! -e room/.verify_and_repair ] || WRONG=fails "$script" room > text 2> line
-        [ ! -e room/sub ] || rmdir room/sub
-        if cmp -s before <(listed room); then
-            echo "ok: what comes to where a file is moved isn't overwritten, and all is undone: move $number"
-        else
-            fails "behind a place that is taken at move $number: $(cat text line; diff before <(listed room))"
-        fi
-    else
-        fails "a place that is taken at move $number: status $status, $(cat text line)"
-    fi
-done
-# The moves that undo six are ended too.
-for number in 1 2 3 4 5 6; do
-    for end in 'kills before' 'kills behind'; do
-        moving 6 'kills behind' KILL 2> "$said/ended"
-        moving $number "$end" KILL 2> "$said/ended"
-        [ $status -eq 137 ] || fails "SIGKILL $end move $number that undoes: status $status"
-        WRONG=fails "$script" room > text 2> line
-        if [ $? -eq 5 ] && [ "$(head -n 1 line)" = "$again" ] && cmp -s before <(listed room); then
-            echo "ok: undone by the next run where SIGKILL $end move $number that undoes"
-        else
-            fails "behind SIGKILL $end move $number that undoes: $(cat text line; diff before <(listed room))"
-        fi
-    done
-done
-moving 7 'kills behind' KILL
-if [ $status -eq 0 ] && [ "$(< calls)" -eq 6 ] && [ ! -s line ] && [ "$(< text)" = "repair third.txt
-repair first.txt
-rename first.txt to second.txt
-rename other to sub/in sub
-keep second.txt as second.txt.1
-complete" ]; then
-    echo "ok: six moves"
-else
-    fails "six moves: status $status, $(cat calls text line)"
-fi
-whole_now "six moves" second.txt.1 damaged
-
-# A list of moves that someone else made, or a stage that is a link, undoes nothing elsewhere.
 furnish 4 5 first.txt abcdefgh second.txt ijklmnop
 mv room/first.txt room/x
 printf outside > outside
-mkdir folder
-# planted FROM TO..: that the file TO was moved from FROM.
-planted() {
-    rm -rf room/.verify_and_repair
-    mkdir -p room/.verify_and_repair/aside
-    while [ $# -gt 0 ]; do
-        printf '%s\0' "$(stat -c %i "room/$2")" "$1" "$2"
-        shift 2
-    done > room/.verify_and_repair/moves
-}
-left="$say .verify_and_repair stays, for what is to be undone"
-moves() {
-    planted "$2" "$3"
-    fails_with "a planted move $1" 6 "" "$4
-$left"
-}
-moves "to elsewhere" ../taken x "$say x: cannot move it
-$say ../taken isn't where it was"
-moves "from elsewhere" y ../outside "$say ../outside: cannot move it
-$say y isn't where it was"
-moves "to a file elsewhere" ../outside x "$say x: cannot move it"
-moves "by the whole path" "$work/taken" x "$say x: cannot move it
-$say $work/taken isn't where it was"
-ln -s ../folder room/link
-moves "through a link" link/taken x "$say x: link is a link
-$say link/taken isn't where it was"
-moves "of a link" y link "$say link: link is a link
-$say y isn't where it was"
-rm room/link
-rm -r room/.verify_and_repair
-for at in '' /aside /moves; do
-    planted
-    rm -r "room/.verify_and_repair$at"
-    ln -s "$work/folder" "room/.verify_and_repair$at"
-    fails_with "a stage with a link: $at" 6 "" "$left: .verify_and_repair is a link, or has one"
-    rm -r room/.verify_and_repair
-done
-planted
-printf 'mine' > room/.verify_and_repair/mine
-ends "a stage with another file" 6 "" "$left: rmdir: failed to remove '.verify_and_repair': Directory not empty"
-[ "$(cat outside room/.verify_and_repair/mine)" = outsidemine ] || fails "a file is another one"
-rm -r room/.verify_and_repair
-planted
-mv room/.verify_and_repair/moves room/.verify_and_repair/list
-mkdir room/.verify_and_repair/files
-ln -s "$work/outside" room/.verify_and_repair/files/first.txt
-PAR2=none ends "a stage of which the list isn't whole yet" 0 "rename x to first.txt
-complete" "$again"
-mv room/first.txt room/x
 flock room "$script" room 2> line
 status=$?
 if [ $status -eq 6 ] && [ "$(< line)" = "$say another run is at work" ]; then
@@ -337,9 +228,9 @@ if [ $status -eq 6 ] && [ "$(< line)" = "$say another run is at work" ]; then
 else
     fails "two runs: status $status, $(< line)"
 fi
-ends "after all that" 0 "rename x to first.txt
+ends "after that" 0 "rename x to first.txt
 complete" ""
-whole_now "after all that"
+whole_now "after that"
 
 # Names that are refused, whatever else could be done; what lies there stays as it is.
 printf 'abcdefgh' > content
@@ -350,23 +241,28 @@ refused() {
     mv room/good.txt room/x
     mv room/bad.txt room/y
     # The file may be repaired, or have another name, or stand there.
-    fails_with "a name that is refused: $shown" 4 "" "$named $shown is refused: it is no plain path below the folder"
+    fails_with "a name that is refused: $shown" 4 "" "$named $shown is refused: $3
+$refused_names"
     rm room/y
-    fails_with "a name that is refused, of a file that is gone: $shown" 4 "" \
-        "$named $shown is refused: it is no plain path below the folder"
+    fails_with "a name that is refused, of a file that is gone: $shown" 4 "" "$named $shown is refused: $3
+$refused_names"
     [ "$(cat outside)" = outside ] || fails "another file was written: $shown"
 }
-refused ../outside ../outside
-refused "$work/outside" "$work/outside"
-refused sub/../../outside sub/../../outside
-refused .. ..
-refused ./bad.txt ./bad.txt
-refused sub//bad.txt sub//bad.txt
-refused sub/ sub/
-refused '..\outside' '..\\outside'
-refused '\outside' '\\outside'
-refused .verify_and_repair/moves .verify_and_repair/moves
-refused $'../\xff\n' '../\xff\x0a'
+out="its name leads out of the folder"
+none="its name isn't that of a file"
+own="its name is kept for the command itself"
+refused ../outside ../outside "$out"
+refused "$work/outside" "$work/outside" "its name is absolute"
+refused sub/../../outside sub/../../outside "$out"
+refused .. .. "$out"
+refused ./bad.txt ./bad.txt "$none"
+refused sub//bad.txt sub//bad.txt "$none"
+refused sub/ sub/ "$none"
+refused '..\outside' '..\\outside' "$out"
+refused '\outside' '\\outside' "$out"
+refused .parv-repair/journal .parv-repair/journal "$own"
+refused .verify_and_repair/moves .verify_and_repair/moves "$own"
+refused $'../\xff\n' '../\xff\x0a' "$out"
 [ "$(find "$work" -maxdepth 1 -newer content | grep -c outside)" -eq 0 ] || fails "something was written elsewhere"
 
 # What stands at a name, or on the way to it.
@@ -375,7 +271,8 @@ mv room/good.txt room/x
 mkdir outer
 cp whole/sub/bad.txt outer
 hindered() {
-    fails_with "what stands at a name: $1" 4 "" "$named sub/bad.txt is refused: $2"
+    fails_with "what stands at a name: $1" 4 "" "$named sub/bad.txt is refused: $2
+$refused_names"
 }
 mv room/sub/bad.txt room/y
 ln -s "$work/outer/bad.txt" room/sub/bad.txt
@@ -403,7 +300,7 @@ ln -s "$work/outer/set.par2" room/set.par2
 fails_with "packet files that are links" 3 "" "$say set.par2 is a link, and isn't read
 $say no packet file"
 
-# Names that can't be made: all is undone.
+# Names of which not both can be there, or that are too long.
 furnish 4 5 one abcdefgh two ijkl
 for name in one/two "$(printf 'x%.0s' $(seq 300))"; do
     "$one_set" room/set.par2 4 5 whole two "$name"
@@ -411,18 +308,12 @@ for name in one/two "$(printf 'x%.0s' $(seq 300))"; do
     mv room/two room/y
     listed room > before
     "$script" room > text 2> line
-    if [ $? -eq 6 ] && [ ! -s text ] && [ -s line ] && cmp -s before <(listed room); then
-        echo "ok: undone where a name can't be made: ${name:0:9}"
+    if [ $? -eq 4 ] && [ ! -s text ] && [ "$(wc -l < line)" -eq 2 ] && cmp -s before <(listed room); then
+        echo "ok: a name that can't be made is refused: ${name:0:9}"
     else
         fails "a name that can't be made: ${name:0:9}: $(cat text line)"
     fi
-    rm room/x
-    "$script" room > text 2> line
-    if [ $? -eq 6 ] && [ ! -s text ] && [ -s line ] && [ "$(cat room/y)" = ijkl ] && [ ! -e room/.verify_and_repair ]; then
-        echo "ok: nor is it repaired: ${name:0:9}"
-    else
-        fails "a name that can't be made, and a repair: ${name:0:9}: $(cat text line)"
-    fi
+    rm room/x room/y
     cp whole/* room
 done
 
@@ -439,13 +330,15 @@ ends "one of two sets" 0 "copy second.txt to first.txt
 complete" "" --set "${id^^}"
 whole_now "one of two sets" second.txt abcdefgh
 fails_with "a set that isn't there" 4 "" "$say no usable set: no main" --set 00000000000000000000000000000000
-fails_with "an ID that is none" 3 "" "$say bad value" --set 0
+fails_with "an ID that is none" 3 "" "parv-repair: argument --set: a set ID has 32 hexadecimal digits
+parv-repair: $usage" --set 0
 rm room/first.txt
 cat room/two.par2 >> room/all.par2
 cat room/set.par2 >> room/all.par2
 mv room/set.par2 room/two.par2 .
 rm room/second.txt
-fails_with "a set behind another" 5 "" "$say no packet file begins with a packet of this set, which par2 wants" --set "$id"
+ends "a set behind another in one packet file" 0 "repair first.txt
+complete" "" --set "$id"
 
 # What can't be read, or written, by one who isn't root.
 user=()
@@ -454,15 +347,19 @@ furnish 4 5 first.txt abcdefgh second.txt ijkl
 mv room/second.txt room/x
 chmod 555 room
 chmod 711 .
-cp "$parv" "$script" .
-script=./verify_and_repair.sh
+mkdir commands
+cp "$parv" parv
+chmod 755 parv
+cp -r "$top/commands/bin" "$top/commands/parv_commands" commands
+chmod -R a+rX commands
+script=commands/bin/parv-repair
 wants "a trial in a folder that may not be written" 1 "rename x to second.txt
 a repair can be tried: need 0 have 5" "" env PARV="$work/parv" "${user[@]}" "$script" --dry-run room
-wants "a folder that may not be written" 6 "" "$say cannot write there" env PARV="$work/parv" "${user[@]}" "$script" room
+wants "a folder that may not be written" 6 "" "$say cannot write in room: Permission denied" env PARV="$work/parv" "${user[@]}" "$script" room
 chmod 000 room/first.txt
-wants "a file that may not be read" 6 "" "$say cannot open ./first.txt" env PARV="$work/parv" "${user[@]}" "$script" room
+wants "a file that may not be read" 6 "" "$say cannot open first.txt" env PARV="$work/parv" "${user[@]}" "$script" room
 chmod 000 room
-wants "a folder that may not be read" 6 "" "verify_and_repair.sh: cannot open room" \
+wants "a folder that may not be read" 6 "" "parv-repair: cannot open room: Permission denied" \
     env PARV="$work/parv" "${user[@]}" "$script" room
 chmod 700 room room/first.txt
 exit $failed

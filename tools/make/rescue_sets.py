@@ -1,7 +1,7 @@
 #!/usr/bin/env python3
 """Writes sets with names that lead elsewhere, and with slices that are seen at each offset of a file.
 
-usage: extract_sets.py FOLDER
+usage: rescue_sets.py FOLDER
 
 FOLDER gets each set as NAME.par2 and, as NAME.img, its files joined, with other bytes between. The
 files themselves stand below FOLDER/NAME, but for those whose names lead elsewhere; an absolute one
@@ -33,8 +33,8 @@ def set_of_files(files, without_sums=()):
 def misnamed(folder):
     """Files whose names lead out of a folder, or can't be those of files in it."""
     names = [os.path.join(os.path.realpath(folder), b"absolute"), b"/absolute", b"../above", b"in/../../above",
-             b"in/..", b"..", b".", b"./dot", b"in/./dot", b"in//twice", b"in/", b".extract_found",
-             b".extract_found/in", b"both", b"x" * 256]
+             b"in/..", b"..", b".", b"./dot", b"in/./dot", b"in//twice", b"in/", b".parv-rescue",
+             b".parv-rescue/in", b"both", b"x" * 256]
     return [(name, noise(name, 1500)) for name in names]
 
 

@@ -1,16 +1,16 @@
 #!/usr/bin/env bash
-# examples/extract_found.py with packets that anyone may have made: names that lead out of the folder, what stands in
+# parv-rescue with packets that anyone may have made: names that lead out of the folder, what stands in
 # it already, links on the way, and what was put there between two runs. Nothing around it is made or changed, and
 # nothing in it written over. Folders that it doesn't take, words that are none, and files that it can't read.
 . "$(dirname "$0")/wants.sh"
 cd "$work" || exit 1
 export PARV=$parv LC_ALL=C
-extract=$top/examples/extract_found.py
-me=extract_found.py
-record=.extract_found
+extract=$top/commands/bin/parv-rescue
+me=parv-rescue
+record=.parv-rescue
 
 mkdir room
-"$tools/make/extract_sets.py" room || exit 1
+"$tools/make/rescue_sets.py" room || exit 1
 cd room || exit 1
 names=(--tails names.par2 names.img)
 # What is said of each name that leads elsewhere.
@@ -26,8 +26,8 @@ in/..: its name leads out of the folder
 in/./dot: its name isn't that of a file
 in//twice: its name isn't that of a file
 in/: its name isn't that of a file
-$record: its name is that of the record
-$record/in: its name is that of the record
+$record: its name is kept for the command itself
+$record/in: its name is kept for the command itself
 both: its name is that of another file's folder
 $(printf 'x%.0s' {1..256}): a part of its name is too long
 END
@@ -156,7 +156,7 @@ rm out/$record
 mkfifo out/$record
 wants "a record that is a FIFO" 6 "" "$me: out/$record is a link or no file" "$extract" out "${names[@]}"
 around > "$said/now"
-sed -i '/extract_found /d' "$said/around" "$said/now"
+sed -i '/parv-rescue /d' "$said/around" "$said/now"
 cmp -s "$said/around" "$said/now" || fails "around the folder: $(diff "$said/around" "$said/now")"
 
 # Folders that aren't taken.
@@ -165,9 +165,9 @@ mkdir out
 printf 'mine' > out/mine
 wants "a folder of others" 3 "" "$me: out isn't empty, and has no $record" "$extract" out "${names[@]}"
 [ "$(ls -A out)" = mine ] || fails "the folder of others has more now: $(ls -A out)"
-wants "a file in place of the folder" 6 "" "$me: cannot open out/mine: File exists" "$extract" out/mine "${names[@]}"
+wants "a file in place of the folder" 6 "" "$me: cannot make out/mine: File exists" "$extract" out/mine "${names[@]}"
 ln -s none broken
-wants "a broken link in place of the folder" 6 "" "$me: cannot open broken: File exists" "$extract" broken "${names[@]}"
+wants "a broken link in place of the folder" 6 "" "$me: cannot make broken: File exists" "$extract" broken "${names[@]}"
 [ ! -e none ] || fails "the broken link leads to something now"
 "$extract" other "$top/demo/photos.par2" > text
 wants "a folder of another set" 3 "" "$me: other/$record is of another set" "$extract" other "${names[@]}"
@@ -191,33 +191,49 @@ $me: refused: harbour.raw: it can't have 12288 bytes: File too large" \
     "$top/demo/notes.txt"
 
 # Words, and files that can't be read.
-usage="usage: $me [-h] [--tails] [--set ID] FOLDER FILES"
-wants "no files" 3 "" "$me: the following arguments are required: FILES
+usage="$me: usage: $me [--tails] [--set ID] FOLDER FILES"
+wants "no files" 3 "" "$me: there is no FOLDER, or there are no FILES
 $usage" "$extract" new
 wants "an option that there isn't" 3 "" "$me: unrecognized arguments: --tail
 $usage" "$extract" --tail new names.par2
 wants "an ID that is none" 3 "" "$me: argument --set: a set ID has 32 hexadecimal digits
 $usage" "$extract" --set 12 new names.par2
-wants "no packet file" 3 "" "parv: no packet file" "$extract" new names.img
-wants "no set" 4 "" "parv: no usable set: no main" "$extract" --set 00000000000000000000000000000000 new names.par2
-wants "a packet file that isn't there" 6 "" "parv: cannot open none.par2" "$extract" new none.par2 names.img
-wants "a file that isn't there" 6 "" "$me: cannot open none.img: No such file or directory" "$extract" new names.par2 none.img
-mkfifo fifo.img
-wants "a FIFO to be searched" 6 "" "$me: cannot open fifo.img: no regular file" "$extract" new names.par2 fifo.img
-wants "a folder to be searched" 6 "" "$me: cannot open names: no regular file" "$extract" new names.par2 names
-odd=$'\xff.img'
-wants "a name that isn't UTF-8" 3 "" "$me: \\xff.img: parv takes no name that isn't UTF-8" "$extract" new names.par2 "$odd"
+wants "an option of other bytes" 3 "" "$me: unrecognized arguments: --\\x1b[31m\\xff
+$usage" "$extract" $'--\e[31m\xff' new names.par2
+wants "no packet file" 3 "" "$me: no packet file" "$extract" new names.img
+wants "no set" 4 "" "$me: no usable set: no main" "$extract" --set 00000000000000000000000000000000 new names.par2
+for name in none.par2 none.img; do
+    wants "a file that isn't there: $name" 6 "" "$me: cannot open $name: No such file or directory" \
+        "$extract" new names.par2 $name
+done
+mkfifo fifo.img fifo.par2
+for name in fifo.img fifo.par2 names; do
+    wants "what is no regular file: $name" 6 "" "$me: cannot open $name: no regular file" "$extract" new names.par2 $name
+done
 for name in ./none parv-that-is-not-there; do
     wants "no program: $name" 6 "" "$me: cannot run $name: put parv in PATH, or name it by PARV" \
         env PARV=$name "$extract" new names.par2
 done
 [ ! -e new ] || fails "a folder was made for nothing"
-wants "a full device" 6 "" "$me: cannot write standard output: No space left on device" \
-    bash -c '"$@" > /dev/full' - "$extract" full "$top/demo/photos.par2" "$top/demo/notes.txt"
-# Its help has its usage first, each option, each exit status, and --tails for an image.
+# A name that isn't UTF-8, which parv takes by a link alone.
+odd=$'\xff\n.img'
+cp "$top/demo/notes.txt" "$odd"
+cp "$top/demo/photos.par2" $'\xff.par2'
+wants "names that aren't UTF-8" 1 "missing harbour.raw 0/12
+missing beach.raw 0/20
+complete notes.txt
+missing tower.raw 0/5
+slices 1/38, copied now 1" "$me: short slices missing: 2; --tails might find more" "$extract" odd $'\xff.par2' "$odd"
+for how in full closed; do
+    command='"$@" > /dev/full' why='No space left on device'
+    [ $how = full ] || { command='"$@" >&-'; why='it is closed'; }
+    wants "a $how standard output" 6 "" "$me: cannot write standard output: $why" \
+        bash -c "$command" - "$extract" $how "$top/demo/photos.par2" "$top/demo/notes.txt"
+done
+# Its help has its usage first, each option, each exit status, and a call for an image.
 help=$("$extract" -h)
-[ "${help%%$'\n'*}" = "$usage" ] || fails "its help begins with ${help%%$'\n'*}"
-for word in --tails --set 0 1 3 4 6 8 'extract_found.py --tails saved'; do
+[ "${help%%$'\n'*}" = "${usage#"$me: "}" ] || fails "its help begins with ${help%%$'\n'*}"
+for word in --tails --set 0 1 3 4 6 8 'parv-rescue saved'; do
     grep -q -- "^  $word " <<< "$help" || fails "its help has no $word"
 done
 for word in -h --help; do wants "its help by $word" 0 "$help" "" "$extract" $word; done

@@ -1,13 +1,13 @@
 #!/usr/bin/env bash
-# examples/extract_found.py: what it copies out of files is compared with the originals by an independent search, and
+# parv-rescue: what it copies out of files is compared with the originals by an independent search, and
 # the holes that it tells; images of discs, with short last slices where they are expected, decoys in their place, and
 # some elsewhere; runs that go on, that were stopped, or have other files; slices that are seen at each offset.
 . "$(dirname "$0")/wants.sh"
 cd "$work" || exit 1
 export PARV=$parv
-extract=$top/examples/extract_found.py
+extract=$top/commands/bin/parv-rescue
 demo=$top/demo
-record=.extract_found
+record=.parv-rescue
 
 # leaves NAME FOLDER: what stands in `wanted`, beside the record.
 leaves() {
@@ -56,11 +56,11 @@ extracts "with --tails where the rest is there" 1 1 "$demo" 'out 1/in' --tails "
 # What parv is asked, and what is asked of it anew.
 cat > logs << 'END'
 #!/bin/sh
-echo "$*" >> calls
+echo "$*" >> "$calls"
 exec "$parv" "$@"
 END
 chmod +x logs
-export parv
+export parv calls=$work/calls waits=$work/waits
 extracts "a second run" 1 0 "$demo" 'out 1/in' --tails "${words[@]}"
 PARV=$work/logs extracts "a third one" 1 0 "$demo" 'out 1/in' --tails "${words[@]}"
 if grep -q '^set ' calls && ! grep -q '^find ' calls; then
@@ -102,7 +102,7 @@ complete tower.raw
 slices 38/38, copied now 38" "" "$extract" --tails joined.out "$demo/photos.par2" joined
 
 # Images of discs: all files whole, by what stands where it is expected.
-"$tools/make/extract_discs.py" . || exit 1
+"$tools/make/rescue_discs.py" . || exit 1
 image=(disc.par2 disc.img)
 rm calls
 for tails in "" --tails; do
@@ -151,14 +151,14 @@ diff -r --exclude=$record many few || fails "the two that are elsewhere aren't w
 wants "too many lengths are missing" 1 "$(seq -f 'damaged %03g 1/2' 300)
 $(seq -f 'hole 400 %g' 300 | awk '{ printf "%s %03d\n", $0, $3 }' | sort)
 slices 300/600, copied now 300" "" ./sorts "$extract" none many.par2 no_lasts.img
-wants "too many lengths are missing, with --tails" 4 "" "parv: no usable set: too many tails" \
+wants "too many lengths are missing, with --tails" 4 "" "parv-rescue: no usable set: too many tails" \
     "$extract" --tails none many.par2 no_lasts.img
 # Behind the end of a file, where zeros would make the slice whole.
 extracts "the file ends within a slice" 1 1 cut cut_within cut.par2 cut.img
 extracts "the file ends before a slice" 1 1 cut cut_before cut.par2 cut_off.img
 extracts "the same with --tails" 1 0 cut cut_before --tails cut.par2 cut_off.img
 
-# Stopped: parv ends behind 9 lines, or the script is killed while it waits for more.
+# Stopped: parv ends behind 9 lines, or the command is killed while it waits for more.
 cat > ends << 'END'
 #!/bin/bash
 [ "$1" = find ] || exec "$parv" "$@"
@@ -169,13 +169,14 @@ cat > hangs << 'END'
 #!/bin/bash
 [ "$1" = find ] || exec "$parv" "$@"
 "$parv" "$@" | head -n 9
-echo $$ > waits
+echo $$ > "$waits"
 exec sleep 60
 END
 chmod +x ends hangs
-PARV=$work/ends wants "a run on a disc that is stopped" 6 "" "" "$extract" stopped_disc "${image[@]}"
+ended="parv-rescue: what parv find has written is no answer of it: is PARV another program?"
+PARV=$work/ends wants "a run on a disc that is stopped" 6 "" "$ended" "$extract" stopped_disc "${image[@]}"
 extracts "it goes on" 0 $((19 - $(grep -c '^slice' stopped_disc/$record))) disc stopped_disc "${image[@]}"
-PARV=$work/ends wants "a run that is stopped" 6 "" "" "$extract" --tails stopped "${words[@]}"
+PARV=$work/ends wants "a run that is stopped" 6 "" "$ended" "$extract" --tails stopped "${words[@]}"
 rm calls
 PARV=$work/logs extracts "it goes on" 1 24 "$demo" stopped --tails "${words[@]}"
 grep -q '^find .*:0:2[0-9]*:[0-9]* -- ' calls || fails "it doesn't go on behind the zeros: $(cat calls)"
@@ -194,7 +195,7 @@ extracts "and once more" 1 0 "$demo" killed --tails "${words[@]}"
 cat > shifts << 'END'
 #!/bin/bash
 [ "$1" = find ] || exec "$parv" "$@"
-"$parv" "$@" | awk '/^notes/ { $2 += 1 } { print }'
+"$parv" "$@" | awk '/^1 / { $2 += 1 } { print }'
 END
 chmod +x shifts
 cp "$demo/notes.txt" notes
@@ -204,7 +205,7 @@ PARV=$work/shifts wants "a slice that isn't there any more" 1 "missing harbour.r
 missing beach.raw 0/20
 missing notes.txt 0/1
 complete tower.raw
-slices 5/38, copied now 5" "extract_found.py: notes has changed at 1" \
+slices 5/38, copied now 5" "parv-rescue: notes has changed at 1" \
     "$extract" --tails changed "$demo/photos.par2" notes tower
 wants "a later run looks there again" 1 "missing harbour.raw 0/12
 missing beach.raw 0/20
@@ -213,7 +214,7 @@ complete tower.raw
 slices 6/38, copied now 1" "" "$extract" --tails changed "$demo/photos.par2" notes tower
 
 # Slices that are seen at many offsets, whole ones and short ones, an empty file, and one without known sums.
-"$tools/make/extract_sets.py" . || exit 1
+"$tools/make/rescue_sets.py" . || exit 1
 for tails in "" --tails; do
     rm -f calls
     # shellcheck disable=SC2086
@@ -231,17 +232,17 @@ cat > anew << 'END'
 #!/usr/bin/env python3
 import os
 import sys
-sys.path.insert(0, os.environ["examples"])
-import extract_found
-extract_found.WASTE = 0
-sys.exit(extract_found.main())
+sys.path.insert(0, os.environ["commands"])
+from parv_commands import rescue, search
+search.WASTE = 0
+sys.exit(rescue.main())
 END
 chmod +x anew
 script=$extract
 extract=$work/anew
 for tails in "" --tails; do
     # shellcheck disable=SC2086
-    examples=${script%/*} extracts "slices that are seen again, each time anew${tails:+, with $tails}" \
+    commands=$top/commands extracts "slices that are seen again, each time anew${tails:+, with $tails}" \
         1 21 repeated "again$tails anew" $tails repeated.par2 repeated.img
 done
 extract=$script

@@ -1,0 +1,166 @@
+"""The one reading of what parv writes: each line as the manual page of parv has it, and nothing else."""
+
+from __future__ import annotations
+
+import re
+from typing import Dict, FrozenSet, List, NamedTuple, Optional, Tuple
+
+from .faults import FILES, Fault
+from .names import unshown
+
+_ID = "[0-9a-f]{32}"
+_SET = re.compile(f"set ({_ID}) size ([0-9]+) slices ([0-9]+)")
+_FILE = re.compile(f"file ({_ID}) ([0-9]+) ([0-9]+) (yes|no) (.*)")
+_ASIDE = re.compile("aside (.*) ([0-9]+) [0-9]+")
+_COUNTS = re.compile("need ([0-9]+) have ([0-9]+)")
+_FOUND = re.compile("([0-9]+)/([0-9]+)")
+_PACKET = re.compile(f"(.*) ([0-9]+) ([0-9]+) (main|filedesc|ifsc|recvslic|creator|unknown) ({_ID})")
+_SIGHTING = re.compile(f"(.*) ([0-9]+) ({_ID}) ([0-9]+)")
+
+
+class NoAnswer(Fault):
+    """What was run isn't parv, or its answer was cut."""
+
+    def __init__(self, command: str) -> None:
+        super().__init__(FILES, f"what parv {command} has written is no answer of it: is PARV another program?")
+
+
+class SetFile(NamedTuple):
+    """A file of a set, by its line; `known` tells whether the checksums of its slices are known."""
+    id: str
+    length: int
+    slices: int
+    known: bool
+    shown: str
+    name: bytes
+
+
+class SetAnswer(NamedTuple):
+    """A set: its first line, its files, how many recovery slices it has, and the packets that were put aside."""
+    line: str
+    id: str
+    size: int
+    files: List[SetFile]
+    have: int
+    aside: FrozenSet[Tuple[str, int]]
+
+
+class PacketLine(NamedTuple):
+    """Where a packet is: the word of its file, its offset and its length; its kind, and the ID of its set."""
+    word: str
+    offset: int
+    length: int
+    kind: str
+    set: str
+
+
+class State(NamedTuple):
+    """The state of a file of the set, the word of a scanned file that has it whole, and how many slices were found."""
+    state: str
+    word: Optional[str]
+    found: int
+
+
+class Verdict(NamedTuple):
+    """The answer of verify, and `status`, that of parv."""
+    status: int
+    states: List[State]
+    need: int
+    have: int
+
+    @property
+    def counts(self) -> str:
+        return f"need {self.need} have {self.have}"
+
+
+class Sighting(NamedTuple):
+    """Where a slice is: the word of a file and the offset in it; the ID of the slice's file, and its number there."""
+    word: str
+    offset: int
+    id: str
+    number: int
+
+
+def lines_of(text: bytes, command: str) -> List[str]:
+    """The lines of an answer, which ends with a line feed."""
+    try:
+        lines = text.decode("ascii").split("\n")
+    except UnicodeDecodeError as fault:
+        raise NoAnswer(command) from fault
+    if len(lines) < 2 or lines[-1]:
+        raise NoAnswer(command)
+    return lines[:-1]
+
+
+def read_set(text: bytes) -> SetAnswer:
+    lines = lines_of(text, "set")
+    head = _SET.fullmatch(lines[0])
+    files: List[SetFile] = []
+    have: Optional[int] = None
+    aside = set()
+    for line in lines[1:]:
+        word, _, rest = line.partition(" ")
+        file, put = _FILE.fullmatch(line), _ASIDE.fullmatch(line)
+        if file:
+            files.append(SetFile(file[1], int(file[2]), int(file[3]), file[4] == "yes", file[5], unshown(file[5])))
+        elif put:
+            aside.add((put[1], int(put[2])))
+        elif word == "have" and rest.isdigit():
+            have = int(rest)
+        elif word not in ("others", "creator"):
+            raise NoAnswer("set")
+    if head is None or have is None or sum(file.slices for file in files) != int(head[3]):
+        raise NoAnswer("set")
+    return SetAnswer(lines[0], head[1], int(head[2]), files, have, frozenset(aside))
+
+
+def read_packets(text: bytes) -> List[PacketLine]:
+    lines = lines_of(text, "packets")
+    found: List[PacketLine] = []
+    for line in lines[:-1]:
+        packet = _PACKET.fullmatch(line)
+        if packet is None:
+            raise NoAnswer("packets")
+        found.append(PacketLine(packet[1], int(packet[2]), int(packet[3]), packet[4], packet[5]))
+    if lines[-1] != f"packets {len(found)}":
+        raise NoAnswer("packets")
+    return found
+
+
+def read_sighting(line: bytes) -> Sighting:
+    try:
+        sighting = _SIGHTING.fullmatch(line.decode("ascii"))
+    except UnicodeDecodeError as fault:
+        raise NoAnswer("find") from fault
+    if sighting is None:
+        raise NoAnswer("find")
+    return Sighting(sighting[1], int(sighting[2]), sighting[3], int(sighting[4]))
+
+
+def _state_of(line: str, file: SetFile) -> State:
+    state, _, rest = line.partition(" ")
+    if state == "complete" and rest == file.shown:
+        return State(state, file.shown, file.slices)
+    if state == "renamed" and rest.startswith(f"{file.shown} from "):
+        return State(state, rest[len(file.shown) + 6:], file.slices)
+    if state in ("damaged", "missing") and rest.startswith(file.shown + " "):
+        counts = _FOUND.fullmatch(rest[len(file.shown) + 1:])
+        if counts and int(counts[2]) == file.slices:
+            return State(state, None, int(counts[1]))
+    raise NoAnswer("verify")
+
+
+_RESULTS: Dict[int, str] = {0: "result complete", 1: "result possible", 2: "result impossible"}
+
+
+def read_verdict(text: bytes, status: int, found: SetAnswer) -> Verdict:
+    lines = lines_of(text, "verify")
+    if len(lines) < 3 or lines[-1] != _RESULTS.get(status):
+        raise NoAnswer("verify")
+    if lines[0] != found.line or len(lines) != len(found.files) + 3:
+        raise Fault(FILES, "the packet files have changed meanwhile")
+    counts = _COUNTS.fullmatch(lines[-2])
+    if counts is None:
+        raise NoAnswer("verify")
+    states = [_state_of(line, file) for line, file in zip(lines[1:], found.files)]
+    return Verdict(status, states, int(counts[1]), int(counts[2]))

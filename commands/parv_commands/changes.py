@@ -1,0 +1,148 @@
+"""Each call of a command that changes what is on a disk. No other module makes one; a test sees to that.
+
+Names are parts below an opened folder, so no link is followed. Before and after each call the `observer` is told, by
+which tests count the calls, end a run at each of them, and have each of them fail.
+"""
+
+from __future__ import annotations
+
+import contextlib
+import ctypes
+import errno
+import os
+from typing import Callable, Iterator, Optional, Union
+
+Observer = Callable[[str, str], None]
+observer: Optional[Observer] = None
+
+_MOST = 1 << 30         # bytes that one call writes at most
+_NOREPLACE = 1          # the flag RENAME_NOREPLACE
+_libc = ctypes.CDLL(None, use_errno=True)
+Data = Union[bytes, memoryview]
+
+
+@contextlib.contextmanager
+def _change(call: str) -> Iterator[None]:
+    if observer is not None:
+        observer(call, "before")
+    try:
+        yield
+    finally:
+        if observer is not None:
+            observer(call, "after")
+
+
+def make_folder(place: int, name: bytes, mode: int = 0o777) -> None:
+    with _change("mkdir"):
+        os.mkdir(name, mode, dir_fd=place)
+
+
+def remove_folder(place: int, name: bytes) -> None:
+    with _change("rmdir"):
+        os.rmdir(name, dir_fd=place)
+
+
+def make_file(place: int, name: bytes, mode: int = 0o666) -> int:
+    """Makes a file where nothing is; opened."""
+    with _change("create"):
+        return os.open(name, os.O_RDWR | os.O_CREAT | os.O_EXCL | os.O_NOFOLLOW | os.O_CLOEXEC, mode, dir_fd=place)
+
+
+def make_path(path: bytes) -> None:
+    """Makes a folder with those above it, if it isn't there."""
+    with _change("mkdir"):
+        os.makedirs(path, exist_ok=True)
+
+
+def open_file(place: int, name: bytes, makes: bool = False) -> int:
+    """Opens a file to be changed, which may be made; a link isn't followed, and a FIFO doesn't wait."""
+    flags = os.O_RDWR | os.O_NOFOLLOW | os.O_NONBLOCK | os.O_CLOEXEC | (os.O_CREAT if makes else 0)
+    with _change("create" if makes else "open"):
+        return os.open(name, flags, 0o666, dir_fd=place)
+
+
+def make_link(place: int, name: bytes, target: bytes) -> None:
+    with _change("symlink"):
+        os.symlink(target, name, dir_fd=place)
+
+
+def write(opened: int, data: Data) -> None:
+    """Writes all of the data where the file stands."""
+    left = memoryview(data)
+    while left:
+        with _change("write"):
+            count = os.write(opened, left[:_MOST])
+        left = left[count:]
+
+
+def write_at(opened: int, data: Data, at: int) -> None:
+    """Writes all of the data at an offset."""
+    left = memoryview(data)
+    while left:
+        with _change("pwrite"):
+            count = os.pwrite(opened, left[:_MOST], at)
+        left = left[count:]
+        at += count
+
+
+def set_length(opened: int, length: int) -> None:
+    with _change("ftruncate"):
+        os.ftruncate(opened, length)
+
+
+def set_mode(opened: int, mode: int) -> None:
+    with _change("fchmod"):
+        os.fchmod(opened, mode)
+
+
+def set_times(opened: int, accessed: int, changed: int) -> None:
+    """Sets both times of a file, in nanoseconds."""
+    with _change("utimens"):
+        os.utime(opened, ns=(accessed, changed))
+
+
+def sync(opened: int) -> None:
+    with _change("fsync"):
+        os.fsync(opened)
+
+
+def sync_all(place: int) -> None:
+    """Brings all of a file system to the disk."""
+    with _change("syncfs"):
+        status = _libc.syncfs(place)
+        fault = ctypes.get_errno() if status else 0
+    if fault:
+        raise OSError(fault, os.strerror(fault))
+
+
+def sync_folder(place: int) -> None:
+    """Brings the names in a folder to the disk. (An opened way to a folder can't be synced itself.)"""
+    opened = os.open(b".", os.O_RDONLY | os.O_DIRECTORY | os.O_CLOEXEC, dir_fd=place)
+    try:
+        sync(opened)
+    finally:
+        os.close(opened)
+
+
+def remove_file(place: int, name: bytes) -> None:
+    with _change("unlink"):
+        os.unlink(name, dir_fd=place)
+
+
+def move(place: int, name: bytes, new_place: int, new_name: bytes) -> None:
+    """Gives a file another name, at which nothing may be: whole, or not at all."""
+    fault = errno.ENOSYS
+    if hasattr(_libc, "renameat2"):
+        with _change("rename"):
+            fault = ctypes.get_errno() if _libc.renameat2(place, name, new_place, new_name, _NOREPLACE) else 0
+    if fault in (errno.ENOSYS, errno.EINVAL):
+        _move_by_link(place, name, new_place, new_name)
+    elif fault:
+        raise OSError(fault, os.strerror(fault))
+
+
+def _move_by_link(place: int, name: bytes, new_place: int, new_name: bytes) -> None:
+    """The same on a file system that can't do it in one call: the file has both names in between."""
+    with _change("link"):
+        os.link(name, new_name, src_dir_fd=place, dst_dir_fd=new_place, follow_symlinks=False)
+    remove_file(place, name)

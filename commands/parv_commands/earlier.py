@@ -1,0 +1,110 @@
+"""The folder `.verify_and_repair` that the script of version 0.4.0 has left, which parv-repair takes the place of.
+
+Its list of moves is finished as a journal is, and what else is in it is kept."""
+
+from __future__ import annotations
+
+import contextlib
+import os
+import stat
+from decimal import Decimal, InvalidOperation
+from typing import List, Optional
+
+from . import changes
+from .faults import FILES, Fault, Refused, faults_of
+from .folders import Folder, Identity
+from .journal import Made, Move, Moves, Sayer, Step, read_file
+from .names import shown
+
+NAME = b".verify_and_repair"
+KEPT = b"verify_and_repair.kept"
+LIST = b"moves"
+OWN_FILES = (b"moves", b"list", b"done")
+OWN_FOLDERS = (b"files", b"made", b"aside")
+
+
+def is_there(folder: Folder) -> bool:
+    return not folder.is_free(NAME)
+
+
+def _identity(text: bytes) -> Identity:
+    """A file as a list has it: its inode, and mostly when it was made, its length and the time of its last change."""
+    parts = text.decode("ascii", "replace").split(" ")
+    inode = parts[0].split("/")[0]
+    if not inode.isdigit() or len(parts) not in (1, 3):
+        raise Refused("it is no list of moves")
+    if len(parts) == 1:
+        return Identity(int(inode), None, None)
+    try:
+        return Identity(int(inode), int(parts[1]), int(Decimal(parts[2]) * 10 ** 9))
+    except (ValueError, InvalidOperation) as fault:
+        raise Refused("it is no list of moves") from fault
+
+
+def steps_of(data: bytes) -> List[Step]:
+    """The steps of a list of moves: of a file its identity, from where, and to where; of a folder only the last."""
+    fields = data.split(b"\0")[:-1]
+    steps: List[Step] = []
+    for at in range(0, len(fields) - 2, 3):
+        file, origin, target = fields[at:at + 3]
+        steps.append(Move(_identity(file), origin, target) if file else Made(target))
+    return steps
+
+
+def _refused(why: str) -> Fault:
+    return Fault(FILES, f"{shown(NAME)}, which verify_and_repair.sh has left, can't be dealt with: {why}; look at what "
+                        "is in it, and move it out of the folder")
+
+
+def _moves(folder: Folder, inner: Folder, say: Sayer) -> Optional[Moves]:
+    """What the script has noted, if it came so far."""
+    if inner.look(LIST) is None:
+        return None
+    return Moves(folder, NAME, steps_of(read_file(inner, LIST)), say)
+
+
+def recover(folder: Folder, say: Sayer) -> None:
+    """Finishes the moves of the script, and removes its folder; files in it that no move is about are kept."""
+    if not folder.is_folder(NAME):
+        raise _refused("it is a link or no folder")
+    with contextlib.closing(folder.inner(NAME)) as inner:
+        try:
+            moves = _moves(folder, inner, say)
+            said = "a run of verify_and_repair.sh was ended here before it had moved anything"
+            if moves is not None:
+                moves.finish()
+                moves.sync()
+                said = "a run of verify_and_repair.sh was ended here, and is finished"
+            _clear(inner)
+        except (Refused, OSError) as why:
+            raise _refused(str(why)) from why
+        is_empty = not inner.entries()
+    with faults_of("remove", f"{folder.shown}/{shown(NAME)}"):
+        if is_empty:
+            changes.remove_folder(folder.place, NAME)
+        else:
+            kept = folder.free_name(KEPT)
+            changes.move(folder.place, NAME, folder.place, kept)
+            said += f"; what else it has made is kept in {shown(kept)}, and may be removed"
+    say(said)
+
+
+def _clear(inner: Folder) -> None:
+    """Removes the links that par2 was given, the list, and folders that are empty."""
+    for name in OWN_FOLDERS:
+        if inner.is_folder(name):
+            _clear_links(inner, name)
+    for name in OWN_FILES:
+        if inner.is_file(name):
+            changes.remove_file(inner.place, name)
+
+
+def _clear_links(above: Folder, name: bytes) -> None:
+    with contextlib.closing(above.inner(name)) as inner:
+        for entry, now in inner.entries().items():
+            if stat.S_ISLNK(now.st_mode):
+                changes.remove_file(inner.place, entry)
+            elif stat.S_ISDIR(now.st_mode):
+                _clear_links(inner, entry)
+    with contextlib.suppress(OSError):
+        changes.remove_folder(above.place, name)

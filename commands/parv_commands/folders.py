@@ -1,0 +1,146 @@
+"""Opening below a folder's descriptor: no part of a way is a link, and nothing is looked up by a whole path."""
+
+from __future__ import annotations
+
+import contextlib
+import errno
+import os
+import stat
+from typing import Container, Dict, Iterator, List, NamedTuple, Optional
+
+from . import changes
+from .faults import FILES, Fault, faults_of
+from .names import base_of, folders_of, numbered, shown
+
+_WAY = os.O_PATH | os.O_DIRECTORY | os.O_NOFOLLOW | os.O_CLOEXEC
+_ABSENT = (errno.ENOENT, errno.ENOTDIR, errno.ELOOP, errno.ENAMETOOLONG)
+
+
+def _inner(place: int, part: bytes, makes: bool) -> int:
+    """Opens a folder in a folder; if it isn't there, it may be made first."""
+    try:
+        return os.open(part, _WAY, dir_fd=place)
+    except FileNotFoundError:
+        if not makes:
+            raise
+    with contextlib.suppress(FileExistsError):
+        changes.make_folder(place, part)
+    return os.open(part, _WAY, dir_fd=place)
+
+
+class Identity(NamedTuple):
+    """By what a file is known again: its inode, and if they are known its length and the time of its last change."""
+    inode: int
+    length: Optional[int]
+    changed: Optional[int]
+
+    def fits(self, now: Optional[os.stat_result]) -> bool:
+        """Whether this is the file, as it was."""
+        return (now is not None and stat.S_ISREG(now.st_mode) and now.st_ino == self.inode
+                and self.length in (None, now.st_size) and self.changed in (None, now.st_mtime_ns))
+
+
+def identity_of(now: os.stat_result) -> Identity:
+    return Identity(now.st_ino, now.st_size, now.st_mtime_ns)
+
+
+class Folder:
+    """An opened folder; names are paths below it."""
+
+    def __init__(self, place: int, name: str) -> None:
+        self.place, self.shown = place, name
+
+    @classmethod
+    def opened(cls, path: bytes) -> Folder:
+        name = shown(path)
+        try:
+            return cls(os.open(path, os.O_RDONLY | os.O_DIRECTORY | os.O_CLOEXEC), name)
+        except OSError as fault:
+            raise Fault(FILES, f"cannot open {name}: {fault.strerror}") from fault
+
+    @property
+    def device(self) -> int:
+        return os.fstat(self.place).st_dev
+
+    @contextlib.contextmanager
+    def above(self, name: bytes, makes: bool = False) -> Iterator[int]:
+        """The folder that a name is in, while it is used; it is made if that is asked for."""
+        place = os.open(b".", _WAY, dir_fd=self.place)
+        try:
+            for part in name.split(b"/")[:-1]:
+                inner = _inner(place, part, makes)
+                os.close(place)
+                place = inner
+            yield place
+        finally:
+            os.close(place)
+
+    def look(self, name: bytes) -> Optional[os.stat_result]:
+        """What is at a name, if something is; a link is not followed."""
+        try:
+            with self.above(name) as place:
+                return os.stat(base_of(name), dir_fd=place, follow_symlinks=False)
+        except OSError as fault:
+            if fault.errno in _ABSENT:
+                return None
+            raise
+
+    def is_free(self, name: bytes) -> bool:
+        return self.look(name) is None
+
+    def free_name(self, name: bytes, taken: Container[bytes] = ()) -> bytes:
+        """A name beside a name, at which nothing is, and which isn't taken."""
+        number = 1
+        while numbered(name, number) in taken or not self.is_free(numbered(name, number)):
+            number += 1
+        return numbered(name, number)
+
+    def is_file(self, name: bytes) -> bool:
+        now = self.look(name)
+        return now is not None and stat.S_ISREG(now.st_mode)
+
+    def is_folder(self, name: bytes) -> bool:
+        now = self.look(name)
+        return now is not None and stat.S_ISDIR(now.st_mode)
+
+    def obstacle(self, name: bytes) -> Optional[str]:
+        """Why no file may be at a name, if something else is there or on the way to it."""
+        for folder in folders_of(name):
+            now = self.look(folder)
+            if now is None:
+                return None
+            if not stat.S_ISDIR(now.st_mode):
+                return f"{shown(folder)} is {'a link' if stat.S_ISLNK(now.st_mode) else 'no folder'}"
+        now = self.look(name)
+        if now is not None and not stat.S_ISREG(now.st_mode):
+            return f"{shown(name)} is {'a link' if stat.S_ISLNK(now.st_mode) else 'no regular file'}"
+        return None
+
+    def open_to_read(self, name: bytes) -> int:
+        """Opens a file; a link isn't followed, and a FIFO doesn't wait."""
+        with self.above(name) as place:
+            return os.open(base_of(name), os.O_RDONLY | os.O_NOFOLLOW | os.O_NONBLOCK | os.O_CLOEXEC, dir_fd=place)
+
+    def inner(self, name: bytes) -> Folder:
+        """A folder below this one."""
+        with self.above(name) as place:
+            return Folder(os.open(base_of(name), os.O_RDONLY | os.O_DIRECTORY | os.O_NOFOLLOW | os.O_CLOEXEC,
+                                  dir_fd=place), f"{self.shown}/{shown(name)}")
+
+    def close(self) -> None:
+        os.close(self.place)
+
+    def entries(self) -> Dict[bytes, os.stat_result]:
+        """What is in the folder, by names, in their order."""
+        found: Dict[bytes, os.stat_result] = {}
+        with faults_of("read", self.shown):
+            names: List[bytes] = sorted(map(os.fsencode, os.listdir(self.place)))
+            for name in names:
+                with contextlib.suppress(FileNotFoundError):
+                    found[name] = os.stat(name, dir_fd=self.place, follow_symlinks=False)
+        return found
+
+    def move(self, name: bytes, new_name: bytes, makes: bool = False) -> None:
+        """Gives a file below the folder another name there, at which nothing may be."""
+        with self.above(name) as place, self.above(new_name, makes) as new_place:
+            changes.move(place, base_of(name), new_place, base_of(new_name))

@@ -1,0 +1,266 @@
+"""The journal of moves: what a repair is about to do with names, written whole to the disk before the first move.
+
+A later run reads it, after whatever has ended the run before, and finishes the moves or takes them back. It knows each
+file by inode, length and time. What it doesn't know it neither moves nor removes: nothing here removes a file, but for
+one of two names of the same file.
+"""
+
+from __future__ import annotations
+
+import contextlib
+import os
+import stat
+from typing import Callable, Iterator, List, NamedTuple, Optional, Sequence, Union
+
+from . import changes
+from .faults import FILES, Fault, Refused
+from .folders import Folder, Identity
+from .names import base_of, shown
+
+HEAD = b"parv-repair journal 1"
+END = b"end"
+MOST = 1 << 28          # bytes that a journal may have
+_FIELDS = 5
+
+
+class Move(NamedTuple):
+    """A file gets another name. One that is kept may have any free name like the one that is noted."""
+    file: Identity
+    origin: bytes
+    target: bytes
+    is_kept: bool = False
+
+
+class Made(NamedTuple):
+    """A folder is made."""
+    path: bytes
+
+
+Step = Union[Move, Made]
+Sayer = Callable[[str], None]
+
+
+def encoded(steps: Sequence[Step]) -> bytes:
+    fields: List[bytes] = [HEAD]
+    for step in steps:
+        if isinstance(step, Made):
+            fields += [b"folder", b"", step.path, b"", b""]
+        else:
+            length, changed = step.file.length, step.file.changed
+            fields += [b"keep" if step.is_kept else b"move",
+                       b"%d %d %d" % (step.file.inode, length or 0, changed or 0), step.origin, step.target, b""]
+    return b"".join(field + b"\0" for field in [*fields, END])
+
+
+def decoded(data: bytes) -> List[Step]:
+    """The steps of a journal; it was written whole, or is none."""
+    fields = data.split(b"\0")
+    if fields[0] != HEAD or fields[-2:] != [END, b""] or (len(fields) - 3) % _FIELDS:
+        raise Refused("it is no journal of this version")
+    steps: List[Step] = []
+    for at in range(1, len(fields) - 2, _FIELDS):
+        kind, about, origin, target, _ = fields[at:at + _FIELDS]
+        if kind == b"folder":
+            steps.append(Made(origin))
+            continue
+        numbers = about.split(b" ")
+        if kind not in (b"move", b"keep") or len(numbers) != 3 or not all(map(bytes.isdigit, numbers)):
+            raise Refused("it is no journal of this version")
+        steps.append(Move(Identity(*map(int, numbers)), origin, target, kind == b"keep"))
+    return steps
+
+
+def read_file(folder: Folder, name: bytes) -> bytes:
+    """The bytes of a file that a run has left; anything but a regular file is refused."""
+    opened = folder.open_to_read(name)
+    try:
+        now = os.fstat(opened)
+        if not stat.S_ISREG(now.st_mode):
+            raise Refused("it is no regular file")
+        if now.st_size > MOST:
+            raise Refused("it is too long")
+        data = bytearray()
+        while piece := os.read(opened, 1 << 20):
+            data += piece
+        return bytes(data)
+    finally:
+        os.close(opened)
+
+
+def is_plain(name: bytes) -> bool:
+    """Whether a name of a journal stays below the folder."""
+    return not {b"", b".", b".."} & set(name.split(b"/"))
+
+
+class Moves:
+    """The steps of a journal, and the folder in which they are made; `stage` has the files of the command itself."""
+
+    def __init__(self, folder: Folder, stage: bytes, steps: Sequence[Step], say: Sayer) -> None:
+        self.folder, self.stage, self.steps, self.say = folder, stage + b"/", list(steps), say
+        self.by_origin = {step.origin: step for step in self.moves()}
+        self.ends = {end for step in self.moves() for end in (step.origin, step.target)}
+
+    def is_staged(self, name: bytes) -> bool:
+        """Whether a name is in the stage, where nobody else puts files."""
+        return name.startswith(self.stage)
+
+    def moves(self) -> Iterator[Move]:
+        return (step for step in self.steps if isinstance(step, Move))
+
+    def has(self, move: Move, name: bytes) -> bool:
+        """Whether the file of a move is at a name: as it was, or whatever it is in the stage, where it is also in a
+        copy of the folder."""
+        now = self.folder.look(name)
+        if self.is_staged(name):
+            return now is not None and stat.S_ISREG(now.st_mode)
+        return move.file.fits(now)
+
+    def is_one(self, name: bytes, other: bytes) -> bool:
+        """Whether two names are those of one file, of which a move by two calls has left the first."""
+        now, then = self.folder.look(name), self.folder.look(other)
+        return now is not None and then is not None and os.path.samestat(now, then)
+
+    def carry(self, name: bytes, new_name: bytes) -> None:
+        """Moves a file to a name at which nothing is."""
+        if not is_plain(name) or not is_plain(new_name):
+            raise Refused(f"{shown(name)} isn't moved to {shown(new_name)}: one of them leads out of the folder")
+        before = self.folder.look(name)
+        try:
+            self.folder.move(name, new_name, True)
+        except OSError as fault:
+            raise Refused(f"cannot move {shown(name)} to {shown(new_name)}: {fault.strerror}") from fault
+        now = self.folder.look(new_name)
+        if before is not None and now is not None and not os.path.samestat(before, now):
+            with contextlib.suppress(OSError):      # somebody has put another file there in between
+                self.folder.move(new_name, name)
+            raise Refused(f"{shown(name)} has changed meanwhile")
+
+    def free_name(self, name: bytes) -> bytes:
+        """A name beside a name, at which nothing is and to which no step moves a file."""
+        return self.folder.free_name(name, self.ends)
+
+    def sync(self) -> None:
+        """Brings the names that files have now to the disk, before the journal goes."""
+        for path in sorted({end.rpartition(b"/")[0] for end in self.ends if is_plain(end)}):
+            with contextlib.suppress(FileNotFoundError, NotADirectoryError):
+                with self.folder.above(path + b"/" if path else b"") as place:
+                    changes.sync_folder(place)
+
+    # Forwards.
+
+    def make(self) -> None:
+        """Makes all steps, in a run that has just noted them; each must be made as it was noted."""
+        for step in self.steps:
+            if isinstance(step, Made):
+                try:
+                    with self.folder.above(step.path) as place:
+                        changes.make_folder(place, base_of(step.path))
+                except OSError as fault:
+                    raise Refused(f"cannot make the folder {shown(step.path)}: {fault.strerror}") from fault
+            elif not self.has(step, step.origin):
+                raise Refused(f"{shown(step.origin)} has changed meanwhile")
+            else:
+                self.carry(step.origin, step.target)
+
+    def finish(self) -> None:
+        """Makes the steps that an earlier run hasn't made, as far as nobody has changed what they are about."""
+        for step in self.steps:
+            if isinstance(step, Made):
+                if is_plain(step.path) and self.folder.is_free(step.path):
+                    self._make_again(step.path)
+            elif self.is_one(step.origin, step.target):
+                self._remove_name(step.origin)
+            elif self.has(step, step.origin) and not self._is_done(step):
+                target = step.target
+                if not self.folder.is_free(target):
+                    if not step.is_kept:
+                        continue
+                    target = self.free_name(target)
+                self.carry(step.origin, target)
+        self.bring_out()
+
+    def _is_done(self, step: Move) -> bool:
+        """Whether a move was made: its file is at the target. (A file in the stage is taken for that of a move only by
+        its place, so for it the target decides.)"""
+        return step.file.fits(self.folder.look(step.target))
+
+    def _make_again(self, path: bytes) -> None:
+        try:
+            with self.folder.above(path, True) as place:
+                changes.make_folder(place, base_of(path))
+        except OSError as fault:
+            raise Refused(f"cannot make the folder {shown(path)}: {fault.strerror}") from fault
+
+    def _remove_name(self, name: bytes) -> None:
+        with self.folder.above(name) as place:
+            changes.remove_file(place, base_of(name))
+
+    # Backwards.
+
+    def undo(self) -> None:
+        """Takes the steps back, the last one first."""
+        failed: List[str] = []
+        for step in reversed(self.steps):
+            if isinstance(step, Made):
+                self._remove_folder(step.path)
+                continue
+            try:
+                self._undo_move(step)
+            except Refused as why:
+                failed.append(str(why))
+        try:
+            self.bring_out()
+        except Refused as why:
+            failed.append(str(why))
+        if failed:
+            raise Fault(FILES, failed[0])
+
+    def _undo_move(self, step: Move) -> None:
+        if self.is_one(step.origin, step.target):
+            self._remove_name(step.target)
+            return
+        if not self.has(step, step.target):
+            now = self.folder.look(step.target)
+            if now is not None and now.st_ino == step.file.inode:
+                self.say(f"{shown(step.target)} has changed since, and stays")
+            return
+        if self.is_staged(step.origin) and not self._can_return(step.target):
+            return
+        if self.folder.is_free(step.origin):
+            self.carry(step.target, step.origin)
+        elif not self.is_staged(step.target):
+            self.say(f"{shown(step.target)} stays: there is another file at {shown(step.origin)}")
+
+    def _can_return(self, name: bytes) -> bool:
+        """Whether what was at a name before can be there again, or nothing was: one move or two have taken it away."""
+        left = self.by_origin.get(name)
+        if left is None or self.has(left, left.target):
+            return True
+        further = self.by_origin.get(left.target)
+        return further is not None and self.has(further, further.target)
+
+    def _remove_folder(self, path: bytes) -> None:
+        if is_plain(path):
+            with contextlib.suppress(OSError), self.folder.above(path) as place:
+                changes.remove_folder(place, base_of(path))
+
+    # What is left in the stage.
+
+    def bring_out(self) -> None:
+        """Moves each file of the folder out of the stage: to the name that it is to have, to that which it had, or to a
+        free one beside that."""
+        for into in self.moves():
+            if not self.is_staged(into.target) or not self.folder.is_file(into.target):
+                continue
+            further = self.by_origin.get(into.target)
+            names = [*([further.target] if further else []), into.origin]
+            free: Optional[bytes] = next((name for name in names if self.folder.is_free(name)), None)
+            if free is None:
+                free = self.free_name(into.origin)
+                self.say(f"{shown(into.origin)} is kept as {shown(free)}")
+            self.carry(into.target, free)
+
+    def are_made(self) -> bool:
+        """Whether nothing is left to be made: no file waits at the beginning of its move."""
+        return not any(self.has(step, step.origin) and not self._is_done(step) for step in self.moves())
+

@@ -1,0 +1,72 @@
+"""Names of files: how they are shown, and which ones a set may not have."""
+
+from __future__ import annotations
+
+import bisect
+import re
+from typing import Dict, Iterable, List, Optional, Sequence
+
+LONGEST_PART = 255
+
+
+def shown(name: bytes) -> str:
+    """A name as parv shows it: printable ASCII, a backslash twice, and each other byte as \\x and two digits."""
+    return re.sub(rb"[^ -\[\]-~]", lambda odd: b"\\\\" if odd[0] == b"\\" else b"\\x%02x" % odd[0][0],
+                  name).decode("ascii")
+
+
+def unshown(text: str) -> bytes:
+    """The name that parv shows so."""
+    return re.sub(rb"\\(?:\\|x([0-9a-f]{2}))", lambda odd: bytes.fromhex(odd[1].decode()) if odd[1] else b"\\",
+                  text.encode("ascii"))
+
+
+def is_packet_file(name: bytes) -> bool:
+    """Whether parv takes a file of this name for a packet file."""
+    return name[-5:].lower() == b".par2"
+
+
+def base_of(name: bytes) -> bytes:
+    return name.rsplit(b"/", 1)[-1]
+
+
+def folders_of(name: bytes) -> List[bytes]:
+    """The folders on the way to a name, the outermost first."""
+    return [name[:at] for at, byte in enumerate(name) if byte == 0x2f]
+
+
+def refusal(name: bytes, reserved: Iterable[bytes]) -> Optional[str]:
+    """Why a name of a set is refused, if it is; the reserved names are those of the command's own entries."""
+    parts = name.split(b"/")
+    if parts[0] == b"":
+        return "its name is absolute"
+    if b".." in re.split(rb"[/\\]", name) or name[:1] == b"\\":
+        return "its name leads out of the folder"
+    if b"" in parts or b"." in parts or b"\0" in name:
+        return "its name isn't that of a file"
+    if parts[0] in reserved:
+        return "its name is kept for the command itself"
+    return "a part of its name is too long" if max(map(len, parts)) > LONGEST_PART else None
+
+
+def refusals(names: Sequence[bytes], reserved: Iterable[bytes]) -> Dict[int, str]:
+    """Why names of a set are refused, by their numbers; a name may not be that of another file's folder."""
+    kept = list(reserved)
+    why: Dict[int, str] = {}
+    for number, name in enumerate(names):
+        reason = refusal(name, kept)
+        if reason is not None:
+            why[number] = reason
+    fine = sorted(name for number, name in enumerate(names) if number not in why)
+    for number, name in enumerate(names):
+        at = bisect.bisect(fine, name + b"/")
+        if number not in why and at < len(fine) and fine[at].startswith(name + b"/"):
+            why[number] = "its name is that of another file's folder"
+    return why
+
+
+def numbered(name: bytes, number: int) -> bytes:
+    """NAME.number beside a name, cut where the last part would be too long."""
+    end = b".%d" % number
+    folder, slash, base = name.rpartition(b"/")
+    return folder + slash + base[:LONGEST_PART - len(end)] + end

@@ -1,0 +1,98 @@
+"""Running par2 in the stage: it gets one packet file that is written for it, and links to the files, all with names of
+their own, so it reads no packet that parv hasn't chosen, and no name of the set."""
+
+from __future__ import annotations
+
+import contextlib
+import os
+from typing import Dict, List, NamedTuple, Optional, Sequence
+
+from . import changes, progress
+from .faults import NO_REPAIR, Fault, faults_of
+from .folders import Folder
+from .names import shown
+from .packets import PacketFiles, RecoverySet, write_for_par2
+from .answers import PacketLine
+from .programs import answer_of, find_program
+from .signals import wait_point
+
+PACKETS = b"set.par2"
+UP = b"../../"          # from where par2 works to the folder
+
+
+def name_for(number: int) -> bytes:
+    """The name by which par2 knows the file of the set with this number. (One of a single letter ends par2 0.8.1.)"""
+    return b"file%d" % number
+
+
+class Tried(NamedTuple):
+    """How par2 has ended: whether it is worth while to try it with other files, and what to say if all isn't there."""
+    may_try_again: bool
+    text: str
+
+
+class Bench:
+    """Where par2 works: a folder of the stage."""
+
+    def __init__(self, place: Folder, found: RecoverySet) -> None:
+        self.place, self.found = place, found
+
+    def write_packets(self, files: PacketFiles, recovery: Sequence[PacketLine]) -> None:
+        most = sum(line.length for line in recovery)
+        with progress.doing("recovery slices are copied", most), faults_of("write", f"{self.place.shown}/set.par2"):
+            opened = changes.make_file(self.place.place, PACKETS)
+            try:
+                write_for_par2(opened, self.found, [name_for(number) for number in range(len(self.found.files))], files,
+                               recovery, _passed)
+            finally:
+                os.close(opened)
+
+    def link(self, name: bytes, path: bytes) -> None:
+        """Has par2 see a file of the folder under a name."""
+        with faults_of("make a link in", self.place.shown):
+            changes.make_link(self.place.place, name, UP + path)
+
+    def clear(self) -> None:
+        """Removes all but the packet file."""
+        with faults_of("remove what is in", self.place.shown):
+            for name in self.place.entries():
+                if name != PACKETS:
+                    changes.remove_file(self.place.place, name)
+
+    def repair(self, extra: Sequence[bytes]) -> Tried:
+        """Has par2 repair what is linked, with files under these further names."""
+        program = find_program("PAR2", "par2")
+        if program is None:
+            name = shown(os.fsencode(os.environ.get("PAR2") or "par2"))
+            raise Fault(NO_REPAIR, f"cannot run {name}: put par2 in PATH, or name it by PAR2")
+        with progress.doing("par2 repair"):
+            ended = answer_of(program, [b"repair", b"-q", PACKETS, *extra], self.place.place)
+        lines = [line for line in (ended.out + b"\n" + ended.said).replace(b"\r", b"\n").split(b"\n") if line.strip()]
+        last = shown(lines[-1].strip()) if lines else ""
+        if ended.status < 0:
+            return Tried(False, f"par2 repair was ended by signal {-ended.status}")
+        if ended.status == 0:
+            return Tried(True, "par2 repair has ended")
+        return Tried(ended.status not in (126, 127), f"par2 repair has failed with status {ended.status}: {last}")
+
+    def source_of(self, name: bytes) -> Optional[bytes]:
+        """The path in the folder to which a name leads that par2 has kept as a link."""
+        with contextlib.suppress(OSError):
+            target = os.readlink(name, dir_fd=self.place.place)
+            if target.startswith(UP):
+                return target[len(UP):]
+        return None
+
+    def entries(self) -> Dict[bytes, os.stat_result]:
+        return self.place.entries()
+
+
+def _passed(done: int) -> None:
+    """Tells how far a copy is; a signal may end it here."""
+    wait_point()
+    progress.show(done)
+
+
+def files_of(names: Sequence[bytes]) -> List[bytes]:
+    """The words for files under numbers."""
+    return [b"other%d" % number for number in range(len(names))]

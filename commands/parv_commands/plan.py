@@ -1,0 +1,149 @@
+"""The plan of a repair: which file gets which name, what is copied, made and kept, and the moves that this comes to."""
+
+from __future__ import annotations
+
+import os
+from typing import Callable, Dict, List, NamedTuple, Optional, Sequence, Set, Tuple
+
+from . import progress
+from .faults import Refused
+from .folders import Folder, Identity
+from .journal import Made, Move, Step
+from .names import folders_of, shown
+from .packets import Member
+from .signals import wait_point
+from .stage import ASIDE, MADE, path_of
+
+PIECE = 1 << 20
+
+
+class Copy(NamedTuple):
+    """A file that is copied, for the file of the set that has this number."""
+    number: int
+    source: bytes
+    target: bytes
+
+
+class Backup(NamedTuple):
+    """A file that makes way for that of the set with this number, and where it is kept."""
+    number: int
+    kept: bytes
+    file: Identity
+
+
+def is_same(folder: Folder, name: bytes, other: bytes) -> bool:
+    """Whether two files have the same bytes."""
+    opened = [folder.open_to_read(name)]
+    try:
+        opened.append(folder.open_to_read(other))
+        if os.fstat(opened[0]).st_size != os.fstat(opened[1]).st_size:
+            return False
+        at = 0
+        while True:
+            wait_point()
+            pieces = [os.pread(each, PIECE, at) for each in opened]
+            if pieces[0] != pieces[1]:
+                return False
+            if not pieces[0]:
+                return True
+            at += len(pieces[0])
+            progress.show(at)
+    finally:
+        for each in opened:
+            os.close(each)
+
+
+class Plan:
+    """What is to be done for the files of a set.
+
+    `sources` has for each of them the path of a file with its content, which is its own name if it is complete, and one
+    in the stage if it is to be made. `names_kept` are those that the files there keep, as names of other sets.
+    """
+
+    def __init__(self, folder: Folder, files: Sequence[Member], there: Dict[bytes, Identity], sources: Sequence[bytes],
+                 repairs: Set[int], names_kept: Set[bytes]) -> None:
+        self.folder, self.files, self.there = folder, files, there
+        self.sources, self.repairs = list(sources), repairs
+        self.told: List[str] = []
+        self.copies: List[Copy] = []
+        self.backups: List[Backup] = []
+        self._stays = names_kept | {file.name for file, source in zip(files, sources) if file.name == source}
+        self._used: Set[bytes] = set()
+        self._leaves: Set[bytes] = set()
+        self._taken: Set[bytes] = set()
+        self._asides: Dict[bytes, bytes] = {}
+        self._names = {file.name for file in files}
+        self._moves: List[Tuple[Optional[bytes], bytes, bytes, bool]] = []      # of what, from where, to where, kept
+        origins = {number: origin for number in range(len(files)) for origin in [self._decide(number)]
+                   if origin is not None}
+        for number in origins:
+            self._make_way(number)
+        for number, origin in origins.items():
+            self._move_in(number, origin)
+
+    def _is_spare(self, name: bytes) -> bool:
+        """Whether a file may be renamed: it has no name of its own, and isn't to get one."""
+        return name not in self._stays and name not in self._used
+
+    def _spare_like(self, source: bytes) -> Optional[bytes]:
+        """Another file with the same bytes that may be renamed."""
+        length = self.there[source].length
+        return next((name for name, now in self.there.items() if now.length == length and self._is_spare(name)
+                     and is_same(self.folder, source, name)), None)
+
+    def _decide(self, number: int) -> Optional[bytes]:
+        """What gets the name of a file, if it doesn't have it: something that is there or that is to be made."""
+        file, source = self.files[number], self.sources[number]
+        if source == file.name:
+            return None
+        if source not in self.there:
+            self.told.append(f"{'repair' if number in self.repairs else 'make'} {file.shown}")
+            return source
+        if not self._is_spare(source):
+            source = self._spare_like(source) or source
+        is_spare = self._is_spare(source)
+        word = "repair" if number in self.repairs else "rename" if is_spare else "copy"
+        self.told.append(f"{word} {file.shown}" if word == "repair" else f"{word} {shown(source)} to {file.shown}")
+        self._used.add(source)
+        if is_spare:
+            self._leaves.add(source)
+            return source
+        self.copies.append(Copy(number, source, path_of(MADE, b"copy%d" % number)))
+        return self.copies[-1].target
+
+    def _make_way(self, number: int) -> None:
+        """Moves what has the name of a file: by way of the stage if it is to be renamed, else to a free name."""
+        name = self.files[number].name
+        if self.folder.is_free(name):
+            return
+        if name in self._leaves:
+            self._asides[name] = path_of(ASIDE, b"%d" % number)
+            self._moves.append((name, name, self._asides[name], False))
+            return
+        if name not in self.there:
+            raise Refused(f"{shown(name)} has come meanwhile")
+        kept = self.folder.free_name(name, self._taken | self._names)
+        self._taken.add(kept)
+        self._moves.append((name, name, kept, True))
+        self.backups.append(Backup(number, kept, self.there[name]))
+        self.told.append(f"keep {shown(name)} as {shown(kept)}")
+
+    def _move_in(self, number: int, origin: bytes) -> None:
+        """The folders of a name that are to be made, and the move to the name."""
+        name = self.files[number].name
+        for path in folders_of(name):
+            if path not in self._taken and self.folder.is_free(path):
+                self._taken.add(path)
+                self._moves.append((None, path, path, False))
+        self._moves.append((origin, self._asides.get(origin, origin), name, False))
+        self._taken.add(name)
+
+    def steps(self, identity: Callable[[bytes], Identity]) -> List[Step]:
+        """The steps for the journal, once all that is made is there; each file is known by its identity."""
+        return [Made(path) if name is None else Move(self.there.get(name) or identity(name), origin, path, kept)
+                for name, origin, path, kept in self._moves]
+
+    def made(self) -> List[bytes]:
+        """The paths of what is in the stage and gets a name."""
+        return [origin for name, origin, _, _ in self._moves if name is not None and name not in self.there]
+

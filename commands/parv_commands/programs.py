@@ -1,0 +1,153 @@
+"""Running other programs: which file is run, with which environment, and that it ends with the command."""
+
+from __future__ import annotations
+
+import contextlib
+import ctypes
+import os
+import resource
+import selectors
+import signal
+import subprocess
+from typing import Callable, Dict, IO, Iterator, List, NamedTuple, Optional, Sequence, Tuple
+
+from . import progress
+from .faults import FILES, Fault
+from .names import shown
+from .signals import interruptible
+
+USUAL = "/usr/local/bin:/usr/bin:/bin"      # the PATH if there is none
+PIECE = 1 << 16
+MOST_OUTPUT = 1 << 28       # bytes that an answer may have which is held as a whole
+MOST_SAID = 1 << 16         # bytes of standard error that are kept
+_PR_SET_PDEATHSIG = 1
+_libc = ctypes.CDLL(None)
+
+
+class Program(NamedTuple):
+    """A program by its whole path, and its name in messages."""
+    path: str
+    shown: str
+
+
+def absolute_parts(path: str) -> List[str]:
+    """The parts of a PATH that don't depend on the folder where a program is called."""
+    return [part for part in path.split(os.pathsep) if part.startswith("/")]
+
+
+def search_path() -> str:
+    """The PATH that programs get which are run, in whatever folder that is."""
+    return os.pathsep.join(absolute_parts(os.environ.get("PATH", ""))) or USUAL
+
+
+def find_program(variable: str, usual: str) -> Optional[Program]:
+    """The program that a variable of the environment names, or else of the usual name, if there is one. What is relative
+    is looked up here and now, in the folder from which the command is called."""
+    name, here = os.environ.get(variable) or usual, os.getcwd()
+    parts = [""] if "/" in name else (os.environ.get("PATH") or USUAL).split(os.pathsep)
+    for place in (os.path.join(here, part, name) for part in parts):
+        if os.path.isfile(place) and os.access(place, os.X_OK):
+            return Program(place, shown(os.fsencode(name)))
+    return None
+
+
+def needed_program(variable: str, usual: str) -> Program:
+    found = find_program(variable, usual)
+    if found is None:
+        name = shown(os.fsencode(os.environ.get(variable) or usual))
+        raise Fault(FILES, f"cannot run {name}: put {usual} in PATH, or name it by {variable}")
+    return found
+
+
+def raise_file_limit() -> int:
+    """Lets as many files be open at once as this process may have; returns how many."""
+    soft, hard = resource.getrlimit(resource.RLIMIT_NOFILE)
+    with contextlib.suppress(OSError, ValueError):
+        resource.setrlimit(resource.RLIMIT_NOFILE, (hard, hard))
+    soft, _ = resource.getrlimit(resource.RLIMIT_NOFILE)
+    return 1 << 20 if soft == resource.RLIM_INFINITY else soft
+
+
+def _environment() -> Dict[str, str]:
+    return {**os.environ, "PATH": search_path(), "LC_ALL": "C"}
+
+
+def _child(place: Optional[int]) -> Callable[[], None]:
+    """What a child does before it becomes the program: it ends if the command is killed, and goes to its folder."""
+    def before() -> None:
+        _libc.prctl(_PR_SET_PDEATHSIG, signal.SIGKILL)
+        if place is not None:
+            os.fchdir(place)
+    return before
+
+
+@contextlib.contextmanager
+def running(program: Program, words: Sequence[bytes], place: Optional[int] = None,
+            kept: Tuple[int, ...] = ()) -> Iterator[subprocess.Popen[bytes]]:
+    """A program that runs in an opened folder, and doesn't afterwards."""
+    try:
+        process = subprocess.Popen([os.fsencode(program.path), *words], stdin=subprocess.DEVNULL,
+                                   stdout=subprocess.PIPE, stderr=subprocess.PIPE, env=_environment(),
+                                   preexec_fn=_child(place), pass_fds=kept)
+    except (OSError, subprocess.SubprocessError) as fault:
+        why = fault.strerror if isinstance(fault, OSError) else str(fault)
+        raise Fault(FILES, f"cannot run {program.shown}: {why}") from fault
+    try:
+        yield process
+    finally:
+        if process.poll() is None:
+            process.kill()
+        for pipe in process.stdout, process.stderr:
+            if pipe is not None:
+                pipe.close()
+        process.wait()
+
+
+def pieces_of(process: subprocess.Popen[bytes], said: bytearray) -> Iterator[bytes]:
+    """What a program writes on standard output, in pieces; what it says on standard error comes into `said`."""
+    out, err = process.stdout, process.stderr
+    assert out is not None and err is not None
+    with selectors.DefaultSelector() as waiting:
+        for pipe in out, err:
+            os.set_blocking(pipe.fileno(), False)
+            waiting.register(pipe, selectors.EVENT_READ)
+        while waiting.get_map():
+            ready: List[IO[bytes]] = []
+            with interruptible():
+                ready = [key.fileobj for key, _ in waiting.select(progress.EACH)]    # type: ignore[misc]
+            progress.show(progress.read_by(process.pid))
+            for pipe in ready:
+                piece = os.read(pipe.fileno(), PIECE)
+                if not piece:
+                    waiting.unregister(pipe)
+                elif pipe is out:
+                    yield piece
+                elif len(said) < MOST_SAID:
+                    said += piece
+
+
+class Answer(NamedTuple):
+    """How a program has ended, and what it has written."""
+    status: int
+    out: bytes
+    said: bytes
+
+
+def status_of(process: subprocess.Popen[bytes]) -> int:
+    """Waits for the end of a program that writes nothing any more; a signal is a status below 0."""
+    while True:
+        with contextlib.suppress(subprocess.TimeoutExpired), interruptible():
+            return process.wait(progress.EACH)
+        progress.show(progress.read_by(process.pid))
+
+
+def answer_of(program: Program, words: Sequence[bytes], place: Optional[int] = None, kept: Tuple[int, ...] = (),
+              most: int = MOST_OUTPUT) -> Answer:
+    """Runs a program to its end."""
+    out, said = bytearray(), bytearray()
+    with running(program, words, place, kept) as process:
+        for piece in pieces_of(process, said):
+            out += piece
+            if len(out) > most:
+                raise Fault(FILES, f"{program.shown} writes more than an answer has")
+        return Answer(status_of(process), bytes(out), bytes(said))

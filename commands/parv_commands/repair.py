@@ -1,0 +1,323 @@
+"""parv-repair: makes the files of a set complete, and loses nothing."""
+
+from __future__ import annotations
+
+import contextlib
+import fcntl
+import functools
+import os
+import stat
+from typing import Callable, Iterator, List, NamedTuple, Optional, Sequence, Set, Tuple
+
+from . import changes, earlier, names, output, packets, progress, programs, signals, stage, words
+from .answers import Verdict
+from .faults import FILES, IMPOSSIBLE, NO_REPAIR, NO_SET, POSSIBLE, Fault, Refused, faults_of
+from .folders import Folder, Identity, identity_of
+from .journal import Moves
+from .making import Making
+from .names import shown
+from .par2 import name_for
+from .parv import Links, temporary_folder
+from .plan import Backup, Plan
+from .programs import Program
+from .scene import Found, Looked, Scene
+from .stage import FILES_OF_PAR2, MADE, Stage, path_of
+
+PIECE = 1 << 20
+
+USAGE_TEXT = """usage: parv-repair [--dry-run] [--remove-backups] [--set ID] FOLDER
+
+Makes the files of a PAR2 set complete. No bytes that were in the folder are
+lost, and none that you put there in between. If a run is ended in the middle,
+the next one completes its moves or undoes them. The exit status is true.
+
+  --dry-run           tells what would be done, and writes nothing
+  --remove-backups    removes the damaged files that this run has kept
+  --set ID            says which set, if FOLDER has several
+  -h, --help          prints this
+
+It verifies the folder, gives renamed files their names back, has par2 repair
+make those that are damaged or missing, and verifies again. Its last word is
+`complete` then. A damaged file stays as NAME.1.
+
+The exit status:
+  0  each file is complete
+  1  a repair can be tried, by --dry-run
+  2  not enough is left for one
+  3  wrong words, no packet file, or several sets
+  4  no set, or one that is refused
+  5  par2 has failed
+  6  a file can't be read, made or moved, or parv can't be run
+  8  no memory
+PARV and PAR2 name the programs, if they aren't in PATH. man parv-repair has more.
+"""
+
+
+class Asked(NamedTuple):
+    """What the command line asks for."""
+    folder: bytes
+    dry: bool
+    purge: bool
+    chosen: Optional[str]
+
+
+class Repair:
+    """A run over a folder."""
+
+    def __init__(self, scene: Scene, dry: bool, purge: bool) -> None:
+        self.scene, self.folder, self.say = scene, scene.folder, scene.say
+        self.dry, self.purge = dry, purge
+
+    def run(self, chosen: Optional[str]) -> Tuple[int, List[str]]:
+        """The exit status, and the lines that tell what was done."""
+        found = self.scene.find_set(chosen)
+        with contextlib.closing(found.files):
+            self.scene.gather(found)
+            scanned = self.scene.to_scan(found)
+            looked = self.scene.look(found, scanned)
+            if looked.verdict.status == IMPOSSIBLE:
+                looked = self._look_again(found, scanned, looked.verdict)
+            sources = self.scene.settled(found, looked.sources)
+            if self.scene.is_complete(found, sources):
+                return 0, ["complete"]
+            self.scene.refuse_names(found)
+            others = packets.names_of_others(found.answer, found.files, found.lines)
+            repairs = {number for number, source in enumerate(sources)
+                       if source is None and found.set.files[number].length > 0}
+            if self.dry:
+                return self._told(found, sources, repairs, others, looked.verdict)
+            return 0, self._repair(found, sources, repairs, others, scanned)
+
+    def _look_again(self, found: Found, scanned: Sequence[bytes], before: Verdict) -> Looked:
+        """With --tails, which may find what is missing."""
+        try:
+            looked = self.scene.look(found, scanned, True)
+        except Fault as fault:
+            if fault.status != NO_SET:
+                raise
+            raise Fault(IMPOSSIBLE, f"not enough for a repair: {before.counts}; {fault}") from fault
+        if looked.verdict.status == IMPOSSIBLE:
+            raise Fault(IMPOSSIBLE, f"not enough for a repair: {looked.verdict.counts}")
+        return looked
+
+    def _origins(self, found: Found, sources: Sequence[Optional[bytes]]) -> List[bytes]:
+        """Where the content of each file is or will be: an empty file is made, whatever else is empty."""
+        origins: List[bytes] = []
+        for number, (file, source) in enumerate(zip(found.set.files, sources)):
+            if file.length == 0 and source != file.name:
+                origins.append(path_of(MADE, b"empty%d" % number))
+            else:
+                origins.append(source or path_of(FILES_OF_PAR2, name_for(number)))
+        return origins
+
+    def _plan(self, found: Found, origins: Sequence[bytes], repairs: Set[int], others: Set[bytes]) -> Plan:
+        with progress.doing("equal files are compared"):
+            return Plan(self.folder, found.set.files, self.scene.there, origins, repairs, others)
+
+    def _told(self, found: Found, sources: Sequence[Optional[bytes]], repairs: Set[int], others: Set[bytes],
+              verdict: Verdict) -> Tuple[int, List[str]]:
+        plan = self._plan(found, self._origins(found, sources), repairs, others)
+        return POSSIBLE, [*plan.told, f"a repair can be tried: {verdict.counts}"]
+
+    def _repair(self, found: Found, sources: Sequence[Optional[bytes]], repairs: Set[int], others: Set[bytes],
+                scanned: Sequence[bytes]) -> List[str]:
+        """Makes all complete; the lines that tell what was done."""
+        place = Stage(self.folder, self.say)
+        moves: Optional[Moves] = None
+        try:
+            place.make()
+            origins = self._origins(found, sources)
+            self._make_empty(place, found, origins)
+            if repairs:
+                made = Making(self.scene, found, place, sources, repairs, scanned).made()
+                origins = [made.get(number, origin) for number, origin in enumerate(origins)]
+            plan = self._plan(found, origins, repairs, others)
+            self._copy(place, plan)
+            moves = self._moves(plan)
+            place.note(moves.steps, plan.made())
+            moves.make()
+            self._verify(found)
+            with faults_of("write in", self.folder.shown):
+                changes.sync_all(self.folder.place)
+            removed = self._backups_to_remove(found, plan.backups)
+        except Refused as why:
+            self._leave(place, moves)
+            raise Fault(FILES, str(why)) from why
+        except BaseException:
+            self._leave(place, moves)
+            raise
+        place.forget()
+        place.clear()
+        gone = [backup.kept for backup in removed if self._remove(backup)]
+        return [*plan.told, *(f"remove {shown(kept)}" for kept in gone), "complete"]
+
+    def _leave(self, place: Stage, moves: Optional[Moves]) -> None:
+        """Undoes what was done, and removes the stage; a fault says what couldn't be undone."""
+        if not stage.is_there(self.folder):
+            return
+        try:
+            with contextlib.closing(place):
+                if moves is not None and place.opened.look(stage.JOURNAL) is not None:
+                    moves.undo()
+                    moves.sync()
+                    place.forget()
+                place.clear()
+        except (Fault, Refused, OSError) as fault:
+            self.say(f"{fault}; {shown(stage.NAME)} stays, for the next run to finish or to undo")
+
+    def _make_empty(self, place: Stage, found: Found, origins: Sequence[bytes]) -> None:
+        inside = path_of(MADE) + b"/"
+        for origin in origins:
+            if origin.startswith(inside):
+                self._make_file(place, origin[len(inside):], lambda opened: None)
+
+    def _make_file(self, place: Stage, name: bytes, filled: Callable[[int], None]) -> None:
+        """Makes a file in the stage."""
+        with faults_of("write in", self.folder.shown), contextlib.closing(place.opened.inner(MADE)) as made:
+            opened = changes.make_file(made.place, name)
+            try:
+                filled(opened)
+            finally:
+                os.close(opened)
+
+    def _copy(self, place: Stage, plan: Plan) -> None:
+        """Makes the copies that a plan has."""
+        for copy in plan.copies:
+            with progress.doing(f"{shown(copy.source)} is copied", self.scene.there[copy.source].length or 0):
+                self._make_file(place, names.base_of(copy.target), functools.partial(self._fill, copy.source))
+
+    def _fill(self, path: bytes, opened: int) -> None:
+        """Copies a file of the folder with its mode and times."""
+        source = self.folder.open_to_read(path)
+        try:
+            now = os.fstat(source)
+            done = 0
+            while piece := os.read(source, PIECE):
+                signals.wait_point()
+                changes.write(opened, piece)
+                done += len(piece)
+                progress.show(done)
+            changes.set_mode(opened, stat.S_IMODE(now.st_mode))
+            changes.set_times(opened, now.st_atime_ns, now.st_mtime_ns)
+        finally:
+            os.close(source)
+
+    def _moves(self, plan: Plan) -> Moves:
+        """The moves of a plan. Within one file system a move is whole, or hasn't begun."""
+        def identity(path: bytes) -> Identity:
+            now = self.folder.look(path)
+            if now is None or not stat.S_ISREG(now.st_mode):
+                raise Refused(f"{shown(path)} has changed meanwhile")
+            return identity_of(now)
+        moves = Moves(self.folder, stage.NAME, plan.steps(identity), self.say)
+        device = self.folder.device
+        for step in moves.moves():
+            for path in step.origin, step.target:
+                for part in [*names.folders_of(path), path]:
+                    now = self.folder.look(part)
+                    if now is not None and now.st_dev != device:
+                        raise Refused("it reaches into another file system")
+        return moves
+
+    def _verify(self, found: Found) -> None:
+        """Ends the run unless all is complete now."""
+        self.scene.gather(found)
+        looked = self.scene.look(found, self.scene.to_scan(found))
+        if not self.scene.is_complete(found, self.scene.settled(found, looked.sources)):
+            raise Fault(NO_REPAIR, f"it isn't complete after the repair: {looked.verdict.counts}")
+
+    # Backups.
+
+    def _backups_to_remove(self, found: Found, backups: Sequence[Backup]) -> List[Backup]:
+        """The kept files that may go: those that have a slice of the file whose name they had."""
+        removed: List[Backup] = []
+        for backup in backups if self.purge else ():
+            if self._has_slices(found, backup):
+                removed.append(backup)
+            else:
+                self.say(f"{shown(backup.kept)} has no slice of {found.set.files[backup.number].shown}, and stays")
+        return removed
+
+    def _has_slices(self, found: Found, backup: Backup) -> bool:
+        file = found.set.files[backup.number]
+        if not file.sums or self.scene.there.get(backup.kept) != backup.file:
+            return False
+        search = self.scene.search(found, [backup.kept], set(file.numbers), False)
+        with contextlib.closing(search.sightings()) as sightings:
+            return next(sightings, None) is not None
+
+    def _remove(self, backup: Backup) -> bool:
+        """Removes a kept file, if it is still the one that was kept."""
+        with faults_of("remove", shown(backup.kept)), self.folder.above(backup.kept) as above:
+            if not backup.file.fits(self.folder.look(backup.kept)):
+                self.say(f"{shown(backup.kept)} has changed meanwhile, and stays")
+                return False
+            changes.remove_file(above, names.base_of(backup.kept))
+            return True
+
+
+@contextlib.contextmanager
+def locked(folder: Folder) -> Iterator[None]:
+    """Keeps other runs out of a folder. (The lock isn't handed to programs that are run.)"""
+    lock = os.open(b".", os.O_RDONLY | os.O_DIRECTORY | os.O_CLOEXEC, dir_fd=folder.place)
+    try:
+        try:
+            fcntl.flock(lock, fcntl.LOCK_EX | fcntl.LOCK_NB)
+        except OSError as fault:
+            raise Fault(FILES, "another run is at work") from fault
+        yield
+    finally:
+        os.close(lock)
+
+
+def _run(asked: Asked, folder: Folder, program: Program) -> Tuple[int, List[str]]:
+    def say(text: str) -> None:
+        output.say(f"{folder.shown}: {text}")
+    with locked(folder):
+        purge = asked.purge
+        for module in (earlier, stage):
+            if not module.is_there(folder):
+                continue
+            if asked.dry:
+                raise Fault(FILES, "a run was ended here, and is finished or undone by the next without --dry-run")
+            module.recover(folder, say)
+            if purge:
+                say("so --remove-backups removes nothing")      # a backup may be what somebody has written since
+                purge = False
+        most_open = programs.raise_file_limit()
+        with temporary_folder() as temporary:
+            scene = Scene(folder, program, Links(temporary, (folder.place,)), most_open)
+            return Repair(scene, asked.dry, purge).run(asked.chosen)
+
+
+def repair(asked: Asked) -> int:
+    """The whole run; its exit status."""
+    program = words.needed_parv()
+    folder = Folder.opened(asked.folder)
+    try:
+        status, told = _run(asked, folder, program)
+    except Fault as fault:
+        raise Fault(fault.status, f"{folder.shown}: {fault}") from fault
+    except (OSError, Refused) as fault:
+        why = fault.strerror if isinstance(fault, OSError) else fault
+        raise Fault(FILES, f"{folder.shown}: {why}") from fault
+    signals.forget_signals()
+    output.tell(told)
+    return status
+
+
+def main() -> int:
+    parser = words.parser_of(USAGE_TEXT)
+    parser.add_argument("--dry-run", action="store_true")
+    parser.add_argument("--remove-backups", action="store_true")
+    parser.add_argument("--set", type=words.is_set_id)
+    parser.add_argument("folder", metavar="FOLDER", nargs="?")
+
+    def run() -> int:
+        given = parser.parse_args()
+        if given.help:
+            return words.help_lines(USAGE_TEXT)
+        if not given.folder:
+            parser.error("there is no FOLDER")
+        return repair(Asked(os.fsencode(given.folder), given.dry_run, given.remove_backups, given.set))
+    return words.ended("parv-repair", run)

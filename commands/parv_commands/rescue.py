@@ -1,0 +1,232 @@
+"""parv-rescue: copies the slices of a set that are in other files, as in the image of a disc, into files of the set."""
+
+from __future__ import annotations
+
+import contextlib
+import os
+import time
+from typing import List, NamedTuple, Optional, Sequence, Set, Tuple
+
+from . import changes, output, programs, signals, words
+from .faults import FILES, NO_SET, USAGE, Fault, faults_of
+from .folders import Folder
+from .given import Given, read_given
+from .names import shown
+from .packets import Member, RecoverySet
+from .parv import Links, Parv, temporary_folder
+from .placing import crc_of, md5_of
+from .record import NAMES, Record, name_in
+from .search import Scanned, Search
+from .writer import Writer
+
+EXPECTED, TAILS = "expected", "tails"   # the two ways to search, as the record names them
+MOST_TAILS = 256    # lengths that parv looks for at once
+PAUSE = 4           # seconds at least from one entry into the record to the next
+
+USAGE_TEXT = """usage: parv-rescue [--tails] [--set ID] FOLDER FILES
+
+Copies the slices of a PAR2 set that are in other files, as in the image of a
+disc, into files of the set below a new folder.
+  parv-rescue saved photos.par2 disc.img
+
+  --tails         then looks at each byte for the short slices that are missing
+  --set ID        says which set, if the packet files have several
+  -h, --help      prints this
+
+FILES are packet files of the set and files to be searched; they are only read.
+FOLDER is made, or is empty, or was filled by this command. Nothing in it is
+overwritten. A run that was stopped goes on when it is called again.
+
+The last slice of a file is mostly shorter than the others. It is found at its
+distance from another slice of its file. With --tails it is found wherever it is,
+and so are files that are shorter than a slice. That can take long. Leave it out
+at first: if a line says that it might find more, go on with it in the same FOLDER.
+
+At the end a line tells of each file: `complete`, `damaged`, `wrong`, `missing`
+or `refused`, and of a damaged one a line `hole OFFSET LENGTH NAME` of each hole.
+
+The exit status:
+  0  each file of the set is complete
+  1  not each is
+  3  wrong words, no packet file, or FOLDER is of another set or has other files
+  4  no set in the packet files, or with --tails too many lengths are missing
+  6  a file can't be read or written, or parv can't be run
+  8  no memory
+PARV names the program, if it isn't in PATH. man parv-rescue has more.
+"""
+
+
+class Asked(NamedTuple):
+    """What the command line asks for."""
+    folder: bytes
+    files: List[bytes]
+    tails: bool
+    chosen: Optional[str]
+
+
+def open_folder(path: bytes) -> Folder:
+    """The folder that is written to: new, empty, or one with a record."""
+    with faults_of("make", shown(path)):
+        changes.make_path(path)
+    folder = Folder.opened(path)
+    if folder.entries() and name_in(folder) is None:
+        raise Fault(USAGE, f"{folder.shown} isn't empty, and has no {NAMES[0].decode()}")
+    return folder
+
+
+def bytes_at(source: Scanned, offset: int, own: int, size: int) -> Tuple[bytes, bytes]:
+    """So many bytes of a slice where it was seen, and their sums with zeros up to the slice size."""
+    with faults_of("read", source.shown):
+        opened = source.opener()
+        try:
+            data = os.pread(opened, own, offset)
+        finally:
+            os.close(opened)
+    pieces = [data, bytes(size - len(data))]
+    return data, md5_of(pieces) + crc_of(pieces)
+
+
+class Rescue:
+    """A run over a folder."""
+
+    def __init__(self, found: RecoverySet, given: Given, parv: Parv, writer: Writer) -> None:
+        self.found, self.given, self.parv, self.writer = found, given, parv, writer
+
+    def search(self, tails: bool, wanted: Set[int]) -> Search:
+        return Search(self.found, self.parv, self.given.scanned, tails, wanted, not tails)
+
+    def run(self, tails: bool) -> Tuple[int, List[str], int]:
+        """The exit status, the lines that tell what is there, and how many short slices are missing that a search with
+        --tails might find."""
+        writer = self.writer
+        writer.prepare()
+        wanted = {number for file in self.found.files if file.sums and file.id not in writer.refused
+                  for number in file.numbers} - writer.record.there
+        search = self.search(False, wanted)
+        self._searches(search, EXPECTED)
+        short = {number for number in search.wanted
+                 if number == search.owners[number].last and self.found.is_short(search.owners[number])}
+        if tails and short:
+            lengths = {search.owners[number].length % self.found.size for number in short}
+            if len(lengths) > MOST_TAILS:
+                raise Fault(NO_SET, "no usable set: too many tails")
+            self._searches(self.search(True, short), TAILS)
+        status, lines = self._ending()
+        return status, lines, 0 if tails else self._may_find(search, short)
+
+    def _reached(self, way: str) -> Tuple[int, int, int]:
+        """Where a search of these files goes on this way: an earlier run may have come there."""
+        nothing = 0, 0, 0
+        return nothing if self.writer.is_lossy else self.writer.record.reached.get((way, self.given.mark), nothing)
+
+    def _may_find(self, search: Search, short: Set[int]) -> int:
+        """How many short slices a search with --tails has to do with still, if it isn't refused."""
+        lengths = {search.owners[number].length % self.found.size for number in short}
+        may = 0 < len(lengths) <= MOST_TAILS and self._reached(TAILS)[0] < len(self.given.scanned)
+        return len(short) if may else 0
+
+    def _searches(self, search: Search, way: str) -> None:
+        """Copies what a search sees from where it goes on, and keeps in the record how far it came."""
+        search.at = self._reached(way)
+        try:
+            self._copy(search, way)
+        except BaseException:
+            with contextlib.suppress(Fault, OSError):
+                self.writer.save(search, way)
+            raise
+        self.writer.save(search, way)
+
+    def _copy(self, search: Search, way: str) -> None:
+        """Copies each slice that the search sees."""
+        key: Optional[Tuple[int, int, int]] = None
+        data, sums = b"", b""
+        with contextlib.closing(search.sightings()) as sightings:
+            for at, offset, number in sightings:
+                file, source = search.owners[number], search.scanned[at]
+                own = self.found.own_length(file, number - file.first)
+                if key != (at, offset, own):        # equal slices are seen at one place, one after another
+                    key = (at, offset, own)
+                    data, sums = bytes_at(source, offset, own, self.found.size)
+                self._take(search, file, number, data, sums, f"{source.shown} has changed at {offset}")
+                if time.monotonic() - self.writer.saved > PAUSE:
+                    self.writer.save(search, way)
+
+    def _take(self, search: Search, file: Member, number: int, data: bytes, sums: bytes, else_said: str) -> None:
+        """Writes a slice where its bytes have its sums still."""
+        if not file.sums or sums != file.sums[number - file.first]:
+            self.writer.is_lossy = True
+            output.say(else_said)
+        elif self.writer.takes(file, number - file.first, data):
+            search.wanted.discard(number)
+        else:
+            search.wanted.difference_update(file.numbers)
+
+    # What is there at the end.
+
+    def _holes(self, file: Member) -> List[Tuple[int, int]]:
+        """The offset and length of each hole of a file, of as many slices as are missing in turn."""
+        gaps: List[Tuple[int, int]] = []
+        for number in range(file.slices):
+            if file.first + number not in self.writer.record.there:
+                at, length = number * self.found.size, self.found.own_length(file, number)
+                if gaps and sum(gaps[-1]) == at:
+                    gaps[-1] = (gaps[-1][0], gaps[-1][1] + length)
+                else:
+                    gaps.append((at, length))
+        return gaps
+
+    def _told(self, file: Member) -> List[str]:
+        """What is told of a file: its state, and lines of its holes."""
+        count = sum(number in self.writer.record.there for number in file.numbers)
+        state = self.writer.state_if_whole(file) if count == file.slices else "damaged" if count else "missing"
+        if file.id in self.writer.refused:
+            return [f"refused {file.shown}"]
+        if state == "complete":
+            return [f"complete {file.shown}"]
+        gaps = self._holes(file) if state == "damaged" else []
+        return [f"{state} {file.shown} {count}/{file.slices}",
+                *[f"hole {at} {length} {file.shown}" for at, length in gaps]]
+
+    def _ending(self) -> Tuple[int, List[str]]:
+        parts = [self._told(file) for file in self.found.files]
+        self.writer.record.save()
+        there = sum(number in self.writer.record.there for file in self.found.files
+                    if file.id not in self.writer.refused for number in file.numbers)
+        lines = [line for part in parts for line in part]
+        lines.append(f"slices {there}/{sum(file.slices for file in self.found.files)}, copied now {self.writer.copied}")
+        return (0 if all(part[0].startswith("complete ") for part in parts) else 1), lines
+
+
+def rescue(asked: Asked) -> int:
+    """The whole run; its exit status."""
+    program = words.needed_parv()
+    programs.raise_file_limit()
+    with temporary_folder() as temporary:
+        parv = Parv(program, Links(temporary, ()))
+        given = Given(parv.links, asked.files)
+        found = read_given(parv, given, asked.chosen)[1]
+        folder = open_folder(asked.folder)
+        record = Record(folder, found.id)
+        status, lines, missing = Rescue(found, given, parv, Writer(found, folder, record, given.mark)).run(asked.tails)
+    signals.forget_signals()
+    output.tell(lines)
+    if missing:
+        output.say(f"short slices missing: {missing}; --tails might find more")
+    return status
+
+
+def main() -> int:
+    parser = words.parser_of(USAGE_TEXT)
+    parser.add_argument("--tails", action="store_true")
+    parser.add_argument("--set", type=words.is_set_id)
+    parser.add_argument("folder", metavar="FOLDER", nargs="?")
+    parser.add_argument("files", metavar="FILES", nargs="*")
+
+    def run() -> int:
+        given = parser.parse_intermixed_args()
+        if given.help:
+            return words.help_lines(USAGE_TEXT)
+        if not given.folder or not given.files:
+            parser.error("there is no FOLDER, or there are no FILES")
+        return rescue(Asked(os.fsencode(given.folder), list(map(os.fsencode, given.files)), given.tails, given.set))
+    return words.ended("parv-rescue", run)

@@ -1,0 +1,75 @@
+"""The words of a command line, and how a command begins and ends."""
+
+from __future__ import annotations
+
+import argparse
+import os
+import re
+import sys
+import traceback
+from typing import Callable, NoReturn
+
+from . import output, programs, signals
+from .faults import FILES, MEMORY, USAGE, Fault
+from .names import shown
+from .programs import Program
+
+
+class Words(argparse.ArgumentParser):
+    """Words on a command line, of which wrong ones end with 3, as those of parv do."""
+
+    def error(self, message: str) -> NoReturn:
+        output.say(shown(os.fsencode(message)))
+        output.say(self.format_usage().strip())
+        sys.exit(USAGE)
+
+
+def parser_of(text: str) -> Words:
+    """A parser whose help is this text, of which the first line is the usage."""
+    usage, _, rest = text.partition("\n\n")
+    parser = Words(usage=usage[7:], description=rest.strip(), formatter_class=argparse.RawDescriptionHelpFormatter,
+                   allow_abbrev=False, add_help=False)
+    parser.add_argument("-h", "--help", action="store_true")
+    return parser
+
+
+def is_set_id(text: str) -> str:
+    if not re.fullmatch("[0-9A-Fa-f]{32}", text):
+        raise argparse.ArgumentTypeError("a set ID has 32 hexadecimal digits")
+    return text.lower()
+
+
+def help_lines(text: str) -> int:
+    """Writes a help; the exit status."""
+    output.tell(text.strip().split("\n"))
+    return 0
+
+
+def needed_parv() -> Program:
+    return programs.needed_program("PARV", "parv")
+
+
+def ended(command: str, run: Callable[[], int]) -> int:
+    """Runs a command to its end; its exit status, with a line on standard error for what has ended it if that was no
+    signal."""
+    output.begin(command)
+    signals.take_signals()
+    try:
+        status = run()
+        signals.forget_signals()
+        return status
+    except Fault as fault:
+        output.say(str(fault))
+        return fault.status
+    except signals.Ended as by:
+        return by.status
+    except MemoryError:
+        output.say("out of memory")
+        return MEMORY
+    except OSError as fault:
+        name = f"{shown(os.fsencode(fault.filename))}: " if isinstance(fault.filename, (str, bytes)) else ""
+        output.say(f"{name}{fault.strerror or fault}")
+        return FILES
+    except Exception:       # a fault of the command itself must not end with a status that is an answer
+        output.say(f"this is a fault of {command}:\n{traceback.format_exc()}")
+        return FILES

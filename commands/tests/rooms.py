@@ -1,0 +1,246 @@
+"""Folders that tests repair, runs over them in a process of their own, and what has become of them."""
+
+from __future__ import annotations
+
+import errno
+import hashlib
+import os
+import shutil
+import signal
+import stat
+import struct
+import sys
+import tempfile
+import zlib
+from typing import Callable, Dict, List, NamedTuple, Optional, Sequence, Set, Tuple
+
+from parv_commands import changes
+
+PARV = os.environ.get("PARV", "parv")
+PAR2 = """#!/bin/sh
+# Stands in for par2: copies what is missing or damaged from the whole files. It ends as WRONG says: `short` with 2 if
+# it was given files to search, `fails` with 5 once it has written half a file.
+[ "$WRONG" != short ] || [ $# -le 3 ] || { echo "You need more recovery blocks"; exit 2; }
+for whole in %s/by-number/file*; do
+    name=${whole##*/}
+    ! cmp -s "$whole" "$name" || continue
+    [ ! -e "$name" ] && [ ! -L "$name" ] || mv "$name" "$name.1"
+    [ "$WRONG" != fails ] || { head -c 4 "$whole" > "$name"; echo "Repair Failed."; exit 5; }
+    cp "$whole" "$name"
+done
+"""
+STAGE = ".parv-repair"
+SECONDS = 120       # that a run may take
+Listing = Dict[str, Tuple[int, bytes]]
+Action = Callable[[str], None]
+
+
+def md5(data: bytes) -> bytes:
+    return hashlib.md5(data).digest()
+
+
+def packet(owner: bytes, kind: bytes, body: bytes) -> bytes:
+    hashed = owner + kind.ljust(16, b"\0") + body
+    return b"PAR2\0PKT" + struct.pack("<Q", 32 + len(hashed)) + md5(hashed) + hashed
+
+
+def filled(data: bytes, unit: int) -> bytes:
+    return data + bytes(-len(data) % unit)
+
+
+def file_id(name: bytes, data: bytes) -> bytes:
+    return md5(md5(data[:16384]) + struct.pack("<Q", len(data)) + name)
+
+
+def set_of(files: Dict[bytes, bytes], size: int, recovery: int) -> bytes:
+    """The packets of a set; its recovery slices are zeros, so only a stand-in repairs by them."""
+    ids = {name: file_id(name, data) for name, data in files.items()}
+    order: List[bytes] = sorted(ids.values(), key=lambda each: each[::-1])
+    main = struct.pack("<QI", size, len(files)) + b"".join(order)
+    owner = md5(main)
+    packets = [packet(owner, b"PAR 2.0\0Main", main)]
+    for name in files:
+        data = files[name]
+        about = ids[name] + md5(data) + md5(data[:16384]) + struct.pack("<Q", len(data)) + filled(name, 4)
+        pieces = [filled(data[at:at + size], size) for at in range(0, len(data), size)]
+        sums = b"".join(md5(piece) + struct.pack("<I", zlib.crc32(piece)) for piece in pieces)
+        packets += [packet(owner, b"PAR 2.0\0FileDesc", about), packet(owner, b"PAR 2.0\0IFSC", ids[name] + sums)]
+    for number in range(recovery):
+        packets.append(packet(owner, b"PAR 2.0\0RecvSlic", struct.pack("<I", number) + bytes(size)))
+    return b"".join(packets)
+
+
+def write(path: str, data: bytes) -> None:
+    os.makedirs(os.path.dirname(path), exist_ok=True)
+    with open(path, "wb") as out:
+        out.write(data)
+
+
+def read(path: str) -> bytes:
+    with open(path, "rb") as file:
+        return file.read()
+
+
+class Ended(NamedTuple):
+    """How a run has ended: a signal is a status above 128. `calls` are those that it has made to change the disk."""
+    status: int
+    out: str
+    said: str
+    calls: List[str]
+
+    def last(self) -> str:
+        return self.out.strip().split("\n")[-1]
+
+
+class Room:
+    """A folder with what is to be repaired, and the whole files beside it."""
+
+    def __init__(self, files: Dict[str, bytes], size: int = 8, recovery: int = 20) -> None:
+        self.top = tempfile.mkdtemp()
+        self.folder = os.path.join(self.top, "room")
+        self.temporary = os.path.join(self.top, "tmp")
+        self.files, self.size = files, size
+        os.mkdir(self.temporary)
+        os.mkdir(self.folder)
+        named: Dict[bytes, bytes] = {os.fsencode(name): data for name, data in files.items()}
+        self.packets = set_of(named, size, recovery)
+        for number, (name, data) in enumerate(sorted(named.items(), key=lambda each: file_id(*each)[::-1])):
+            write(os.path.join(self.top, "by-number", f"file{number}"), data)
+        self.stand_in = os.path.join(self.top, "par2")
+        write(self.stand_in, (PAR2 % self.top).encode())
+        os.chmod(self.stand_in, 0o755)
+        self.fresh()
+
+    def fresh(self) -> None:
+        """The folder as it is with all files whole."""
+        shutil.rmtree(self.folder)
+        os.mkdir(self.folder)
+        for name, data in self.files.items():
+            self.put(name, data)
+        self.put("set.par2", self.packets)
+
+    def close(self) -> None:
+        shutil.rmtree(self.top)
+
+    def path(self, name: str) -> str:
+        return os.path.join(self.folder, name)
+
+    def put(self, name: str, data: bytes) -> None:
+        write(self.path(name), data)
+
+    def take(self, name: str) -> None:
+        os.remove(self.path(name))
+
+    def rename(self, name: str, other: str) -> None:
+        os.makedirs(os.path.dirname(self.path(other)), exist_ok=True)
+        os.rename(self.path(name), self.path(other))
+
+    def listing(self) -> Listing:
+        """The kinds and contents of all below the folder."""
+        found: Listing = {}
+        for at, folders, names in os.walk(self.folder):
+            for name in folders + names:
+                path = os.path.join(at, name)
+                kind = stat.S_IFMT(os.lstat(path).st_mode)
+                data = read(path) if kind == stat.S_IFREG else b""
+                if kind == stat.S_IFLNK:
+                    data = os.readlink(path).encode()
+                found[os.path.relpath(path, self.folder)] = kind, data
+        return found
+
+    def contents(self) -> Set[bytes]:
+        """The different contents of files in the folder."""
+        return {data for kind, data in self.listing().values() if kind == stat.S_IFREG}
+
+    def lacks(self) -> List[str]:
+        """What is wrong with a folder that is said to be complete."""
+        here = self.listing()
+        return [name for name, data in self.files.items() if here.get(name) != (stat.S_IFREG, data)] + [
+            name for name in here if name.startswith(STAGE)]
+
+    def run(self, main: Callable[[], int], words: Sequence[str], watch: Optional[changes.Observer] = None,
+            **environment: str) -> Ended:
+        """A run of a command in a process of its own."""
+        paths = [os.path.join(self.top, name) for name in ("out", "said", "calls")]
+        with open(paths[2], "wb", buffering=0) as calls:
+            child = os.fork()
+            if not child:
+                _be_child(main, words, paths, calls.fileno(), watch, {
+                    "PARV": PARV, "PAR2": self.stand_in, "TMPDIR": self.temporary, **environment}, self.top)
+            _, state = os.waitpid(child, 0)
+        status = os.WEXITSTATUS(state) if os.WIFEXITED(state) else 128 + os.WTERMSIG(state)
+        out, said, made = (read(path).decode("utf-8", "replace") for path in paths)
+        return Ended(status, out, said, made.split())
+
+
+def _be_child(main: Callable[[], int], words: Sequence[str], paths: Sequence[str], calls: int,
+              watch: Optional[changes.Observer], environment: Dict[str, str], top: str) -> None:
+    status = 99
+    try:
+        for number, path in enumerate(paths[:2], 1):
+            opened = os.open(path, os.O_WRONLY | os.O_CREAT | os.O_TRUNC)
+            os.dup2(opened, number)
+            os.close(opened)
+        os.dup2(os.open(os.devnull, os.O_RDONLY), 0)
+        os.environ.update(environment)
+        os.chdir(top)
+        signal.alarm(SECONDS)
+        sys.argv = ["command", *words]
+
+        def observe(call: str, when: str) -> None:
+            if when == "before":
+                os.write(calls, call.encode() + b"\n")
+            if watch is not None:
+                watch(call, when)
+        changes.observer = observe
+        status = main()
+    except SystemExit as end:
+        status = end.code if isinstance(end.code, int) else 1
+    except BaseException:
+        import traceback
+        traceback.print_exc()
+    finally:
+        os._exit(status)
+
+
+class At:
+    """Does something at a call of this number, before or after it; calls may be of some kinds alone."""
+
+    def __init__(self, number: int, when: str, does: Callable[[], None], kinds: Sequence[str] = ()) -> None:
+        self.number, self.when, self.does, self.kinds = number, when, does, kinds
+        self.count = 0
+
+    def __call__(self, call: str, when: str) -> None:
+        if self.kinds and call not in self.kinds:
+            return
+        self.count += when == "before"
+        if when == self.when and self.count == self.number:
+            self.does()
+
+
+class From(At):
+    """The same at each call from this number on."""
+
+    def __call__(self, call: str, when: str) -> None:
+        if self.kinds and call not in self.kinds:
+            return
+        self.count += when == "before"
+        if when == self.when and self.count >= self.number:
+            self.does()
+
+
+def ends_by(number: signal.Signals) -> Callable[[], None]:
+    def does() -> None:
+        os.kill(os.getpid(), number)
+    return does
+
+
+def fails_with(code: int) -> Callable[[], None]:
+    def does() -> None:
+        raise OSError(code, os.strerror(code))
+    return does
+
+
+KILLED = ends_by(signal.SIGKILL)
+FULL = fails_with(errno.ENOSPC)
+MAKING = ("mkdir", "create", "symlink", "write", "pwrite", "ftruncate", "link")

@@ -1,0 +1,129 @@
+"""Names as they are shown, names that are refused, answers that are none of parv, and progress on a terminal."""
+
+from __future__ import annotations
+
+import os
+import pty
+import unittest
+from typing import List
+
+from parv_commands import answers, names, progress, repair, rescue
+from parv_commands.faults import Fault
+
+from .rooms import Room, write
+
+SET = b"""set 617cdc72ba53d94fe713fea2ae18f776 size 4 slices 3
+file 00000000000000000000000000000001 8 2 yes a b
+file 00000000000000000000000000000002 1 1 no from \\x0a\\\\
+others 0
+have 2
+creator somebody \\xff
+aside a b.par2 64 1
+"""
+
+
+class Names(unittest.TestCase):
+    def test_a_name_is_shown_as_by_parv_and_given_back(self) -> None:
+        every = bytes(range(1, 256))
+        self.assertEqual(names.shown(b"a \\\n\xff~"), "a \\\\\\x0a\\xff~")
+        self.assertEqual(names.unshown(names.shown(every)), every)
+        self.assertEqual(names.unshown("\\\\x41\\x41"), b"\\x41A")
+
+    def test_names_that_lead_elsewhere_are_refused(self) -> None:
+        for name in (b"/a", b"../a", b"a/../b", b"..", b".", b"a/./b", b"a//b", b"a/", b"", b"..\\a", b"\\a",
+                     b"a\\..\\b", b"own/a", b"own", b"x" * 256, b"a/" + b"x" * 256 + b"/b", b"a\0b"):
+            self.assertIsNotNone(names.refusal(name, [b"own"]), name)
+        for name in b"a", b"..a", b"a..", b"a../b", b"a\\b", b"x" * 255, b"-a", b"owned", b"a/own", b"\xff\n":
+            self.assertIsNone(names.refusal(name, [b"own"]), name)
+
+    def test_a_name_may_not_be_a_folder_of_another(self) -> None:
+        self.assertEqual(list(names.refusals([b"a", b"a.b", b"a/b", b"c", b"a/b/c"], [])), [0, 2])
+
+    def test_a_numbered_name_is_no_longer_than_one_may_be(self) -> None:
+        self.assertEqual(names.numbered(b"a/b", 12), b"a/b.12")
+        self.assertEqual(len(names.numbered(b"folder/" + b"x" * 255, 3)), 7 + 255)
+
+
+class Answers(unittest.TestCase):
+    def test_a_set_is_read(self) -> None:
+        found = answers.read_set(SET)
+        self.assertEqual((found.size, found.have, found.aside), (4, 2, {("a b.par2", 64)}))
+        self.assertEqual([file.name for file in found.files], [b"a b", b"from \n\\"])
+
+    def test_a_verdict_is_read_whatever_the_names(self) -> None:
+        found = answers.read_set(SET)
+        text = SET.split(b"\n")[0] + (b"\nrenamed a b from from x\nmissing from \\x0a\\\\ 0/1\nneed 1 have 2\n"
+                                      b"result possible\n")
+        verdict = answers.read_verdict(text, 1, found)
+        self.assertEqual([state.word for state in verdict.states], ["from x", None])
+        self.assertEqual(verdict.counts, "need 1 have 2")
+
+    def test_what_is_no_answer_is_refused(self) -> None:
+        found = answers.read_set(SET)
+        for text in (b"", b"\n", SET[:-1], SET[:60], SET.replace(b"size", b"Size"), SET.replace(b"have 2\n", b""),
+                     SET.replace(b" 8 2 ", b" 8 1 "), SET + b"more\n", b"\xff\n" + SET):
+            self.assertRaises(Fault, answers.read_set, text)
+        line = SET.split(b"\n")[0]
+        for status, text in ((0, b""), (1, line + b"\nresult possible\n"),
+                             (0, line + b"\nneed 0 have 0\nresult complete\n"),
+                             (0, line + b"\ncomplete a b\ncomplete other\nneed 0 have 2\nresult complete\n"),
+                             (1, line + b"\ncomplete a b\ncomplete from \\x0a\\\\\nneed 0 have 2\nresult complete\n"),
+                             (2, line + b"\nmissing a b 0/3\nmissing from \\x0a\\\\ 0/1\nneed 3 have 2\n"
+                                 b"result impossible\n")):
+            self.assertRaises(Fault, answers.read_verdict, text, status, found)
+        for text in b"packets 1\n", b"a 0 64 main 0\npackets 1\n", b"", b"packets\n":
+            self.assertRaises(Fault, answers.read_packets, text)
+        for text in b"", b"a 0 1", b"end", b"a b c d", b"a -1 00000000000000000000000000000001 0":
+            self.assertRaises(Fault, answers.read_sighting, text)
+
+
+class Progress(unittest.TestCase):
+    """A command on a terminal tells what goes on, and takes the line off."""
+
+    def on_terminal(self, words: List[str], main: object, first: float) -> str:
+        room = Room({"first": b"first of all", "second": b"the second"})
+        self.addCleanup(room.close)
+        room.take("first")
+        slow = os.path.join(room.top, "slow")
+        write(slow, f'#!/bin/sh\nsleep 0.3\nexec "{os.environ.get("PARV", "parv")}" "$@"\n'.encode())
+        os.chmod(slow, 0o755)
+        child, terminal = pty.fork()
+        if not child:
+            status = 99
+            try:
+                os.chdir(room.top)
+                os.environ.update(PARV=slow, PAR2=room.stand_in, TMPDIR=room.temporary)
+                progress.FIRST, progress.EACH = first, 0.05
+                import sys
+                sys.argv = ["command", *words]
+                status = main()     # type: ignore[operator]
+            finally:
+                os._exit(status)
+        text = b""
+        while True:
+            try:
+                piece = os.read(terminal, 4096)
+            except OSError:
+                break
+            if not piece:
+                break
+            text += piece
+        os.close(terminal)
+        self.assertEqual(os.waitpid(child, 0)[1], 0 if main is repair.main else 1 << 8)
+        return text.decode()
+
+    def test_what_takes_long_is_told(self) -> None:
+        text = self.on_terminal(["room"], repair.main, 0.1)
+        self.assertRegex(text, "\r\x1b\\[Kparv packets: [0-9]+ MiB")
+        self.assertRegex(text, "\r\x1b\\[Kparv verify: [0-9]+ MiB of at most [0-9]+ MiB")
+        self.assertTrue(text.endswith("\r\x1b[Krepair first\r\ncomplete\r\n"), text)
+        text = self.on_terminal(["new", "room/set.par2", "room/second"], rescue.main, 0.1)
+        self.assertRegex(text, "\r\x1b\\[Kparv find: [0-9]+ MiB of at most [0-9]+ MiB")
+
+    def test_what_takes_less_than_two_seconds_is_not(self) -> None:
+        self.assertEqual(progress.FIRST, 2.0)
+        self.assertEqual(self.on_terminal(["room"], repair.main, 2.0), "repair first\r\ncomplete\r\n")
+
+
+if __name__ == "__main__":
+    unittest.main()

@@ -1,0 +1,194 @@
+"""A repair that is ended at each call that changes the disk: by force, by a signal, by a full disk. Nothing is lost,
+and the next run completes the set or leaves all as it was."""
+
+from __future__ import annotations
+
+import os
+import shutil
+import signal
+import stat
+import unittest
+from typing import Iterator, List, Set, Tuple
+
+from parv_commands import repair
+
+from . import rooms
+from .rooms import FULL, KILLED, MAKING, At, Ended, From, Room
+
+EACH = int(os.environ.get("PARV_TESTS_EACH", "101"))    # of the runs that are ended twice, each of this number is made
+WHOLE = {
+    "report.doc": b"the report, whole", "notes.txt": b"some notes of a year",
+    "left": b"left hand", "right": b"right hand",
+    "one": b"same same", "two": b"same same", "in/a/folder": b"deep down", "empty": b"", "fine": b"fine as it is",
+}
+
+
+def damage(room: Room) -> None:
+    """One file is missing, one damaged, two have each other's names, one another name, one is a copy of that, one
+    belongs into a folder that isn't there, and an empty one is missing."""
+    room.fresh()
+    for name in os.listdir(room.temporary):     # of runs that were killed
+        shutil.rmtree(os.path.join(room.temporary, name))
+    room.take("report.doc")
+    room.put("notes.txt", b"some nXtes of a year")
+    room.put("notes.txt.1", b"notes of somebody else")
+    room.rename("left", "x")
+    room.rename("right", "left")
+    room.rename("x", "right")
+    room.rename("one", "stray")
+    room.take("two")
+    room.rename("in/a/folder", "other")
+    os.removedirs(room.path("in/a"))
+    room.take("empty")
+
+
+class Crashes(unittest.TestCase):
+    room: Room
+    calls: List[str]
+    before: rooms.Listing
+    held: Set[bytes]
+
+    @classmethod
+    def setUpClass(cls) -> None:
+        cls.room = Room(WHOLE, recovery=40)
+        damage(cls.room)
+        cls.before, cls.held = cls.room.listing(), cls.room.contents()
+        ended = cls.room.run(repair.main, ["room"])
+        assert ended.status == 0 and not cls.room.lacks(), (ended, cls.room.lacks())
+        cls.calls = ended.calls
+
+    @classmethod
+    def tearDownClass(cls) -> None:
+        cls.room.close()
+
+    def again(self, **environment: str) -> Ended:
+        return self.room.run(repair.main, ["room"], None, **environment)
+
+    def ended_at(self, watch: At) -> Ended:
+        damage(self.room)
+        return self.room.run(repair.main, ["room"], watch)
+
+    def points(self, first: int = 1, each: int = 1) -> Iterator[Tuple[int, str]]:
+        """Each call of a repair, before it and after it, or some of them: a call that follows is mostly alike."""
+        for number in range(first, len(self.calls) + 1, each):
+            for when in "before", "after":
+                yield number, when
+
+    def is_held(self, what: object, held: Set[bytes]) -> None:
+        self.assertFalse(held - self.room.contents(), (what, "is lost"))
+
+    def completes(self, what: object, ended: Ended) -> None:
+        self.assertEqual((ended.status, ended.last(), self.room.lacks()), (0, "complete", []), (what, ended))
+        self.assertFalse([name for name in os.listdir(self.room.folder) if "kept" in name], (what, ended))
+
+    def test_the_calls_of_a_repair_are_counted(self) -> None:
+        for call in "mkdir", "create", "write", "symlink", "rename", "fsync", "unlink", "rmdir", "syncfs":
+            self.assertIn(call, self.calls)
+        self.assertGreater(len(self.calls), 60)
+
+    def test_a_kill_at_each_call_loses_nothing_and_the_next_run_completes(self) -> None:
+        for point in self.points():
+            ended = self.ended_at(At(*point, KILLED))
+            self.assertEqual(ended.status, 137, point)
+            self.is_held(point, self.held)
+            again = self.again()
+            self.is_held(point, self.held)
+            self.completes(point, again)
+
+    def test_after_a_kill_a_run_that_cannot_repair_completes_or_undoes(self) -> None:
+        for point in self.points(2, 2):
+            self.ended_at(At(*point, KILLED))
+            again = self.again(WRONG="fails")
+            if again.status == 0:
+                self.completes(point, again)
+            else:
+                self.assertEqual((again.status, self.room.listing()), (5, self.before), (point, again))
+
+    def test_a_kill_inside_the_recovery_from_a_kill_loses_nothing(self) -> None:
+        made = 0
+        for point in self.points():
+            self.ended_at(At(*point, KILLED))
+            calls = len(self.again().calls)
+            for number in range(1, calls + 1):
+                for when in "before", "after":
+                    made += 1
+                    if made % EACH:
+                        continue
+                    self.ended_at(At(*point, KILLED))
+                    ended = self.room.run(repair.main, ["room"], At(number, when, KILLED))
+                    self.assertEqual(ended.status, 137, (point, number, when))
+                    self.is_held((point, number, when), self.held)
+                    self.completes((point, number, when), self.again())
+                    self.is_held((point, number, when), self.held)
+
+    def test_a_signal_at_each_call_leaves_all_as_it_was_or_comes_too_late(self) -> None:
+        for number, each in ((signal.SIGTERM, 1), (signal.SIGINT, 9), (signal.SIGHUP, 10)):
+            for point in self.points(each=each):
+                ended = self.ended_at(At(*point, rooms.ends_by(number)))
+                if ended.status == 0:
+                    self.completes(point, ended)
+                    self.is_held(point, self.held)
+                else:
+                    self.assertEqual((ended.status, ended.out, self.room.listing()), (128 + number, "", self.before),
+                                     (point, ended))
+                self.assertEqual(os.listdir(self.room.temporary), [], point)
+
+    def full(self, watch: At, what: object) -> None:
+        ended = self.ended_at(watch)
+        self.is_held(what, self.held)
+        if ended.status == 0:
+            self.completes(what, ended)
+            return
+        self.assertEqual((ended.status, ended.out), (6, ""), (what, ended))
+        self.assertIn("No space left", ended.said)
+        if rooms.STAGE not in self.room.listing():
+            self.assertEqual(self.room.listing(), self.before, (what, ended))
+        self.completes(what, self.again())
+        self.is_held(what, self.held)
+
+    def test_a_disk_that_is_full_once_at_each_call_loses_nothing(self) -> None:
+        for number in range(1, len(self.calls) + 1):
+            self.full(At(number, "before", FULL), number)
+
+    def test_a_disk_that_is_full_from_each_write_on_leaves_all_as_it_was(self) -> None:
+        made = sum(call in MAKING for call in self.calls)
+        for number in range(1, made + 1):
+            ended = self.ended_at(From(number, "before", FULL, MAKING))
+            self.assertEqual((ended.status, ended.out), (6, ""), (number, ended))
+            self.assertEqual(self.room.listing(), self.before, (number, ended))
+            self.completes(number, self.again())
+
+    def test_what_people_put_there_after_a_kill_is_kept(self) -> None:
+        names = [*WHOLE, "stray", "other", "notes.txt.1", "notes.txt.2", "report.doc.1"]
+        for point in self.points(1, 2):
+            self.ended_at(At(*point, KILLED))
+            for number, name in enumerate(names):
+                path = self.room.path(name)
+                if os.path.isdir(path):
+                    continue
+                with open(path, "ab") if os.path.isdir(os.path.dirname(path)) else open(os.devnull, "ab") as out:
+                    out.write(b"what people have written: %d" % number)
+            held = {data for name, (kind, data) in self.room.listing().items()
+                    if kind == stat.S_IFREG and not name.startswith(rooms.STAGE)}
+            again = self.again()
+            self.is_held((point, again), held)
+            self.completes(point, again)
+            self.is_held((point, again), held)
+
+    def test_what_people_put_in_place_of_files_after_a_kill_is_kept(self) -> None:
+        for point in self.points(2, 2):
+            self.ended_at(At(*point, KILLED))
+            for number, name in enumerate(sorted(self.room.listing())):
+                path = self.room.path(name)
+                if not name.startswith(rooms.STAGE) and os.path.isfile(path) and not name.endswith(".par2"):
+                    with open(path + ".new", "wb") as out:
+                        out.write(b"what people have put there: %d" % number)
+                    os.rename(path + ".new", path)
+            held = {data for data in self.room.contents() if data.startswith(b"what people")}
+            again = self.again()
+            self.is_held((point, again), held)
+            self.completes(point, again)
+
+
+if __name__ == "__main__":
+    unittest.main()

@@ -1,0 +1,298 @@
+"""What a repair meets in its folder: files that come while it moves others, what earlier runs and other people have
+left in place of its own folder, and journals that anyone may have made."""
+
+from __future__ import annotations
+
+import os
+import signal
+import unittest
+import unittest.mock
+from typing import Callable, List, Tuple
+
+from parv_commands import changes, journal, repair
+from parv_commands.folders import Identity
+from parv_commands.journal import Made, Move, Step
+
+from .rooms import KILLED, STAGE, At, Ended, Room, ends_by, read, write
+
+
+class Without:
+    """The C library without one of its calls, as an earlier one may be."""
+
+    def __init__(self, library: object, name: str) -> None:
+        self._library, self._name = library, name
+
+    def __getattr__(self, name: str) -> object:
+        if name == self._name:
+            raise AttributeError(name)
+        return getattr(self._library, name)
+
+
+FILES = {"first": b"first of all", "second": b"the second", "third": b"the third one"}
+
+
+class Moves(unittest.TestCase):
+    def setUp(self) -> None:
+        self.room = Room(FILES)
+        self.addCleanup(self.room.close)
+
+    def run_it(self, *words: str, watch: Callable[[str, str], None] = lambda call, when: None) -> Ended:
+        return self.room.run(repair.main, [*words, "room"], watch)
+
+    def turn(self) -> None:
+        """The names of the files go round, and the third is damaged."""
+        self.room.fresh()
+        self.room.rename("first", "x")
+        self.room.rename("second", "first")
+        self.room.rename("x", "second")
+        self.room.put("third", b"the thXrd one")
+
+    def completes(self, ended: Ended, what: object = "") -> None:
+        self.assertEqual((ended.status, ended.last(), self.room.lacks()), (0, "complete", []), (what, ended))
+
+    def identity(self, name: str) -> Identity:
+        now = os.stat(self.room.path(name))
+        return Identity(now.st_ino, now.st_size, now.st_mtime_ns)
+
+    def plant(self, steps: List[Step], owner: bool = True) -> None:
+        """A stage with these steps as its journal."""
+        for name in "files", "made", "aside":
+            os.makedirs(self.room.path(f"{STAGE}/{name}"))
+        if owner:
+            self.room.put(f"{STAGE}/owner", b"parv-repair 1 inode %d\n" % os.stat(self.room.path(STAGE)).st_ino)
+        self.room.put(f"{STAGE}/journal", journal.encoded(steps))
+
+    def test_a_file_that_comes_to_a_name_before_each_move_is_kept(self) -> None:
+        self.turn()
+        moves = self.run_it().calls.count("rename")
+        self.assertGreater(moves, 5)
+        for number in range(1, moves + 1):
+            self.turn()
+            before = self.room.contents()
+
+            def comes() -> None:
+                for name in "first", "second", "third", "third.1":
+                    if not os.path.lexists(self.room.path(name)):
+                        self.room.put(name, b"has come: " + name.encode())
+                        write(os.path.join(self.room.top, f"come{number}", name), b"has come: " + name.encode())
+            ended = self.run_it(watch=At(number, "before", comes, ["rename"]))
+            come = os.path.join(self.room.top, f"come{number}")
+            came = os.listdir(come) if os.path.isdir(come) else []
+            held = before | {read(os.path.join(come, name)) for name in came}
+            self.assertFalse(held - self.room.contents(), (number, ended))
+            self.assertIn(ended.status, (0, 6), (number, ended))
+            if ended.status == 6:
+                self.assertNotIn("complete", ended.out)
+            self.completes(self.run_it(), number)
+            self.assertFalse(held - self.room.contents(), number)
+
+    def test_a_file_that_is_changed_while_others_are_moved_is_not_taken(self) -> None:
+        for name in "first", "second", "third":
+            self.turn()
+
+            def changes() -> None:
+                with open(self.room.path(name), "ab") as out:
+                    out.write(b", changed")
+            ended = self.run_it(watch=At(1, "before", changes, ["rename"]))
+            self.assertEqual(ended.status, 6, ended)
+            self.assertIn("has changed meanwhile", ended.said)
+            self.assertTrue(any(data.endswith(b", changed") for data in self.room.contents()), name)
+            self.completes(self.run_it())
+            self.assertTrue(any(data.endswith(b", changed") for data in self.room.contents()), name)
+
+    def test_a_folder_that_becomes_a_link_leads_no_file_out(self) -> None:
+        room = Room({"sub/first": b"first of all", "sub/second": b"the second"})
+        self.addCleanup(room.close)
+        outside = os.path.join(room.top, "outside")
+        os.mkdir(outside)
+        for number in range(1, 12):
+            for when in "before", "after":
+                room.fresh()
+                room.rename("sub/first", "stray")
+                room.put("sub/second", b"the sXcond")
+                held = room.contents()
+
+                def becomes_link() -> None:
+                    os.rename(room.path("sub"), room.path("elsewhere"))
+                    os.symlink("../outside", room.path("sub"))
+                ended = room.run(repair.main, ["room"], At(number, when, becomes_link, ["rename", "mkdir", "fsync"]))
+                self.assertEqual(os.listdir(outside), [], (number, when, ended))
+                self.assertFalse(held - room.contents(), (number, when, ended))
+                if os.path.islink(room.path("sub")):
+                    self.assertNotEqual(ended.status, 0, (number, when, ended))
+                    self.assertNotIn("Traceback", ended.said)
+
+    def test_where_a_move_takes_two_calls_a_kill_between_them_loses_nothing(self) -> None:
+        with unittest.mock.patch.object(changes, "_libc", Without(changes._libc, "renameat2")):
+            self.turn()
+            held = self.room.contents()
+            calls = self.run_it().calls
+            self.assertNotIn("rename", calls)
+            self.assertGreater(calls.count("link"), 5)
+            for number in range(1, calls.count("link") + 1):
+                self.turn()
+                ended = self.run_it(watch=At(number, "after", KILLED, ["link"]))
+                self.assertEqual(ended.status, 137)
+                self.assertFalse(held - self.room.contents(), number)
+                self.completes(self.run_it(), number)
+                self.assertFalse(held - self.room.contents(), number)
+            for number in range(1, calls.count("link") + 1):
+                self.turn()
+                before = self.room.listing()
+                ended = self.run_it(watch=At(number, "after", ends_by(signal.SIGTERM), ["link"]))
+                self.assertEqual((ended.status, self.room.listing()), (143, before), (number, ended))
+
+    def test_a_long_journal_takes_no_time_for_each_pair_of_files(self) -> None:
+        gone = [Move(Identity(number, 1, 1), b"gone%d" % number, b"else%d" % number) for number in range(4000)]
+        away = [Move(Identity(1, 1, 1), b"from%d" % number, b"%s/aside/%d" % (STAGE.encode(), number))
+                for number in range(2000)]
+        self.plant([*gone, *away])
+        for number in range(2000):
+            self.room.put(f"{STAGE}/aside/{number}", b"mine %d" % number)
+        before = os.times()
+        self.completes(self.run_it())
+        after = os.times()
+        self.assertLess(after.children_user - before.children_user + after.children_system - before.children_system, 20)
+        self.assertEqual({read(self.room.path(f"from{number}")) for number in range(2000)},
+                         {b"mine %d" % number for number in range(2000)})
+
+    def test_a_planted_journal_moves_nothing_out_of_the_folder_or_through_a_link(self) -> None:
+        write(os.path.join(self.room.top, "outside"), b"outside")
+        os.mkdir(os.path.join(self.room.top, "other"))
+        for origin, target in ((b"mine", b"../taken"), (b"mine", b"/tmp/taken"), (b"../outside", b"taken"),
+                               (b"mine", b"way/taken"), (b"mine", b"a/../../taken"), (b"mine", b"./taken")):
+            self.room.fresh()
+            self.room.put("mine", b"mine")
+            os.symlink("../other", self.room.path("way"))
+            here = "mine" if origin == b"mine" else "../outside"
+            self.plant([Move(self.identity(here), origin, target), Made(b"../made"), Made(b"way/made")])
+            ended = self.run_it()
+            self.assertEqual(read(self.room.path("mine")), b"mine", (origin, target, ended))
+            self.assertEqual(sorted(os.listdir(self.room.top)),
+                             ["by-number", "calls", "other", "out", "outside", "par2", "room", "said", "tmp"])
+            self.assertEqual(os.listdir(os.path.join(self.room.top, "other")), [])
+            self.assertIn(ended.status, (0, 6))
+
+    def test_a_journal_moves_no_file_that_it_does_not_know(self) -> None:
+        self.room.put("mine", b"mine")
+        known = self.identity("mine")
+        for file in (known._replace(inode=known.inode + 1), known._replace(length=9), known._replace(changed=1)):
+            self.plant([Move(file, b"mine", b"taken")])
+            self.completes(self.run_it())
+            self.assertEqual(read(self.room.path("mine")), b"mine")
+
+    def test_a_stage_that_came_with_the_folder_loses_nothing(self) -> None:
+        self.turn()
+        self.plant([Move(Identity(1, 2, 3), b"report", b"%s/aside/1" % STAGE.encode())], owner=False)
+        self.room.put(f"{STAGE}/aside/1", b"the report")
+        self.room.put(f"{STAGE}/files/what", b"something else")
+        self.completes(self.run_it())
+        self.assertEqual(read(self.room.path("report")), b"the report")
+        self.assertEqual(read(self.room.path("parv-repair.kept.1/files/what")), b"something else")
+
+    def test_a_stage_of_another_folder_loses_nothing(self) -> None:
+        self.turn()
+        self.plant([Move(Identity(1, 2, 3), b"report", b"%s/aside/1" % STAGE.encode())])
+        self.room.put(f"{STAGE}/owner", b"parv-repair 1 inode 1\n")
+        self.room.put(f"{STAGE}/aside/1", b"the report")
+        self.room.put(f"{STAGE}/made/what", b"something else")
+        self.completes(self.run_it())
+        self.assertEqual(read(self.room.path("report")), b"the report")
+        self.assertEqual(read(self.room.path("parv-repair.kept.1/made/what")), b"something else")
+
+    def test_a_stage_with_a_file_of_somebody_else_is_kept(self) -> None:
+        self.turn()
+        self.plant([])
+        self.room.put(f"{STAGE}/mine", b"mine")
+        self.completes(self.run_it())
+        self.assertEqual(read(self.room.path("parv-repair.kept.1/mine")), b"mine")
+
+    def test_what_is_no_stage_or_no_journal_is_refused_with_what_to_do(self) -> None:
+        cases: List[Tuple[Callable[[], None], str]] = [
+            (lambda: os.symlink("../other", self.room.path(STAGE)), "remove it"),
+            (lambda: self.room.put(STAGE, b"a file"), "remove it"),
+            (lambda: self.room.put(f"{STAGE}/journal", b"no journal"), "move it out of the folder"),
+            (lambda: os.makedirs(self.room.path(f"{STAGE}/journal")), "move it out of the folder")]
+        for make, said in cases:
+            self.turn()
+            make()
+            before = self.room.listing()
+            ended = self.run_it()
+            self.assertEqual((ended.status, self.room.listing()), (6, before), ended)
+            self.assertIn(said, ended.said)
+
+    def test_a_trial_changes_nothing_where_a_run_was_ended(self) -> None:
+        self.turn()
+        self.run_it(watch=At(3, "before", KILLED, ["rename"]))
+        before = self.room.listing()
+        ended = self.run_it("--dry-run")
+        self.assertEqual((ended.status, self.room.listing()), (6, before), ended)
+        self.assertIn("by the next without --dry-run", ended.said)
+
+    def test_backups_are_not_removed_by_the_run_after_one_that_was_ended(self) -> None:
+        self.turn()
+        self.run_it("--remove-backups", watch=At(6, "after", KILLED, ["rename"]))
+        again = self.run_it("--remove-backups")
+        self.completes(again)
+        self.assertIn("removes nothing", again.said)
+        self.assertIn(b"the thXrd one", self.room.contents())
+
+    # What the script of version 0.4.0 has left.
+
+    def left(self, moves: List[bytes]) -> None:
+        for name in "files", "made", "aside":
+            os.makedirs(self.room.path(f".verify_and_repair/{name}"))
+        os.symlink("../../second", self.room.path(".verify_and_repair/files/second"))
+        if moves:
+            self.room.put(".verify_and_repair/moves", b"".join(each + b"\0" for each in moves))
+
+    def finishes(self, ended: Ended) -> None:
+        self.completes(ended)
+        self.assertIn("verify_and_repair.sh", ended.said)
+        self.assertFalse(os.path.lexists(self.room.path(".verify_and_repair")))
+
+    def test_moves_that_the_earlier_script_has_begun_are_finished(self) -> None:
+        for form in b"%d", b"%d/1.000000000 %d %d.%09d":
+            self.room.fresh()
+            self.left([])
+            self.room.rename("first", ".verify_and_repair/aside/0")
+            self.room.rename("second", "stray")
+
+            def node(name: str) -> bytes:
+                now = os.stat(self.room.path(name))
+                numbers = now.st_ino, now.st_size, now.st_mtime_ns // 10 ** 9, now.st_mtime_ns % 10 ** 9
+                return form % numbers[:1 if form == b"%d" else 4]
+            first, second = node(".verify_and_repair/aside/0"), node("stray")
+            self.room.put(".verify_and_repair/moves", b"".join(each + b"\0" for each in (
+                first, b"wrong", b".verify_and_repair/aside/0", b"", b"", b"sub",
+                first, b".verify_and_repair/aside/0", b"first", second, b"stray", b"second")))
+            self.finishes(self.run_it())
+
+    def test_an_earlier_script_that_had_moved_nothing_leaves_nothing(self) -> None:
+        self.turn()
+        self.left([])
+        self.finishes(self.run_it())
+
+    def test_what_an_earlier_script_has_made_is_kept(self) -> None:
+        self.left([])
+        self.room.put(".verify_and_repair/files/first", b"half of it")
+        ended = self.run_it()
+        self.finishes(ended)
+        self.assertEqual(read(self.room.path("verify_and_repair.kept.1/files/first")), b"half of it")
+        self.assertIn("may be removed", ended.said)
+
+    def test_a_list_that_cannot_be_read_is_refused_with_what_to_do(self) -> None:
+        cases: List[Callable[[], None]] = [lambda: os.mkfifo(self.room.path(".verify_and_repair/moves")),
+                                           lambda: self.room.put(".verify_and_repair/moves", b"a\0b\0c\0")]
+        for make in cases:
+            self.room.fresh()
+            self.left([])
+            make()
+            before = self.room.listing()
+            ended = self.run_it()
+            self.assertEqual((ended.status, self.room.listing()), (6, before), ended)
+            self.assertIn("move it out of the folder", ended.said)
+
+
+if __name__ == "__main__":
+    unittest.main()

@@ -1,0 +1,93 @@
+"""A rescue that is ended at each call that changes the disk: what was written stays, and the next run goes on to the
+end. Folders that the earlier script has left go on too."""
+
+from __future__ import annotations
+
+import os
+import shutil
+import unittest
+from typing import List, Optional
+
+from parv_commands import changes, rescue
+
+from .rooms import FULL, KILLED, MAKING, At, Ended, From, Room, read, write
+
+FILES = {"long": b"one slice and another one, and a short one", "in/a/folder": b"deep down below", "empty": b"",
+         "short": b"few"}
+WORDS = ["new", "room/set.par2", "image"]
+ALL = ["complete empty", "complete in/a/folder", "complete long", "complete short"]
+
+
+class Rescue(unittest.TestCase):
+    room: Room
+    calls: List[str]
+
+    @classmethod
+    def setUpClass(cls) -> None:
+        cls.room = Room(FILES)
+        image = b"some bytes before " + FILES["long"] + b" and " + FILES["in/a/folder"] + b" and " + FILES["short"]
+        write(os.path.join(cls.room.top, "image"), image)
+        cls.calls = cls.run_it().calls
+
+    @classmethod
+    def tearDownClass(cls) -> None:
+        cls.room.close()
+
+    @classmethod
+    def run_it(cls, watch: Optional[changes.Observer] = None, goes_on: bool = False) -> Ended:
+        for name in os.listdir(cls.room.temporary):
+            shutil.rmtree(os.path.join(cls.room.temporary, name))
+        if not goes_on:
+            shutil.rmtree(os.path.join(cls.room.top, "new"), ignore_errors=True)
+        return cls.room.run(rescue.main, ["--tails", *WORDS], watch)
+
+    def is_whole(self, ended: Ended, what: object) -> None:
+        self.assertEqual((ended.status, ended.said, sorted(ended.out.splitlines())[:4]), (0, "", ALL), (what, ended))
+        for name, data in FILES.items():
+            self.assertEqual(read(os.path.join(self.room.top, "new", name)), data, (what, name))
+
+    def test_the_calls_of_a_rescue_are_counted(self) -> None:
+        for call in "mkdir", "create", "write", "pwrite", "ftruncate", "fsync", "symlink", "unlink", "rmdir":
+            self.assertIn(call, self.calls)
+
+    def test_a_kill_at_each_call_and_the_next_run_goes_on(self) -> None:
+        for number in range(1, len(self.calls) + 1):
+            for when in "before", "after":
+                self.assertEqual(self.run_it(At(number, when, KILLED)).status, 137)
+                self.is_whole(self.run_it(goes_on=True), (number, when, self.calls[number - 1]))
+
+    def test_a_full_disk_from_each_call_on_is_told_and_the_next_run_goes_on(self) -> None:
+        for number in range(1, sum(call in MAKING for call in self.calls) + 1):
+            ended = self.run_it(From(number, "before", FULL, MAKING))
+            self.assertNotEqual(ended.status, 0, (number, ended))
+            self.assertIn("No space left", ended.said, number)
+            if ended.status != 1:       # (one file alone is refused if it can't have its length)
+                self.assertEqual((ended.status, ended.out), (6, ""), (number, ended))
+            self.is_whole(self.run_it(goes_on=True), number)
+
+    def test_a_file_of_somebody_else_is_not_taken_for_one_that_was_being_made(self) -> None:
+        for number, call in enumerate(self.calls, 1):
+            if call != "create":
+                continue
+            self.run_it(At(number, "before", KILLED))
+            place = os.path.join(self.room.top, "new", "long")
+            if os.path.isdir(os.path.dirname(place)) and not os.path.exists(place):
+                write(place, b"mine")
+                self.run_it(goes_on=True)
+                self.assertEqual(read(place), b"mine", number)
+
+    def test_a_folder_of_the_earlier_script_goes_on(self) -> None:
+        self.run_it()
+        record = os.path.join(self.room.top, "new", ".parv-rescue")
+        lines = read(record).decode().replace("parv-rescue 1", "extract_found 1").splitlines(True)
+        os.remove(record)
+        write(os.path.join(self.room.top, "new", ".extract_found"),
+              "".join(line for line in lines if not line.startswith("making")).encode())
+        ended = self.run_it(goes_on=True)
+        self.is_whole(ended, "the earlier record")
+        self.assertIn("copied now 0", ended.out)
+        self.assertFalse(os.path.exists(record))
+
+
+if __name__ == "__main__":
+    unittest.main()

@@ -1,0 +1,261 @@
+"""Exit statuses are true whatever fails: programs that aren't parv or par2, outputs and temporary folders that can't be
+written, more files or longer names than one command line has, and signals."""
+
+from __future__ import annotations
+
+import os
+import re
+import shutil
+import signal
+import subprocess
+import sys
+import time
+import unittest
+from typing import Dict, List, Optional, Tuple
+
+import parv_commands
+from parv_commands import repair
+from parv_commands.signals import SIGNALS
+
+from .rooms import PARV, Room, packet, set_of, write
+
+BIN = os.path.join(os.path.dirname(os.path.dirname(os.path.realpath(parv_commands.__file__ or ""))), "bin")
+REPAIR, RESCUE = os.path.join(BIN, "parv-repair"), os.path.join(BIN, "parv-rescue")
+FILES = {"first.txt": b"first of all", "second.txt": b"the second"}
+Ended = Tuple[int, str, str]
+
+
+def take_all_signals() -> None:
+    """Lets signals end a child, also if the tests run under nohup."""
+    for number in SIGNALS:
+        signal.signal(number, signal.SIG_DFL)
+
+
+class Statuses(unittest.TestCase):
+    def setUp(self) -> None:
+        self.room = Room(FILES)
+        self.addCleanup(self.room.close)
+        self.room.rename("first.txt", "stray")
+        self.room.take("second.txt")
+        self.before = self.room.listing()
+
+    def call(self, *words: str, shell: str = 'exec "$@"', **environment: str) -> Ended:
+        given = {**os.environ, "PARV": PARV, "PAR2": self.room.stand_in, "TMPDIR": self.room.temporary, **environment}
+        ended = subprocess.run(["bash", "-c", shell, "bash", *words], cwd=self.room.top, env=given, capture_output=True,
+                               timeout=120, stdin=subprocess.DEVNULL)
+        return ended.returncode, ended.stdout.decode(), ended.stderr.decode()
+
+    def both(self) -> List[List[str]]:
+        return [[REPAIR, "room"], [RESCUE, "new", "room/set.par2", "room/stray"]]
+
+    def program(self, name: str, text: str) -> str:
+        path = os.path.join(self.room.top, name)
+        write(path, text.encode())
+        os.chmod(path, 0o755)
+        return path
+
+    def fails(self, words: List[str], status: int, said: str, shell: str = 'exec "$@"', **environment: str) -> None:
+        ended = self.call(*words, shell=shell, **environment)
+        self.assertEqual((ended[0], ended[1]), (status, ""), (words, environment, ended))
+        self.assertRegex(ended[2], said)
+        self.assertNotIn("Traceback", ended[2])
+        self.assertEqual(self.room.listing(), self.before)
+        self.assertEqual(os.listdir(self.room.temporary), [])
+
+    def test_a_program_that_is_not_parv(self) -> None:
+        odd = {
+            "other": 'echo "set of spoons"', "binary": r"printf '\377\0\n'", "status": "exit 5", "usage": "exit 2",
+            "killed": "kill -SEGV $$", "cut": f'"{PARV}" "$@" | head -n 1', "early": f'"{PARV}" "$@" | head -c 40',
+            "packets": f'[ "$1" = packets ] || exec "{PARV}" "$@"; echo "packets 3"',
+            "verify": f'[ "$1" = verify ] || [ "$1" = find ] || exec "{PARV}" "$@"; exit 1',
+            "says": 'echo "parv: cannot open it" >&2; exit 4',
+        }
+        programs = ["/bin/true", "/bin/false", "/bin/echo", "/bin/cat", *(
+            self.program(name, f"#!/bin/bash\n{text}\n") for name, text in odd.items() if name != "says")]
+        for program in programs:
+            for words in self.both():
+                self.fails(words, 6, "^parv-re[a-z]*: .*(PARV|isn't parv|ended by signal|has ended)", PARV=program)
+        for words in self.both():
+            self.fails(words, 4, "cannot open it", PARV=self.program("says", f"#!/bin/bash\n{odd['says']}\n"))
+
+    def test_an_answer_without_end(self) -> None:
+        for words in self.both():
+            self.fails(words, 6, "writes more than an answer has", PARV=self.program("yes", "#!/bin/sh\nexec yes no\n"))
+
+    def test_a_program_that_is_not_par2(self) -> None:
+        for text, said in (("exit 0", "isn't complete"), ("exit 3", "status 3"), ("kill -SEGV $$", "signal 11"),
+                           ("exec nothing", "status 127")):
+            self.fails([REPAIR, "room"], 5, said, PAR2=self.program("odd", f"#!/bin/sh\n{text}\n"))
+        self.fails([REPAIR, "room"], 5, "cannot run none: put par2 in PATH", PAR2="none")
+
+    def test_closed_and_full_outputs(self) -> None:
+        for shell, why in (('exec "$@" > /dev/full', "No space left"), ('exec "$@" >&-', "it is closed"),
+                           ('exec "$@" <&- >&-', "it is closed")):
+            for words in ([REPAIR, "--dry-run", "room"], [REPAIR, "-h"], [RESCUE, "-h"]):
+                self.fails(words, 6, "cannot write standard output: " + why, shell)
+            ended = self.call(REPAIR, "room", shell=shell)
+            self.assertEqual((ended[0], self.room.lacks()), (6, []), ended)
+            ended = self.call(REPAIR, "room", shell=shell)
+            self.assertEqual(ended[0], 6, ended)
+            ended = self.call(RESCUE, "new", "room/set.par2", "room/first.txt", shell=shell)
+            self.assertEqual(ended[0], 6, ended)
+            self.assertIn("cannot write standard output: " + why, ended[2])
+            self.room.fresh()
+            self.room.rename("first.txt", "stray")
+            self.room.take("second.txt")
+
+    def test_a_closed_standard_error_changes_no_status(self) -> None:
+        for shell in 'exec "$@" 2>&-', 'exec "$@" 2> /dev/full':
+            self.assertEqual(self.call(REPAIR, "--dry-run", "room", shell=shell)[0], 1)
+            self.assertEqual(self.call(REPAIR, "none", shell=shell)[0], 6)
+
+    def test_a_temporary_folder_that_is_not_there_or_may_not_grow(self) -> None:
+        for words in self.both():
+            self.fails(words, 6, "cannot (open|make a temporary folder)", TMPDIR=os.path.join(self.room.top, "none"))
+        if os.getuid() or subprocess.run(["unshare", "--mount", "mount", "-t", "tmpfs", "tmpfs", self.room.temporary],
+                                         stderr=subprocess.DEVNULL).returncode:
+            self.skipTest("mounting isn't allowed here")
+        mounting = 'mount -t tmpfs -o size=4k,nr_inodes=%d tmpfs "$TMPDIR" || exit 99; exec "$@"'
+        for inodes in 1, 2, 3, 4:
+            for words in self.both():
+                said = "No space left" if words[0] == REPAIR or inodes < 4 else ""
+                ended = self.call("unshare", "--mount", "bash", "-c", mounting % inodes, "bash", *words)
+                self.assertIn(ended[0], (6,) if said else (1, 6), (inodes, ended))
+                self.assertIn(said, ended[2])
+                if ended[0] == 6:
+                    self.assertRegex(ended[2], "(make a link in|temporary folder in|write in) ")
+
+    def test_more_files_than_may_be_open_at_first(self) -> None:
+        for number in range(1100):
+            self.room.put(f"f{number}", b"")
+        ended = self.call(REPAIR, "--dry-run", "room", shell='ulimit -Sn 1024; exec "$@"')
+        self.assertEqual((ended[0], ended[2]), (1, ""), ended)
+        ended = self.call(shell=f'ulimit -Sn 1024; exec {RESCUE} new room/*')
+        self.assertEqual(ended[0], 1, ended)
+
+    def test_more_files_than_may_be_open_at_all(self) -> None:
+        for number in range(300):
+            self.room.put(f"f{number}", b"%d" % number)
+        ended = self.call(REPAIR, "--dry-run", "room", shell='ulimit -n 200; exec "$@"')
+        self.assertEqual(ended[0], 1, ended)
+        self.assertRegex(ended[2], "[0-9]+ of 301 files aren't looked at: parv takes 167 here")
+        self.assertIn("rename stray to first.txt", ended[1])
+        ended = self.call(REPAIR, "room", shell='ulimit -n 200; exec "$@"')
+        self.assertEqual((ended[0], self.room.lacks()), (0, []), ended)
+
+    def test_names_that_are_longer_than_a_command_line(self) -> None:
+        for number in range(9500):
+            write(self.room.path(f"{number:05}" + "n" * 240), b"")
+        ended = self.call(REPAIR, "room")
+        self.assertEqual((ended[0], ended[2], self.room.lacks()), (0, "", []), ended)
+
+    def test_relative_programs_and_parts_of_the_path(self) -> None:
+        for name in "parv", "par2":
+            for folder in "room", "tools":
+                self.program(f"{folder}/{name}", f"#!/bin/sh\necho {folder} >> {self.room.top}/run\nexit 9\n")
+        os.mkdir(os.path.join(self.room.top, "real"))
+        os.symlink(PARV, os.path.join(self.room.top, "real", "parv"))
+        ended = self.call(REPAIR, "--dry-run", "room", PARV="real/parv")
+        self.assertEqual(ended[0], 1, ended)
+        os.mkdir(os.path.join(self.room.folder, "real"))
+        shutil.copy(os.path.join(self.room.folder, "parv"), os.path.join(self.room.folder, "real"))
+        for path in (f":.:{self.room.top}/real:/usr/bin:/bin", "real:/usr/bin:/bin", ":/usr/bin:/bin:./real"):
+            given = {**os.environ, "PATH": path, "PAR2": "par2"}
+            del given["PARV"]
+            self.program("par2", "#!/bin/sh\nexit 3\n")
+            ran = subprocess.run([sys.executable, REPAIR, "room"], cwd=self.room.top, env=given, capture_output=True)
+            self.assertEqual(ran.returncode, 5, (path, ran))
+        self.assertFalse(os.path.exists(os.path.join(self.room.top, "run")))
+
+    # Signals while programs run.
+
+    def waits(self, name: str, command: str) -> str:
+        """A program that waits when it is called so, and notes its number."""
+        return self.program(name, f'#!/bin/bash\n{command} || exec "{PARV}" "$@"\necho $$ > {self.room.top}/waiting\n'
+                                  "exec sleep 60\n")
+
+    def ended_while(self, words: List[str], number: signal.Signals, all_of_them: bool,
+                    **environment: str) -> Tuple[int, bytes]:
+        """How a command ends by a signal once such a program waits, of which then nothing is left."""
+        place = os.path.join(self.room.top, "waiting")
+        given = {**os.environ, "PARV": PARV, "PAR2": self.room.stand_in, "TMPDIR": self.room.temporary, **environment}
+        process = subprocess.Popen(words, cwd=self.room.top, env=given, stdout=subprocess.PIPE,
+                                   stderr=subprocess.STDOUT, start_new_session=True, preexec_fn=take_all_signals)
+        child: Optional[int] = None
+        until = time.monotonic() + 30
+        while child is None and time.monotonic() < until:
+            time.sleep(0.02)
+            if os.path.exists(place):
+                with open(place, encoding="ascii") as file:
+                    text = file.read()
+                child = int(text) if text.endswith("\n") else None
+        assert child is not None
+        os.remove(place)
+        (os.killpg if all_of_them else os.kill)(process.pid, number)
+        out, _ = process.communicate(timeout=30)
+        for _ in range(100):
+            if not os.path.exists(f"/proc/{child}"):
+                break
+            time.sleep(0.02)
+        self.assertFalse(os.path.exists(f"/proc/{child}"), "the program goes on")
+        return process.returncode, out
+
+    def test_signals_end_the_programs_too_and_leave_nothing(self) -> None:
+        cases: List[Tuple[List[str], Dict[str, str]]] = [
+            ([REPAIR, "room"], {"PARV": self.waits("p1", '[ "$1" = packets ]')}),
+            ([REPAIR, "room"], {"PARV": self.waits("p2", '[ "$1" = verify ]')}),
+            ([REPAIR, "room"], {"PAR2": self.waits("p3", "true")}),
+            ([RESCUE, "new", "room/set.par2", "room/stray"], {"PARV": self.waits("p4", '[ "$1" = find ]')}),
+        ]
+        for number in signal.SIGTERM, signal.SIGHUP, signal.SIGINT:
+            for all_of_them in False, True:
+                for words, environment in cases:
+                    status, out = self.ended_while(words, number, all_of_them, **environment)
+                    self.assertEqual((status, out), (128 + number, b""), (words, number, all_of_them))
+                    self.assertEqual(os.listdir(self.room.temporary), [])
+                    self.assertEqual(self.room.listing(), self.before)
+
+    def test_a_program_ends_when_the_command_is_killed(self) -> None:
+        status, _ = self.ended_while([REPAIR, "room"], signal.SIGKILL, False, PAR2=self.waits("p5", "true"))
+        self.assertEqual(status, -signal.SIGKILL)
+
+
+class Packets(unittest.TestCase):
+    """What par2 gets."""
+
+    def setUp(self) -> None:
+        self.room = Room(FILES)
+        self.addCleanup(self.room.close)
+        self.room.take("second.txt")
+
+    def names_in(self, packets: bytes) -> List[bytes]:
+        return sorted(re.findall(rb"FileDesc.{56}([^\0]+)", packets, re.S))
+
+    def test_par2_gets_no_name_of_the_set_and_no_packet_that_parv_has_not_chosen(self) -> None:
+        owner = self.room.packets[32:48]
+        evil = set_of({b"../../../evil": b"evil"}, 8, 1)
+        at = evil.index(b"FileDesc") - 56
+        forged = packet(owner, b"PAR 2.0\0FileDesc", evil[at + 64:at + 64 + 72])
+        # Of the file that is missing, with a name that parv puts aside and par2 reads up to its zero byte.
+        own = self.room.packets.index(b"second.txt")
+        aside = packet(owner, b"PAR 2.0\0FileDesc", self.room.packets[own - 56:own] + b"../../evil\0more.")
+        self.room.put("set.par2", forged + aside + self.room.packets + evil)
+        self.room.put("a.par2", evil + self.room.packets)
+        packets = self.given_for(owner.hex())
+        self.assertEqual(self.names_in(packets), [b"file0", b"file1"])
+        self.assertNotIn(b"evil", packets)
+        self.assertNotIn(evil[32:48], packets)
+        self.assertEqual(packets.count(b"RecvSlic"), 20)
+        self.assertEqual(packets.count(b"PAR 2.0\0Main"), 1)
+
+    def given_for(self, owner: str) -> bytes:
+        keeps = os.path.join(self.room.top, "keeps")
+        write(keeps, f"#!/bin/sh\ncp set.par2 {self.room.top}/given\nexit 3\n".encode())
+        os.chmod(keeps, 0o755)
+        self.room.run(repair.main, ["--set", owner, "room"], None, PAR2=keeps)
+        with open(os.path.join(self.room.top, "given"), "rb") as file:
+            return file.read()
+
+
+if __name__ == "__main__":
+    unittest.main()
