@@ -11,6 +11,14 @@ The gate: every proof from nothing, every wrong body and test, then checks of th
 From nothing it takes up to two hours on four processors. The log is $log.
 END
 
+# How many crates `rt ci` works on at once: one a processor, if each can have 5 GB. Without a number
+# it goes by a guess of their memory, which is three times what they take, and then runs two.
+available=$(awk '/^MemAvailable:/ { print int($2 / 5000000) }' /proc/meminfo)
+most=$(nproc)
+[ "${available:-1}" -lt "$most" ] && most=${available:-1}
+[ "$most" -ge 1 ] || most=1
+export RT_JOBS=${RT_JOBS:-$most}
+
 # What an earlier run left would be taken for what was proved now.
 rm -f crates/parv/out/parv crates/*/out/*_tests
 rt ci | tee -a "$log"
