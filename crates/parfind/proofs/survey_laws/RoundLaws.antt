@@ -8,6 +8,7 @@ use Rattle.std.proofs.lemmas.List.{get_or_past}
 use Rattle.std.proofs.lemmas.Option.{slice_get-get_or, slice_get_past, slice_get_within, same_Some}
 use Rattle.parset.specs.declared.recovery_set.SetSlice.{SetSlice}
 use Rattle.parshelf.specs.Shelf.{ShelfState, ReadsAs}
+use Rattle.parshelf.specs.Reads.{ReadsOnly}
 use Rattle.parwindow.specs.Index.{IsSliceSet, SliceSet, has_known_sums, has_own, set_has_fit, has_fit_of, slice_passes, tails_of}
 use Rattle.parwindow.specs.Missing.{found_at, missing_set}
 use Rattle.parfind.specs.declared.cursors.sighting.Sighting.{Sighting}
@@ -129,6 +130,13 @@ skips_if : (whole part : SliceSet) (old new : ShelfState) → ((left : ℕ) → 
 skips_if whole part old new fewer skips f none =
     skips f (false_from_ne_true _ (λ fits. let both : true ≡ false = sym (fewer (slice_index old.lengths f) fits) ∙ none in cc))
 
+-- those that are found stay found, also past the last slice
+pub kept_each : (was now : List Bool) → KeepsFound was now → (n : ℕ) → found_at was n ≡ true → found_at now n ≡ true
+kept_each was now kept n had = elim (cases_lt n (length was)) [
+  | inl less ↦ kept n less had
+  | inr past ↦ let both : false ≡ true = sym (get_or_past was n false past) ∙ had in cc
+]
+
 module _ (set : SliceSet) (found : List Bool) (each : length found ≡ length set.slices) where
   -- what fits of a part fits of all
   pub fits_of_part : (lost : List Bool) → length lost ≡ length set.slices → FitsAlso (missing_set (missing_set set lost) found) (missing_set set found)
@@ -152,6 +160,14 @@ module _ (set : SliceSet) (found : List Bool) (each : length found ≡ length se
   pub skips_later : (later : List Bool) → length later ≡ length set.slices → ((n : ℕ) → found_at found n ≡ true → found_at later n ≡ true)
       → (old new : ShelfState) → SkipsUnfit (missing_set set later) old new → SkipsUnfit (missing_set set found) old new
   skips_later later also kept old new = skips_if (missing_set set found) (missing_set set later) old new (fits_sooner later also kept)
+
+  -- so what neither of two calls reads, for what is missing at each, both don't read for what was missing at first
+  pub skips_twice : (later : List Bool) → length later ≡ length set.slices → KeepsFound found later → (old mid new : ShelfState) → ReadsOnly old mid
+      → SkipsUnfit (missing_set set found) old mid → SkipsUnfit (missing_set set later) mid new → SkipsUnfit (missing_set set found) old new
+  skips_twice later also kept old mid new only first second f none =
+      let lengths = ap (λ (v : ShelfState). v.lengths) only.counts in
+      let after = skips_later later also (kept_each found later kept) mid new second f (rw lengths none) in
+      omega (arith, first f none, after)
 
 -- a filter after a filter
 filter_twice : (p r q : ℕ → Bool) (xs : List ℕ) → ((x : ℕ) → Has xs x → p x ≡ true → r x ≡ q x) → ((x : ℕ) → q x ≡ true → p x ≡ true)
@@ -360,10 +376,3 @@ filter_all r (x ∷ xs) all = rw (all x (inl refl), filter_all r xs (λ y has. a
 -- the tails of a set are its tails
 pub tails_of_whole : (set : SliceSet) → filter (λ own. list_any (λ tail. tail == own) (tails_of set)) (tails_of set) ≡ tails_of set
 tails_of_whole set = filter_all _ (tails_of set) (λ x has. has_any (λ tail. tail == x) (tails_of set) x has (eq-eqb x x refl))
-
--- those that are found stay found, also past the last slice
-pub kept_each : (was now : List Bool) → KeepsFound was now → (n : ℕ) → found_at was n ≡ true → found_at now n ≡ true
-kept_each was now kept n had = elim (cases_lt n (length was)) [
-  | inl less ↦ kept n less had
-  | inr past ↦ let both : false ≡ true = sym (get_or_past was n false past) ∙ had in cc
-]

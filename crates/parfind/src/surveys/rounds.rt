@@ -43,10 +43,8 @@ pub(crate) fn survey_twice<H: Shelf>(
     let tails = WaitingTails::new(alloc, size, index.tail_lengths())?;
     let mut window = Window::new(alloc, size)?;
     look_for_full(alloc, index, shelf, &mut window, found)?;
-    match look_for_rest(alloc, index, tails, shelf, &mut window, found) {
-        Ok(()) => Ok(()),
-        Err((file, fault)) => Err(SurveyFault::Read(file, fault)),
-    }
+    look_for_rest(alloc, index, tails, shelf, &mut window, found)?;
+    Ok(())
 }
 
 // The first round.
@@ -79,21 +77,15 @@ fn look_for_full<H: Shelf>(
     let lost = left_out(alloc, index, found, true)?;
     let whole = index.missing(alloc, &lost)?;
     let mut short = Short::of(alloc, index)?;
-    let mut none = Smaller {
-        index: None,
-        left_out: 0,
-        alloc: None,
-    };
     let sought = Sought {
         index: &whole,
         mode: Mode::Plain,
     };
+    let mut none = Smaller::none();
     let answer = survey_by(&sought, &mut none, shelf, window, found, &mut short);
     short.note(found);
-    match answer {
-        Ok(()) => Ok(()),
-        Err((file, fault)) => Err(SurveyFault::Read(file, fault)),
-    }
+    answer?;
+    Ok(())
 }
 
 // The second round, if a short slice is left: by those of these tails that such a slice has. If
@@ -166,18 +158,13 @@ fn look_by<H: Shelf>(
     let mut kept = tails;
     kept.keep_those_of(index);
     window.look_by(kept);
-    let mut none = Smaller {
-        index: None,
-        left_out: 0,
-        alloc: None,
-    };
     let sought = Sought {
         index,
         mode: Mode::Tails,
     };
     survey_by(
         &sought,
-        &mut none,
+        &mut Smaller::none(),
         shelf,
         window,
         found,

@@ -1,4 +1,4 @@
-ghost use Rattle.std.specs.Prelude.{◌≡◌, length, false};
+ghost use Rattle.std.specs.Prelude.{◌≡◌, length, false, None};
 ghost use Rattle.parfind.specs.Smaller.{IsPart, part_of};
 ghost use Rattle.parfind.specs.declared.tracks.mode.Mode.TheVariants.{Tails};
 
@@ -18,6 +18,17 @@ pub struct Smaller {
 }
 
 impl Smaller {
+    /// No smaller index, and none is made.
+    pub fn none() -> Smaller
+        ensures { result.index ≡ None }
+    {
+        Smaller {
+            index: None,
+            left_out: 0,
+            alloc: None,
+        }
+    }
+
     /// This index, or that of all slices, if there is none.
     pub fn or<'a>(&'a self, all: &'a Index) -> &'a Index
         ensures { result.now ≡ part_of all.now self.now.index }

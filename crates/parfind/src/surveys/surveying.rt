@@ -7,7 +7,7 @@ ghost use Rattle.parfind.specs.Surveys.{SurveyFinds, FindsUpToFault, KeepsFound,
 ghost use Rattle.parwindow.specs.Missing.{missing_set};
 ghost use Rattle.parfind.specs.Smaller.{IsPart, part_of};
 ghost use Rattle.parfind.specs.Sought.{HasFewTails, IsWindowFor, sought_of};
-ghost use Rattle.parfind.specs.declared.surveys.surveying.SurveyFault.TheVariants.{Memory};
+ghost use Rattle.parfind.specs.declared.surveys.surveying.SurveyFault.TheVariants.{Memory, Read};
 ghost use Rattle.parfind.specs.declared.tracks.mode.Mode.TheVariants.{Plain};
 
 use crate::surveys::rounds::survey_twice;
@@ -36,6 +36,14 @@ impl From<AllocError> for SurveyFault {
 
     fn from(_error: AllocError) -> SurveyFault {
         SurveyFault::Memory
+    }
+}
+
+impl From<(u32, ReadFault)> for SurveyFault {
+    ghost from_gives = { λ named fault. fault ≡ Read named.0 named.1 };
+
+    fn from(named: (u32, ReadFault)) -> SurveyFault {
+        SurveyFault::Read(named.0, named.1)
     }
 }
 
@@ -134,10 +142,8 @@ fn survey_once<H: Shelf>(
     };
     let mut window = Window::new(alloc, index.size() as usize)?;
     let mut short = Short::nowhere(index);
-    match survey_by(&sought, smaller, shelf, &mut window, found, &mut short) {
-        Ok(()) => Ok(()),
-        Err((file, fault)) => Err(SurveyFault::Read(file, fault)),
-    }
+    survey_by(&sought, smaller, shelf, &mut window, found, &mut short)?;
+    Ok(())
 }
 
 /// Finds each slice of the set that has a sighting, as `survey` does, by a window that is handed in
@@ -181,18 +187,12 @@ pub fn survey_in<H: Shelf>(
       digests = window.new.digests;
     } }
 {
-    let mut none = Smaller {
-        index: None,
-        left_out: 0,
-        alloc: None,
-    };
-    let mut short = Short::nowhere(index);
     survey_by(
         &Sought { index, mode },
-        &mut none,
+        &mut Smaller::none(),
         shelf,
         window,
         found,
-        &mut short,
+        &mut Short::nowhere(index),
     )
 }
