@@ -125,67 +125,11 @@ fn look_ahead(
 {
     let mut passed = limit;
     for k in 0..tails.len() {
-        passed = match places {
-            Some(places) => look_ahead_by(tails, k, index, places, passed),
-            None => look_ahead_alone(tails, k, index, stream, passed),
-        };
+        let roll = TailSlices::new(index, &tails[k]).roll_ahead(stream, places, passed);
+        set_ahead(tails, k, roll.register);
+        passed = roll.passed();
     }
     passed
-}
-
-// How many places this tail passes.
-fn look_ahead_alone(
-    tails: &mut [Tail],
-    first: usize,
-    index: &Index,
-    stream: &Stream<'_>,
-    limit: usize,
-) -> usize
-    requires tails { All (IsTail (length (window_bytes stream.now)) (window_bytes stream.now)) tails.old }
-    requires there { first < length tails.old }
-    requires sized { length (window_bytes stream.now) ≡ index.now.slice_size }
-    requires within { limit ≤ length stream.now.bytes.now }
-    ensures lengths { tail_lengths_of tails.new ≡ tail_lengths_of tails.old }
-    ensures each { All (IsTail (length (window_bytes stream.now)) (window_bytes stream.now)) tails.new }
-    ensures within { result ≤ limit }
-    ensures before { (k : ℕ) (d : Tail) → k < first
-        → get_or tails.new k d ≡ get_or tails.old k d }
-    ensures passed { result ≡ length stream.now.bytes.now → (k : ℕ) (d : Tail) → first ≤ k
-        → k < first + 1
-        → HasPassed index.now (window_bytes stream.now) stream.now.bytes.now (get_or tails.new k d) }
-{
-    let roll = TailSlices::new(index, &tails[first]).roll_along(stream, limit);
-    set_ahead(tails, first, roll.register);
-    roll.passed()
-}
-
-// The same by a running register.
-fn look_ahead_by(
-    tails: &mut [Tail],
-    first: usize,
-    index: &Index,
-    places: &Places<'_, '_>,
-    limit: usize,
-) -> usize
-    requires tails { All (IsTail (length (window_bytes places.now.stream))
-        (window_bytes places.now.stream)) tails.old }
-    requires there { first < length tails.old }
-    requires sized { length (window_bytes places.now.stream) ≡ index.now.slice_size }
-    requires within { limit ≤ length places.now.stream.bytes.now }
-    requires along { AreAlong places.now }
-    ensures lengths { tail_lengths_of tails.new ≡ tail_lengths_of tails.old }
-    ensures each { All (IsTail (length (window_bytes places.now.stream))
-        (window_bytes places.now.stream)) tails.new }
-    ensures within { result ≤ limit }
-    ensures before { (k : ℕ) (d : Tail) → k < first
-        → get_or tails.new k d ≡ get_or tails.old k d }
-    ensures passed { result ≡ length places.now.stream.bytes.now → (k : ℕ) (d : Tail) → first ≤ k
-        → k < first + 1 → HasPassed index.now (window_bytes places.now.stream)
-        places.now.stream.bytes.now (get_or tails.new k d) }
-{
-    let roll = TailSlices::new(index, &tails[first]).roll_by(places, limit);
-    set_ahead(tails, first, roll.register);
-    roll.passed()
 }
 
 // Notes a register that is ahead of a tail.

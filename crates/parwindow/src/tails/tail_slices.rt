@@ -19,7 +19,7 @@ pub struct TailSlices<'a> {
 }
 
 impl<'a> TailSlices<'a> {
-    ghost use Rattle.std.specs.Prelude.{ℕ, ◌-◌, ◌≤◌, IsTrue, length};
+    ghost use Rattle.std.specs.Prelude.{ℕ, ◌-◌, ◌≤◌, IfSome, IsTrue, length};
     ghost use Rattle.std.specs.Int.{bit_at};
     ghost use Rattle.parwindow.specs.Ahead.{window_bytes, is_tail_register, own_register};
     ghost use Rattle.parwindow.specs.Places.{ended_register};
@@ -38,8 +38,31 @@ impl<'a> TailSlices<'a> {
     }
 
     /// Rolls the tail's register along a stream, up to a place or to the first one where it is one
-    /// of them.
-    pub fn roll_along(&self, stream: &Stream<'_>, limit: usize) -> Roll
+    /// of them: by the running registers at its places, if there are any.
+    pub fn roll_ahead(
+        &self,
+        stream: &Stream<'_>,
+        places: Option<&Places<'_, '_>>,
+        limit: usize,
+    ) -> Roll
+        requires tail { IsTail (length (window_bytes stream.now)) (window_bytes stream.now)
+            self.now.tail.now }
+        requires within { limit ≤ length stream.now.bytes.now }
+        requires places { IfSome places (λ places. (places.now.stream ≡ stream.now)
+            × AreAlong places.now) }
+        ensures { StopsAt
+            (λ register. IsTrue (is_tail_register self.now.index.now self.now.tail.now register))
+            (own_register self.now.tail.now.length (window_bytes stream.now) stream.now.bytes.now)
+            limit result }
+    {
+        match places {
+            Some(places) => self.roll_by(places, limit),
+            None => self.roll_along(stream, limit),
+        }
+    }
+
+    // The same by the tail's register alone.
+    fn roll_along(&self, stream: &Stream<'_>, limit: usize) -> Roll
         requires tail { IsTail (length (window_bytes stream.now)) (window_bytes stream.now)
             self.now.tail.now }
         requires within { limit ≤ length stream.now.bytes.now }
@@ -68,8 +91,8 @@ impl<'a> TailSlices<'a> {
         roll
     }
 
-    /// The same by the running registers at the places of the stream.
-    pub fn roll_by(&self, places: &Places<'_, '_>, limit: usize) -> Roll
+    // The same by the running registers at the places of the stream.
+    fn roll_by(&self, places: &Places<'_, '_>, limit: usize) -> Roll
         requires tail { IsTail (length (window_bytes places.now.stream))
             (window_bytes places.now.stream) self.now.tail.now }
         requires within { limit ≤ length places.now.stream.bytes.now }
