@@ -1,5 +1,5 @@
 -- Bytes are pushed into a full window: its register at each place, and where it stops.
-use Rattle.std.proofs.Common.{◌≡◌, ℕ, ◌+◌, ◌-◌, ◌<◌, ◌≤◌, List, [], ◌∷◌, ◌++◌, length, take, drop, get_or, true, false, Bool, refl, sym, ap, ◌∙◌, arith, add-one, add-zero, append_assoc, length-append, length-drop, length-take, drop-cons, get_or-drop, min, nat_eq, eq-eqb}
+use Rattle.std.proofs.Common.{◌≡◌, ℕ, ◌+◌, ◌-◌, ◌<◌, ◌≤◌, List, [], ◌∷◌, ◌++◌, length, take, drop, get_or, true, false, refl, sym, ap, ◌∙◌, arith, add-one, add-zero, append_assoc, length-append, length-drop, length-take, drop-cons, get_or-drop, min, nat_eq, eq-eqb}
 use Rattle.std.proofs.lemmas.List.{take_more, take-append-drop, get_or_append_left, get_or-append-add, drop-append-le, append-nil, drop-drop}
 use Rattle.std.specs.Int.Bits.{bit_xor}
 use Rattle.parwindow.specs.Crc32.{register_after, register_of, removal_of}
@@ -158,45 +158,38 @@ back_part Has front back bytes n a b full first missed short second =
           (back_goes front back bytes n a.register full within is) moved),
     )
 
-pub bytes_part : (Has : ℕ → Type 0) (front back bytes : List ℕ) (n ca cb register : ℕ) (hit : Bool)
-    (s : Roll)
+pub bytes_part : (Has : ℕ → Type 0) (front back bytes : List ℕ) (n : ℕ) (a b : Roll)
     → length (front ++ back) ≡ n + 1
-    → length front ≤ length bytes → ca ≡ length front
+    → length front ≤ length bytes
     → StopsAt Has (λ k. register_of (pushed_content (front ++ back) bytes k))
-    (length front + min (length back) (length bytes - length front))
-    (record { count = ca + cb; register = register; hit = hit })
-    → hit ≡ false → ¬ (cb ≡ length (drop ca bytes))
-    → StopsAt Has (rolled_over n register bytes (drop cb (drop ca bytes)))
-    (min (length bytes) (length (drop cb (drop ca bytes)))) s
+    (length front + min (length back) (length bytes - length front)) a
+    → a.hit ≡ false → ¬ (a.count ≡ length bytes)
+    → StopsAt Has (rolled_over n a.register bytes (drop a.count bytes))
+    (min (length bytes) (length (drop a.count bytes))) b
     → StopsAt Has (λ k. register_of (pushed_content (front ++ back) bytes k)) (length bytes)
-    (record { count = ca + cb + s.count; register = s.register; hit = s.hit })
-bytes_part Has front back bytes n ca cb register hit s full within there before missed short third =
-    let whole : ca + cb ≡ length front + min (length back) (length bytes - length front) =
+    (record { count = a.count + b.count; register = b.register; hit = b.hit })
+bytes_part Has front back bytes n a b full within before missed short third =
+    let whole : a.count ≡ length front + min (length back) (length bytes - length front) =
     (before.ended missed).0 in
-    let rest : length (drop ca bytes) ≡ length bytes - ca = length-drop ca bytes in
-    let all : ca + cb ≡ length (front ++ back) = omega (arith, length-append front back) in
+    let all : a.count ≡ length (front ++ back) = omega (arith, length-append front back) in
     let sum : length front + min (length back) (length bytes - length front)
     ≡ length (front ++ back) = omega arith in
-    let dropped : drop cb (drop ca bytes) ≡ drop (length (front ++ back)) bytes =
-    drop-drop cb ca bytes ∙ ap (λ m. drop m bytes) all in
     let enough : length (front ++ back) ≤ length bytes = omega arith in
     let left : min (length bytes) (length (drop (length (front ++ back)) bytes))
     ≡ length bytes - length (front ++ back) =
     omega (arith, length-drop (length (front ++ back)) bytes) in
-    let is : register ≡ register_of (pushed_content (front ++ back) bytes (length (front ++ back))) =
-    before.register ∙ ap (λ m. register_of (pushed_content (front ++ back) bytes m)) all in
-    let moved = rw (dropped, left) at third in
+    let is : a.register ≡ register_of (pushed_content (front ++ back) bytes (length (front ++ back)))
+    = before.register ∙ ap (λ m. register_of (pushed_content (front ++ back) bytes m)) all in
+    let moved = rw (all, left) at third in
     let summed = rw sum at before in
     let total : length (front ++ back) + (length bytes - length (front ++ back)) ≡ length bytes =
     omega arith in
     let result = joined Has (λ k. register_of (pushed_content (front ++ back) bytes k))
-    (length (front ++ back))
-    (length bytes - length (front ++ back))
-    (record { count = ca + cb; register = register; hit = hit }) s missed summed
+    (length (front ++ back)) (length bytes - length (front ++ back)) a b missed summed
     (along Has (λ k. register_of (pushed_content (front ++ back) bytes (length (front ++ back) + k)))
-    (rolled_over n register bytes (drop (length (front ++ back)) bytes))
-    (length bytes - length (front ++ back)) s (bytes_go (front ++ back)
-    bytes n register full enough is) moved) in
+    (rolled_over n a.register bytes (drop (length (front ++ back)) bytes))
+    (length bytes - length (front ++ back)) b (bytes_go (front ++ back)
+    bytes n a.register full enough is) moved) in
     rw total at result
 
 -- one push more, and one byte more of those that come

@@ -124,17 +124,12 @@ impl WideTables {
         }
         let rest = &bytes[first.count..];
         let second = self.roll_until(index, back, rest, first.register);
-        if second.hit || second.count == rest.len() {
-            return Roll {
-                count: first.count + second.count,
-                ..second
-            };
+        let both = first.then(second);
+        if second.hit || both.count == bytes.len() {
+            return both;
         }
-        let last = &rest[second.count..];
-        let third = self.roll_until(index, bytes, last, second.register);
-        Roll {
-            count: first.count + second.count + third.count,
-            ..third
-        }
+        let last = &bytes[both.count..];
+        let third = self.roll_until(index, bytes, last, both.register);
+        both.then(third)
     }
 }

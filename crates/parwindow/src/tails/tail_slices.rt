@@ -80,10 +80,7 @@ impl<'a> TailSlices<'a> {
                 .tail
                 .tables
                 .roll_until(self, &gone[..most], come, roll.register);
-            roll = Roll {
-                count: roll.count + next.count,
-                ..next
-            };
+            roll = roll.then(next);
             if roll.hit {
                 return roll;
             }
@@ -141,8 +138,8 @@ impl<'a> TailSlices<'a> {
         Roll::missed(limit, self.register_at(fronts, ends, limit - 1))
     }
 
-    // A bit for each of sixteen places, which is set if the low byte of the register there is that of a
-    // slice's: nearly always none.
+    // A bit for each of sixteen places, which is set if the low byte of the register there is that
+    // of a slice's: nearly always none.
     #[inline(always)]
     fn marks(&self, fronts: &Nibbles, ends: &[u32], at: usize) -> u64
         requires fronts { at + 16 ≤ 528 }

@@ -1,5 +1,6 @@
-use Rattle.std.proofs.Common.{true, ◌≡◌, ◌+◌, ◌⊎◌, length, min, ◌-◌, ◌≤◌, ap, ◌∙◌, inl, inr, arith, drop, length-drop}
+use Rattle.std.proofs.Common.{true, ◌≡◌, ◌+◌, ◌⊎◌, length, min, ◌-◌, ◌≤◌, sym, ap, ◌∙◌, inl, inr, arith}
 use Rattle.parwindow.specs.Rolling.{HasRegister}
+use Rattle.parwindow.specs.declared.rolling.roll.Roll.{Roll}
 use Rattle.parwindow.proofs.rolling_laws.RollOverLaws.{front_part, back_part, bytes_part}
 use Rattle.parwindow.proofs.ListLaws.{rest_is}
 use Rattle.parwindow.proofs.rolling_laws.RollUntilLaws.{arrived}
@@ -40,28 +41,26 @@ returns-then-second c =
     ⊎ (a.count + c.roll_until-second.result.count ≡ length bytes) =
     elim c.then-second.either [
       | inl hit ↦ inl hit
-      | inr whole ↦
-          let rest = ap length (rest_is bytes a.count) ∙ length-drop a.count bytes in
-          let count = whole.1 in
-          inr (omega (arith, rest, count))
+      | inr whole ↦ inr (sym (ap (λ (r : Roll). r.count) c.then-both.ensures) ∙ whole.1)
     ] in
-    arrived (HasRegister c.args.index.now) _ _ _ _ second.2 either within
+    rw c.then-both.ensures
+    (arrived (HasRegister c.args.index.now) _ _ _ _ second.2 either within)
 
 pub returns : goal.returns
 returns c =
     let bytes = c.args.bytes.now in
     let a = c.roll_until-first.result in
-    let b = c.roll_until-second.result in
+    let both = c.then-both.result in
+    let is = c.then-both.ensures in
     let first = front_part (HasRegister c.args.index.now) c.args.front.now c.args.back.now bytes
     c.args.self.now.narrow.others c.args.start a
     c.requires.full c.requires.start c.roll_until-first.ensures in
     let second = back_part (HasRegister c.args.index.now) c.args.front.now c.args.back.now bytes
-    c.args.self.now.narrow.others a b
+    c.args.self.now.narrow.others a c.roll_until-second.result
     c.requires.full first c.if-first.false c.if-first-bytes.false
     (rw (rest_is bytes a.count) at c.roll_until-second.ensures) in
-    bytes_part (HasRegister c.args.index.now) c.args.front.now
-    c.args.back.now bytes c.args.self.now.narrow.others
-    a.count b.count b.register b.hit c.roll_until-third.result
-    c.requires.full second.1 second.0 second.2 c.if-second.false
-    (rw (rest_is bytes a.count) at c.if-second-rest.false)
-    (rw (rest_is bytes a.count, rest_is (drop a.count bytes) b.count) at c.roll_until-third.ensures)
+    rw c.then.ensures
+    (bytes_part (HasRegister c.args.index.now) c.args.front.now c.args.back.now bytes
+    c.args.self.now.narrow.others both c.roll_until-third.result c.requires.full second.1
+    (rw is second.2) (ap (λ (r : Roll). r.hit) is ∙ c.if-second.false) c.if-both-bytes.false
+    (rw (rest_is bytes both.count) at c.roll_until-third.ensures))

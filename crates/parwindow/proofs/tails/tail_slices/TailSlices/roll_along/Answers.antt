@@ -1,5 +1,6 @@
-use Rattle.std.proofs.Common.{◌≤◌, length, inl, arith, IsTrue}
+use Rattle.std.proofs.Common.{◌≤◌, ◌∙◌, ap, sym, length, inl, arith, IsTrue}
 use Rattle.parwindow.specs.Ahead.{window_bytes, is_tail_register}
+use Rattle.parwindow.specs.declared.rolling.roll.Roll.{Roll}
 use Rattle.parwindow.proofs.tail_laws.RollAlongLaws.{one_piece}
 use Rattle.parwindow.proofs.rolling_laws.RollUntilLaws.{arrived}
 use Rattle.parwindow.proofs.tails.tail_slices.TailSlices.roll_along.Goals as goal
@@ -18,7 +19,9 @@ returns-then-roll c =
     tail.own short c.requires.within c.piece_from-gone.ensures.piece (omega arith) (omega arith)
     c.piece_from-come.ensures.piece c.loop-roll.invariant.goes_on c.loop-roll.invariant.here
     c.roll_until-next.ensures in
-    arrived _ _ _ c.args.limit _ more.1 (inl c.if-roll.true) more.0
+    let is = c.then-roll.ensures in
+    rw is (arrived _ _ _ c.args.limit _ more.1
+    (inl (sym (ap (λ (r : Roll). r.hit) is) ∙ c.if-roll.true)) more.0)
 
 pub loop-roll-preserved : goal.loop-roll-preserved
 loop-roll-preserved c =
@@ -31,4 +34,5 @@ loop-roll-preserved c =
     tail.own short c.requires.within c.piece_from-gone.ensures.piece (omega arith) (omega arith)
     c.piece_from-come.ensures.piece c.loop-roll.invariant.goes_on c.loop-roll.invariant.here
     c.roll_until-next.ensures in
-    record { goes_on = c.if-roll.false; within = more.0; here = more.1 }
+    let is = c.then-roll.ensures in
+    record { goes_on = c.if-roll.false; within = rw is more.0; here = rw is more.1 }
