@@ -7,7 +7,7 @@ use Rattle.parwindow.specs.Tables.{IsStepTable, IsRemovalTable}
 use Rattle.parwindow.proofs.crc_laws.CrcLaws.{crc_steps-xor, crc_steps-add}
 use Rattle.parwindow.proofs.crc_laws.FourBytesLaws.{register_after-four, twice_after-xor}
 use Rattle.parwindow.proofs.crc_laws.XorLaws.{xor_laws}
-use Rattle.parwindow.proofs.rolling_laws.RolledLaws.{twice_rolled, rolled_over-start, rolled_over-more}
+use Rattle.parwindow.proofs.rolling_laws.RolledLaws.{twice_rolled, rolled_over-start, rolled_over-more, rolled_over-once, rolled_over-twice}
 use Rattle.parwindow.proofs.window_laws.PushLaws.{removal_of-more}
 
 -- two bytes more have followed
@@ -99,18 +99,45 @@ pub rolled_over-fourth : (n r : ℕ) (gone come : List ℕ) (k now next : ℕ)
     (get_or gone (k + 3) 0) (get_or come (k + 3) 0)
     → next ≡ rolled_over n r gone come (k + 4)
 rolled_over-fourth n r gone come k now next is moves =
-    let two : k + 1 + 1 ≡ k + 2 = omega arith in
     let three : k + 2 + 1 ≡ k + 3 = omega arith in
-    let four : k + 3 + 1 ≡ k + 4 = omega arith in
-    let once = ap (λ s. rolled_register n s (get_or gone k 0) (get_or come k 0)) is
-    ∙ sym (rolled_over-more n r gone come k) in
-    let twice = ap (λ s. rolled_register n s (get_or gone (k + 1) 0) (get_or come (k + 1) 0)) once
-    ∙ sym (rolled_over-more n r gone come (k + 1)) ∙ ap (rolled_over n r gone come) two in
-    let thrice = ap (λ s. rolled_register n s (get_or gone (k + 2) 0) (get_or come (k + 2) 0)) twice
-    ∙ sym (rolled_over-more n r gone come (k + 2)) ∙ ap (rolled_over n r gone come) three in
-    moves
-    ∙ ap (λ s. rolled_register n s (get_or gone (k + 3) 0) (get_or come (k + 3) 0)) thrice
-    ∙ sym (rolled_over-more n r gone come (k + 3)) ∙ ap (rolled_over n r gone come) four
+    let four : k + 2 + 2 ≡ k + 4 = omega arith in
+    rolled_over-twice n r gone come (k + 2)
+    (rolled_register n (rolled_register n now (get_or gone k 0) (get_or come k 0))
+    (get_or gone (k + 1) 0) (get_or come (k + 1) 0)) next
+    (rolled_over-twice n r gone come k now _ is refl) (rw three moves)
+    ∙ ap (rolled_over n r gone come) four
+
+-- the registers after each byte of a turn of four
+pub record IsTurn (at : ℕ → ℕ) (k s t u v : ℕ) : Type 0 where
+  pub once : s ≡ at (k + 1)
+  pub twice : t ≡ at (k + 2)
+  pub thrice : u ≡ at (k + 3)
+  pub four_times : v ≡ at (k + 4)
+
+-- one such turn
+module _ (n r : ℕ) (gone come : List ℕ) (k now s t u : ℕ)
+    (is : now ≡ rolled_over n r gone come k)
+    (moves : s ≡ rolled_register n now (get_or gone k 0) (get_or come k 0))
+    (moves_twice : t ≡ rolled_register n (rolled_register n now (get_or gone k 0) (get_or come k 0))
+    (get_or gone (k + 1) 0) (get_or come (k + 1) 0))
+    (moves_thrice : u ≡ rolled_register n t (get_or gone (k + 2) 0) (get_or come (k + 2) 0)) where
+  pub rolled_over-third : u ≡ rolled_over n r gone come (k + 3)
+  rolled_over-third =
+      let three : k + 2 + 1 ≡ k + 3 = omega arith in
+      rw (← three) (rolled_over-once n r gone come (k + 2) t u
+      (rolled_over-twice n r gone come k now t is moves_twice) moves_thrice)
+
+  pub is_turn : (v : ℕ) → v ≡ four_after n now (get_or gone k 0) (get_or come k 0)
+      (get_or gone (k + 1) 0) (get_or come (k + 1) 0)
+      (get_or gone (k + 2) 0) (get_or come (k + 2) 0)
+      (get_or gone (k + 3) 0) (get_or come (k + 3) 0)
+      → IsTurn (rolled_over n r gone come) k s t u v
+  is_turn v moves_four = record {
+    once = rolled_over-once n r gone come k now s is moves;
+    twice = rolled_over-twice n r gone come k now t is moves_twice;
+    thrice = rolled_over-third;
+    four_times = rolled_over-fourth n r gone come k now v is moves_four;
+  }
 
 -- and from a place on over the bytes that are left
 pub rolled_over-rest : (n r s : ℕ) (gone come : List ℕ) (i : ℕ) → s ≡ rolled_over n r gone come i

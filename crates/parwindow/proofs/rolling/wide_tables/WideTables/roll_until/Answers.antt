@@ -2,7 +2,7 @@ use Rattle.std.proofs.Common.{◌≡◌, ℕ, false, ◌+◌, ◌∙◌, length,
 use Rattle.parwindow.specs.Rolling.{rolled_over}
 use Rattle.parwindow.proofs.ListLaws.{rest_is}
 use Rattle.parwindow.proofs.rolling_laws.RolledLaws.{rolled_over-start, rolled_over-once, rolled_over-twice}
-use Rattle.parwindow.proofs.rolling_laws.RolledFourLaws.{rolled_over-four, rolled_over-fourth, rolled_over-rest}
+use Rattle.parwindow.proofs.rolling_laws.RolledFourLaws.{is_turn, rolled_over-four, rolled_over-third, rolled_over-rest}
 use Rattle.parwindow.proofs.rolling_laws.RollUntilLaws.{along, begins, ends, goes_four_on, joined, refuses, stops, stops_fourth, stops_third, stops_twice, told}
 use Rattle.parwindow.proofs.rolling.wide_tables.WideTables.roll_until.Goals as goal
 
@@ -46,9 +46,9 @@ returns-then-has-3 g c =
     c.loop-i.i c.loop-i.register _ c.loop-i.invariant.on.here c.rolled-between.ensures in
     let twice = rolled_over-twice c.args.self.now.narrow.others c.args.start c.args.gone.now c.args.come.now
     c.loop-i.i c.loop-i.register _ c.loop-i.invariant.on.here c.rolled_twice-half.ensures in
-    let three : c.loop-i.i + 2 + 1 ≡ c.loop-i.i + 3 = omega arith in
-    let thrice = rw three at (rolled_over-once c.args.self.now.narrow.others c.args.start c.args.gone.now
-    c.args.come.now (c.loop-i.i + 2) _ _ twice c.rolled-third.ensures) in
+    let thrice = rolled_over-third c.args.self.now.narrow.others c.args.start c.args.gone.now
+    c.args.come.now c.loop-i.i c.loop-i.register _ _ _ c.loop-i.invariant.on.here
+    c.rolled-between.ensures c.rolled_twice-half.ensures c.rolled-third.ensures in
     rw (c.hit-then-has-3.ensures, ← c.loop-i.invariant.is_len)
     (stops_third (λ register. IsTrue (g.S.RegisterSet.has c.args.set.now register))
     (rolled_over c.args.self.now.narrow.others c.args.start c.args.gone.now c.args.come.now)
@@ -59,37 +59,25 @@ returns-then-has-3 g c =
 
 pub returns-then-has-4 : goal.returns-then-has-4
 returns-then-has-4 g c =
-    let once = rolled_over-once c.args.self.now.narrow.others c.args.start c.args.gone.now c.args.come.now
-    c.loop-i.i c.loop-i.register _ c.loop-i.invariant.on.here c.rolled-between.ensures in
-    let twice = rolled_over-twice c.args.self.now.narrow.others c.args.start c.args.gone.now c.args.come.now
-    c.loop-i.i c.loop-i.register _ c.loop-i.invariant.on.here c.rolled_twice-half.ensures in
-    let three : c.loop-i.i + 2 + 1 ≡ c.loop-i.i + 3 = omega arith in
-    let thrice = rw three at (rolled_over-once c.args.self.now.narrow.others c.args.start c.args.gone.now
-    c.args.come.now (c.loop-i.i + 2) _ _ twice c.rolled-third.ensures) in
-    let four_times = rolled_over-fourth c.args.self.now.narrow.others c.args.start c.args.gone.now
-    c.args.come.now c.loop-i.i c.loop-i.register _ c.loop-i.invariant.on.here
+    let turn = is_turn c.args.self.now.narrow.others c.args.start c.args.gone.now c.args.come.now
+    c.loop-i.i c.loop-i.register _ _ _ c.loop-i.invariant.on.here c.rolled-between.ensures
+    c.rolled_twice-half.ensures c.rolled-third.ensures _
     (c.rolled_four_times-register.ensures
     ∙ rolled_over-four c.args.self.now.narrow.others c.loop-i.register _ _) in
     rw (c.hit-then-has-4.ensures, ← c.loop-i.invariant.is_len)
     (stops_fourth (λ register. IsTrue (g.S.RegisterSet.has c.args.set.now register))
     (rolled_over c.args.self.now.narrow.others c.args.start c.args.gone.now c.args.come.now)
-    c.loop-i.i c.loop-i.register _ _ _ _ c.loop-i.invariant.on once
-    (refuses _ _ (told _ _ c.has.ensures) c.if-has.false) twice
-    (refuses _ _ (told _ _ c.has-in-loop-i.ensures) c.if-has-2.false) thrice c.min-len.result
-    (refuses _ _ (told _ _ c.has-in-loop-i-2.ensures) c.if-has-3.false) four_times
+    c.loop-i.i c.loop-i.register _ _ _ _ c.loop-i.invariant.on turn.once
+    (refuses _ _ (told _ _ c.has.ensures) c.if-has.false) turn.twice
+    (refuses _ _ (told _ _ c.has-in-loop-i.ensures) c.if-has-2.false) turn.thrice c.min-len.result
+    (refuses _ _ (told _ _ c.has-in-loop-i-2.ensures) c.if-has-3.false) turn.four_times
     ((told _ _ c.has-in-loop-i-3.ensures).0 c.if-has-4.true) (omega arith))
 
 pub loop-i-preserved : goal.loop-i-preserved
 loop-i-preserved g c =
-    let once = rolled_over-once c.args.self.now.narrow.others c.args.start c.args.gone.now c.args.come.now
-    c.loop-i.i c.loop-i.register _ c.loop-i.invariant.on.here c.rolled-between.ensures in
-    let twice = rolled_over-twice c.args.self.now.narrow.others c.args.start c.args.gone.now c.args.come.now
-    c.loop-i.i c.loop-i.register _ c.loop-i.invariant.on.here c.rolled_twice-half.ensures in
-    let three : c.loop-i.i + 2 + 1 ≡ c.loop-i.i + 3 = omega arith in
-    let thrice = rw three at (rolled_over-once c.args.self.now.narrow.others c.args.start c.args.gone.now
-    c.args.come.now (c.loop-i.i + 2) _ _ twice c.rolled-third.ensures) in
-    let four_times = rolled_over-fourth c.args.self.now.narrow.others c.args.start c.args.gone.now
-    c.args.come.now c.loop-i.i c.loop-i.register _ c.loop-i.invariant.on.here
+    let turn = is_turn c.args.self.now.narrow.others c.args.start c.args.gone.now c.args.come.now
+    c.loop-i.i c.loop-i.register _ _ _ c.loop-i.invariant.on.here c.rolled-between.ensures
+    c.rolled_twice-half.ensures c.rolled-third.ensures _
     (c.rolled_four_times-register.ensures
     ∙ rolled_over-four c.args.self.now.narrow.others c.loop-i.register _ _) in
     record {
@@ -97,10 +85,10 @@ loop-i-preserved g c =
       within = omega arith;
       on = goes_four_on (λ register. IsTrue (g.S.RegisterSet.has c.args.set.now register))
           (rolled_over c.args.self.now.narrow.others c.args.start c.args.gone.now c.args.come.now)
-          c.loop-i.i c.loop-i.register _ _ _ _ c.loop-i.invariant.on once
-          (refuses _ _ (told _ _ c.has.ensures) c.if-has.false) twice
-          (refuses _ _ (told _ _ c.has-in-loop-i.ensures) c.if-has-2.false) thrice
-          (refuses _ _ (told _ _ c.has-in-loop-i-2.ensures) c.if-has-3.false) four_times
+          c.loop-i.i c.loop-i.register _ _ _ _ c.loop-i.invariant.on turn.once
+          (refuses _ _ (told _ _ c.has.ensures) c.if-has.false) turn.twice
+          (refuses _ _ (told _ _ c.has-in-loop-i.ensures) c.if-has-2.false) turn.thrice
+          (refuses _ _ (told _ _ c.has-in-loop-i-2.ensures) c.if-has-3.false) turn.four_times
           (refuses _ _ (told _ _ c.has-in-loop-i-3.ensures) c.if-has-4.false);
     }
 
