@@ -11,7 +11,7 @@ ghost use Rattle.parset.specs.Limits.{slice_size_limit, slice_limit};
 ghost use Rattle.parwindow.specs.Missing.{missing_set, set_has_fit_crc, set_has_missing, set_has_own_missing, unless_found};
 ghost use Rattle.parwindow.specs.Window.{AreTails};
 
-use crate::crcs::ZeroRuns;
+use crate::crcs::{ZeroRun, ZeroRuns};
 use crate::rolling::RegisterSet;
 use crate::slices::{BloomFilter, Entries, LowSet, LowSets, OwnLengths, tail_lengths};
 use parfield::{Hash16, Sequence};
@@ -66,8 +66,8 @@ impl Index {
         Index::of(alloc, set.size(), slices, entries)
     }
 
-    /// All slices by their numbers, but those that are found without their checksums, so that nothing
-    /// looks for them. `found` has a flag for each slice, by number.
+    /// All slices by their numbers, but those that are found without their checksums, so that
+    /// nothing looks for them. `found` has a flag for each slice, by number.
     pub fn missing(&self, alloc: Global, found: &[bool]) -> Result<Index, AllocError>
         requires { length found.now ≡ length self.now.slices }
         ensures { IfOk result (λ index. index ≡ missing_set self.now found.now) }
@@ -243,8 +243,18 @@ impl Index {
         self.tail_filter.may_have(register)
     }
 
-    /// The low bytes of the registers of which zeros up to the slice size make the CRC-32 of a slice
-    /// of this own length.
+    /// Whether these zeros make of this register the CRC-32 of a slice of this own length. Nearly
+    /// no register for which `may_have_tail` is asked first comes so far, so it stays out of the
+    /// loops.
+    #[inline(never)]
+    pub(crate) fn has_tail_register(&self, register: u32, zeros: &ZeroRun, own: usize) -> bool
+        ensures { result ≡ set_has_own_crc self.now (zeros_crc zeros.now.len register) own }
+    {
+        self.has_crc_of(zeros.apply(register) ^ 0xFFFF_FFFF, own as u64)
+    }
+
+    /// The low bytes of the registers of which zeros up to the slice size make the CRC-32 of a
+    /// slice of this own length.
     pub(crate) fn low_set(&self, own: usize) -> &LowSet
         requires { own < self.now.slice_size }
         ensures { (register : ℕ) → register < 2 ^ 32 → IsTrue (set_has_own_crc self.now

@@ -157,8 +157,9 @@ impl Window {
         roll.count
     }
 
-    // The same with tails: first a single byte, then longer and longer pieces, as long as no slice is
-    // met. If one is met in a piece, the bytes before it are the next piece, and then a single byte.
+    // The same with tails: first a single byte, then longer and longer pieces, as long as no slice
+    // is met. If one is met in a piece, the bytes before it are the next piece, and then a single
+    // byte.
     fn push_pieces_until(&mut self, index: &Index, bytes: &[u8]) -> usize
         requires full { length self.old.content ≡ self.old.capacity }
         requires sized { self.old.capacity ≡ index.now.slice_size }
@@ -192,8 +193,9 @@ impl Window {
         done
     }
 
-    // Pushes all bytes into a full window, if it is at a slice after none of them. Otherwise nothing
-    // changes, and the answer is fewer: how many places before the first slice were seen to be passed.
+    // Pushes all bytes into a full window, if it is at a slice after none of them. Otherwise
+    // nothing changes, and the answer is fewer: how many places before the first slice were seen to
+    // be passed.
     fn push_past(&mut self, index: &Index, bytes: &[u8]) -> usize
         requires full { length self.old.content ≡ self.old.capacity }
         requires sized { self.old.capacity ≡ index.now.slice_size }
@@ -289,7 +291,8 @@ impl Window {
         self.hash(own, zeros)
     }
 
-    /// The CRC-32 of the first `own` bytes and of zeros up to the capacity, computed from the bytes.
+    /// The CRC-32 of the first `own` bytes and of zeros up to the capacity, computed from the
+    /// bytes.
     pub fn front_crc(&self, own: usize) -> u32
         requires { own ≤ self.now.capacity }
         ensures { result ≡ crc_of (tail_content self.now own) }
@@ -429,11 +432,7 @@ fn is_tail_of(index: &Index, register: u32, own: usize) -> bool
         (zeros_crc (index.now.slice_size - own) register) own }
 {
     let zeros = index.size() as usize - own;
-    index.may_have_tail(register)
-        && index.has_crc_of(
-            ZeroRun::new(zeros).apply(register) ^ 0xFFFF_FFFF,
-            own as u64,
-        )
+    index.may_have_tail(register) && index.has_tail_register(register, &ZeroRun::new(zeros), own)
 }
 
 // Zeros go into a hasher, so many.

@@ -84,16 +84,7 @@ impl Tail {
         requires sized { self.now.length + self.now.zeros.len ≡ index.now.slice_size }
         ensures { result ≡ is_tail_register index.now self.now register }
     {
-        index.may_have_tail(register) && self.is_exactly_slice(register, index)
-    }
-
-    // The same without a filter. Nearly no register comes so far, so it stays out of the loop.
-    #[inline(never)]
-    fn is_exactly_slice(&self, register: u32, index: &Index) -> bool
-        ensures { result ≡ is_tail_register index.now self.now register }
-    {
-        let crc = self.zeros.apply(register) ^ 0xFFFF_FFFF;
-        index.has_crc_of(crc, self.length as u64)
+        index.may_have_tail(register) && index.has_tail_register(register, &self.zeros, self.length)
     }
 }
 
