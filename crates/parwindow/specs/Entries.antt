@@ -29,8 +29,8 @@ IsEntryOf slices e = HasSums slices e.slice e.crc e.digest
 abbrev pub entry_has_crc : ℕ → Entry → Bool
 entry_has_crc crc e = e.crc == crc
 
--- each slice with sums has its entry, each entry is of such a slice, and of each CRC-32 there are as
--- many entries as slices, also among the slices whose numbers pass a test
+-- each slice with sums has its entry, each entry is of such a slice, and of each CRC-32 there are
+-- as many entries as slices, also among the slices whose numbers pass a test
 pub record IsIndexOf (slices : List SetSlice) (entries : List Entry) : Type 0 where
   pub sound : All (IsEntryOf slices) entries
   pub complete : (n crc : ℕ) (digest : List ℕ) → HasSums slices n crc digest

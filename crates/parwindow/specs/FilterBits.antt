@@ -11,8 +11,8 @@ use Rattle.parwindow.specs.declared.slices.bloom_filter.BloomFilter.{BloomFilter
 abbrev pub scattered_key : ℕ → ℕ
 scattered_key register = register * 0x9E3779B1 % 2 ^ 32
 
--- the three bits of a register are set: its own, that of its scattered key, and that of the key that
--- comes of scattering this once more
+-- the three bits of a register are set: its own, that of its scattered key, and that of the key
+-- that comes of scattering this once more
 abbrev pub MayHave : BloomFilter → ℕ → Type 0
 MayHave filter register =
     HasBit filter.plain.words.items register

@@ -18,7 +18,8 @@ IsShortest slices shortest =
     → option_map_or (λ least. nat_le least left) shortest false ≡ list_any (has_fit_of left) slices
 
 -- its slices are those of a set, its filters have the register of each and of each shorter one
--- before its zeros, and its low sets the latter too, and its entries, its lengths, its shortest length and its tails are theirs
+-- before its zeros, and its low sets the latter too, and its entries, its lengths, its shortest
+-- length and its tails are theirs
 pub record IsIndexed (i : Inside) : Type 0 where
   pub slices : IsSliceSet (slice_set_of i.size i.slices)
   pub has : HasSlices i.slices i.filter

@@ -18,8 +18,8 @@ HasLow set register =
 abbrev pub set_of : ℕ → ℕ
 set_of own = own * 0x9E3779B1 % 2 ^ 32 / 2 ^ 22
 
--- the set of a length has each register of which the zeros up to the slice size make the CRC-32 of a
--- slice of this own length
+-- the set of a length has each register of which the zeros up to the slice size make the CRC-32 of
+-- a slice of this own length
 abbrev pub HaveLows : ℕ → List SetSlice → List LowSet → Type 0
 HaveLows size slices sets =
     (own register : ℕ) (set : LowSet) → own < size → register < 2 ^ 32

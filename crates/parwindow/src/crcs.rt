@@ -3,8 +3,9 @@
 //! From below: `table` and `far_table` are what steps of a CRC-32 make of each byte, by number.
 //! `checksum` takes eight bytes at a time by them. `zero_run` is a run of zeros, which is a linear
 //! map of registers, made by squaring; `zero_runs` are such maps of each power of two, by which
-//! zeros are also taken back. `lanes` are vectors of sixteen bytes. `nibbles` are those of registers,
-//! by which `low_bytes` looks up what a run of zeros makes of the low bytes of sixteen registers.
+//! zeros are also taken back. `lanes` are vectors of sixteen bytes. `nibbles` are those of
+//! registers, by which `low_bytes` looks up what a run of zeros makes of the low bytes of sixteen
+//! registers.
 
 mod checksum;
 mod far_table;

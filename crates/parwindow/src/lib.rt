@@ -1,11 +1,11 @@
 //! CRC-32, a window of the last bytes of a stream with its checksums, and the slices that have
 //! given checksums.
 //!
-//! From below: `crcs` makes the CRC-32 of bytes and of zeros. `rolling` moves the register of a full
-//! window from byte to byte. `slices` has lists of the slices with checksums, and `index` answers
-//! by them which slices have a given CRC-32 or MD5. `tails` are the shorter lengths of a window.
-//! `window` is the ring of the last bytes with all registers, and `laws` says what windows and
-//! CRC-32s keep.
+//! From below: `crcs` makes the CRC-32 of bytes and of zeros. `rolling` moves the register of a
+//! full window from byte to byte. `slices` has lists of the slices with checksums, and `index`
+//! answers by them which slices have a given CRC-32 or MD5. `tails` are the shorter lengths of a
+//! window. `window` is the ring of the last bytes with all registers, and `laws` says what windows
+//! and CRC-32s keep.
 //!
 //! Four verbs have one meaning each. You *push* a byte into a window: it comes in at the end, and
 //! the first byte of a full window falls out. A register *rolls* when one byte goes and one comes.

@@ -3,10 +3,10 @@
 //!
 //! `tail` is one of them. `tail_list` are those of a window: one byte is pushed into all of them.
 //! `stream` is a full window with the bytes that come next, and `tail_slices` are the slices of a
-//! tail's length, up to one of which its register rolls along a stream. `running` is one register for
-//! all of several tails, and `places` are those of a stream by it. `ahead` looks along a stream by all
-//! tails, and moves them only if none of them is at a slice. `waiting_tails` are made before a window
-//! looks by them.
+//! tail's length, up to one of which its register rolls along a stream. `running` is one register
+//! for all of several tails, and `places` are those of a stream by it. `ahead` looks along a stream
+//! by all tails, and moves them only if none of them is at a slice. `waiting_tails` are made before
+//! a window looks by them.
 
 mod ahead;
 mod places;

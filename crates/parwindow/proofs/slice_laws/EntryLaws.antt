@@ -18,8 +18,9 @@ use Rattle.parwindow.specs.Entries.{IsEntryOf, IsIndexOf, HasSums, entry_has_crc
 use Rattle.parwindow.proofs.slice_laws.SearchLaws.{entry_of}
 use Rattle.parwindow.proofs.slice_laws.KnownSumsLaws.{sums_none, sums_same, sums_known, passes_within}
 
--- each slice with sums below a number has its entry, each entry is of a slice with sums, and of each
--- CRC-32 there are as many entries as slices below the number, whatever test their numbers pass
+-- each slice with sums below a number has its entry, each entry is of a slice with sums, and of
+-- each CRC-32 there are as many entries as slices below the number, whatever test their numbers
+-- pass
 pub record IndexSoFar (slices : List SetSlice) (number : ℕ) (entries : List Entry) : Type 0 where
   pub sound : All (IsEntryOf slices) entries
   pub complete : (n crc : ℕ) (digest : List ℕ) → n < number → HasSums slices n crc digest

@@ -1,4 +1,5 @@
--- The shortest length from one on whose bytes and zeros have the CRC-32 of a slice, looked for length by length.
+-- The shortest length from one on whose bytes and zeros have the CRC-32 of a slice, looked for
+-- length by length.
 use Rattle.std.proofs.Common.{◌≡◌, ℕ, zero, suc, ◌+◌, ◌-◌, ◌<◌, ◌≤◌, ◌++◌, Bool, true, false, ◌&&◌, nat_le, List, [], ◌∷◌, length, take, drop, fold, min, get_or, refl, sym, ap, ◌∙◌, arith, inl, inr, None, Some}
 use Rattle.std.specs.List.{find}
 use Rattle.std.proofs.lemmas.Bool.{cases_Bool}

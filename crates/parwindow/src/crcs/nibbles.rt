@@ -1,8 +1,8 @@
 ghost use Rattle.std.specs.Prelude.{◌≡◌, ℕ, ◌/◌, ◌%◌, ◌^◌, ◌<◌, bit_xor, length, slice_index};
 ghost use Rattle.parwindow.specs.Nibbles.{AreNibbles};
 
-/// Registers, and the eight nibbles of the inverse of each, by which bytes are looked up for sixteen
-/// at a time.
+/// Registers, and the eight nibbles of the inverse of each, by which bytes are looked up for
+/// sixteen at a time.
 #[derive(Drop)]
 pub struct Nibbles {
     pub registers: [u32; 528],

@@ -81,9 +81,9 @@ impl RollTables {
             ^ self.bytes[(((register >> 8) ^ u32::from(next_come)) & 0xFF) as usize]
     }
 
-    /// Rolls a register over bytes that go and bytes that come, as long as there are both, up to the
-    /// first that is in the set. Not inlined, so that the loop is compiled once for each type of
-    /// set, and not once for each call.
+    /// Rolls a register over bytes that go and bytes that come, as long as there are both, up to
+    /// the first that is in the set. Not inlined, so that the loop is compiled once for each type
+    /// of set, and not once for each call.
     #[inline(never)]
     pub fn roll_until<S: RegisterSet>(&self, set: &S, gone: &[u8], come: &[u8], start: u32) -> Roll
         ensures { StopsAt (λ register. IsTrue (S.has set.now register))

@@ -44,7 +44,8 @@ impl Entries {
         Ok(Entries { list, starts })
     }
 
-    /// Takes the entries of the slices that aren't found. `found` has a flag for each slice, by number.
+    /// Takes the entries of the slices that aren't found. `found` has a flag for each slice, by
+    /// number.
     pub fn missing(&self, alloc: Global, found: &[bool]) -> Result<Entries, AllocError>
         requires { All (λ e. e.slice < length found.now) self.now.list.items }
         ensures { IfOk result (λ entries.

@@ -102,9 +102,9 @@ fn look_and_run(
     passed
 }
 
-// How many places all tails pass, up to a limit. If these are all places of a stream, `ahead` is the
-// register of each tail after them. A running register takes the place of a register for each tail, if
-// there is one.
+// How many places all tails pass, up to a limit. If these are all places of a stream, `ahead` is
+// the register of each tail after them. A running register takes the place of a register for each
+// tail, if there is one.
 fn look_ahead(
     tails: &mut [Tail],
     index: &Index,
