@@ -12,4 +12,5 @@ pub mod MissingLaws
 pub mod MissingEntriesLaws
 pub mod OwnLengthsLaws
 pub mod TailLengthsLaws
+pub mod ShortSliceLaws
 pub mod LowSetLaws
