@@ -2,8 +2,10 @@
 -- length by length.
 use Rattle.std.proofs.Common.{◌≡◌, ℕ, zero, suc, ◌+◌, ◌-◌, ◌<◌, ◌≤◌, ◌++◌, Bool, true, false, ◌&&◌, nat_le, List, [], ◌∷◌, length, take, drop, fold, min, get_or, refl, sym, ap, ◌∙◌, arith, inl, inr, None, Some}
 use Rattle.std.specs.List.{find}
-use Rattle.std.proofs.lemmas.Bool.{cases_Bool}
+use Rattle.std.proofs.lemmas.Bool.{cases_Bool, false_from_ne_true, leb-true, le-leb}
 use Rattle.std.proofs.lemmas.List.{drop_min, length-drop, take-append-drop, take-take, take_all}
+use Rattle.std.proofs.lemmas.List.Elements.{All-get_or}
+use Rattle.std.proofs.Math.Bool.{and-false}
 use Rattle.std.proofs.lemmas.List.Sums.{fold-append}
 use Rattle.std.proofs.lemmas.Map.Keys.{below_from_sorted, sorted_from_strictly_increasing}
 use Rattle.parwindow.specs.Crc32.{register_after, register_of}
@@ -76,34 +78,60 @@ module _ (set : SliceSet) (content : List ℕ) (from : ℕ) (tails : List ℕ) (
   unfolding register_of
   next_init = record { rolled = refl; before = λ j later there. omega arith; none = refl }
 
-  module _ (k done register own after : ℕ) (so_far : NextTailSoFar set content from tails k done register) (there : k < length tails)
-      (own_is : own ≡ get_or tails k 0) (rolls : after ≡ fold register_after register (drop done (take own content))) where
-    pub own_rolled : after ≡ register_of (take own content)
+  -- the next length
+  module _ (k done register after : ℕ)
+      (so_far : NextTailSoFar set content from tails k done register) (there : k < length tails)
+      (rolls : after ≡ fold register_after register (drop done (take (get_or tails k 0) content))) where
+    abbrev own : ℕ
+    own = get_or tails k 0
+
+    own_rolled : after ≡ register_of (take own content)
     unfolding register_of
     own_rolled =
-        let less : done ≤ own = omega (arith, own_is, so_far.before k (omega arith) there) in
+        let less : done ≤ own = so_far.before k (omega arith) there in
         let first : take done (take own content) ≡ take done content = take-take done own content less in
         rolls ∙ ap (λ r. fold register_after r (drop done (take own content))) (so_far.rolled ∙ ap (fold register_after 4294967295) (sym first))
         ∙ sym (fold-append register_after 4294967295 (take done (take own content)) (drop done (take own content)))
         ∙ ap (fold register_after 4294967295) (take-append-drop done (take own content))
 
-    pub own_test : own < set.slice_size → set_has_own_crc set (zeros_crc (set.slice_size - own) after) own ≡ is_tail_slice set set.slice_size content own
-    own_test less = ap (λ crc. set_has_own_crc set crc own)
+    own_test : set_has_own_crc set (zeros_crc (set.slice_size - own) after) own
+        ≡ is_tail_slice set set.slice_size content own
+    own_test =
+        let within = All-get_or (λ own. (0 < own) × (own < set.slice_size)) tails k 0 there are.within in
+        let less : own < set.slice_size = within.1 in
+        ap (λ crc. set_has_own_crc set crc own)
         (tail_crc_is content set.slice_size own (set.slice_size - own) after own_rolled (omega arith))
 
-    pub next_found : nat_le from own ≡ true → is_tail_slice set set.slice_size content own ≡ true
-        → Some own ≡ find (λ own. nat_le from own && is_tail_slice set set.slice_size content own) tails
-    next_found late is = rw own_is (sym (find_at test tails k there so_far.none (rw (← own_is, late, is) refl)))
-
-    pub next_more : test own ≡ false → NextTailSoFar set content from tails (k + 1) own after
-    next_more fails = record {
+    more : test own ≡ false → NextTailSoFar set content from tails (k + 1) own after
+    more fails = record {
       rolled = own_rolled;
       before = λ j later last. omega (
         arith,
-        own_is,
         below_from_sorted tails k j 0 (sorted_from_strictly_increasing tails are.rising) (omega arith) last,
       );
       none =
           let next : k + 1 ≡ suc k = omega arith in
-          rw next (find_more test tails k there so_far.none (rw (← own_is) fails));
+          rw next (find_more test tails k there so_far.none fails);
     }
+
+    -- it is the first one
+    pub next_found : from ≤ own
+        → set_has_own_crc set (zeros_crc (set.slice_size - own) after) own ≡ true
+        → Some own ≡ find (λ own. nat_le from own && is_tail_slice set set.slice_size content own) tails
+    next_found late hit =
+        let passes : nat_le from own ≡ true = le-leb from own late in
+        let is : is_tail_slice set set.slice_size content own ≡ true = sym own_test ∙ hit in
+        sym (find_at test tails k there so_far.none (rw (passes, is) refl))
+
+    -- it is too short
+    pub next_early : own < from → NextTailSoFar set content from tails (k + 1) own after
+    next_early early =
+        let fails : nat_le from own ≡ false = false_from_ne_true (nat_le from own) (λ h.
+        let late : from ≤ own = leb-true from own h in absurd (omega (arith, early))) in
+        more (ap (λ b. b && is_tail_slice set set.slice_size content own) fails)
+
+    -- no slice of it has this CRC-32
+    pub next_missed : set_has_own_crc set (zeros_crc (set.slice_size - own) after) own ≡ false
+        → NextTailSoFar set content from tails (k + 1) own after
+    next_missed none =
+        more (ap (λ b. nat_le from own && b) (sym own_test ∙ none) ∙ and-false (nat_le from own))
