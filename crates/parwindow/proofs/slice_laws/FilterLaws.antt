@@ -1,5 +1,7 @@
 -- Bits that are set, and the slices that they are set for.
 use Rattle.std.proofs.Common.{◌≡◌, ℕ, ◌*◌, ◌/◌, ◌%◌, ◌^◌, ◌<◌, List, length, take, get_or, set, ◌+◌, true, false, Some, None, sym, ◌∙◌, inl, inr, arith, get_or-set_same, get_or-set_other, w64}
+use mir.Val.{bits}
+use Rattle.std.specs.Int.{Width, bit_at}
 use Rattle.std.specs.Int.Bits.{bit_and, bit_or, bit_xor}
 use Rattle.std.proofs.lemmas.Nat.{and_le_r}
 use Rattle.std.proofs.lemmas.Nat.Bits.{bit_at_set_same, bit_at_set_other}
@@ -13,6 +15,27 @@ use Rattle.parwindow.specs.FilterBits.{MayHave, HasSlices}
 use Rattle.parwindow.specs.KeyBits.{HasBit}
 use Rattle.parwindow.specs.declared.slices.bloom_filter.BloomFilter.{BloomFilter}
 
+-- a bit is set in one of some words
+module _ (w : Width) (words : List ℕ) (i bit : ℕ) (within : i < length words)
+    (below : bit < bits w) where
+  abbrev pub with_bit : List ℕ
+  with_bit = set words i (bit_or (get_or words i 0) (1 * 2 ^ bit % 2 ^ bits w))
+
+  pub with_bit-has : bit_at (get_or with_bit i 0) bit ≡ 1
+  with_bit-has = rw get_or-set_same (bit_at_set_same w (get_or words i 0) bit below)
+
+  pub with_bit-keeps : (j other : ℕ) → bit_at (get_or words j 0) other ≡ 1
+      → bit_at (get_or with_bit j 0) other ≡ 1
+  with_bit-keeps j other was = elim (cases_eq j i) [
+    | inl here ↦ elim (cases_eq other bit) [
+      | inl same ↦ rw (here, same) with_bit-has
+      | inr apart ↦
+          rw (here, get_or-set_same)
+          (bit_at_set_other w (get_or words i 0) bit below other apart ∙ rw here at was)
+    ]
+    | inr apart ↦ rw get_or-set_other was
+  ]
+
 -- the words once the bit of a key is set
 abbrev pub inserted : List ℕ → ℕ → List ℕ
 inserted words r = set words (r / 262144) (bit_or (get_or words (r / 262144) 0)
@@ -21,23 +44,14 @@ inserted words r = set words (r / 262144) (bit_or (get_or words (r / 262144) 0)
 pub insert-has : (words : List ℕ) (r : ℕ) → r / 262144 < length words → HasBit (inserted words r) r
 insert-has words r within =
     let bit : bit_and r 63 < 64 = omega (arith, and_le_r r 63) in
-    rw get_or-set_same (bit_at_set_same w64 (get_or words (r / 262144) 0) (bit_and r 63) bit)
+    with_bit-has w64 words (r / 262144) (bit_and r 63) within bit
 
 pub insert-keeps : (words : List ℕ) (r other : ℕ) → r / 262144 < length words → HasBit words other
     → HasBit (inserted words r) other
 insert-keeps words r other within was =
     let bit : bit_and r 63 < 64 = omega (arith, and_le_r r 63) in
-    elim (cases_eq (other / 262144) (r / 262144)) [
-      | inl word ↦ elim (cases_eq (bit_and other 63) (bit_and r 63)) [
-        | inl place ↦ rw (word, place) (insert-has words r within)
-        | inr apart ↦
-            rw (word, get_or-set_same)
-            (bit_at_set_other w64 (get_or words (r / 262144) 0) (bit_and r 63) bit
-            (bit_and other 63) apart
-            ∙ rw word at was)
-      ]
-      | inr apart ↦ rw get_or-set_other was
-    ]
+    with_bit-keeps w64 words (r / 262144) (bit_and r 63) within bit (other / 262144)
+    (bit_and other 63) was
 
 -- one slice more
 has_more : (slices : List SetSlice) (i : ℕ) (d : SetSlice) (before after : BloomFilter)
