@@ -2,7 +2,6 @@ pub mod XorLaws
 pub mod CrcLaws
 pub mod TableLaws
 pub mod EightBytesLaws
-pub mod FourBytesLaws
 pub mod ZeroRunLaws
 pub mod TakenBackLaws
 pub mod NibbleLaws

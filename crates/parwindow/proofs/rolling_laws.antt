@@ -1,4 +1,3 @@
 pub mod RolledLaws
-pub mod RolledFourLaws
 pub mod RollUntilLaws
 pub mod RollOverLaws

@@ -19,7 +19,7 @@ window_view w = record {
 -- running register, if there is one
 pub record IsRolled (w : Inside) : Type 0 where
   pub within : length w.ring.items ≤ w.ring.capacity
-  pub room : w.ring.capacity ≡ w.tables.narrow.others + 1
+  pub room : w.ring.capacity ≡ w.tables.others + 1
   pub rolled : w.register ≡ register_of w.ring.items
   pub tails : All (IsTail w.ring.capacity w.ring.items) w.tails.items
   pub running : IfSome w.running (IsRun w.ring.capacity w.ring.items)

@@ -17,12 +17,11 @@ mod zero_run;
 mod zero_runs;
 
 pub use crate::crcs::checksum::{after_byte, after_bytes, after_two, crc32};
-pub use crate::crcs::far_table::{STEPPED_24, STEPPED_32};
 pub use crate::crcs::lanes::{
     bytes_at, high_nibbles, looked_up, low_bytes_at, low_nibbles, shared, xored,
 };
 pub use crate::crcs::low_bytes::LowBytes;
 pub use crate::crcs::nibbles::Nibbles;
 pub use crate::crcs::table::{STEPPED_BYTES, STEPPED_TWICE};
-pub use crate::crcs::zero_run::{ZeroRun, followed_table, removal_table};
+pub use crate::crcs::zero_run::{ZeroRun, removal_table};
 pub use crate::crcs::zero_runs::ZeroRuns;

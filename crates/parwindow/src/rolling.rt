@@ -1,14 +1,12 @@
 //! The register of a full window, which rolls: as one byte comes, the first one is taken out of it.
 //!
-//! `register_set` is what a roll looks for, and `roll` is how far it came. `roll_tables` has the
-//! tables by which it goes two bytes a turn, and `wide_tables` those by which it goes four.
+//! `register_set` is what a roll looks for, `roll` is how far it came, and `roll_tables` has the
+//! tables by which it goes.
 
 mod register_set;
 mod roll;
 mod roll_tables;
-mod wide_tables;
 
 pub use crate::rolling::register_set::RegisterSet;
 pub use crate::rolling::roll::Roll;
 pub use crate::rolling::roll_tables::RollTables;
-pub use crate::rolling::wide_tables::WideTables;

@@ -13,7 +13,7 @@ ghost use Rattle.parwindow.specs.Window.{content_after, empty_window, fallen_byt
 
 use crate::crcs::{ZeroRun, after_bytes};
 use crate::index::Index;
-use crate::rolling::WideTables;
+use crate::rolling::RollTables;
 use crate::tails::{
     Running, Stream, Tail, WaitingTails, clear_running, clear_tails, pass_tails, push_running,
     push_tails, roll_tails, running_for, tails_for,
@@ -32,7 +32,7 @@ const LONGEST_PIECE: usize = 512;
 pub struct Window {
     ring: HeapCircularBuffer<u8>,
     register: u32,
-    tables: WideTables,
+    tables: RollTables,
     tails: Vec<Tail>,
     running: Option<Running>,
     digests: Tally,
@@ -77,7 +77,7 @@ impl Window {
         Ok(Window {
             ring,
             register: 0xFFFF_FFFF,
-            tables: WideTables::new(size),
+            tables: RollTables::new(size),
             tails: tails_for(alloc, size, tails)?,
             running: running_for(alloc, size, tails.len())?,
             digests: Tally::new(),
@@ -92,7 +92,7 @@ impl Window {
         push_tails(&mut self.tails, &self.ring, byte);
         push_running(&mut self.running, byte);
         let fallen = self.ring.push_back(byte);
-        self.register = self.tables.narrow.pushed(self.register, fallen, byte);
+        self.register = self.tables.pushed(self.register, fallen, byte);
         fallen
     }
 
@@ -248,7 +248,7 @@ impl Window {
         let has_tail = roll_tails(&mut self.tails, &self.ring, index);
         push_running(&mut self.running, byte);
         let fallen = self.ring.push_back(byte);
-        self.register = self.tables.narrow.pushed(self.register, fallen, byte);
+        self.register = self.tables.pushed(self.register, fallen, byte);
         has_tail
     }
 

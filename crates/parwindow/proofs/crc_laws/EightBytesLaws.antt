@@ -84,12 +84,6 @@ agrees_64 : agrees_below 64 STEPPED_64 256 ≡ true
 unfolding crc_step crc_steps
 agrees_64 = refl
 
-pub steps_24 : IsStepTable STEPPED_24 24
-steps_24 x below = agrees_at 24 STEPPED_24 256 x agrees_24 below
-
-pub steps_32 : IsStepTable STEPPED_32 32
-steps_32 x below = agrees_at 32 STEPPED_32 256 x agrees_32 below
-
 -- the number of eight bytes goes in by a look-up for each of them
 abbrev looked_up : ℕ → ℕ
 looked_up w =

@@ -79,34 +79,6 @@ stops_twice Has at i r s t n on is misses next_is has within =
     rw (← two) (stops Has at (i + 1) s t n (goes_on Has at i r s on is misses) (rw two next_is) has
     (omega arith))
 
--- four places at once
-module _ (Has : ℕ → Type 0) (at : ℕ → ℕ) (i r s t u v : ℕ) (on : GoesOn Has at i r)
-    (is : s ≡ at (i + 1)) (misses : ¬ Has s) (two_is : t ≡ at (i + 2)) (two_misses : ¬ Has t)
-    (three_is : u ≡ at (i + 3)) where
-  goes_two_on : GoesOn Has at (i + 2) t
-  goes_two_on = goes_on_twice Has at i r s t on is misses two_is two_misses
-
-  pub stops_third : (n : ℕ) → Has u → i + 3 ≤ n
-      → StopsAt Has at n (record { count = i + 3; register = u; hit = true })
-  stops_third n has within =
-      let three : i + 2 + 1 ≡ i + 3 = omega arith in
-      rw (← three) (stops Has at (i + 2) t u n goes_two_on (rw three three_is) has (omega arith))
-
-  pub stops_fourth : (n : ℕ) → ¬ Has u → v ≡ at (i + 4) → Has v → i + 4 ≤ n
-      → StopsAt Has at n (record { count = i + 4; register = v; hit = true })
-  stops_fourth n three_misses four_is has within =
-      let three : i + 2 + 1 ≡ i + 3 = omega arith in
-      let four : i + 2 + 2 ≡ i + 4 = omega arith in
-      rw (← four) (stops_twice Has at (i + 2) t u v n goes_two_on (rw three three_is) three_misses
-      (rw four four_is) has (omega arith))
-
-  pub goes_four_on : ¬ Has u → v ≡ at (i + 4) → ¬ Has v → GoesOn Has at (i + 4) v
-  goes_four_on three_misses four_is four_misses =
-      let three : i + 2 + 1 ≡ i + 3 = omega arith in
-      let four : i + 2 + 2 ≡ i + 4 = omega arith in
-      rw (← four) (goes_on_twice Has at (i + 2) t u v goes_two_on (rw three three_is) three_misses
-      (rw four four_is) four_misses)
-
 -- one stretch after another
 pub along : (Has : ℕ → Type 0) (at other : ℕ → ℕ) (n : ℕ) (s : Roll)
     → ((k : ℕ) → k ≤ n → other k ≡ at k)

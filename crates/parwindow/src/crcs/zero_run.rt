@@ -95,14 +95,3 @@ pub fn removal_table(len: usize) -> [u32; 256]
     }
     table
 }
-
-/// The same once one byte more has followed, from such a table.
-pub fn followed_table(table: &[u32; 256]) -> [u32; 256]
-    ensures { (len : ℕ) → IsRemovalTable table.now len → IsRemovalTable result (len + 1) }
-{
-    let mut next = [0; 256];
-    for x in 0..256usize {
-        next[x] = after_byte(table[x], 0);
-    }
-    next
-}

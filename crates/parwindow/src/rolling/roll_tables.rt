@@ -1,8 +1,9 @@
-ghost use Rattle.std.specs.Prelude.{◌≡◌, ◌+◌, ◌<◌, ◌≤◌, length, min, IsTrue};
+ghost use Rattle.std.specs.Prelude.{◌≡◌, ◌+◌, ◌<◌, ◌≤◌, ◌++◌, length, min, IsTrue};
 ghost use Rattle.parset.specs.Limits.{slice_size_limit};
 ghost use Rattle.parwindow.specs.Tables.{IsRemovalTable, IsStepTable};
 
 use crate::crcs::{STEPPED_BYTES, STEPPED_TWICE, after_byte, removal_table};
+use crate::index::Index;
 use crate::rolling::register_set::RegisterSet;
 use crate::rolling::roll::Roll;
 
@@ -27,7 +28,9 @@ pub struct RollTables {
 }
 
 impl RollTables {
-    ghost use Rattle.parwindow.specs.Rolling.{rolled_register, pushed_register, rolled_over, StopsAt};
+    ghost use Rattle.parwindow.specs.Crc32.{register_of};
+    ghost use Rattle.parwindow.specs.Rolling.{rolled_register, pushed_register, rolled_over, HasRegister, StopsAt};
+    ghost use Rattle.parwindow.specs.Until.{pushed_content};
 
     /// The tables for a window of `size` bytes, by squaring: no byte runs through it.
     pub fn new(size: usize) -> RollTables
@@ -113,5 +116,36 @@ impl RollTables {
             register: last,
             hit: set.has(last),
         }
+    }
+
+    /// Rolls the register of a full window, whose content is in two parts, over the bytes that
+    /// come: what goes is the content, and after it the bytes themselves.
+    pub fn roll_over(
+        &self,
+        index: &Index,
+        front: &[u8],
+        back: &[u8],
+        bytes: &[u8],
+        start: u32,
+    ) -> Roll
+        requires full { length (front.now ++ back.now) ≡ self.now.others + 1 }
+        requires start { start ≡ register_of (front.now ++ back.now) }
+        ensures { StopsAt (HasRegister index.now)
+            (λ k. register_of (pushed_content (front.now ++ back.now) bytes.now k))
+            (length bytes.now) result }
+    {
+        let first = self.roll_until(index, front, bytes, start);
+        if first.hit || first.count == bytes.len() {
+            return first;
+        }
+        let rest = &bytes[first.count..];
+        let second = self.roll_until(index, back, rest, first.register);
+        let both = first.then(second);
+        if second.hit || both.count == bytes.len() {
+            return both;
+        }
+        let last = &bytes[both.count..];
+        let third = self.roll_until(index, bytes, last, both.register);
+        both.then(third)
     }
 }

@@ -13,7 +13,7 @@ invariant_of-self c =
     rw (fallen.items, c.pushed-self-inside.ensures, fallen.value, held.rolled) (record {
       within = length-keep_last w.ring.capacity (w.ring.items ++ c.args.byte ∷ []);
       room = held.room;
-      rolled = register_moves w.ring.items w.ring.capacity w.tables.narrow.others c.args.byte
+      rolled = register_moves w.ring.items w.ring.capacity w.tables.others c.args.byte
           held.within held.room;
       tails = rw (refilled w.tails.items c.push_tails.new.tails w.tails.len w.tails.ok.0 same)
           c.push_tails.ensures.each;

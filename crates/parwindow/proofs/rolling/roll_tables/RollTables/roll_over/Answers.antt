@@ -4,14 +4,14 @@ use Rattle.parwindow.specs.declared.rolling.roll.Roll.{Roll}
 use Rattle.parwindow.proofs.rolling_laws.RollOverLaws.{front_part, back_part, bytes_part}
 use Rattle.parwindow.proofs.ListLaws.{rest_is}
 use Rattle.parwindow.proofs.rolling_laws.RollUntilLaws.{arrived}
-use Rattle.parwindow.proofs.rolling.wide_tables.WideTables.roll_over.Goals as goal
-use Rattle.parwindow.proofs.rolling.wide_tables.WideTables.roll_over.Goals.{then-first-via-then-first, then-first-via-else-first+then-first-bytes}
+use Rattle.parwindow.proofs.rolling.roll_tables.RollTables.roll_over.Goals as goal
+use Rattle.parwindow.proofs.rolling.roll_tables.RollTables.roll_over.Goals.{then-first-via-then-first, then-first-via-else-first+then-first-bytes}
 
 pub returns-then-first : goal.returns-then-first
 returns-then-first c =
     let first = front_part (HasRegister c.args.index.now) c.args.front.now c.args.back.now
     c.args.bytes.now
-    c.args.self.now.narrow.others c.args.start _
+    c.args.self.now.others c.args.start _
     c.requires.full c.requires.start c.roll_until-first.ensures in
     let within : min (length c.args.front.now) (length c.args.bytes.now) ≤ length c.args.bytes.now =
     omega arith in
@@ -27,10 +27,10 @@ returns-then-second c =
     let bytes = c.args.bytes.now in
     let a = c.roll_until-first.result in
     let first = front_part (HasRegister c.args.index.now) c.args.front.now c.args.back.now bytes
-    c.args.self.now.narrow.others c.args.start a
+    c.args.self.now.others c.args.start a
     c.requires.full c.requires.start c.roll_until-first.ensures in
     let second = back_part (HasRegister c.args.index.now) c.args.front.now c.args.back.now bytes
-    c.args.self.now.narrow.others a c.roll_until-second.result
+    c.args.self.now.others a c.roll_until-second.result
     c.requires.full first c.if-first.false c.if-first-bytes.false
     (rw (rest_is bytes a.count) at c.roll_until-second.ensures) in
     let there : a.count ≡ length c.args.front.now = second.0 in
@@ -53,14 +53,14 @@ returns c =
     let both = c.then-both.result in
     let is = c.then-both.ensures in
     let first = front_part (HasRegister c.args.index.now) c.args.front.now c.args.back.now bytes
-    c.args.self.now.narrow.others c.args.start a
+    c.args.self.now.others c.args.start a
     c.requires.full c.requires.start c.roll_until-first.ensures in
     let second = back_part (HasRegister c.args.index.now) c.args.front.now c.args.back.now bytes
-    c.args.self.now.narrow.others a c.roll_until-second.result
+    c.args.self.now.others a c.roll_until-second.result
     c.requires.full first c.if-first.false c.if-first-bytes.false
     (rw (rest_is bytes a.count) at c.roll_until-second.ensures) in
     rw c.then.ensures
     (bytes_part (HasRegister c.args.index.now) c.args.front.now c.args.back.now bytes
-    c.args.self.now.narrow.others both c.roll_until-third.result c.requires.full second.1
+    c.args.self.now.others both c.roll_until-third.result c.requires.full second.1
     (rw is second.2) (ap (λ (r : Roll). r.hit) is ∙ c.if-second.false) c.if-both-bytes.false
     (rw (rest_is bytes both.count) at c.roll_until-third.ensures))
