@@ -61,11 +61,12 @@ class Writer:
         """The file while it is used, or nothing if it is refused, now or from now on."""
         place: Optional[int] = None
         try:
-            try:
-                place = self._place_of(file)
-                _has_length(place, file.length)
-            except Refused as why:
-                self._refuse_for_now(file, str(why))
+            if file.id not in self.refused:
+                try:
+                    place = self._place_of(file)
+                    _has_length(place, file.length)
+                except Refused as why:
+                    self._refuse_for_now(file, str(why))
             yield None if file.id in self.refused else place
         finally:
             if place is not None:

@@ -10,7 +10,7 @@ from typing import List, Optional
 
 from parv_commands import changes, rescue
 
-from .rooms import FULL, KILLED, MAKING, At, Ended, From, Room, read, write
+from .rooms import FULL, KILLED, MAKING, At, Ended, From, Room, read, set_of, write
 
 FILES = {"long": b"one slice and another one, and a short one", "in/a/folder": b"deep down below", "empty": b"",
          "short": b"few"}
@@ -75,6 +75,29 @@ class Rescue(unittest.TestCase):
                 write(place, b"mine")
                 self.run_it(goes_on=True)
                 self.assertEqual(read(place), b"mine", number)
+
+    def test_an_empty_file_is_not_made_where_its_name_leads_out_of_the_folder(self) -> None:
+        room = Room({"whole": b"whole"})
+        self.addCleanup(room.close)
+        odd = [b"../above", b"in/../../above", b"../../far/above", b"..", b"in/..", b"/absolute", b".parv-rescue/in"]
+        write(os.path.join(room.top, "set.par2"), set_of({**{name: b"" for name in odd}, b"whole": b"whole"}, 8, 0))
+        for copied in 1, 0:
+            ended = room.run(rescue.main, ["around/new", "set.par2", "room/whole"])
+            self.assertEqual((ended.status, len(ended.said.splitlines())), (1, len(odd)), ended)
+            self.assertIn(f"complete whole\nslices 1/1, copied now {copied}\n", ended.out)
+            self.assertEqual(os.listdir(os.path.join(room.top, "around")), ["new"])
+            self.assertEqual(sorted(os.listdir(os.path.join(room.top, "around/new"))), [".parv-rescue", "whole"])
+            self.assertFalse(os.path.exists(os.path.join(room.top, "far")))
+
+    def test_a_whole_file_that_was_replaced_is_refused_once(self) -> None:
+        self.is_whole(self.run_it(), "")
+        place = os.path.join(self.room.top, "new", "long")
+        os.remove(place)
+        write(place, b"mine")
+        ended = self.run_it(goes_on=True)
+        self.assertEqual((ended.status, ended.said), (
+            1, "parv-rescue: refused: long: what is in its place isn't what was left there\n"), ended)
+        self.assertEqual(read(place), b"mine")
 
     def test_a_folder_of_the_earlier_script_goes_on(self) -> None:
         self.run_it()
