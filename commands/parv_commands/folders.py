@@ -10,7 +10,7 @@ from typing import Container, Dict, Iterator, List, NamedTuple, Optional
 
 from . import changes
 from .faults import FILES, Fault, faults_of
-from .names import base_of, folders_of, numbered, shown
+from .names import base_of, folders_of, is_plain, numbered, shown
 
 _WAY = os.O_PATH | os.O_DIRECTORY | os.O_NOFOLLOW | os.O_CLOEXEC
 _ABSENT = (errno.ENOENT, errno.ENOTDIR, errno.ELOOP, errno.ENAMETOOLONG)
@@ -64,7 +64,10 @@ class Folder:
 
     @contextlib.contextmanager
     def above(self, name: bytes, makes: bool = False) -> Iterator[int]:
-        """The folder that a name is in, while it is used; it is made if that is asked for."""
+        """The folder that a name is in, while it is used; it is made if that is asked for. There is none for a name that
+        leads out of this one."""
+        if b"/" in name and not is_plain(name.rpartition(b"/")[0]):
+            raise FileNotFoundError(errno.ENOENT, os.strerror(errno.ENOENT))
         place = os.open(b".", _WAY, dir_fd=self.place)
         try:
             for part in name.split(b"/")[:-1]:

@@ -15,7 +15,7 @@ from typing import Callable, Iterator, List, NamedTuple, Optional, Sequence, Uni
 from . import changes
 from .faults import FILES, Fault, Refused
 from .folders import Folder, Identity
-from .names import base_of, shown
+from .names import base_of, is_plain, shown
 
 HEAD = b"parv-repair journal 1"
 END = b"end"
@@ -85,11 +85,6 @@ def read_file(folder: Folder, name: bytes) -> bytes:
         return bytes(data)
     finally:
         os.close(opened)
-
-
-def is_plain(name: bytes) -> bool:
-    """Whether a name of a journal stays below the folder."""
-    return not {b"", b".", b".."} & set(name.split(b"/"))
 
 
 class Moves:

@@ -35,6 +35,11 @@ def folders_of(name: bytes) -> List[bytes]:
     return [name[:at] for at, byte in enumerate(name) if byte == 0x2f]
 
 
+def is_plain(name: bytes) -> bool:
+    """Whether a name stays below its folder, by its parts."""
+    return not {b"", b".", b".."} & set(name.split(b"/"))
+
+
 def refusal(name: bytes, reserved: Iterable[bytes]) -> Optional[str]:
     """Why a name of a set is refused, if it is; the reserved names are those of the command's own entries."""
     parts = name.split(b"/")

@@ -1,4 +1,5 @@
-"""Names as they are shown, names that are refused, answers that are none of parv, and progress on a terminal."""
+"""Names as they are shown, names that are refused or lead out of a folder, answers that are none of parv, and progress
+on a terminal."""
 
 from __future__ import annotations
 
@@ -9,6 +10,7 @@ from typing import List
 
 from parv_commands import answers, names, progress, repair, rescue
 from parv_commands.faults import Fault
+from parv_commands.folders import Folder
 
 from .rooms import Room, write
 
@@ -42,6 +44,24 @@ class Names(unittest.TestCase):
     def test_a_numbered_name_is_no_longer_than_one_may_be(self) -> None:
         self.assertEqual(names.numbered(b"a/b", 12), b"a/b.12")
         self.assertEqual(len(names.numbered(b"folder/" + b"x" * 255, 3)), 7 + 255)
+
+
+class Folders(unittest.TestCase):
+    def test_no_name_leads_out_of_a_folder(self) -> None:
+        room = Room({"in/a": b"content"})
+        self.addCleanup(room.close)
+        write(os.path.join(room.top, "outside"), b"outside")
+        folder = Folder.opened(os.fsencode(room.folder))
+        self.addCleanup(folder.close)
+        for name in (b"../outside", b"in/../../outside", b"./in/a", b"in//a", os.fsencode(room.top) + b"/outside",
+                     b"/outside", b"../new/outside"):
+            self.assertIsNone(folder.look(name), name)
+            with self.assertRaises(FileNotFoundError, msg=name), folder.above(name, True):
+                pass
+            self.assertRaises(FileNotFoundError, folder.open_to_read, name)
+            self.assertRaises(FileNotFoundError, folder.move, b"in/a", name, True)
+        self.assertEqual(sorted(os.listdir(room.top)), ["by-number", "outside", "par2", "room", "tmp"])
+        self.assertIsNotNone(folder.look(b"in/a"))
 
 
 class Answers(unittest.TestCase):
