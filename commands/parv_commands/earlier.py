@@ -6,8 +6,9 @@ from __future__ import annotations
 
 import contextlib
 import os
+import re
 import stat
-from decimal import Decimal, InvalidOperation
+from decimal import Decimal
 from typing import List, Optional
 
 from . import changes
@@ -19,6 +20,7 @@ from .names import shown
 NAME = b".verify_and_repair"
 KEPT = b"verify_and_repair.kept"
 LIST = b"moves"
+_NOTED = re.compile(rb"([0-9]{1,20})(?:/[^ ]*)?(?: ([0-9]{1,20}) (-?[0-9]{1,20}(?:\.[0-9]{1,9})?))?")
 OWN_FILES = (b"moves", b"list", b"done")
 OWN_FOLDERS = (b"files", b"made", b"aside")
 
@@ -29,16 +31,12 @@ def is_there(folder: Folder) -> bool:
 
 def _identity(text: bytes) -> Identity:
     """A file as a list has it: its inode, and mostly when it was made, its length and the time of its last change."""
-    parts = text.decode("ascii", "replace").split(" ")
-    inode = parts[0].split("/")[0]
-    if not inode.isdigit() or len(parts) not in (1, 3):
+    noted = _NOTED.fullmatch(text)
+    if noted is None:
         raise Refused("it is no list of moves")
-    if len(parts) == 1:
-        return Identity(int(inode), None, None)
-    try:
-        return Identity(int(inode), int(parts[1]), int(Decimal(parts[2]) * 10 ** 9))
-    except (ValueError, InvalidOperation) as fault:
-        raise Refused("it is no list of moves") from fault
+    if noted[2] is None:
+        return Identity(int(noted[1]), None, None)
+    return Identity(int(noted[1]), int(noted[2]), int(Decimal(noted[3].decode()) * 10 ** 9))
 
 
 def steps_of(data: bytes) -> List[Step]:

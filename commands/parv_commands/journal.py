@@ -9,6 +9,7 @@ from __future__ import annotations
 
 import contextlib
 import os
+import re
 import stat
 from typing import Callable, Iterator, List, NamedTuple, Optional, Sequence, Union
 
@@ -21,6 +22,7 @@ HEAD = b"parv-repair journal 1"
 END = b"end"
 MOST = 1 << 28          # bytes that a journal may have
 _FIELDS = 5
+_NUMBERS = re.compile(rb"([0-9]{1,20}) ([0-9]{1,20}) (-?[0-9]{1,20})")     # a file may be older than 1970
 
 
 class Move(NamedTuple):
@@ -63,10 +65,10 @@ def decoded(data: bytes) -> List[Step]:
         if kind == b"folder":
             steps.append(Made(origin))
             continue
-        numbers = about.split(b" ")
-        if kind not in (b"move", b"keep") or len(numbers) != 3 or not all(map(bytes.isdigit, numbers)):
+        numbers = _NUMBERS.fullmatch(about)
+        if kind not in (b"move", b"keep") or numbers is None:
             raise Refused("it is no journal of this version")
-        steps.append(Move(Identity(*map(int, numbers)), origin, target, kind == b"keep"))
+        steps.append(Move(Identity(*map(int, numbers.groups())), origin, target, kind == b"keep"))
     return steps
 
 

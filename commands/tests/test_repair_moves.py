@@ -229,6 +229,28 @@ class Moves(unittest.TestCase):
         self.assertEqual((ended.status, self.room.listing()), (6, before), ended)
         self.assertIn("by the next without --dry-run", ended.said)
 
+    def test_a_run_after_one_that_was_ended_knows_files_of_any_time(self) -> None:
+        for time in -10 ** 18 - 5, -1, 0, 1, 10 ** 18 + 5:
+            self.turn()
+            for name in "first", "second", "third":
+                os.utime(self.room.path(name), ns=(time, time))
+            self.run_it(watch=At(4, "after", KILLED, ["rename"]))
+            again = self.run_it()
+            self.completes(again, time)
+            self.assertIn("is finished", again.said)
+
+    def test_a_journal_with_other_numbers_is_refused_with_what_to_do(self) -> None:
+        good = journal.encoded([Move(Identity(1, 2, -3), b"mine", b"taken")])
+        self.assertEqual(journal.decoded(good), [Move(Identity(1, 2, -3), b"mine", b"taken")])
+        for numbers in b"1 2", b"1 2 3 4", b"1 2 x", b"1 -2 3", b"1 2 3.5", b"1 2 %s" % (b"9" * 5000), b"":
+            self.room.fresh()
+            self.plant([])
+            self.room.put(f"{STAGE}/journal", good.replace(b"1 2 -3", numbers))
+            before = self.room.listing()
+            ended = self.run_it()
+            self.assertEqual((ended.status, self.room.listing()), (6, before), ended)
+            self.assertIn("it is no journal of this version; .parv-repair stays", ended.said)
+
     def test_backups_are_not_removed_by_the_run_after_one_that_was_ended(self) -> None:
         self.turn()
         self.run_it("--remove-backups", watch=At(6, "after", KILLED, ["rename"]))
@@ -282,8 +304,11 @@ class Moves(unittest.TestCase):
         self.assertIn("may be removed", ended.said)
 
     def test_a_list_that_cannot_be_read_is_refused_with_what_to_do(self) -> None:
-        cases: List[Callable[[], None]] = [lambda: os.mkfifo(self.room.path(".verify_and_repair/moves")),
-                                           lambda: self.room.put(".verify_and_repair/moves", b"a\0b\0c\0")]
+        def listing(first: bytes) -> Callable[[], None]:
+            return lambda: self.room.put(".verify_and_repair/moves", first + b"\0first\0other\0")
+        cases: List[Callable[[], None]] = [lambda: os.mkfifo(self.room.path(".verify_and_repair/moves")), *map(listing, (
+            b"a", b"1 2", b"1 2 x", b"1 2 Infinity", b"1 2 NaN", b"1 2 1e999999999", b"1 x 3.0", b"9" * 5000,
+            b"1 %s 3.0" % (b"9" * 5000)))]
         for make in cases:
             self.room.fresh()
             self.left([])
@@ -292,6 +317,7 @@ class Moves(unittest.TestCase):
             ended = self.run_it()
             self.assertEqual((ended.status, self.room.listing()), (6, before), ended)
             self.assertIn("move it out of the folder", ended.said)
+            self.assertNotIn("Traceback", ended.said)
 
 
 if __name__ == "__main__":
