@@ -112,10 +112,11 @@ class Moves:
             return now is not None and stat.S_ISREG(now.st_mode)
         return move.file.fits(now)
 
-    def is_one(self, name: bytes, other: bytes) -> bool:
-        """Whether two names are those of one file, of which a move by two calls has left the first."""
-        now, then = self.folder.look(name), self.folder.look(other)
-        return now is not None and then is not None and os.path.samestat(now, then)
+    def has_two_names(self, move: Move) -> bool:
+        """Whether the file of a move is at both names, of which a move by two calls has left the first."""
+        now, then = self.folder.look(move.origin), self.folder.look(move.target)
+        return (now is not None and then is not None and os.path.samestat(now, then)
+                and now.st_ino == move.file.inode)
 
     def carry(self, name: bytes, new_name: bytes) -> None:
         """Moves a file to a name at which nothing is."""
@@ -165,7 +166,7 @@ class Moves:
             if isinstance(step, Made):
                 if is_plain(step.path) and self.folder.is_free(step.path):
                     self._make_again(step.path)
-            elif self.is_one(step.origin, step.target):
+            elif self.has_two_names(step):
                 self._remove_name(step.origin)
             elif self.has(step, step.origin) and not self._is_done(step):
                 target = step.target
@@ -213,7 +214,7 @@ class Moves:
             raise Fault(FILES, failed[0])
 
     def _undo_move(self, step: Move) -> None:
-        if self.is_one(step.origin, step.target):
+        if self.has_two_names(step):
             self._remove_name(step.target)
             return
         if not self.has(step, step.target):

@@ -181,6 +181,14 @@ class Moves(unittest.TestCase):
             self.completes(self.run_it())
             self.assertEqual(read(self.room.path("mine")), b"mine")
 
+    def test_a_journal_takes_no_name_from_a_file_that_it_does_not_know(self) -> None:
+        self.room.put("mine", b"mine")
+        os.link(self.room.path("mine"), self.room.path("mine too"))
+        other = self.identity("mine")._replace(inode=self.identity("first").inode)
+        self.plant([Move(other, b"mine", b"mine too")])
+        self.completes(self.run_it())
+        self.assertEqual([read(self.room.path(name)) for name in ("mine", "mine too")], [b"mine"] * 2)
+
     def test_a_stage_that_came_with_the_folder_loses_nothing(self) -> None:
         self.turn()
         self.plant([Move(Identity(1, 2, 3), b"report", b"%s/aside/1" % STAGE.encode())], owner=False)
