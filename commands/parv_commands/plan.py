@@ -72,7 +72,7 @@ class Plan:
         self._leaves: Set[bytes] = set()
         self._taken: Set[bytes] = set()
         self._asides: Dict[bytes, bytes] = {}
-        self._names = {file.name for file in files}
+        self._names = {part for file in files for part in [*folders_of(file.name), file.name]}
         self._moves: List[Tuple[Optional[bytes], bytes, bytes, bool]] = []      # of what, from where, to where, kept
         origins = {number: origin for number in range(len(files)) for origin in [self._decide(number)]
                    if origin is not None}

@@ -100,6 +100,16 @@ class Moves(unittest.TestCase):
             self.completes(self.run_it())
             self.assertTrue(any(data.endswith(b", changed") for data in self.room.contents()), name)
 
+    def test_a_file_is_not_kept_where_a_folder_is_to_be_made(self) -> None:
+        room = Room({"first": b"first of all", "first.1/second": b"the second"})
+        self.addCleanup(room.close)
+        room.put("first", b"fXrst of all")
+        room.rename("first.1/second", "stray")
+        os.rmdir(room.path("first.1"))
+        ended = room.run(repair.main, ["room"])
+        self.assertEqual((ended.status, room.lacks()), (0, []), ended)
+        self.assertEqual(read(room.path("first.2")), b"fXrst of all")
+
     def test_a_folder_that_becomes_a_link_leads_no_file_out(self) -> None:
         room = Room({"sub/first": b"first of all", "sub/second": b"the second"})
         self.addCleanup(room.close)
