@@ -37,8 +37,10 @@ class Record:
             raise Fault(FILES, f"{self.shown} is a link or no file")
         try:
             fcntl.flock(self.place, fcntl.LOCK_EX | fcntl.LOCK_NB)
-        except OSError as fault:
+        except BlockingIOError as fault:
             raise Fault(USAGE, f"another run is at work in {folder.shown}") from fault
+        except OSError as fault:
+            raise Fault(FILES, f"cannot lock {self.shown}: {fault.strerror}") from fault
         self.making: Set[str] = set()
         self.made: Set[str] = set()
         self.there: Set[int] = set()

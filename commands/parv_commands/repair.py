@@ -263,7 +263,7 @@ def locked(folder: Folder) -> Iterator[None]:
     try:
         try:
             fcntl.flock(lock, fcntl.LOCK_EX | fcntl.LOCK_NB)
-        except OSError as fault:
+        except BlockingIOError as fault:
             raise Fault(FILES, "another run is at work") from fault
         yield
     finally:

@@ -3,6 +3,7 @@ written, more files or longer names than one command line has, and signals."""
 
 from __future__ import annotations
 
+import errno
 import os
 import re
 import shutil
@@ -11,10 +12,11 @@ import subprocess
 import sys
 import time
 import unittest
+import unittest.mock
 from typing import Dict, List, Optional, Tuple
 
 import parv_commands
-from parv_commands import repair
+from parv_commands import repair, rescue
 from parv_commands.signals import SIGNALS
 
 from .rooms import PARV, Room, packet, set_of, write
@@ -124,6 +126,17 @@ class Statuses(unittest.TestCase):
                 self.assertIn(said, ended[2])
                 if ended[0] == 6:
                     self.assertRegex(ended[2], "(make a link in|temporary folder in|write in) ")
+
+    def test_a_file_system_without_locks(self) -> None:
+        for error, statuses, said in ((errno.ENOLCK, (6, 6), "No locks available"),
+                                      (errno.EWOULDBLOCK, (6, 3), "another run is at work")):
+            with unittest.mock.patch("fcntl.flock", side_effect=OSError(error, os.strerror(error))):
+                ends = [self.room.run(repair.main, ["room"]),
+                        self.room.run(rescue.main, ["new", "room/set.par2", "room/stray"])]
+            self.assertEqual(tuple(ended.status for ended in ends), statuses, ends)
+            for ended in ends:
+                self.assertIn(said, ended.said)
+            self.assertEqual(self.room.listing(), self.before)
 
     def test_more_files_than_may_be_open_at_first(self) -> None:
         for number in range(1100):
