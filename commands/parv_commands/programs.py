@@ -73,9 +73,14 @@ def _environment() -> Dict[str, str]:
 
 
 def _child(place: Optional[int]) -> Callable[[], None]:
-    """What a child does before it becomes the program: it ends if the command is killed, and goes to its folder."""
+    """What a child does before it becomes the program: it ends if the command is killed or was so already, and goes to
+    its folder."""
+    command = os.getpid()
+
     def before() -> None:
         _libc.prctl(_PR_SET_PDEATHSIG, signal.SIGKILL)
+        if os.getppid() != command:
+            os._exit(1)
         if place is not None:
             os.fchdir(place)
     return before

@@ -16,7 +16,7 @@ import unittest.mock
 from typing import Dict, List, Optional, Tuple
 
 import parv_commands
-from parv_commands import repair, rescue
+from parv_commands import programs, repair, rescue
 from parv_commands.signals import SIGNALS
 
 from .rooms import PARV, Room, packet, set_of, write
@@ -231,6 +231,27 @@ class Statuses(unittest.TestCase):
     def test_a_program_ends_when_the_command_is_killed(self) -> None:
         status, _ = self.ended_while([REPAIR, "room"], signal.SIGKILL, False, PAR2=self.waits("p5", "true"))
         self.assertEqual(status, -signal.SIGKILL)
+
+    def test_no_program_begins_once_the_command_is_killed(self) -> None:
+        ran, child = os.path.join(self.room.top, "ran"), os.path.join(self.room.top, "child")
+
+        class Killing:
+            """The C library, by which a child kills the command before it asks for anything."""
+            def prctl(self, *_: object) -> None:
+                command = os.getppid()
+                write(child, b"%d" % os.getpid())
+                os.kill(command, signal.SIGKILL)
+                while os.getppid() == command:
+                    time.sleep(0.01)
+        with unittest.mock.patch.object(programs, "_libc", Killing()):
+            ended = self.room.run(repair.main, ["room"], PARV=self.program("p6", f"#!/bin/sh\ntouch {ran}\n"))
+        self.assertEqual(ended.status, 128 + signal.SIGKILL)
+        with open(child, "rb") as file:
+            place = f"/proc/{int(file.read())}"
+        until = time.monotonic() + 30
+        while os.path.exists(place) and time.monotonic() < until:
+            time.sleep(0.02)
+        self.assertFalse(os.path.exists(place) or os.path.exists(ran))
 
 
 class Packets(unittest.TestCase):
