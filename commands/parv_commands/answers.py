@@ -26,7 +26,7 @@ class NoAnswer(Fault):
 
 
 class SetFile(NamedTuple):
-    """A file of a set, by its line; `known` tells whether the checksums of its slices are known."""
+    """A file of a set, by its line; `known` is whether the checksums of its slices are known."""
     id: str
     length: int
     slices: int
@@ -36,7 +36,7 @@ class SetFile(NamedTuple):
 
 
 class SetAnswer(NamedTuple):
-    """A set: its first line, its files, how many recovery slices it has, and the packets that were put aside."""
+    """A set: its first line, its files, how many recovery slices it has, and the packets that parv has rejected."""
     line: str
     id: str
     size: int
@@ -46,7 +46,7 @@ class SetAnswer(NamedTuple):
 
 
 class PacketLine(NamedTuple):
-    """Where a packet is: the word of its file, its offset and its length; its kind, and the ID of its set."""
+    """The place of a packet: the word of its file, its offset and its length; its kind, and the ID of its set."""
     word: str
     offset: int
     length: int
@@ -74,7 +74,7 @@ class Verdict(NamedTuple):
 
 
 class Sighting(NamedTuple):
-    """Where a slice is: the word of a file and the offset in it; the ID of the slice's file, and its number there."""
+    """The place of a slice: the word of a file, the offset in it, the ID of the slice's file, and its number there."""
     word: str
     offset: int
     id: str

@@ -1,6 +1,6 @@
 """Each call of a command that changes what is on a disk. No other module makes one; a test sees to that.
 
-Names are parts below an opened folder, so no link is followed. Before and after each call the `observer` is told, by
+Names are parts below an opened folder, so no link is followed. Before and after each call the `observer` is called, by
 which tests count the calls, end a run at each of them, and have each of them fail.
 """
 
@@ -43,7 +43,7 @@ def remove_folder(place: int, name: bytes) -> None:
 
 
 def make_file(place: int, name: bytes, mode: int = 0o666) -> int:
-    """Makes a file where nothing is; opened."""
+    """Makes a file at a name at which nothing is, and opens it."""
     with _change("create"):
         return os.open(name, os.O_RDWR | os.O_CREAT | os.O_EXCL | os.O_NOFOLLOW | os.O_CLOEXEC, mode, dir_fd=place)
 
@@ -67,7 +67,7 @@ def make_link(place: int, name: bytes, target: bytes) -> None:
 
 
 def write(opened: int, data: Data) -> None:
-    """Writes all of the data where the file stands."""
+    """Writes all of the data at the position of the file."""
     left = memoryview(data)
     while left:
         with _change("write"):

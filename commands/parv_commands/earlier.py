@@ -40,7 +40,7 @@ def _identity(text: bytes) -> Identity:
 
 
 def steps_of(data: bytes) -> List[Step]:
-    """The steps of a list of moves: of a file its identity, from where, and to where; of a folder only the last."""
+    """The steps of a list of moves: a file has its identity, its name and its new name; a folder has only the last."""
     fields = data.split(b"\0")[:-1]
     steps: List[Step] = []
     for at in range(0, len(fields) - 2, 3):

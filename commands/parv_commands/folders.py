@@ -64,8 +64,8 @@ class Folder:
 
     @contextlib.contextmanager
     def above(self, name: bytes, makes: bool = False) -> Iterator[int]:
-        """The folder that a name is in, while it is used; it is made if that is asked for. There is none for a name that
-        leads out of this one."""
+        """The folder that a name is in, while it is used; it is made if that is asked for. There is none for a name
+        that leads out of this one."""
         if b"/" in name and not is_plain(name.rpartition(b"/")[0]):
             raise FileNotFoundError(errno.ENOENT, os.strerror(errno.ENOENT))
         place = os.open(b".", _WAY, dir_fd=self.place)

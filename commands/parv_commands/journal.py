@@ -1,8 +1,8 @@
 """The journal of moves: what a repair is about to do with names, written whole to the disk before the first move.
 
 A later run reads it, after whatever has ended the run before, and finishes the moves or takes them back. It knows each
-file by inode, length and time. What it doesn't know it neither moves nor removes: nothing here removes a file, but for
-one of two names of the same file.
+file by inode, length and time. What it doesn't know it neither moves nor removes: nothing here removes a file,
+except one of two names of the same file.
 """
 
 from __future__ import annotations
@@ -105,8 +105,8 @@ class Moves:
         return (step for step in self.steps if isinstance(step, Move))
 
     def has(self, move: Move, name: bytes) -> bool:
-        """Whether the file of a move is at a name: as it was, or whatever it is in the stage, where it is also in a
-        copy of the folder."""
+        """Whether the file of a move is at a name. Outside of the stage it must be as it was. In the stage any file is
+        taken for it, since in a copy of the folder inodes are others."""
         now = self.folder.look(name)
         if self.is_staged(name):
             return now is not None and stat.S_ISREG(now.st_mode)
@@ -242,7 +242,7 @@ class Moves:
             with contextlib.suppress(OSError), self.folder.above(path) as place:
                 changes.remove_folder(place, base_of(path))
 
-    # What is left in the stage.
+    # Files that are left in the stage.
 
     def bring_out(self) -> None:
         """Moves each file of the folder out of the stage: to the name that it is to have, to that which it had, or to a

@@ -84,7 +84,7 @@ class Making:
         return made
 
     def _assemble(self, bench: Bench) -> None:
-        """Puts the slices that parv has found where they belong in the files that are to be repaired."""
+        """Puts the slices that parv has found into the files that are to be repaired, each at its offset."""
         scene, found = self.scene, self.found.set
         wanted = {number for one in self.repairs if found.files[one].sums for number in found.files[one].numbers}
         opened: Dict[int, int] = {}

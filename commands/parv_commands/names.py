@@ -71,7 +71,7 @@ def refusals(names: Sequence[bytes], reserved: Iterable[bytes]) -> Dict[int, str
 
 
 def numbered(name: bytes, number: int) -> bytes:
-    """NAME.number beside a name, cut where the last part would be too long."""
+    """NAME.number beside a name, cut if the last part would be too long."""
     end = b".%d" % number
     folder, slash, base = name.rpartition(b"/")
     return folder + slash + base[:LONGEST_PART - len(end)] + end

@@ -73,7 +73,7 @@ def packet_of(owner: str, kind: str, body: bytes) -> bytes:
 
 
 class PacketFiles:
-    """The packet files of a call of parv, read again where it says that packets are."""
+    """The packet files of a call of parv, read again at the offsets of the packets that it has found."""
 
     def __init__(self, parv: Parv, words: Sequence[str], opener: Opener) -> None:
         self.parv, self.words, self.opener = parv, words, opener
@@ -122,7 +122,7 @@ class PacketFiles:
         return b"".join(self.pieces(line))
 
     def exponent(self, line: PacketLine) -> int:
-        """The exponent of a recovery slice, which tells it from others."""
+        """The exponent of a recovery slice, by which it differs from others."""
         with faults_of("read", self.name_of(line.word)):
             file = self._file(line.word)
             file.seek(line.offset + HEADER)

@@ -17,7 +17,7 @@ from .programs import answer_of, find_program
 from .signals import wait_point
 
 PACKETS = b"set.par2"
-UP = b"../../"          # from where par2 works to the folder
+UP = b"../../"          # from the folder in which par2 works to that which is repaired
 
 
 def name_for(number: int) -> bytes:
@@ -32,7 +32,7 @@ class Tried(NamedTuple):
 
 
 class Bench:
-    """Where par2 works: a folder of the stage."""
+    """The folder of the stage in which par2 works."""
 
     def __init__(self, place: Folder, found: RecoverySet) -> None:
         self.place, self.found = place, found

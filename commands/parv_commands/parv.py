@@ -22,7 +22,7 @@ _ABOUT = re.compile(rb"parv: (cannot open|read fault in) ([^\n]*)\n?")
 
 
 class Given:
-    """A file that is given to parv: the word for it, where it is, and its name in messages."""
+    """A file that is given to parv: the target of the link to it, and its name in messages."""
 
     def __init__(self, target: bytes, name: str) -> None:
         self.target, self.shown = target, name
@@ -45,7 +45,7 @@ class Links:
 
 
 def _clear(folder: Folder) -> None:
-    """Removes what is in a temporary folder, which has files and links alone."""
+    """Removes what is in a temporary folder, which has only files and links."""
     for name in os.listdir(folder.place):
         changes.remove_file(folder.place, os.fsencode(name))
 
@@ -122,7 +122,7 @@ class Parv:
 
     def verify(self, found: answers.SetAnswer, packet_words: Sequence[str], words: Sequence[str], tails: bool = False,
                most: int = 0) -> answers.Verdict:
-        """The verdict over these files; a fault of parv where there is none."""
+        """The verdict over these files; a fault of parv if there is none."""
         ended = self.answer("verify", [*(["--tails"] if tails else []), "--set", found.id, "--", *packet_words, *words],
                             most)
         if ended.status not in (0, 1, 2):

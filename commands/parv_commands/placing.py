@@ -1,4 +1,4 @@
-"""Placing slices: the bytes of a slice where it was seen, their sums, and writing them into a file."""
+"""Placing slices: the bytes of a slice at the offset of a match, their sums, and writing them into a file."""
 
 from __future__ import annotations
 
@@ -10,7 +10,7 @@ from typing import Iterable, Iterator
 from . import changes
 from .faults import Refused
 
-BLOCK = 4096        # so many zeros that begin at a multiple of it are left as a hole
+BLOCK = 4096        # zeros that are left as a hole: this number of them from a multiple of it on
 PIECE = 1 << 20
 
 
@@ -31,7 +31,7 @@ def md5_of(pieces: Iterable[bytes]) -> bytes:
 
 
 def window(opened: int, offset: int, own: int, size: int) -> Iterator[bytes]:
-    """So many bytes of a file from an offset on, and zeros up to the slice size, in pieces."""
+    """`own` bytes of a file from an offset on, and zeros up to the slice size, in pieces."""
     for at in range(0, own, PIECE):
         yield os.pread(opened, min(PIECE, own - at), offset + at)
     for at in range(own, size, PIECE):
@@ -39,7 +39,7 @@ def window(opened: int, offset: int, own: int, size: int) -> Iterator[bytes]:
 
 
 def is_there(opened: int, offset: int, own: int, size: int, sums: bytes) -> bool:
-    """Whether a file has so many bytes at an offset, and these have both sums with zeros up to the slice size.
+    """Whether a file has `own` bytes at an offset, and these have both sums with zeros up to the slice size.
 
     The MD5 is taken only of what has the CRC-32, since it takes much longer."""
     return (os.fstat(opened).st_size >= offset + own and crc_of(window(opened, offset, own, size)) == sums[16:]
@@ -55,7 +55,7 @@ def pieces_of_file(opened: int) -> Iterator[bytes]:
 
 
 def _bytes_of(opened: int, length: int, at: int) -> bytes:
-    """So many bytes at an offset of a file that has them; a hole isn't read."""
+    """Bytes at an offset of a file that has them; a hole isn't read."""
     try:
         is_hole = os.lseek(opened, at, os.SEEK_DATA) >= at + length
     except OSError:
@@ -64,7 +64,7 @@ def _bytes_of(opened: int, length: int, at: int) -> bytes:
 
 
 def fill(opened: int, data: bytes, at: int) -> None:
-    """Writes the blocks of the data that aren't there yet, each where nothing but zeros is."""
+    """Writes the blocks of the data that aren't there yet, each in place of zeros."""
     now, zeros, start, begin = _bytes_of(opened, len(data), at), bytes(BLOCK), 0, -1
     while start < len(data) and now != data:
         end = min(len(data), start + BLOCK - (at + start) % BLOCK)

@@ -25,7 +25,7 @@ class Copy(NamedTuple):
 
 
 class Backup(NamedTuple):
-    """A file that makes way for that of the set with this number, and where it is kept."""
+    """A file that makes way for the file of the set with this number, and the name by which it is kept."""
     number: int
     kept: bytes
     file: Identity
@@ -73,7 +73,8 @@ class Plan:
         self._taken: Set[bytes] = set()
         self._asides: Dict[bytes, bytes] = {}
         self._names = {part for file in files for part in [*folders_of(file.name), file.name]}
-        self._moves: List[Tuple[Optional[bytes], bytes, bytes, bool]] = []      # of what, from where, to where, kept
+        # The file that is moved, or nothing for a folder; its origin and its target; whether it is kept.
+        self._moves: List[Tuple[Optional[bytes], bytes, bytes, bool]] = []
         origins = {number: origin for number in range(len(files)) for origin in [self._decide(number)]
                    if origin is not None}
         for number in origins:

@@ -41,7 +41,7 @@ def search_path() -> str:
 
 
 def find_program(variable: str, usual: str) -> Optional[Program]:
-    """The program that a variable of the environment names, or else of the usual name, if there is one. What is relative
+    """The program that a variable of the environment names, or else of the usual name, if there is one. A relative one
     is looked up here and now, in the folder from which the command is called."""
     name, here = os.environ.get(variable) or usual, os.getcwd()
     parts = [""] if "/" in name else (os.environ.get("PATH") or USUAL).split(os.pathsep)
@@ -60,7 +60,7 @@ def needed_program(variable: str, usual: str) -> Program:
 
 
 def raise_file_limit() -> int:
-    """Lets as many files be open at once as this process may have; returns how many."""
+    """Lets this process have the most files open at once that it may; returns this number."""
     soft, hard = resource.getrlimit(resource.RLIMIT_NOFILE)
     with contextlib.suppress(OSError, ValueError):
         resource.setrlimit(resource.RLIMIT_NOFILE, (hard, hard))

@@ -1,4 +1,4 @@
-"""Progress on a terminal: after two seconds a line on standard error tells what is done, and how far it is."""
+"""Progress on a terminal: after two seconds a line on standard error says what is done, and how far it is."""
 
 from __future__ import annotations
 

@@ -89,7 +89,7 @@ class Record:
             raise ValueError(kind)
 
     def write(self, text: str) -> None:
-        """Puts text behind the last whole line."""
+        """Puts text after the last whole line."""
         with faults_of("write", self.shown):
             changes.write_at(self.place, text.encode("ascii"), self.end)
         self.end += len(text)

@@ -101,7 +101,7 @@ class Repair:
         return looked
 
     def _origins(self, found: Found, sources: Sequence[Optional[bytes]]) -> List[bytes]:
-        """Where the content of each file is or will be: an empty file is made, whatever else is empty."""
+        """The path that has or will have the content of each file: an empty file is made, whatever else is empty."""
         origins: List[bytes] = []
         for number, (file, source) in enumerate(zip(found.set.files, sources)):
             if file.length == 0 and source != file.name:

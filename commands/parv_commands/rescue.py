@@ -75,7 +75,7 @@ def open_folder(path: bytes) -> Folder:
 
 
 def bytes_at(source: Scanned, offset: int, own: int, size: int) -> Tuple[bytes, bytes]:
-    """So many bytes of a slice where it was seen, and their sums with zeros up to the slice size."""
+    """The first `own` bytes of a slice at the offset of a match, and their sums with zeros up to the slice size."""
     with faults_of("read", source.shown):
         opened = source.opener()
         try:
@@ -115,7 +115,7 @@ class Rescue:
         return status, lines, 0 if tails else self._may_find(search, short)
 
     def _reached(self, way: str) -> Tuple[int, int, int]:
-        """Where a search of these files goes on this way: an earlier run may have come there."""
+        """The place from which a search of these files goes on this way: an earlier run may have come there."""
         nothing = 0, 0, 0
         return nothing if self.writer.is_lossy else self.writer.record.reached.get((way, self.given.mark), nothing)
 
@@ -126,7 +126,7 @@ class Rescue:
         return len(short) if may else 0
 
     def _searches(self, search: Search, way: str) -> None:
-        """Copies what a search sees from where it goes on, and keeps in the record how far it came."""
+        """Copies what a search sees from the place at which it goes on, and keeps in the record how far it came."""
         search.at = self._reached(way)
         try:
             self._copy(search, way)
@@ -152,7 +152,7 @@ class Rescue:
                     self.writer.save(search, way)
 
     def _take(self, search: Search, file: Member, number: int, data: bytes, sums: bytes, else_said: str) -> None:
-        """Writes a slice where its bytes have its sums still."""
+        """Writes a slice if its bytes still have its sums."""
         if not file.sums or sums != file.sums[number - file.first]:
             self.writer.is_lossy = True
             output.say(else_said)
@@ -161,7 +161,7 @@ class Rescue:
         else:
             search.wanted.difference_update(file.numbers)
 
-    # What is there at the end.
+    # The lines at the end.
 
     def _holes(self, file: Member) -> List[Tuple[int, int]]:
         """The offset and length of each hole of a file, of as many slices as are missing in turn."""
@@ -176,7 +176,7 @@ class Rescue:
         return gaps
 
     def _told(self, file: Member) -> List[str]:
-        """What is told of a file: its state, and lines of its holes."""
+        """The lines about a file: its state, and its holes."""
         count = sum(number in self.writer.record.there for number in file.numbers)
         state = self.writer.state_if_whole(file) if count == file.slices else "damaged" if count else "missing"
         if file.id in self.writer.refused:

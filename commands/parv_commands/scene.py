@@ -26,7 +26,7 @@ class Looked(NamedTuple):
 
 
 class Found(NamedTuple):
-    """The set of a folder: as parv tells it, with its packets, and the packet files."""
+    """The set of a folder: the answer of parv, the set with its packets, and the packet files."""
     answer: SetAnswer
     set: RecoverySet
     files: PacketFiles
@@ -86,7 +86,7 @@ class Scene:
         return Found(answer, read_recovery_set(answer, files, lines), files, lines, words_given)
 
     def gather(self, found: Found) -> None:
-        """Notes the files of the folder, and of the subfolders that the set names, but for packet files."""
+        """Notes the files of the folder, and of the subfolders that the set names, except packet files."""
         members = {file.name for file in found.set.files}
         self.there = {}
         for path in self._folders(members):
@@ -100,7 +100,7 @@ class Scene:
                     inner.close()
 
     def _folders(self, members: Set[bytes]) -> List[bytes]:
-        """The subfolders that names of the set have, each with a slash behind it, and the folder itself as nothing."""
+        """The subfolders that names of the set have, each with a slash after it, and the folder itself as nothing."""
         found = {b""}
         for name in members:
             if b"/" in name and names.refusal(name, RESERVED) is None:

@@ -55,7 +55,7 @@ class Search:
         self.by_word = {file.word: number for number, file in enumerate(scanned)}
         self.by_id = {file.id: file.first for file in found.files if file.slices}
         self.owners: List[Member] = [file for file in found.files for _ in file.numbers]
-        self.looked: Dict[int, Place] = {}      # where a last slice was looked for, by its number
+        self.looked: Dict[int, Place] = {}      # the place at which a last slice was looked for, by its number
         self.again: Dict[int, int] = {}         # how often slices were seen that aren't wanted, by their numbers
 
     def cursor(self) -> str:
@@ -63,7 +63,7 @@ class Search:
 
     def sightings(self) -> Generator[Place, None, None]:
         """The number of a scanned file, an offset and the number of a slice, for each sighting of one that is wanted;
-        behind it the search stands once the next one is asked for."""
+        the search is past it once the next one is asked for."""
         place, name = self.parv.links.folder.place, self.parv.links.folder.shown
         while self.wanted and self.at[0] < len(self.scanned):
             with faults_of("write in", name):
@@ -119,9 +119,9 @@ class Search:
     def _part(self) -> Iterator[Place]:
         """The sightings as far as it is worth while to search for these slices.
 
-        Slices that aren't wanted any more are seen where they stand again, one of zeros at each offset of an empty part
-        of a disc, and each time parv takes an MD5. Where they have cost as much as a new beginning, the search begins
-        anew where it stands, without them.
+        Slices that aren't wanted any more are seen again at other places, one of zeros at each offset of an empty part
+        of a disc, and each time parv takes an MD5. Once they have cost as much as a new beginning, the search begins
+        again at its place, without them.
         """
         words = [*self.flags, "--cursor", self.cursor(), "--", WANTED.decode(), *(file.word for file in self.scanned)]
         waste = 0

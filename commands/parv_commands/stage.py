@@ -120,7 +120,7 @@ class Stage:
     # Its end.
 
     def _clear_folder(self, name: bytes) -> None:
-        """Removes a folder of the stage with the files and links in it, but for folders."""
+        """Removes a folder of the stage with the files and links in it; folders in it stay."""
         with contextlib.suppress(FileNotFoundError), contextlib.closing(self.opened.inner(name)) as inner:
             for entry, now in inner.entries().items():
                 if not stat.S_ISDIR(now.st_mode):

@@ -154,7 +154,7 @@ class Writer:
     def state_if_whole(self, file: Member) -> str:
         """Whether a file all of whose slices are there is complete by its MD5, or wrong.
 
-        It isn't read again where it was complete before and has not changed since."""
+        It isn't read again if it was complete before and has not changed since."""
         with self.opened(file) as place, faults_of("read", file.shown):
             if place is None:
                 return "refused"

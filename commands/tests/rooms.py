@@ -204,7 +204,7 @@ def _be_child(main: Callable[[], int], words: Sequence[str], paths: Sequence[str
 
 
 class At:
-    """Does something at a call of this number, before or after it; calls may be of some kinds alone."""
+    """Does something at a call of this number, before or after it; calls may be only of some kinds."""
 
     def __init__(self, number: int, when: str, does: Callable[[], None], kinds: Sequence[str] = ()) -> None:
         self.number, self.when, self.does, self.kinds = number, when, does, kinds

@@ -98,7 +98,7 @@ class Answers(unittest.TestCase):
 
 
 class Progress(unittest.TestCase):
-    """A command on a terminal tells what goes on, and takes the line off."""
+    """A command on a terminal says what goes on, and takes the line off."""
 
     def on_terminal(self, words: List[str], main: object, first: float) -> str:
         room = Room({"first": b"first of all", "second": b"the second"})

@@ -277,7 +277,7 @@ class Moves(unittest.TestCase):
         self.assertIn("removes nothing", again.said)
         self.assertIn(b"the thXrd one", self.room.contents())
 
-    # What the script of version 0.4.0 has left.
+    # Folders that the script of version 0.4.0 has left.
 
     def left(self, moves: List[bytes]) -> None:
         for name in "files", "made", "aside":
@@ -324,9 +324,10 @@ class Moves(unittest.TestCase):
     def test_a_list_that_cannot_be_read_is_refused_with_what_to_do(self) -> None:
         def listing(first: bytes) -> Callable[[], None]:
             return lambda: self.room.put(".verify_and_repair/moves", first + b"\0first\0other\0")
-        cases: List[Callable[[], None]] = [lambda: os.mkfifo(self.room.path(".verify_and_repair/moves")), *map(listing, (
-            b"a", b"1 2", b"1 2 x", b"1 2 Infinity", b"1 2 NaN", b"1 2 1e999999999", b"1 x 3.0", b"9" * 5000,
-            b"1 %s 3.0" % (b"9" * 5000)))]
+        cases: List[Callable[[], None]] = [
+            lambda: os.mkfifo(self.room.path(".verify_and_repair/moves")), *map(listing, (
+                b"a", b"1 2", b"1 2 x", b"1 2 Infinity", b"1 2 NaN", b"1 2 1e999999999", b"1 x 3.0", b"9" * 5000,
+                b"1 %s 3.0" % (b"9" * 5000)))]
         for make in cases:
             self.room.fresh()
             self.left([])

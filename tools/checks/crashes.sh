@@ -125,7 +125,7 @@ for signal in KILL TERM; do
     has "they write to an empty file that was made, then SIG$signal, then another run" 'not empty'
 done
 
-# What people have written isn't taken for a backup that may go.
+# A file that people have written isn't taken for a backup that may go.
 furnish 4 20 report.doc 'the report' report.doc.1 'the first report'
 rm room/report.doc
 ended "backups that aren't removed" report.doc KILL "rm report.doc.1; printf ', a week later' >> report.doc"
@@ -179,7 +179,7 @@ $say .parv-repair isn't of a run in this folder: files that were moved into it a
     mv saved room
 done
 
-# People move files where the list was written, and nothing moved yet.
+# People move files once the list was written, and nothing moved yet.
 { "$ended_repair" 1 before room > text; } 2> "$said/ended"
 [ -e room/$repair_list ] || fails "no list of moves was left"
 mv room/stray room/one
@@ -239,7 +239,7 @@ as_before "a list of moves that can't be written"
 "${repair[@]}" room > text 2> line || fails "a run once the list can be written: $(cat text line)"
 whole_now "a list of moves that can be written then"
 
-# What was planted in place of the list is no file that could be read.
+# A thing in place of the list that is no file to be read.
 furnish 4 5 first.txt abcdefgh second.txt ijklmnop
 mv room/first.txt room/x
 mkdir room/$repair_stage

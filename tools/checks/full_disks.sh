@@ -1,5 +1,5 @@
 #!/usr/bin/env bash
-# Where temporary files can't be written, a tree of damaged sets isn't told as a whole one, and no line of it is lost
+# If temporary files can't be written, a tree of damaged sets isn't reported as a whole one, and no line of it is lost
 # without a word.
 . "$(dirname "$0")/wants.sh"
 . "$tools/checks/commands.sh"

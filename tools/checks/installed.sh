@@ -1,6 +1,6 @@
 #!/usr/bin/env bash
-# What is installed: the program, its pages, its completions and its scripts in their places and nothing else,
-# without a toolchain, and nothing of them behind the removal.
+# The installed files: the program, its pages, its completions and its scripts in their places and nothing else,
+# without a toolchain, and nothing of them after the removal.
 . "$(dirname "$0")/wants.sh"
 
 commands="parv parv-repair parv-rescue"
@@ -53,7 +53,7 @@ if cmp -s "$parv" "$room/usr/bin/parv" && [ -x "$room/usr/bin/parv" ] \
 else
     fails "what is installed is another"
 fi
-# Each script and command tells its help, and where there is no parv, that alone.
+# Each script and command prints its help, and if there is no parv, only that.
 for script in "$room"/usr/share/doc/parv/examples/* "$room"/usr/bin/parv-*; do
     name=${script##*/}
     env -i PATH="$path" "$script" -h > "$work/help" 2> "$work/line"

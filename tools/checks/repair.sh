@@ -1,6 +1,6 @@
 #!/usr/bin/env bash
 # parv-repair on real damage, with a stand-in for par2: what becomes of each file, that nothing is
-# overwritten or lost, that all is left as it was where it fails, is interrupted or refuses a name, and why.
+# overwritten or lost, that all is left as it was if it fails, is interrupted or refuses a name, and why.
 . "$(dirname "$0")/wants.sh"
 . "$tools/checks/rooms.sh"
 cd "$work" || exit 1
@@ -46,7 +46,7 @@ parv-repair: $usage" "$script" --set
 wants "a folder that isn't there" 6 "" "parv-repair: cannot open none\\x0a: No such file or directory" "$script" $'none\n'
 mkdir room path
 ln -s "$(python3 -c 'import sys; print(sys.executable)')" path/python3
-# No parv is told once, ahead of all else.
+# That there is no parv is said once, before all else.
 for folder in room none; do
     wants "no parv, and the folder $folder" 6 "" \
         "parv-repair: cannot run ./none: put parv in PATH, or name it by PARV" env PARV=./none "$script" $folder
@@ -80,7 +80,7 @@ complete" ""
 whole_now "names that go round"
 if [ ! -s given ]; then echo "ok: no repair where names alone are wrong"; else fails "par2 was called for names"; fi
 
-# What par2 gets, and what becomes of damaged files.
+# The files that par2 gets, and what becomes of damaged ones.
 mv room/first.txt room/other
 printf 'ijklXXXX' > room/second.txt
 printf 'kept' > room/second.txt.1
@@ -110,7 +110,7 @@ remove first.txt.1
 complete" "" --remove-backups
 whole_now "a repair without its backups" second.txt.1 kept second.txt.2 ijklXXXX
 
-# Names of any bytes: shown as parv shows them, also where parv takes them by a link alone or par2 reads them as others.
+# Names of any bytes: shown as parv shows them, also if parv takes them only by a link or par2 reads them as others.
 # shellcheck disable=SC2016
 names=($'line\nfeed\n' ' two  blanks ' -dash --set $'caf\xe9' 'back\slash' 'st*r[x]?' '$(id)`id`"' "it's" '%41' '@' '*' \
     'in a/sub/folder' .hidden 'from a to b' other.par2 $'\xff\n.PAR2')
@@ -187,7 +187,7 @@ ends "a file of one content for two" 0 "rename x to two
 copy x to one
 complete" ""
 
-# Where parv sees more than par2, by --tails: slices of other files, put together.
+# Slices that parv sees and par2 does not, by --tails: those of other files, put together.
 furnish 8 1 long abcdefghijklmnopqrstuvwxyz short 01234
 { printf 'Some text. '; cat room/long; printf ' and '; cat room/short; printf ' behind it'; } > room/image
 rm room/long room/short
@@ -240,7 +240,7 @@ refused() {
     "$one_set" room/set.par2 4 5 whole bad.txt "$name"
     mv room/good.txt room/x
     mv room/bad.txt room/y
-    # The file may be repaired, or have another name, or stand there.
+    # The file may be repaired, or have another name, or be there.
     fails_with "a name that is refused: $shown" 4 "" "$named $shown is refused: $3
 $refused_names"
     rm room/y
@@ -265,7 +265,7 @@ refused .verify_and_repair/moves .verify_and_repair/moves "$own"
 refused $'../\xff\n' '../\xff\x0a' "$out"
 [ "$(find "$work" -maxdepth 1 -newer content | grep -c outside)" -eq 0 ] || fails "something was written elsewhere"
 
-# What stands at a name, or on the way to it.
+# Other things at a name, or on the way to it.
 furnish 4 5 good.txt ijkl 'sub/bad.txt' abcdefgh
 mv room/good.txt room/x
 mkdir outer
@@ -340,7 +340,7 @@ rm room/second.txt
 ends "a set behind another in one packet file" 0 "repair first.txt
 complete" "" --set "$id"
 
-# What can't be read, or written, by one who isn't root.
+# Files and folders that one who isn't root can't read or write.
 user=()
 [ "$(id -u)" -ne 0 ] || user=(setpriv --reuid 65534 --regid 65534 --clear-groups)
 furnish 4 5 first.txt abcdefgh second.txt ijkl

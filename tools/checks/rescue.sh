@@ -1,6 +1,6 @@
 #!/usr/bin/env bash
 # parv-rescue: what it copies out of files is compared with the originals by an independent search, and
-# the holes that it tells; images of discs, with short last slices where they are expected, decoys in their place, and
+# the holes that it lists; images of discs, with short last slices where they are expected, decoys in their place, and
 # some elsewhere; runs that go on, that were stopped, or have other files; slices that are seen at each offset.
 . "$(dirname "$0")/wants.sh"
 cd "$work" || exit 1
@@ -9,7 +9,7 @@ extract=$top/commands/bin/parv-rescue
 demo=$top/demo
 record=.parv-rescue
 
-# leaves NAME FOLDER: what stands in `wanted`, beside the record.
+# leaves NAME FOLDER: the folder has the files of `wanted`, and the record.
 leaves() {
     diff -r --exclude=$record "$2" wanted > differ 2>&1 || fails "$1: $(head -c 300 differ)"
 }
@@ -53,7 +53,7 @@ extracts "the same with --tails" 1 33 "$demo" out --tails "${words[@]}"
 grep -q '^hole ' lines || fails "there is no hole"
 extracts "with --tails where the rest is there" 1 1 "$demo" 'out 1/in' --tails "${words[@]}"
 
-# What parv is asked, and what is asked of it anew.
+# The calls of parv, and those that are made again.
 cat > logs << 'END'
 #!/bin/sh
 echo "$*" >> "$calls"
@@ -101,7 +101,7 @@ complete notes.txt
 complete tower.raw
 slices 38/38, copied now 38" "" "$extract" --tails joined.out "$demo/photos.par2" joined
 
-# Images of discs: all files whole, by what stands where it is expected.
+# Images of discs: all files whole, by short slices at the places where they are expected.
 "$tools/make/rescue_discs.py" . || exit 1
 image=(disc.par2 disc.img)
 rm calls
@@ -153,12 +153,12 @@ $(seq -f 'hole 400 %g' 300 | awk '{ printf "%s %03d\n", $0, $3 }' | sort)
 slices 300/600, copied now 300" "" ./sorts "$extract" none many.par2 no_lasts.img
 wants "too many lengths are missing, with --tails" 4 "" "parv-rescue: no usable set: too many tails" \
     "$extract" --tails none many.par2 no_lasts.img
-# Behind the end of a file, where zeros would make the slice whole.
+# After the end of a file, if zeros would make the slice whole.
 extracts "the file ends within a slice" 1 1 cut cut_within cut.par2 cut.img
 extracts "the file ends before a slice" 1 1 cut cut_before cut.par2 cut_off.img
 extracts "the same with --tails" 1 0 cut cut_before --tails cut.par2 cut_off.img
 
-# Stopped: parv ends behind 9 lines, or the command is killed while it waits for more.
+# Stopped: parv ends after 9 lines, or the command is killed while it waits for more.
 cat > ends << 'END'
 #!/bin/bash
 [ "$1" = find ] || exec "$parv" "$@"
@@ -191,7 +191,7 @@ head -c -3 killed/$record > short && cat short > killed/$record
 extracts "it goes on behind the last whole line of its record" 1 0 "$demo" killed --tails "${words[@]}"
 extracts "and once more" 1 0 "$demo" killed --tails "${words[@]}"
 
-# A slice is copied where its bytes are there, and not where they were.
+# A slice is copied if its bytes are still there, and not if they were there.
 cat > shifts << 'END'
 #!/bin/bash
 [ "$1" = find ] || exec "$parv" "$@"
@@ -227,7 +227,7 @@ for tails in "" --tails; do
         fails "they take $searches searches"
     fi
 done
-# Begun anew at each sighting of a slice that is there.
+# Begun again at each sighting of a slice that is there.
 cat > anew << 'END'
 #!/usr/bin/env python3
 import os
@@ -246,7 +246,7 @@ for tails in "" --tails; do
         1 21 repeated "again$tails anew" $tails repeated.par2 repeated.img
 done
 extract=$script
-# Half a GiB of zeros, of which parv would take an MD5 of 64 KiB at each offset, before a file and behind it; one slice
+# Half a GiB of zeros, of which parv would take an MD5 of 64 KiB at each offset, before a file and after it; one slice
 # of that has another byte.
 mkdir large
 { head -c 300000 /dev/zero; head -c 100000 "$parv"; head -c 200000 /dev/zero; printf 'end'; } > large/zeros

@@ -1,6 +1,6 @@
 #!/usr/bin/env bash
-# parv-rescue with packets that anyone may have made: names that lead out of the folder, what stands in
-# it already, links on the way, and what was put there between two runs. Nothing around it is made or changed, and
+# parv-rescue with packets that anyone may have made: names that lead out of the folder, things that are in it already,
+# links on the way, and things that were put there between two runs. Nothing around it is made or changed, and
 # nothing in it written over. Folders that it doesn't take, words that are none, and files that it can't read.
 . "$(dirname "$0")/wants.sh"
 cd "$work" || exit 1
@@ -13,7 +13,7 @@ mkdir room
 "$tools/make/rescue_sets.py" room || exit 1
 cd room || exit 1
 names=(--tails names.par2 names.img)
-# What is said of each name that leads elsewhere.
+# The line about each name that leads elsewhere.
 cat > refusals << END
 $PWD/absolute: its name is absolute
 /absolute: its name is absolute
@@ -45,7 +45,7 @@ $(printf 'y%.0s' {1..255})
 back\\\\slash
 END
 
-# All that stands around the folder `out`, with its times and contents.
+# All that is around the folder `out`, with its times and contents.
 around() {
     find . -path ./out -prune -o ! -path . -printf '%p %y %s %T@ %n %l\n' | sort
     find . -path ./out -prune -o -type f -print0 | sort -z | xargs -0 md5sum
@@ -83,7 +83,7 @@ tells "names that lead out of the folder" 20 ".*"
 diff -r --exclude=$record out names || fails "the other files aren't as they were"
 tells "the same once more" 0 ".*"
 
-# A file of the set was begun; the rest comes where other things stand.
+# A file of the set was begun; at the names of the others there are other things.
 cp -r names elsewhere
 printf 'mine' > elsewhere/mine
 head -c 1024 names/fine > begun
@@ -111,7 +111,7 @@ rm -r out/late out/in out/way out/both out/-dash 'out/back\slash'
 tells "all of it, once that is gone" 14 ".*"
 diff -r --exclude=$record out names || fails "the other files aren't as they were"
 
-# The file that was begun is another one now.
+# The file that was begun was replaced or changed.
 others="(both.*|in/.*|new.*|way.*|late|y*|-dash|back.*)"
 left="fine: what is in its place isn't what was left there"
 again
@@ -215,7 +215,7 @@ for name in ./none parv-that-is-not-there; do
         env PARV=$name "$extract" new names.par2
 done
 [ ! -e new ] || fails "a folder was made for nothing"
-# A name that isn't UTF-8, which parv takes by a link alone.
+# A name that isn't UTF-8, which parv takes only by a link.
 odd=$'\xff\n.img'
 cp "$top/demo/notes.txt" "$odd"
 cp "$top/demo/photos.par2" $'\xff.par2'

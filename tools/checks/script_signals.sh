@@ -1,6 +1,6 @@
 #!/usr/bin/env bash
 # Commands that are ended while parv reads, by a signal of their own or by Ctrl-C: parv ends with them, nothing of theirs
-# stays, and their exit status tells the signal.
+# stays, and their exit status is that of the signal.
 . "$(dirname "$0")/wants.sh"
 . "$tools/checks/commands.sh"
 . "$tools/checks/rooms.sh"
