@@ -91,7 +91,7 @@ class PacketFiles:
             self._opened = None
 
     def name_of(self, word: str) -> str:
-        return self.parv.links.given[word].shown
+        return self.parv.links.shown[word]
 
     def pieces(self, line: PacketLine) -> Iterator[bytes]:
         """The bytes of a packet, in pieces, which are those that parv has seen."""

@@ -21,26 +21,20 @@ _FAULTS = (USAGE, NO_SET, FILES, MEMORY)
 _ABOUT = re.compile(rb"parv: (cannot open|read fault in) ([^\n]*)\n?")
 
 
-class Given:
-    """A file that is given to parv: the target of the link to it, and its name in messages."""
-
-    def __init__(self, target: bytes, name: str) -> None:
-        self.target, self.shown = target, name
-
-
 class Links:
-    """The temporary folder of links; `kept` are opened folders that links lead through."""
+    """The temporary folder of links, and the names in messages of the files by their words; `kept` are opened folders
+    that links lead through."""
 
     def __init__(self, folder: Folder, kept: Tuple[int, ...]) -> None:
         self.folder, self.kept = folder, kept
-        self.given: Dict[str, Given] = {}
+        self.shown: Dict[str, str] = {}
 
     def word(self, target: bytes, name: str, is_packet_file: bool = False) -> str:
         """The word for a file, by which parv takes it for what it is."""
-        word = f"{len(self.given)}{'.par2' if is_packet_file else ''}"
+        word = f"{len(self.shown)}{'.par2' if is_packet_file else ''}"
         with faults_of("make a link in", self.folder.shown):
             changes.make_link(self.folder.place, word.encode(), target)
-        self.given[word] = Given(target, name)
+        self.shown[word] = name
         return word
 
 
@@ -94,9 +88,9 @@ class Parv:
             return Fault(FILES, f"{self.program.shown} {command} has ended with status {status}, and isn't parv"
                          if status not in _FAULTS else answers.NoAnswer(command).args[0])
         about = _ABOUT.match(said)
-        given = self.links.given.get(about[2].decode("ascii", "replace")) if about else None
-        if about and given:
-            return Fault(status, f"{about[1].decode()} {given.shown}")
+        name = self.links.shown.get(about[2].decode("ascii", "replace")) if about else None
+        if about and name:
+            return Fault(status, f"{about[1].decode()} {name}")
         return Fault(status, shown(os.fsencode(line[6:])))
 
     def answer(self, command: str, words: Sequence[str], most: int = 0) -> Answer:
@@ -116,7 +110,7 @@ class Parv:
     def packets(self, packet_words: Sequence[str], chosen: Optional[str] = None) -> List[answers.PacketLine]:
         found = answers.read_packets(self.text("packets", [*(["--set", chosen] if chosen else []), "--",
                                                            *packet_words]))
-        if not all(packet.word in self.links.given for packet in found):
+        if not all(packet.word in self.links.shown for packet in found):
             raise answers.NoAnswer("packets")
         return found
 
