@@ -48,6 +48,16 @@ def make_file(place: int, name: bytes, mode: int = 0o666) -> int:
         return os.open(name, os.O_RDWR | os.O_CREAT | os.O_EXCL | os.O_NOFOLLOW | os.O_CLOEXEC, mode, dir_fd=place)
 
 
+@contextlib.contextmanager
+def new_file(place: int, name: bytes) -> Iterator[int]:
+    """Such a file while it is written."""
+    opened = make_file(place, name)
+    try:
+        yield opened
+    finally:
+        os.close(opened)
+
+
 def make_path(path: bytes) -> None:
     """Makes a folder with those above it, if it isn't there."""
     with _change("mkdir"):

@@ -40,12 +40,9 @@ class Bench:
     def write_packets(self, files: PacketFiles, recovery: Sequence[PacketLine]) -> None:
         most = sum(line.length for line in recovery)
         with progress.doing("recovery slices are copied", most), faults_of("write", f"{self.place.shown}/set.par2"):
-            opened = changes.make_file(self.place.place, PACKETS)
-            try:
+            with changes.new_file(self.place.place, PACKETS) as opened:
                 write_for_par2(opened, self.found, [name_for(number) for number in range(len(self.found.files))], files,
                                recovery, _passed)
-            finally:
-                os.close(opened)
 
     def link(self, name: bytes, path: bytes) -> None:
         """Has par2 see a file of the folder under a name."""

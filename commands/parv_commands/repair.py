@@ -174,11 +174,8 @@ class Repair:
     def _make_file(self, place: Stage, name: bytes, filled: Callable[[int], None]) -> None:
         """Makes a file in the stage."""
         with faults_of("write in", self.folder.shown), contextlib.closing(place.opened.inner(MADE)) as made:
-            opened = changes.make_file(made.place, name)
-            try:
+            with changes.new_file(made.place, name) as opened:
                 filled(opened)
-            finally:
-                os.close(opened)
 
     def _copy(self, place: Stage, plan: Plan) -> None:
         """Makes the copies that a plan has."""

@@ -66,12 +66,8 @@ class Search:
         the search is past it once the next one is asked for."""
         place, name = self.parv.links.folder.place, self.parv.links.folder.shown
         while self.wanted and self.at[0] < len(self.scanned):
-            with faults_of("write in", name):
-                opened = changes.make_file(place, WANTED)
-                try:
-                    changes.write(opened, packets_for(self.found, self.asked()))
-                finally:
-                    os.close(opened)
+            with faults_of("write in", name), changes.new_file(place, WANTED) as opened:
+                changes.write(opened, packets_for(self.found, self.asked()))
             try:
                 yield from self._part()
             finally:

@@ -54,12 +54,9 @@ class Stage:
     def make(self) -> None:
         with faults_of("write in", self.folder.shown):
             changes.make_folder(self.folder.place, NAME, 0o700)
-            opened = changes.make_file(self.opened.place, OWNER)
-            try:
+            with changes.new_file(self.opened.place, OWNER) as opened:
                 changes.write(opened, self._owner())
                 changes.sync(opened)
-            finally:
-                os.close(opened)
             for name in FILES_OF_PAR2, MADE, ASIDE:
                 changes.make_folder(self.opened.place, name)
 
@@ -87,12 +84,9 @@ class Stage:
                     changes.sync(opened)
                 finally:
                     os.close(opened)
-            opened = changes.make_file(self.opened.place, NEW)
-            try:
-                changes.write(opened, journal.encoded(steps))
-                changes.sync(opened)
-            finally:
-                os.close(opened)
+            with changes.new_file(self.opened.place, NEW) as new:
+                changes.write(new, journal.encoded(steps))
+                changes.sync(new)
             changes.move(self.opened.place, NEW, self.opened.place, JOURNAL)
             changes.sync_folder(self.opened.place)
             changes.sync_folder(self.folder.place)
