@@ -43,7 +43,7 @@ class Statuses(unittest.TestCase):
 
     def call(self, *words: str, shell: str = 'exec "$@"', **environment: str) -> Ended:
         given = {**os.environ, "PARV": PARV, "PAR2": self.room.stand_in, "TMPDIR": self.room.temporary, **environment}
-        ended = subprocess.run(["bash", "-c", shell, "bash", *words], cwd=self.room.top, env=given, capture_output=True,
+        ended = subprocess.run(["/bin/bash", "-c", shell, "bash", *words], cwd=self.room.top, env=given, capture_output=True,
                                timeout=120, stdin=subprocess.DEVNULL)
         return ended.returncode, ended.stdout.decode(), ended.stderr.decode()
 
@@ -179,6 +179,12 @@ class Statuses(unittest.TestCase):
             ran = subprocess.run([sys.executable, REPAIR, "room"], cwd=self.room.top, env=given, capture_output=True)
             self.assertEqual(ran.returncode, 5, (path, ran))
         self.assertFalse(os.path.exists(os.path.join(self.room.top, "run")))
+        told = os.path.join(self.room.top, "told")
+        for path, handed in ((":.:/usr/bin:real:/bin:", "/usr/bin:/bin"), ("real:.", "/usr/local/bin:/usr/bin:/bin")):
+            self.program("par2", f'#!/bin/sh\necho "$PATH" > {told}\nexit 3\n')
+            self.assertEqual(self.call(sys.executable, REPAIR, "room", PATH=path, shell='exec "$@"', PAR2="./par2")[0], 5)
+            with open(told, encoding="ascii") as file:
+                self.assertEqual(file.read(), handed + "\n")
 
     # Signals while programs run.
 
@@ -270,15 +276,17 @@ class Packets(unittest.TestCase):
         evil = set_of({b"../../../evil": b"evil"}, 8, 1)
         at = evil.index(b"FileDesc") - 56
         forged = packet(owner, b"PAR 2.0\0FileDesc", evil[at + 64:at + 64 + 72])
-        # Of the file that is missing, with a name that parv puts aside and par2 reads up to its zero byte.
+        # Of the file that is missing, with a name that parv rejects and par2 reads up to its zero byte, and other MD5s.
         own = self.room.packets.index(b"second.txt")
-        aside = packet(owner, b"PAR 2.0\0FileDesc", self.room.packets[own - 56:own] + b"../../evil\0more.")
-        self.room.put("set.par2", forged + aside + self.room.packets + evil)
-        self.room.put("a.par2", evil + self.room.packets)
+        about = self.room.packets[own - 56:own]
+        aside = packet(owner, b"PAR 2.0\0FileDesc", about[:16] + b"o" * 32 + about[48:] + b"../../evil\0more.")
+        self.room.put("set.par2", forged + self.room.packets + evil)
+        self.room.put("a.par2", aside + evil + self.room.packets)
         packets = self.given_for(owner.hex())
         self.assertEqual(self.names_in(packets), [b"file0", b"file1"])
         self.assertNotIn(b"evil", packets)
         self.assertNotIn(evil[32:48], packets)
+        self.assertNotIn(b"o" * 32, packets)
         self.assertEqual(packets.count(b"RecvSlic"), 20)
         self.assertEqual(packets.count(b"PAR 2.0\0Main"), 1)
 
