@@ -110,6 +110,35 @@ class Moves(unittest.TestCase):
         self.assertEqual((ended.status, room.lacks()), (0, []), ended)
         self.assertEqual(read(room.path("first.2")), b"fXrst of all")
 
+    def test_a_file_that_is_changed_after_the_moves_is_not_said_to_be_complete(self) -> None:
+        self.turn()
+        moves = self.run_it().calls.count("rename")
+        self.turn()
+
+        def changes() -> None:
+            with open(self.room.path("first"), "ab") as out:
+                out.write(b", changed")
+        ended = self.run_it(watch=At(moves, "after", changes, ["rename"]))
+        self.assertEqual((ended.status, ended.out), (5, ""), ended)
+        self.assertIn("it isn't complete after the repair", ended.said)
+        self.assertIn(b"first of all, changed", self.room.contents())
+        self.completes(self.run_it())
+        self.assertIn(b"first of all, changed", self.room.contents())
+
+    def test_a_backup_that_is_changed_before_it_is_removed_stays(self) -> None:
+        self.turn()
+        ends = self.run_it("--remove-backups").calls.count("rmdir")
+        self.turn()
+
+        def changes() -> None:
+            with open(self.room.path("third.1"), "ab") as out:
+                out.write(b", changed")
+        ended = self.run_it("--remove-backups", watch=At(ends - 1, "after", changes, ["rmdir"]))
+        self.completes(ended)
+        self.assertIn("third.1 has changed meanwhile, and stays", ended.said)
+        self.assertNotIn("remove", ended.out)
+        self.assertEqual(read(self.room.path("third.1")), b"the thXrd one, changed")
+
     def test_a_folder_that_becomes_a_link_leads_no_file_out(self) -> None:
         room = Room({"sub/first": b"first of all", "sub/second": b"the second"})
         self.addCleanup(room.close)

@@ -6,7 +6,8 @@ from __future__ import annotations
 import os
 import shutil
 import unittest
-from typing import List, Optional
+import unittest.mock
+from typing import Any, Callable, Dict, List, Optional, Set
 
 from parv_commands import changes, rescue
 
@@ -98,6 +99,40 @@ class Rescue(unittest.TestCase):
         self.assertEqual((ended.status, ended.said), (
             1, "parv-rescue: refused: long: what is in its place isn't what was left there\n"), ended)
         self.assertEqual(read(place), b"mine")
+
+    def test_a_whole_file_that_was_changed_is_wrong(self) -> None:
+        self.is_whole(self.run_it(), "")
+        with open(os.path.join(self.room.top, "new", "long"), "r+b") as file:
+            file.write(b"ONE")
+        ended = self.run_it(goes_on=True)
+        self.assertEqual((ended.status, ended.said), (1, ""), ended)
+        self.assertIn("wrong long 6/6\n", ended.out)
+
+    def test_slices_are_on_the_disk_before_the_record_has_them(self) -> None:
+        log = os.path.join(self.room.top, "log")
+        real: Dict[str, Callable[..., None]] = {"sync": changes.sync, "write_at": changes.write_at}
+
+        def logged(name: str) -> Callable[..., None]:
+            def call(opened: int, *rest: Any) -> None:
+                is_noted = any(b"slice " in data for data in rest if isinstance(data, bytes))
+                with open(log, "a", encoding="utf-8") as out:
+                    out.write(f"{'note' if is_noted else name} {os.readlink(f'/proc/self/fd/{opened}')}\n")
+                real[name](opened, *rest)
+            return call
+        with unittest.mock.patch.multiple(changes, sync=logged("sync"), write_at=logged("write_at")):
+            self.is_whole(self.run_it(), "")
+        written: Set[str] = set()
+        notes = 0
+        for line in read(log).decode().splitlines():
+            name, path = line.split(" ")
+            if name == "note":
+                notes += 1
+                self.assertEqual(written, set())
+            elif name == "sync":
+                written.discard(path)
+            elif not path.endswith("/.parv-rescue"):
+                written.add(path)
+        self.assertGreater(notes, 0)
 
     def test_a_folder_of_the_earlier_script_goes_on(self) -> None:
         self.run_it()

@@ -290,6 +290,20 @@ class Packets(unittest.TestCase):
         self.assertEqual(packets.count(b"RecvSlic"), 20)
         self.assertEqual(packets.count(b"PAR 2.0\0Main"), 1)
 
+    def test_a_packet_that_changes_after_parv_has_read_it_ends_the_run(self) -> None:
+        odd = os.path.join(self.room.top, "odd")
+        write(odd, f'''#!/bin/sh
+"{PARV}" "$@" || exit
+[ "$1" != set ] || printf x | dd of={self.room.path("set.par2")} bs=1 seek={len(self.room.packets) - 1} conv=notrunc status=none
+'''.encode())
+        os.chmod(odd, 0o755)
+        before = self.room.listing()
+        ended = self.room.run(repair.main, ["room"], None, PARV=odd)
+        self.assertEqual((ended.status, ended.out), (6, ""), ended)
+        self.assertIn("the packet files have changed meanwhile", ended.said)
+        before["set.par2"] = self.room.listing()["set.par2"]
+        self.assertEqual(self.room.listing(), before)
+
     def given_for(self, owner: str) -> bytes:
         keeps = os.path.join(self.room.top, "keeps")
         write(keeps, f"#!/bin/sh\ncp set.par2 {self.room.top}/given\nexit 3\n".encode())
