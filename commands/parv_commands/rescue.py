@@ -219,14 +219,14 @@ def main() -> int:
     parser = words.parser_of(USAGE_TEXT)
     parser.add_argument("--tails", action="store_true")
     parser.add_argument("--set", type=words.is_set_id)
-    parser.add_argument("folder", metavar="FOLDER", nargs="?")
-    parser.add_argument("files", metavar="FILES", nargs="*")
+    parser.add_argument("names", metavar="FILES", nargs="*")
 
     def run() -> int:
-        given = parser.parse_intermixed_args()
+        given = words.parsed(parser)
         if given.help:
             return words.help_lines(USAGE_TEXT)
-        if not given.folder or not given.files:
+        folder, *files = map(os.fsencode, given.names or [""])
+        if not folder or not files:
             parser.error("there is no FOLDER, or there are no FILES")
-        return rescue(Asked(os.fsencode(given.folder), list(map(os.fsencode, given.files)), given.tails, given.set))
+        return rescue(Asked(folder, files, given.tails, given.set))
     return words.ended("parv-rescue", run)

@@ -33,6 +33,16 @@ def parser_of(text: str) -> Words:
     return parser
 
 
+def parsed(parser: Words) -> argparse.Namespace:
+    """The options of the command line, and its other words as `names`. Options may come between these, and no word
+    after `--` is one. (The parser itself would forget that.)"""
+    given = sys.argv[1:]
+    end = given.index("--") if "--" in given else len(given)
+    found = parser.parse_intermixed_args(given[:end])
+    found.names = [*found.names, *given[end + 1:]]
+    return found
+
+
 def is_set_id(text: str) -> str:
     if not re.fullmatch("[0-9A-Fa-f]{32}", text):
         raise argparse.ArgumentTypeError("a set ID has 32 hexadecimal digits")

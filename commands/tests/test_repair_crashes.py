@@ -89,8 +89,8 @@ class Crashes(unittest.TestCase):
     def test_what_was_made_and_the_journal_are_on_the_disk_before_the_first_move(self) -> None:
         noted = self.calls.index("rename")      # of the journal, when it is whole
         made = ["fsync"] * 4                    # the missing and the damaged file, the copy and the empty one
-        self.assertEqual(self.calls[noted - 7:noted + 4], [*made, "create", "write", "fsync", "rename", "fsync", "fsync",
-                                                           "rename"])
+        self.assertEqual(self.calls[noted - 7:noted + 4],
+                         [*made, "create", "write", "fsync", "rename", "fsync", "fsync", "rename"])
         moved = len(self.calls) - 1 - self.calls[::-1].index("rename")
         self.assertEqual(self.calls[moved + 1:].count("syncfs"), 1)
 

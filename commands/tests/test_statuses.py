@@ -43,8 +43,8 @@ class Statuses(unittest.TestCase):
 
     def call(self, *words: str, shell: str = 'exec "$@"', **environment: str) -> Ended:
         given = {**os.environ, "PARV": PARV, "PAR2": self.room.stand_in, "TMPDIR": self.room.temporary, **environment}
-        ended = subprocess.run(["/bin/bash", "-c", shell, "bash", *words], cwd=self.room.top, env=given, capture_output=True,
-                               timeout=120, stdin=subprocess.DEVNULL)
+        ended = subprocess.run(["/bin/bash", "-c", shell, "bash", *words], cwd=self.room.top, env=given,
+                               capture_output=True, timeout=120, stdin=subprocess.DEVNULL)
         return ended.returncode, ended.stdout.decode(), ended.stderr.decode()
 
     def both(self) -> List[List[str]]:
@@ -138,6 +138,23 @@ class Statuses(unittest.TestCase):
                 self.assertIn(said, ended.said)
             self.assertEqual(self.room.listing(), self.before)
 
+    def test_options_stand_anywhere_before_two_dashes(self) -> None:
+        for name in "set.par2", "stray":
+            shutil.copy(self.room.path(name), os.path.join(self.room.top, f"-{name}"))
+        for words in (["--tails", "--", "new", "-set.par2", "-stray"], ["new", "--tails", "--", "-set.par2", "-stray"],
+                      ["new", "room/set.par2", "--tails", "--", "-stray"],
+                      ["new", "room/set.par2", "--tails", "room/stray"],
+                      ["--tails", "new", "room/set.par2", "room/stray", "--"]):
+            ended = self.call(RESCUE, *words)
+            self.assertEqual((ended[0], ended[2]), (1, ""), (words, ended))
+            self.assertIn("complete first.txt", ended[1])
+        for words in ["--"], ["--", "new"], ["new", "--"], ["--tails", "", "room/set.par2"]:
+            ended = self.call(RESCUE, *words)
+            self.assertEqual(ended[:2], (3, ""), (words, ended))
+        os.rename(self.room.folder, os.path.join(self.room.top, "-room"))
+        self.assertEqual(self.call(REPAIR, "--dry-run", "--", "-room")[0], 1)
+        self.assertEqual(self.call(REPAIR, "-room", "--dry-run")[0], 3)
+
     def test_more_files_than_may_be_open_at_first(self) -> None:
         for number in range(1100):
             self.room.put(f"f{number}", b"")
@@ -182,7 +199,7 @@ class Statuses(unittest.TestCase):
         told = os.path.join(self.room.top, "told")
         for path, handed in ((":.:/usr/bin:real:/bin:", "/usr/bin:/bin"), ("real:.", "/usr/local/bin:/usr/bin:/bin")):
             self.program("par2", f'#!/bin/sh\necho "$PATH" > {told}\nexit 3\n')
-            self.assertEqual(self.call(sys.executable, REPAIR, "room", PATH=path, shell='exec "$@"', PAR2="./par2")[0], 5)
+            self.assertEqual(self.call(sys.executable, REPAIR, "room", PATH=path, PAR2="./par2")[0], 5)
             with open(told, encoding="ascii") as file:
                 self.assertEqual(file.read(), handed + "\n")
 
@@ -292,9 +309,10 @@ class Packets(unittest.TestCase):
 
     def test_a_packet_that_changes_after_parv_has_read_it_ends_the_run(self) -> None:
         odd = os.path.join(self.room.top, "odd")
+        place, at = self.room.path("set.par2"), len(self.room.packets) - 1
         write(odd, f'''#!/bin/sh
 "{PARV}" "$@" || exit
-[ "$1" != set ] || printf x | dd of={self.room.path("set.par2")} bs=1 seek={len(self.room.packets) - 1} conv=notrunc status=none
+[ "$1" != set ] || printf x | dd of={place} bs=1 seek={at} conv=notrunc status=none
 '''.encode())
         os.chmod(odd, 0o755)
         before = self.room.listing()
