@@ -323,7 +323,7 @@ def draw(asked):
     programs.raise_file_limit()
     with temporary_folder() as temporary:
         parv = Parv(program, Links(temporary, ()))
-        given = Given(parv.links, list(map(os.fsencode, asked.files)))
+        given = Given(parv.links, list(map(os.fsencode, asked.names)))
         answer, found = read_given(parv, given, asked.set)
         maps = maps_of(found, answer, given, parv, asked)
     is_terminal = os.isatty(1)
@@ -344,14 +344,14 @@ def main():
     parser.add_argument("--width", type=int, metavar="N")
     parser.add_argument("--html", metavar="FILE")
     parser.add_argument("--svg", metavar="FILE")
-    parser.add_argument("files", nargs="*", metavar="FILES")
+    parser.add_argument("names", nargs="*", metavar="FILES")
 
     def run():
-        asked = parser.parse_intermixed_args()
+        asked = words.parsed(parser)
         if asked.help:
             usage, _, rest = __doc__.split("\n\n", 1)[1].partition("\n\n")
             return words.help_lines(f"{usage}\n\n{__doc__.splitlines()[0]}\n\n{rest}")
-        if not asked.files:
+        if not asked.names:
             parser.error("there are no FILES")
         if asked.width is not None and asked.width < 1:
             parser.error("a line has one character at least")

@@ -331,7 +331,12 @@ wants "a file that isn't there" 6 "" "$me: cannot open none.raw: No such file or
 wants "a FIFO" 6 "" "$me: cannot open fifo: no regular file" "$map" photos.par2 fifo
 wants "a full device" 6 "" "$me: cannot write standard output: No space left on device" \
     bash -c '"$@" > /dev/full' - "$map" photos.par2
-# No parv is told ahead of all else.
+cp photos.par2 ./-photos.par2
+cp "$demo/notes.txt" ./-notes
+"$map" photos.par2 ./-notes > text
+gives "names that begin with a dash, after --" 0 text "" "$map" -- -photos.par2 -notes
+gives "an option between names" 0 text "" "$map" photos.par2 --width 80 -- -notes
+# That there is no parv is said before all else.
 for name in ./none parv-that-is-not-there; do
     wants "no program: $name" 6 "" "$me: cannot run $name: put parv in PATH, or name it by PARV" \
         env PARV=$name "$map" --svg drawing.svg photos.par2 none.raw
