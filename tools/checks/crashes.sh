@@ -5,7 +5,7 @@
 . "$tools/checks/commands.sh"
 . "$tools/checks/rooms.sh"
 cd "$work" || exit 1
-export PAR2=$tools/stand_in/par2.py ORIGINALS=$work/whole GIVEN=$work/given
+export PAR2=$tools/stand_in/par2.py ORIGINALS=$work/whole GIVEN=$work/given TMPDIR=$said    # a kill leaves links there
 
 # When it is to verify a folder in which the file PLACED is again, it does in that folder what MEANWHILE says, and ends what
 # has called it by a signal.

@@ -4,7 +4,7 @@
 # some elsewhere; runs that go on, that were stopped, or have other files; slices that are seen at each offset.
 . "$(dirname "$0")/wants.sh"
 cd "$work" || exit 1
-export PARV=$parv
+export PARV=$parv TMPDIR=$said      # a kill leaves links there
 extract=$top/commands/bin/parv-rescue
 demo=$top/demo
 record=.parv-rescue
