@@ -57,7 +57,7 @@ for name, length, count in ("short", 1 << 10, 4), ("long", 60 << 10, 4), ("many_
     write(name + ".par2", packets_with_tails(1 << 16, [(length + at, chance.getrandbits(32)) for at in range(count)]))
 sixteen = chance.randbytes(16 << 20)
 write("sixteen", sixteen)
-write("eight", sixteen[:8 << 20])
+write("four", sixteen[:4 << 20])
 END
 
 # At most ten seconds of the processor.
@@ -126,12 +126,12 @@ else
 fi
 
 # Many tails share one register, which takes a third of the time that a register for each would.
-wants "no tail of 64 in 8 MiB" 0 end "" "${ten[@]}" find --tails many_tails.par2 eight
-many=$(least_of_three "${ten[@]}" find --tails many_tails.par2 eight)
-if [ "$many" -le $((6 * short + 100)) ]; then
-    echo "ok: a search of 8 MiB for 64 tails takes $many ms, and of 16 MiB for four $short ms"
+wants "no tail of 64 in 4 MiB" 0 end "" "${ten[@]}" find --tails many_tails.par2 four
+many=$(least_of_three "${ten[@]}" find --tails many_tails.par2 four)
+if [ "$many" -le $((5 * short / 2 + 50)) ]; then
+    echo "ok: a search of 4 MiB for 64 tails takes $many ms, and of 16 MiB for four $short ms"
 else
-    fails "a search of 8 MiB for 64 tails takes $many ms, and of 16 MiB for four $short ms"
+    fails "a search of 4 MiB for 64 tails takes $many ms, and of 16 MiB for four $short ms"
 fi
 
 # What is told of files that are missing is looked up: to a set of 32,768 files it makes little difference how many
