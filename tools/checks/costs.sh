@@ -52,12 +52,10 @@ there = chance.randbytes(length)
 whole_set("there.par2", 64, (b"there", there))
 write("there", there * 4)
 
-# Four tails of about 1 KiB, four of about 60 KiB, and 64 of about 1 KiB, before zeros up to 64 KiB.
-for name, length, count in ("short", 1 << 10, 4), ("long", 60 << 10, 4), ("many_tails", 1 << 10, 64):
-    write(name + ".par2", packets_with_tails(1 << 16, [(length + at, chance.getrandbits(32)) for at in range(count)]))
-sixteen = chance.randbytes(16 << 20)
-write("sixteen", sixteen)
-write("four", sixteen[:4 << 20])
+# Four tails of about 1 KiB, and four of about 60 KiB, before zeros up to 64 KiB.
+for name, length in ("short", 1 << 10), ("long", 60 << 10):
+    write(name + ".par2", packets_with_tails(1 << 16, [(length + at, chance.getrandbits(32)) for at in range(4)]))
+write("sixteen", chance.randbytes(16 << 20))
 END
 
 # At most ten seconds of the processor.
@@ -123,15 +121,6 @@ if [ "$long" -le $((2 * short + 100)) ]; then
     echo "ok: a search of 16 MiB for four tails of 60 KiB takes $long ms, and for four of 1 KiB $short ms"
 else
     fails "a search of 16 MiB for four tails of 60 KiB takes $long ms, and for four of 1 KiB $short ms"
-fi
-
-# Many tails share one register, which takes a third of the time that a register for each would.
-wants "no tail of 64 in 4 MiB" 0 end "" "${ten[@]}" find --tails many_tails.par2 four
-many=$(least_of_three "${ten[@]}" find --tails many_tails.par2 four)
-if [ "$many" -le $((5 * short / 2 + 50)) ]; then
-    echo "ok: a search of 4 MiB for 64 tails takes $many ms, and of 16 MiB for four $short ms"
-else
-    fails "a search of 4 MiB for 64 tails takes $many ms, and of 16 MiB for four $short ms"
 fi
 
 # What is told of files that are missing is looked up: to a set of 32,768 files it makes little difference how many

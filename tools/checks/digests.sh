@@ -140,7 +140,8 @@ write("unfit.par2", set_of(main_body(16384, owners), ("filedesc", desc_body(owne
 write("unfit", bytes(12000))
 
 # Four tails of about 1,000 bytes, of which none stands in this file.
-write("tails.par2", packets_with_tails(4096, [(1000 + at, at) for at in range(4)]))
+for name, count in ("tails.par2", 4), ("more_tails.par2", 64):
+    write(name, packets_with_tails(4096, [(1000 + at, at) for at in range(count)]))
 write("long", noise("long", 65536))
 END
 set=$(< s.id)
@@ -297,6 +298,9 @@ costs "the same for a missing file" "verify -q s.par2 a b other" "result impossi
 # what comes to each, and they are stopped where the register of one may be a slice's. That is so nearly nowhere: far
 # less often than at each twentieth place.
 costs "four tails" "find --tails tails.par2 long" end "pieces<=$((65536 / 4))"
+# Of 64 tails none asks for pieces, since one register runs along for all of them. Only in stretches below 16 bytes, by
+# which a search begins, each rolls alone.
+costs "64 tails" "find --tails more_tails.par2 long" end "pieces<=$((65536 / 8))"
 
 # What zeros behind a window make of a register is worked out by halves of their number: of 8,192, of one more, of 1.
 costs "tables by halves" "find s.par2 other" end "halves<=$((15 + 15 + 2))"
