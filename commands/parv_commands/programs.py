@@ -9,6 +9,7 @@ import resource
 import selectors
 import signal
 import subprocess
+import time
 from typing import Callable, Dict, IO, Iterator, List, NamedTuple, Optional, Sequence, Tuple
 
 from . import progress
@@ -21,6 +22,7 @@ PIECE = 1 << 16
 MOST_OUTPUT = 1 << 28       # bytes that an answer may have which is held as a whole
 MOST_SAID = 1 << 16         # bytes of standard error that are kept
 _PR_SET_PDEATHSIG = 1
+_ROUNDS, _ROUND = 200, 0.01     # how often, and after how many seconds, it is asked whether a group is gone
 _libc = ctypes.CDLL(None)
 
 
@@ -73,17 +75,26 @@ def _environment() -> Dict[str, str]:
 
 
 def _child(place: Optional[int]) -> Callable[[], None]:
-    """What a child does before it becomes the program: it ends if the command is killed or was so already, and goes to
-    its folder."""
+    """What a child does before it becomes the program: it leads a group of its own, ends if the command is killed or was
+    so already, and goes to its folder."""
     command = os.getpid()
 
     def before() -> None:
+        os.setpgid(0, 0)
         _libc.prctl(_PR_SET_PDEATHSIG, signal.SIGKILL)
         if os.getppid() != command:
             os._exit(1)
         if place is not None:
             os.fchdir(place)
     return before
+
+
+def _end_group(leader: int) -> None:
+    """Ends what a program has started and left, as a script does that is killed, and waits until it is gone."""
+    with contextlib.suppress(ProcessLookupError, PermissionError):
+        for _ in range(_ROUNDS):
+            os.killpg(leader, signal.SIGKILL)
+            time.sleep(_ROUND)
 
 
 @contextlib.contextmanager
@@ -106,6 +117,7 @@ def running(program: Program, words: Sequence[bytes], place: Optional[int] = Non
             if pipe is not None:
                 pipe.close()
         process.wait()
+        _end_group(process.pid)
 
 
 def pieces_of(process: subprocess.Popen[bytes], said: bytearray) -> Iterator[bytes]:

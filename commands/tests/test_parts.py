@@ -1,5 +1,5 @@
-"""Names as they are shown, names that are refused or lead out of a folder, answers that are none of parv, and progress
-on a terminal."""
+"""Names as they are shown, names that are refused or lead out of a folder, answers that are none of parv, programs that
+end with a command, and progress on a terminal."""
 
 from __future__ import annotations
 
@@ -8,7 +8,7 @@ import pty
 import unittest
 from typing import List
 
-from parv_commands import answers, names, progress, repair, rescue
+from parv_commands import answers, names, programs, progress, repair, rescue
 from parv_commands.faults import Fault
 from parv_commands.folders import Folder
 
@@ -95,6 +95,18 @@ class Answers(unittest.TestCase):
             self.assertRaises(Fault, answers.read_packets, text)
         for text in b"", b"a 0 1", b"end", b"a b c d", b"a -1 00000000000000000000000000000001 0":
             self.assertRaises(Fault, answers.read_sighting, text)
+
+
+class Programs(unittest.TestCase):
+    def test_what_a_program_has_started_ends_with_it(self) -> None:
+        with programs.running(programs.Program("/bin/sh", "sh"), [b"-c", b"sleep 60 & echo $!; wait"]) as process:
+            assert process.stdout is not None
+            started = int(process.stdout.readline())
+        try:
+            with open(f"/proc/{started}/stat", encoding="ascii") as file:
+                self.assertEqual(file.read().rpartition(")")[2].split()[0], "Z")
+        except FileNotFoundError:
+            pass
 
 
 class Progress(unittest.TestCase):
