@@ -8,7 +8,7 @@ mkdir -p out
 log=out/gate.log
 tee "$log" << END
 The gate: every proof from nothing, every wrong body and test, then checks of the built program.
-From nothing it takes up to two hours on four processors. The log is $log.
+From nothing it takes two to three hours on four processors. The log is $log.
 END
 
 # How many crates `rt ci` works on at once: one a processor, if each can have 5 GB. Without a number
