@@ -110,6 +110,9 @@ mkdir examples
 awk '/^\.Sh /{ here = $2 == "EXAMPLES" } here && /^\.Bd/{ n++; text = 1; next } /^\.Ed/{ text = 0 }
     here && text { sub(/^(\$ |  )/, ""); print > ("examples/" n) }' "$page"
 sed -i 's/\\-/-/g; s/\\e/\\/g' examples/*
+# FORMATS has the cursor that is made by hand.
+formats=$top/docs/FORMATS.md
+awk '/^    eight\(\) / { here = 1 } here && !/^    / { exit } here { sub(/^    /, ""); print }' "$formats" > examples/cursor
 
 # A folder photos with the set, whole, and other files; the volume has one recovery slice.
 furnish() {
@@ -179,16 +182,16 @@ example 8 "the names of files with slices" 0 "./a\b c.raw
 example 9 "a search from a cursor on" 0 "$(cat ../found; awk '$1 == "end" || $2 > 51200' ../found)"
 sed -i 's/1000/3/' ../examples/10
 example 10 "a search in parts" 0 "$(sed '$d' ../found)"
-example 11 "a cursor made by hand" 0 "$(awk '$1 == "end" || $2 >= 51200' ../found)"
-example 12 "a folder with its subfolders" 0 "$whole"
-example 13 "as many files as may be open" 0 "$whole"
+example cursor "a cursor made by hand" 0 "$(awk '$1 == "end" || $2 >= 51200' ../found)"
+example 11 "a folder with its subfolders" 0 "$whole"
+example 12 "as many files as may be open" 0 "$whole"
 "$tools/models/find_slices.py" photos.par2 disc.img > ../plain
-example 14 "a search behind a bad region" 0 "$(awk '$1 == "end" || $2 >= 51200' ../plain)"
+example 13 "a search behind a bad region" 0 "$(awk '$1 == "end" || $2 >= 51200' ../plain)"
 printf 'XXabcdefgh' > x.bin
-{ sed '/^set=/,$d' ../examples/11; echo 'listed "$@" | md5sum'; } > ../mark
+{ sed '/^set=/,$d' ../examples/cursor; echo 'listed "$@" | md5sum'; } > ../mark
 # marked MARK NAME [FILE]: the mark by the functions of that example.
 marked() {
-    grep -q "$1" "$page" || fails "the page has no mark $1"
+    grep -q "$1" "$formats" || fails "FORMATS has no fingerprint $1"
     for shell in sh bash; do
         wants "the mark of $2 by hand, in $shell" 0 "$1  -" "" $shell ../mark "${@:3}"
     done
@@ -196,7 +199,7 @@ marked() {
 marked 53e12607a1d11cab6b927147969fc38c "one file" x.bin
 marked d41d8cd98f00b204e9800998ecf8427e "no files"
 if [ $given -eq "$(find ../examples -type f | wc -l)" ] && [ "$(wc -l < ../found)" -gt 20 ]; then
-    echo "ok: each example of the manual page was run"
+    echo "ok: each example of the manual page and the cursor of FORMATS were run"
 else
     fails "$given examples were run of $(find ../examples -type f | wc -l)"
 fi
