@@ -83,7 +83,8 @@ install:
 			&& install -D -m 644 completions/parv.fish "$(DESTDIR)$(FISHDIR)/$$name.fish" || exit 1; \
 	done
 	install -D -m 644 completions/_parv "$(DESTDIR)$(ZSHDIR)/_parv"
-	install -D -m 644 docs/FORMATS.md "$(DESTDIR)$(DOCDIR)/FORMATS.md"
+	install -d "$(DESTDIR)$(DOCDIR)"
+	install -m 644 docs/FORMATS.md docs/GLOSSARY.md "$(DESTDIR)$(DOCDIR)"
 	install -d "$(DESTDIR)$(DOCDIR)/examples"
 	install -m 755 $(EXAMPLES:%=examples/%) "$(DESTDIR)$(DOCDIR)/examples"
 
@@ -98,7 +99,7 @@ uninstall:
 	for folder in "$(DESTDIR)$(LIBDIR)/parv_commands" "$(DESTDIR)$(LIBDIR)"; do \
 		[ ! -d "$$folder" ] || rmdir --ignore-fail-on-non-empty "$$folder"; \
 	done
-	rm -f "$(DESTDIR)$(DOCDIR)/FORMATS.md" $(EXAMPLES:%="$(DESTDIR)$(DOCDIR)/examples/%")
+	rm -f "$(DESTDIR)$(DOCDIR)/FORMATS.md" "$(DESTDIR)$(DOCDIR)/GLOSSARY.md" $(EXAMPLES:%="$(DESTDIR)$(DOCDIR)/examples/%")
 
 # The archive that installs without the toolchain, out/dist/parv-VERSION-x86_64-linux.tar.gz.
 dist: $(if $(filter file,$(origin PARV)),build)

@@ -13,7 +13,8 @@ places=$({
     done
     cd "$top/examples" && ls | sed 's|^|/usr/share/doc/parv/examples/|'
     cd "$top/commands/parv_commands" && ls ./*.py | sed 's|^.|/usr/lib/parv/parv_commands|'
-    echo /usr/share/doc/parv/FORMATS.md
+    echo "/usr/share/doc/parv/FORMATS.md
+/usr/share/doc/parv/GLOSSARY.md"
     echo /usr/share/zsh/site-functions/_parv
 } | LC_ALL=C sort)
 room="$work/a room"
@@ -43,6 +44,7 @@ if cmp -s "$parv" "$room/usr/bin/parv" && [ -x "$room/usr/bin/parv" ] \
     && cmp -s "$top/completions/_parv" "$room/usr/share/zsh/site-functions/_parv" \
     && cmp -s "$top/completions/parv.fish" "$room/usr/share/fish/vendor_completions.d/parv.fish" \
     && cmp -s "$top/docs/FORMATS.md" "$room/usr/share/doc/parv/FORMATS.md" \
+    && cmp -s "$top/docs/GLOSSARY.md" "$room/usr/share/doc/parv/GLOSSARY.md" \
     && cmp -s "$top/docs/parv-repair.1" "$room/usr/share/man/man1/parv-repair.1" \
     && cmp -s "$top/docs/parv-rescue.1" "$room/usr/share/man/man1/parv-rescue.1" \
     && cmp -s "$top/commands/bin/parv-repair" "$room/usr/bin/parv-repair" && [ -x "$room/usr/bin/parv-repair" ] \
