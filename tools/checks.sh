@@ -18,7 +18,7 @@ export -f run
 printf '%s\n' commands_tests refused greatest limits memory refused_sets refused_tails refused_tests hostile repair address_space disturbed \
     names completions costs readings ends tails cursors examples manual files verdicts memory_answers hand_proofs \
     installed dist pages reads digests disk creators rescue rescue_names slice_map check_tree progress derived reopening \
-    search_parts script_signals repairs foreign_programs crashes full_disks outputs | xargs -P "${RT_JOBS:-$(nproc)}" -I{} bash -c 'run {}' \
+    search_parts script_signals repairs foreign_programs crashes full_disks outputs prose | xargs -P "${RT_JOBS:-$(nproc)}" -I{} bash -c 'run {}' \
     || echo "FAILED: not every check was run" | tee "$logs/xargs"
 failed=$(grep -h '^FAILED: ' "$logs"/* | wc -l)
 echo "checks: $(grep -h '^ok: ' "$logs"/* | wc -l) passed, $failed failed"
