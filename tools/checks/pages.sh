@@ -113,7 +113,7 @@ cd "$top/demo" || exit 1
 # shellcheck disable=SC2086
 wants "the example of README" 1 "$(sed 1d "$work/example")" "" "$parv" $words
 
-# Its calls of scripts and commands, each in a folder with what it names: how it ends, and its last line.
+# Its calls of parv and of commands, each in a folder with what it names: how it ends, and its last line.
 cd "$work" || exit 1
 mkdir -p download backup/whole bin
 ln -s "$parv" bin/parv
@@ -122,16 +122,20 @@ cp backup/whole/* download
 cp backup/whole/photos.par2 .
 mv download/harbour.raw download/port.raw
 { head -c 5000 /dev/zero; cat backup/whole/*.raw backup/whole/notes.txt; printf 'more'; } > disc.img
-wanted=("1 a repair can be tried: need 0 have 0" "0 complete" "0 slices 38/38, copied now 38" "0 " "0 result complete"
-    "0 38 in place; need 0 have 0")
-sed -nE 's/^    (([a-z_]+\.(sh|py)|parv-re[a-z]+) .*)/\1/p' "$top/README.md" > calls
-[ "$(wc -l < calls)" -eq ${#wanted[@]} ] || fails "README has $(wc -l < calls) calls of scripts and commands"
+last_match=$("$tools/models/find_slices.py" --tails photos.par2 disc.img | sed '$d' | tail -n 1)
+wanted=("1 result possible" "1 result possible"
+    "1 a repair can be tried: need 0 have 0" "0 complete" "0 slices 38/38, copied now 38" "0 " "0 result complete"
+    "0 complete" "0 $last_match" "0 38 in place; need 0 have 0")
+sed -nE 's/^    (([a-z_]+\.(sh|py)|parv(-[a-z]+)?) .*)/\1/p' "$top/README.md" > calls
+[ "$(wc -l < calls)" -eq ${#wanted[@]} ] || fails "README has $(wc -l < calls) calls of parv and of commands"
 number=0
 while IFS= read -r call; do
     place=.
     [[ $call != *" ./*" ]] || place=download
+    # What parv-parts says of its parts isn't of interest.
     got=$(cd "$place" && env -u PARV PATH="$top/examples:$top/commands/bin:$work/bin:$PATH" timeout 60 \
         bash -c "${call/\/srv/$work}" 2> "$work/line" < /dev/null > "$work/text"; echo $?)
+    [[ $call != parv-parts* ]] || : > line
     if [ "$got $(tail -n 1 text)" = "${wanted[number]-}" ] && [ ! -s line ]; then
         echo "ok: README's $call"
     else
@@ -139,6 +143,18 @@ while IFS= read -r call; do
     fi
     number=$((number + 1))
 done < calls
+
+# What it asks of make is there. None of it is made: most takes long.
+cd "$top" || exit 1
+{ sed -nE 's/^    (sudo )?make ([a-z]+).*/\2/p' README.md; grep -o '`make [a-z]*' README.md | sed 's/.* //'; } | sort -u > "$work/targets"
+while IFS= read -r target; do
+    make -n "$target" PARV="$parv" > "$work/made" 2>&1 || fails "README's make $target: $(tail -n 1 "$work/made")"
+done < "$work/targets"
+if [ "$(wc -l < "$work/targets")" -ge 6 ]; then
+    echo "ok: README's $(wc -l < "$work/targets") targets of make are there"
+else
+    fails "README names $(wc -l < "$work/targets") targets of make"
+fi
 
 # Its ways to install, but for sudo.
 cd "$top" || exit 1
