@@ -39,7 +39,7 @@ test:
 
 # The program alone against what it must print. Its log is out/checks.log.
 checks: build
-	@echo "Checks the built program, a minute or two. The log is out/checks.log."
+	@echo "Checks the built program, a few minutes. The log is out/checks.log."
 	@set -o pipefail; tools/checks.sh | tee out/checks.log
 
 # Plants each fault of tools/faults in a copy of its own, and runs what must see it: two at a time, a

@@ -1,14 +1,14 @@
 #!/usr/bin/env bash
-# The gate: rt ci, from nothing, and then the checks of the program that it leaves at
-# crates/parv/out/parv, whatever came of rt ci. The last two lines count both. All lines stand in
-# out/gate.log.
+# The gate: rt ci, and then the checks of the program that it leaves at crates/parv/out/parv, whatever
+# came of rt ci. The last two lines count both. All lines are in out/gate.log. What rt ci keeps of an
+# earlier run depends on the toolchain; docs/GATE.md says what.
 set -uo pipefail
 cd "$(dirname "$0")/.." || exit 1
 mkdir -p out
 log=out/gate.log
 tee "$log" << END
-The gate: every proof from nothing, every wrong body and test, then checks of the built program.
-From nothing it takes two to three hours on four processors. The log is $log.
+The gate: every proof, mutant and test, then checks of the built program.
+The first run takes two to three hours on four processors. The log is $log.
 END
 
 # How many crates `rt ci` works on at once: one a processor, if each can have 5 GB. Without a number
