@@ -25,7 +25,7 @@ PATTERNS = [
     (r"\b(?:tells?|told)\b", "reports, says, prints", "The fault is told."),
     (r"\balone\b", "only", "It reads packet files alone."),
     (r"\bbehind\b", "after", "Zeros stand behind it."),
-    (r"\b(?:so|as) many\b(?! as\b)", "the number of what", "It ends after so many."),
+    (r"\b(?:so|as) many\b(?! (?:\w+ ){0,3}as\b)", "the number of what", "It ends after so many."),
     (r"\bwants? of memory\b|\bmemory (?:is|was) wanted\b", "out of memory", "Want of memory ends it."),
     (r"\bof which (?:that )?was read\b|\bof which (?:this|it) (?:is|was) read\b", "consistent with the reads",
      "It holds for files of which that was read."),
@@ -45,7 +45,7 @@ PATTERNS = [
 ]
 GOOD = [
     "If a file can't be read, it ends with 6.", "Look where it came from.", "It is `where` the time goes.",
-    "What is a slice?", "A slice is found anywhere, everywhere or elsewhere.", "There are as many as before.",
+    "What is a slice?", "A slice is found anywhere, everywhere or elsewhere.", "There are as many as before, and as many files as packets.",
     "The letters stand for a name.", "The number of bytes is printed.",
 ]
 
@@ -61,7 +61,8 @@ def markdown(text):
         if line.startswith("```"):
             fenced = not fenced
         elif not fenced and not is_heading_or_code(line):
-            yield number, re.sub(r"`[^`]*`", "`", line).lstrip("-*> |")
+            # What is bold at the beginning is a heading too.
+            yield number, re.sub(r"^[-> ]*(?:\*\*.*?\*\*)?[-* ]*", "", re.sub(r"`[^`]*`", "`", line))
 
 
 def manual(text):
