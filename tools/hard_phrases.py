@@ -19,7 +19,7 @@ import sys
 
 # Each pattern, what to write instead, and a sentence that has it.
 PATTERNS = [
-    (r"\bwhere\b(?! to\b)(?! (?:it|they|you) (?:is|are|was|were|came) (?:from|to)\b)",
+    (r"(?<!place )(?<!places )(?<!offset )(?<!from )\bwhere\b(?! to\b)(?! (?:it|they|you) (?:is|are|was|were|came) (?:from|to)\b)",
      "`if` or `when` for a condition", "It ends with 6 where a file can't be read."),
     (r"\b(?:stands?|stood|standing)\b(?! for\b)", "is, appears, is written", "A line stands there."),
     (r"\b(?:tells?|told)\b", "reports, says, prints", "The fault is told."),
@@ -44,9 +44,10 @@ PATTERNS = [
     (r"\bheadline\b", "main theorem", "The headline says it."),
 ]
 GOOD = [
-    "If a file can't be read, it ends with 6.", "Look where it came from.", "It is `where` the time goes.",
-    "What is a slice?", "A slice is found anywhere, everywhere or elsewhere.", "There are as many as before, and as many files as packets.",
-    "The letters stand for a name.", "The number of bytes is printed.",
+    "If a file can't be read, it ends with 6.", "The number of bytes is printed.", "What is a slice?",
+    "Look where it came from.", "It is `where` the time goes.", "The place where it begins is printed.",
+    "A slice is found anywhere, everywhere or elsewhere.", "There are as many as before, and as many files as packets.",
+    "The letters stand for a name.", "A table says what each letter stands\nfor.",
 ]
 
 
@@ -101,10 +102,15 @@ def prose(name):
 
 def hits(lines):
     """Each hit: the number of its line, what to write instead, and the line."""
-    for number, line in lines:
+    lines = list(lines)
+    for at, (number, line) in enumerate(lines):
+        # A phrase may go on in the next line.
+        after = lines[at + 1][1] if at + 1 < len(lines) and lines[at + 1][0] == number + 1 else ""
+        text = " ".join([line, *after.split()[:3]])
         for form, instead, _ in PATTERNS:
-            for _ in re.finditer(form, line, re.IGNORECASE if form.startswith(r"\b") else 0):
-                yield number, instead, line.strip()
+            for hit in re.finditer(form, text, 0 if form.startswith(("^", "(?<=")) else re.IGNORECASE):
+                if hit.start() < len(line):
+                    yield number, instead, line.strip()
 
 
 def read_ceilings(path):
