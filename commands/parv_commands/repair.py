@@ -184,7 +184,8 @@ class Repair:
                 self._make_file(place, names.base_of(copy.target), functools.partial(self._fill, copy.source))
 
     def _fill(self, path: bytes, opened: int) -> None:
-        """Copies a file of the folder with its mode and times."""
+        """Copies a file of the folder with its times and its mode. (The copy may be of another owner: it doesn't run as
+        that one.)"""
         source = self.folder.open_to_read(path)
         try:
             now = os.fstat(source)
@@ -194,7 +195,7 @@ class Repair:
                 changes.write(opened, piece)
                 done += len(piece)
                 progress.show(done)
-            changes.set_mode(opened, stat.S_IMODE(now.st_mode))
+            changes.set_mode(opened, stat.S_IMODE(now.st_mode) & 0o777)
             changes.set_times(opened, now.st_atime_ns, now.st_mtime_ns)
         finally:
             os.close(source)

@@ -139,6 +139,15 @@ class Moves(unittest.TestCase):
         self.assertNotIn("remove", ended.out)
         self.assertEqual(read(self.room.path("third.1")), b"the thXrd one, changed")
 
+    def test_a_copy_does_not_run_as_its_owner(self) -> None:
+        room = Room({"one": b"same same", "two": b"same same"})
+        self.addCleanup(room.close)
+        room.take("two")
+        os.chmod(room.path("one"), 0o7751)
+        ended = room.run(repair.main, ["room"])
+        self.assertEqual((ended.status, room.lacks()), (0, []), ended)
+        self.assertEqual([os.stat(room.path(name)).st_mode & 0o7777 for name in ("one", "two")], [0o7751, 0o751])
+
     def test_a_folder_that_becomes_a_link_leads_no_file_out(self) -> None:
         room = Room({"sub/first": b"first of all", "sub/second": b"the second"})
         self.addCleanup(room.close)
