@@ -7,6 +7,7 @@ import os
 import stat
 from typing import BinaryIO, Dict, List, Optional, Sequence, Tuple
 
+from . import progress
 from .answers import SetAnswer
 from .faults import FILES, USAGE, Fault, faults_of
 from .names import is_packet_file, shown
@@ -65,5 +66,6 @@ def read_given(parv: Parv, given: Given, chosen: Optional[str]) -> Tuple[SetAnsw
     """The set of the packet files, or that of an ID."""
     answer = parv.set(given.packet_words, chosen)
     files = PacketFiles(parv, given.packet_words, given.opener)
-    with contextlib.closing(files):
-        return answer, read_recovery_set(answer, files, parv.packets(given.packet_words, answer.id))
+    lines = parv.packets(given.packet_words, answer.id)
+    with contextlib.closing(files), progress.waiting("packets are read"):
+        return answer, read_recovery_set(answer, files, lines)

@@ -4,6 +4,7 @@ from __future__ import annotations
 
 import contextlib
 import os
+import threading
 import time
 from typing import Iterator, Optional
 
@@ -55,14 +56,39 @@ def doing(what: str, most: int = 0) -> Iterator[None]:
         _Progress.what, _Progress.most, _Progress.begun = before
 
 
-def show(done: int) -> None:
-    """Tells how many bytes were passed so far, if two seconds have gone and half a second since the line before."""
+def show(done: Optional[int]) -> None:
+    """Tells how many bytes were passed so far, if that is known, once two seconds have gone, and half a second since the
+    line before."""
     now = time.monotonic()
     if not _Progress.what or now - _Progress.begun < FIRST or now - _Progress.last < EACH or not _is_terminal():
         return
-    most = f" of at most {(max(_Progress.most, done) + 1048575) >> 20} MiB" if _Progress.most else ""
-    _write(f"\r\033[K{_Progress.what}: {done >> 20} MiB{most}")
+    count = "" if done is None else f": {done >> 20} MiB"
+    most = f" of at most {(max(_Progress.most, done or 0) + 1048575) >> 20} MiB" if _Progress.most else ""
+    _write(f"\r\033[K{_Progress.what}{count}{most}")
     _Progress.last, _Progress.shown = now, True
+
+
+@contextlib.contextmanager
+def waiting(what: str) -> Iterator[None]:
+    """Says what goes on while calls last that tell nothing themselves, as those that bring files to the disk. A thread
+    does, so no program may begin meanwhile."""
+    over = threading.Event()
+
+    def tells() -> None:
+        while not over.wait(EACH):
+            show(None)
+    teller: Optional[threading.Thread] = None
+    with doing(what):
+        if _is_terminal():
+            with contextlib.suppress(RuntimeError):     # if there can be no more threads
+                teller = threading.Thread(target=tells, daemon=True)
+                teller.start()
+        try:
+            yield
+        finally:
+            over.set()
+            if teller is not None and teller.is_alive():
+                teller.join()
 
 
 def read_by(pid: int) -> int:

@@ -134,10 +134,12 @@ class Repair:
             plan = self._plan(found, origins, repairs, others)
             self._copy(place, plan)
             moves = self._moves(plan)
-            place.note(moves.steps, plan.made())
-            moves.make()
+            with progress.waiting("what was made is brought to the disk"):
+                place.note(moves.steps, plan.made())
+            with progress.waiting("files are moved"):
+                moves.make()
             self._verify(found)
-            with faults_of("write in", self.folder.shown):
+            with progress.waiting("what was moved is brought to the disk"), faults_of("write in", self.folder.shown):
                 changes.sync_all(self.folder.place)
             removed = self._backups_to_remove(found, plan.backups)
         except Refused as why:
@@ -146,8 +148,9 @@ class Repair:
         except BaseException:
             self._leave(place, moves)
             raise
-        place.forget()
-        place.clear()
+        with progress.waiting("temporary files are removed"):
+            place.forget()
+            place.clear()
         gone = [backup.kept for backup in removed if self._remove(backup)]
         return [*plan.told, *(f"remove {shown(kept)}" for kept in gone), "complete"]
 
@@ -156,7 +159,7 @@ class Repair:
         if not stage.is_there(self.folder):
             return
         try:
-            with contextlib.closing(place):
+            with progress.waiting("all is put back"), contextlib.closing(place):
                 if moves is not None and place.opened.look(stage.JOURNAL) is not None:
                     moves.undo()
                     moves.sync()
@@ -278,7 +281,8 @@ def _run(asked: Asked, folder: Folder, program: Program) -> Tuple[int, List[str]
                 continue
             if asked.dry:
                 raise Fault(FILES, "a run was ended here, and is finished or undone by the next without --dry-run")
-            module.recover(folder, say)
+            with progress.waiting("a run that was ended is finished"):
+                module.recover(folder, say)
             if purge:
                 say("so --remove-backups removes nothing")      # a backup may be what somebody has written since
                 purge = False

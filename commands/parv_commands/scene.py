@@ -7,7 +7,7 @@ from typing import BinaryIO, Dict, List, NamedTuple, Optional, Sequence, Set, Tu
 
 from . import answers, earlier, names, output, progress, stage
 from .answers import PacketLine, SetAnswer, Verdict
-from .faults import NO_SET, USAGE, Fault
+from .faults import NO_SET, USAGE, Fault, faults_of
 from .folders import Folder, Identity, identity_of
 from .names import shown
 from .packets import PacketFiles, RecoverySet, read_recovery_set
@@ -83,21 +83,27 @@ class Scene:
             chosen = sets[0]
         answer = self.parv.set(words_given, chosen)
         files = PacketFiles(self.parv, words_given, self.opener)
-        return Found(answer, read_recovery_set(answer, files, lines), files, lines, words_given)
+        with progress.waiting("packets are read"):
+            return Found(answer, read_recovery_set(answer, files, lines), files, lines, words_given)
 
     def gather(self, found: Found) -> None:
         """Notes the files of the folder, and of the subfolders that the set names, except packet files."""
         members = {file.name for file in found.set.files}
         self.there = {}
-        for path in self._folders(members):
+        with progress.waiting("the folder is read"):
+            for path in self._folders(members):
+                self._gather_in(path, members)
+
+    def _gather_in(self, path: bytes, members: Set[bytes]) -> None:
+        with faults_of("open", f"{self.folder.shown}/{shown(path[:-1])}"):
             inner = self.folder if not path else self.folder.inner(path[:-1])
-            try:
-                for name, now in inner.entries().items():
-                    if stat.S_ISREG(now.st_mode) and (path + name in members or not names.is_packet_file(name)):
-                        self.there[path + name] = identity_of(now)
-            finally:
-                if path:
-                    inner.close()
+        try:
+            for name, now in inner.entries().items():
+                if stat.S_ISREG(now.st_mode) and (path + name in members or not names.is_packet_file(name)):
+                    self.there[path + name] = identity_of(now)
+        finally:
+            if path:
+                inner.close()
 
     def _folders(self, members: Set[bytes]) -> List[bytes]:
         """The subfolders that names of the set have, each with a slash after it, and the folder itself as nothing."""

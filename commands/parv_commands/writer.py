@@ -131,7 +131,8 @@ class Writer:
 
     def save(self, search: Search, way: str) -> None:
         """Puts what was done into the record, once it is on the disk, and how far the search came."""
-        self._sync({file.id: file for file in self.touched}.values())
+        with progress.waiting("what was copied is brought to the disk"):
+            self._sync({file.id: file for file in self.touched}.values())
         self.touched = []
         if self.is_lossy:
             self.record.tell("again")

@@ -5,10 +5,12 @@ from __future__ import annotations
 
 import os
 import pty
+import time
 import unittest
+import unittest.mock
 from typing import List
 
-from parv_commands import answers, names, programs, progress, repair, rescue
+from parv_commands import answers, changes, names, programs, progress, repair, rescue
 from parv_commands.faults import Fault
 from parv_commands.folders import Folder
 
@@ -151,6 +153,17 @@ class Progress(unittest.TestCase):
         self.assertTrue(text.endswith("\r\x1b[Krepair first\r\ncomplete\r\n"), text)
         text = self.on_terminal(["new", "room/set.par2", "room/second"], rescue.main, 0.1)
         self.assertRegex(text, "\r\x1b\\[Kparv find: [0-9]+ MiB of at most [0-9]+ MiB")
+
+    def test_calls_that_tell_nothing_themselves_are_told_while_they_last(self) -> None:
+        def lasts(*_: object) -> None:
+            time.sleep(0.4)
+        with unittest.mock.patch.multiple(changes, sync=lasts, sync_all=lasts):
+            text = self.on_terminal(["room"], repair.main, 0.1)
+            self.assertIn("\r\x1b[Kwhat was made is brought to the disk\r\x1b[K", text)
+            self.assertIn("\r\x1b[Kwhat was moved is brought to the disk\r\x1b[K", text)
+            self.assertTrue(text.endswith("\r\x1b[Krepair first\r\ncomplete\r\n"), text)
+            text = self.on_terminal(["new", "room/set.par2", "room/second"], rescue.main, 0.1)
+            self.assertIn("\r\x1b[Kwhat was copied is brought to the disk\r\x1b[K", text)
 
     def test_what_takes_less_than_two_seconds_is_not(self) -> None:
         self.assertEqual(progress.FIRST, 2.0)
