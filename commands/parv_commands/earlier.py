@@ -68,7 +68,7 @@ def recover(folder: Folder, say: Sayer) -> None:
     with contextlib.closing(folder.inner(NAME)) as inner:
         try:
             moves = _moves(folder, inner, say)
-            said = "a run of verify_and_repair.sh was ended here before it had moved anything"
+            said = "a run of verify_and_repair.sh was ended here, with no move left to be made"
             if moves is not None:
                 moves.finish()
                 moves.sync()

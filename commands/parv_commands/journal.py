@@ -16,7 +16,7 @@ from typing import Callable, Iterator, List, NamedTuple, Optional, Sequence, Uni
 from . import changes
 from .faults import FILES, Fault, Refused
 from .folders import Folder, Identity
-from .names import base_of, is_plain, shown
+from .names import base_of, folders_of, is_plain, numbered, shown
 
 HEAD = b"parv-repair journal 1"
 END = b"end"
@@ -51,7 +51,10 @@ def encoded(steps: Sequence[Step]) -> bytes:
             length, changed = step.file.length, step.file.changed
             fields += [b"keep" if step.is_kept else b"move",
                        b"%d %d %d" % (step.file.inode, length or 0, changed or 0), step.origin, step.target, b""]
-    return b"".join(field + b"\0" for field in [*fields, END])
+    data = b"".join(field + b"\0" for field in [*fields, END])
+    if len(data) > MOST:
+        raise Refused("a journal of all moves would be too long")
+    return data
 
 
 def decoded(data: bytes) -> List[Step]:
@@ -139,7 +142,7 @@ class Moves:
 
     def sync(self) -> None:
         """Brings the names that files have now to the disk, before the journal goes."""
-        for path in sorted({end.rpartition(b"/")[0] for end in self.ends if is_plain(end)}):
+        for path in sorted({part for end in self.ends if is_plain(end) for part in [b"", *folders_of(end)]}):
             with contextlib.suppress(FileNotFoundError, NotADirectoryError):
                 with self.folder.above(path + b"/" if path else b"") as place:
                     changes.sync_folder(place)
@@ -173,7 +176,7 @@ class Moves:
                 if not self.folder.is_free(target):
                     if not step.is_kept:
                         continue
-                    target = self.free_name(target)
+                    target = self.free_name(step.origin)
                 self.carry(step.origin, target)
         self.bring_out()
 
@@ -217,22 +220,33 @@ class Moves:
         if self.has_two_names(step):
             self._remove_name(step.target)
             return
-        if not self.has(step, step.target):
-            now = self.folder.look(step.target)
+        end = self._end_of(step)
+        if not self.has(step, end):
+            now = self.folder.look(end)
             if now is not None and now.st_ino == step.file.inode:
-                self.say(f"{shown(step.target)} has changed since, and stays")
+                self.say(f"{shown(end)} has changed since, and stays")
             return
-        if self.is_staged(step.origin) and not self._can_return(step.target):
+        if self.is_staged(step.origin) and not self._can_return(end):
             return
         if self.folder.is_free(step.origin):
-            self.carry(step.target, step.origin)
-        elif not self.is_staged(step.target):
-            self.say(f"{shown(step.target)} stays: there is another file at {shown(step.origin)}")
+            self.carry(end, step.origin)
+        elif not self.is_staged(end):
+            self.say(f"{shown(end)} stays: there is another file at {shown(step.origin)}")
+
+    def _end_of(self, step: Move) -> bytes:
+        """The name that the file of a move has got, if it has: one that is kept may have got another number."""
+        number, end = 1, step.target
+        while step.is_kept and not self.has(step, end):
+            end = numbered(step.origin, number)
+            if end not in self.ends and self.folder.is_free(end):
+                return step.target
+            number += 1
+        return end
 
     def _can_return(self, name: bytes) -> bool:
         """Whether what was at a name before can be there again, or nothing was: one move or two have taken it away."""
         left = self.by_origin.get(name)
-        if left is None or self.has(left, left.target):
+        if left is None or self.has(left, self._end_of(left)):
             return True
         further = self.by_origin.get(left.target)
         return further is not None and self.has(further, further.target)

@@ -163,7 +163,7 @@ def recover(folder: Folder, say: Sayer) -> None:
     stage = Stage(folder, say)
     with contextlib.closing(stage), faults_of("recover", f"{folder.shown}/{shown(NAME)}"):
         moves = stage.moves()
-        said = "a run was ended here before it had moved anything"
+        said = "a run was ended here, with no move left to be made"
         if moves is not None:
             said = _deal_with(stage, moves)
             moves.sync()

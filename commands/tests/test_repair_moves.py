@@ -5,15 +5,16 @@ from __future__ import annotations
 
 import os
 import signal
+import stat
 import unittest
 import unittest.mock
-from typing import Callable, List, Tuple
+from typing import Any, Callable, List, Tuple
 
 from parv_commands import changes, journal, repair
 from parv_commands.folders import Identity
 from parv_commands.journal import Made, Move, Step
 
-from .rooms import KILLED, STAGE, At, Ended, Room, ends_by, read, write
+from .rooms import FULL, KILLED, STAGE, At, Ended, Room, ends_by, read, write
 
 
 class Without:
@@ -284,6 +285,74 @@ class Moves(unittest.TestCase):
         ended = self.run_it("--dry-run")
         self.assertEqual((ended.status, self.room.listing()), (6, before), ended)
         self.assertIn("by the next without --dry-run", ended.said)
+
+    def test_a_run_that_was_ended_after_its_moves_is_not_said_to_have_moved_nothing(self) -> None:
+        self.turn()
+        calls = self.run_it().calls
+        gone = calls.index("unlink", calls.index("syncfs"))     # of the journal
+        self.turn()
+        self.run_it(watch=At(calls[:gone + 1].count("unlink"), "after", KILLED, ["unlink"]))
+        self.assertNotIn(f"{STAGE}/journal", self.room.listing())
+        again = self.run_it()
+        self.completes(again)
+        self.assertEqual(again.said, "parv-repair: room: a run was ended here, with no move left to be made\n")
+
+    def test_a_journal_that_the_next_run_would_not_read_is_not_written(self) -> None:
+        self.turn()
+        before = self.room.listing()
+        with unittest.mock.patch.object(journal, "MOST", 200):
+            ended = self.run_it()
+        self.assertEqual((ended.status, ended.out, self.room.listing()), (6, "", before), ended)
+        self.assertIn("a journal of all moves would be too long", ended.said)
+
+    def test_new_folders_are_on_the_disk_before_the_journal_goes(self) -> None:
+        room = Room({"in/a/folder/first": b"first of all"})
+        self.addCleanup(room.close)
+
+        def away() -> None:
+            room.fresh()
+            room.rename("in/a/folder/first", "stray")
+            os.removedirs(room.path("in/a/folder"))
+        away()
+        calls = room.run(repair.main, ["room"]).calls
+        first = calls[:calls.index("rename")].count("mkdir") + 1    # of the folders after the journal
+        away()
+        self.assertEqual(room.run(repair.main, ["room"], At(first, "before", KILLED, ["mkdir"])).status, 137)
+        log = os.path.join(room.top, "log")
+        real = {name: getattr(changes, name) for name in ("sync_folder", "make_folder", "remove_file")}
+
+        def logged(name: str) -> Callable[..., None]:
+            def call(place: int, *rest: Any) -> None:
+                with open(log, "a", encoding="utf-8") as out:
+                    path = os.path.relpath(os.readlink(f"/proc/self/fd/{place}"), room.folder)
+                    out.write(" ".join([name, path, *map(os.fsdecode, rest[:1])]) + "\n")
+                real[name](place, *rest)
+            return call
+        with unittest.mock.patch.multiple(changes, **{name: logged(name) for name in real}):
+            ended = room.run(repair.main, ["room"])
+        self.assertEqual((ended.status, room.lacks()), (0, []), ended)
+        lines = read(log).decode().splitlines()
+        made, gone = lines.index("make_folder in/a folder"), lines.index(f"remove_file {STAGE} journal")
+        for name in ".", "in", "in/a", "in/a/folder":
+            self.assertIn(f"sync_folder {name}", lines[made:gone])
+
+    def test_an_undone_run_gives_a_file_its_name_back_that_got_another_number(self) -> None:
+        self.turn()
+        moves = self.run_it().calls.count("rename")
+        undone = 0
+        for number in range(2, moves + 1):
+            for failing in range(1, moves + 1):
+                self.turn()
+                held = {**self.room.listing(), "third.1": (stat.S_IFREG, b"come meanwhile")}
+                self.run_it(watch=At(number, "before", KILLED, ["rename"]))
+                if "third.1" in self.room.listing():
+                    break
+                self.room.put("third.1", b"come meanwhile")
+                ended = self.room.run(repair.main, ["room"], At(failing, "before", FULL, ["rename"]), WRONG="fails")
+                if "is undone" in ended.said:
+                    undone += 1
+                    self.assertEqual((ended.status, self.room.listing()), (5, held), (number, failing, ended))
+        self.assertGreater(undone, 3)
 
     def test_a_run_after_one_that_was_ended_knows_files_of_any_time(self) -> None:
         for time in -10 ** 18 - 5, -1, 0, 1, 10 ** 18 + 5:
