@@ -7,6 +7,7 @@ import re
 from typing import Dict, Iterable, List, Optional, Sequence
 
 LONGEST_PART = 255
+MOST_FOLDERS = 200      # that a name may have: each look at a name opens all of them
 
 
 def shown(name: bytes) -> str:
@@ -51,6 +52,8 @@ def refusal(name: bytes, reserved: Iterable[bytes]) -> Optional[str]:
         return "its name isn't that of a file"
     if parts[0] in reserved:
         return "its name is kept for the command itself"
+    if len(parts) > MOST_FOLDERS + 1:
+        return "its name has too many folders"
     return "a part of its name is too long" if max(map(len, parts)) > LONGEST_PART else None
 
 

@@ -70,8 +70,9 @@ class Plan:
         self._stays = names_kept | {file.name for file, source in zip(files, sources) if file.name == source}
         self._used: Set[bytes] = set()
         self._leaves: Set[bytes] = set()
-        self._taken: Set[bytes] = set()
+        self._folders: Set[bytes] = set()
         self._asides: Dict[bytes, bytes] = {}
+        # The names of files and folders of the set, and those by which other files are kept.
         self._names = {part for file in files for part in [*folders_of(file.name), file.name]}
         # The file that is moved, or nothing for a folder; its origin and its target; whether it is kept.
         self._moves: List[Tuple[Optional[bytes], bytes, bytes, bool]] = []
@@ -123,8 +124,8 @@ class Plan:
             return
         if name not in self.there:
             raise Refused(f"{shown(name)} has come meanwhile")
-        kept = self.folder.free_name(name, self._taken | self._names)
-        self._taken.add(kept)
+        kept = self.folder.free_name(name, self._names)
+        self._names.add(kept)
         self._moves.append((name, name, kept, True))
         self.backups.append(Backup(number, kept, self.there[name]))
         self.told.append(f"keep {shown(name)} as {shown(kept)}")
@@ -133,11 +134,10 @@ class Plan:
         """The folders of a name that are to be made, and the move to the name."""
         name = self.files[number].name
         for path in folders_of(name):
-            if path not in self._taken and self.folder.is_free(path):
-                self._taken.add(path)
+            if path not in self._folders and self.folder.is_free(path):
+                self._folders.add(path)
                 self._moves.append((None, path, path, False))
         self._moves.append((origin, self._asides.get(origin, origin), name, False))
-        self._taken.add(name)
 
     def steps(self, identity: Callable[[bytes], Identity]) -> List[Step]:
         """The steps for the journal, once all that is made is there; each file is known by its identity."""

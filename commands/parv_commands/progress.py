@@ -57,8 +57,8 @@ def doing(what: str, most: int = 0) -> Iterator[None]:
 
 
 def show(done: Optional[int]) -> None:
-    """Tells how many bytes were passed so far, if that is known, once two seconds have gone, and half a second since the
-    line before."""
+    """Tells how many bytes were passed so far, if that is known: once two seconds have gone, and half a second since
+    the line before."""
     now = time.monotonic()
     if not _Progress.what or now - _Progress.begun < FIRST or now - _Progress.last < EACH or not _is_terminal():
         return

@@ -35,9 +35,11 @@ class Names(unittest.TestCase):
 
     def test_names_that_lead_elsewhere_are_refused(self) -> None:
         for name in (b"/a", b"../a", b"a/../b", b"..", b".", b"a/./b", b"a//b", b"a/", b"", b"..\\a", b"\\a",
-                     b"a\\..\\b", b"own/a", b"own", b"x" * 256, b"a/" + b"x" * 256 + b"/b", b"a\0b"):
+                     b"a\\..\\b", b"own/a", b"own", b"x" * 256, b"a/" + b"x" * 256 + b"/b", b"a\0b",
+                     b"a/" * 201 + b"b"):
             self.assertIsNotNone(names.refusal(name, [b"own"]), name)
-        for name in b"a", b"..a", b"a..", b"a../b", b"a\\b", b"x" * 255, b"-a", b"owned", b"a/own", b"\xff\n":
+        for name in b"a", b"..a", b"a..", b"a../b", b"a\\b", b"x" * 255, b"-a", b"owned", b"a/own", b"\xff\n", \
+                b"a/" * 200 + b"b":
             self.assertIsNone(names.refusal(name, [b"own"]), name)
 
     def test_a_name_may_not_be_a_folder_of_another(self) -> None:
