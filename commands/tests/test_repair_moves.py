@@ -14,7 +14,7 @@ from parv_commands import changes, journal, repair
 from parv_commands.folders import Identity
 from parv_commands.journal import Made, Move, Step
 
-from .rooms import FULL, KILLED, STAGE, At, Ended, Room, ends_by, read, write
+from .rooms import FULL, KILLED, STAGE, At, Ended, Listing, Room, ends_by, read, write
 
 
 class Without:
@@ -328,7 +328,8 @@ class Moves(unittest.TestCase):
                     out.write(" ".join([name, path, *map(os.fsdecode, rest[:1])]) + "\n")
                 real[name](place, *rest)
             return call
-        with unittest.mock.patch.multiple(changes, **{name: logged(name) for name in real}):
+        with unittest.mock.patch.multiple(changes, sync_folder=logged("sync_folder"), make_folder=logged("make_folder"),
+                                          remove_file=logged("remove_file")):
             ended = room.run(repair.main, ["room"])
         self.assertEqual((ended.status, room.lacks()), (0, []), ended)
         lines = read(log).decode().splitlines()
@@ -343,7 +344,7 @@ class Moves(unittest.TestCase):
         for number in range(2, moves + 1):
             for failing in range(1, moves + 1):
                 self.turn()
-                held = {**self.room.listing(), "third.1": (stat.S_IFREG, b"come meanwhile")}
+                held: Listing = {**self.room.listing(), "third.1": (stat.S_IFREG, b"come meanwhile")}
                 self.run_it(watch=At(number, "before", KILLED, ["rename"]))
                 if "third.1" in self.room.listing():
                     break
