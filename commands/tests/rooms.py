@@ -5,6 +5,7 @@ from __future__ import annotations
 import errno
 import hashlib
 import os
+import re
 import shutil
 import signal
 import stat
@@ -30,6 +31,7 @@ for whole in %s/by-number/file*; do
 done
 """
 STAGE = ".parv-repair"
+EARLIER = ".verify_and_repair"      # that of the script of version 0.4.0
 SECONDS = 120       # that a run may take
 Listing = Dict[str, Tuple[int, bytes]]
 Action = Callable[[str], None]
@@ -152,6 +154,24 @@ class Room:
         """The different contents of files in the folder."""
         return {data for kind, data in self.listing().values() if kind == stat.S_IFREG}
 
+    def state(self) -> str:
+        """What a run finds in the folder. Inodes and times are others in each room, so files that a journal knows are
+        named by their places."""
+        found = self.listing()
+        known = {}
+        for name in found:
+            now = os.lstat(self.path(name))
+            known[b"%d %d %d" % (now.st_ino, now.st_size, now.st_mtime_ns)] = name.encode()
+            known[b"%d" % now.st_ino] = name.encode()
+        told = hashlib.md5()
+        for name in sorted(found):
+            kind, data = found[name]
+            if name.startswith((STAGE, EARLIER)) and kind == stat.S_IFREG:
+                data = re.sub(rb"(?<![0-9.])[0-9]+( [0-9]+ -?[0-9]+)?(?=[\0\n])",
+                              lambda noted: known.get(noted[0], b"?"), data)
+            told.update(repr((name, kind, data)).encode())
+        return told.hexdigest()
+
     def lacks(self) -> List[str]:
         """What is wrong with a folder that is said to be complete."""
         here = self.listing()
@@ -227,6 +247,28 @@ class From(At):
         self.count += when == "before"
         if when == self.when and self.count >= self.number:
             self.does()
+
+
+class Noting:
+    """Notes the state of a room before and after each call that may change it, and how many contents it lacks then. A
+    run that is ended there leaves this state."""
+
+    def __init__(self, room: Room, held: Set[bytes]) -> None:
+        self.room, self.held, self.count = room, held, 0
+        self.place = os.path.join(room.top, "states")
+        write(self.place, b"")
+
+    def __call__(self, call: str, when: str) -> None:
+        self.count += when == "before"
+        if call not in ("fsync", "syncfs"):
+            lost = len(self.held - self.room.contents())
+            with open(self.place, "a", encoding="ascii") as out:
+                out.write(f"{self.count} {when} {self.room.state()} {lost}\n")
+
+    def noted(self) -> List[Tuple[int, str, str, int]]:
+        """The number of each call, whether it is before or after it, the state, and how much is lost."""
+        lines = [line.split() for line in read(self.place).decode().splitlines()]
+        return [(int(number), when, state, int(lost)) for number, when, state, lost in lines]
 
 
 def ends_by(number: signal.Signals) -> Callable[[], None]:

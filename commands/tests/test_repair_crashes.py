@@ -8,14 +8,13 @@ import shutil
 import signal
 import stat
 import unittest
-from typing import Iterator, List, Set, Tuple
+from typing import Callable, Dict, Iterator, List, Set, Tuple
 
 from parv_commands import repair
 
 from . import rooms
-from .rooms import FULL, KILLED, MAKING, At, Ended, From, Room
+from .rooms import EARLIER, FULL, KILLED, MAKING, At, Ended, From, Noting, Room
 
-EACH = int(os.environ.get("PARV_TESTS_EACH", "101"))    # of the runs that are ended twice, each of this number is made
 WHOLE = {
     "report.doc": b"the report, whole", "notes.txt": b"some notes of a year",
     "left": b"left hand", "right": b"right hand",
@@ -112,22 +111,49 @@ class Crashes(unittest.TestCase):
             else:
                 self.assertEqual((again.status, self.room.listing()), (5, self.before), (point, again))
 
-    def test_a_kill_inside_the_recovery_from_a_kill_loses_nothing(self) -> None:
-        made = 0
-        for point in self.points():
-            self.ended_at(At(*point, KILLED))
-            calls = len(self.again().calls)
-            for number in range(1, calls + 1):
-                for when in "before", "after":
-                    made += 1
-                    if made % EACH:
-                        continue
-                    self.ended_at(At(*point, KILLED))
-                    ended = self.room.run(repair.main, ["room"], At(number, when, KILLED))
-                    self.assertEqual(ended.status, 137, (point, number, when))
-                    self.is_held((point, number, when), self.held)
-                    self.completes((point, number, when), self.again())
-                    self.is_held((point, number, when), self.held)
+    def each_state(self, begin: Callable[[], None], *words: str) -> Dict[str, Tuple[Tuple[int, str], ...]]:
+        """Makes a run from each state of the folder that runs leave which are ended by force, one after the other,
+        until no state is new; the calls by which each is reached. Runs from equal states are alike, so one is made."""
+        found: Dict[str, Tuple[Tuple[int, str], ...]] = {}
+        waiting: List[Tuple[Tuple[int, str], ...]] = [()]
+        while waiting:
+            path = waiting.pop(0)
+            begin()
+            held = self.room.contents()
+            for point in path:
+                ended = self.room.run(repair.main, [*words, "room"], At(*point, KILLED))
+                self.assertEqual(ended.status, 137, (path, ended))
+            if path:
+                self.assertEqual(found[self.room.state()], path)
+            noting = Noting(self.room, held)
+            self.completes(path, self.room.run(repair.main, [*words, "room"], noting))
+            self.is_held(path, held)
+            for number, when, state, lost in noting.noted():
+                self.assertEqual(lost, 0, (path, number, when))
+                if state not in found:
+                    found[state] = (*path, (number, when))
+                    waiting.append(found[state])
+        return found
+
+    def test_kills_inside_recoveries_lose_nothing_however_many(self) -> None:
+        found = self.each_state(lambda: damage(self.room))
+        self.assertGreater(len(found), 100)
+        self.assertGreater(max(map(len, found.values())), 1)
+
+    def test_kills_while_what_the_earlier_script_has_left_is_finished(self) -> None:
+        def left() -> None:
+            damage(self.room)
+            for name in "files", "made", "aside":
+                os.makedirs(self.room.path(f"{EARLIER}/{name}"))
+            os.symlink("../../fine", self.room.path(f"{EARLIER}/files/fine"))
+            moves = [("stray", "one"), ("left", f"{EARLIER}/aside/0"), (f"{EARLIER}/aside/1", "left"),
+                     (f"{EARLIER}/aside/0", "right")]
+            self.room.rename("right", f"{EARLIER}/aside/1")
+            numbers = {name: os.stat(self.room.path(name)).st_ino for name in ("stray", "left", f"{EARLIER}/aside/1")}
+            numbers[f"{EARLIER}/aside/0"] = numbers["left"]
+            self.room.put(f"{EARLIER}/moves", b"".join(b"%d\0%s\0%s\0" % (
+                numbers[origin], origin.encode(), target.encode()) for origin, target in moves))
+        self.assertGreater(len(self.each_state(left)), 50)
 
     def test_a_signal_at_each_call_leaves_all_as_it_was_or_comes_too_late(self) -> None:
         for number, each in ((signal.SIGTERM, 1), (signal.SIGINT, 9), (signal.SIGHUP, 10)):
