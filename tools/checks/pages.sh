@@ -1,7 +1,7 @@
 #!/usr/bin/env bash
 # The pages: links and paths in them lead somewhere, README is short and its example, its calls of
-# scripts and its ways to install do what it says, and each clause that a row of PROVED names stands at
-# a call of a name in this row, or in a file that has a type in it.
+# scripts and its ways to install do what it says, LAYERS names each module, and each clause that a row of
+# PROVED names stands at a call of a name in this row, or in a file that has a type in it.
 . "$(dirname "$0")/wants.sh"
 cd "$work" || exit 1
 
@@ -53,6 +53,24 @@ if not failed and links > 30 and paths > 30:
     print("ok: %d links and %d paths in %d pages lead somewhere" % (links, paths, len(PAGES)))
 elif not failed:
     fails("there are %d links and %d paths" % (links, paths))
+
+# LAYERS names each module that has code of its own, in the section of its crate, and no other in its tables.
+layers, modules, wrong = open("docs/LAYERS.md").read(), 0, set()
+for crate in re.findall(r"^(\w+):", open("crates.txt").read(), re.M):
+    section = re.search(r"^## %s\n(.*?)(?=^## |\Z)" % crate, layers, re.M | re.S)
+    if crate.endswith("_tests") or crate == "parfixtures":
+        continue
+    rows = re.findall(r"^\| (`.*?) \|", section[1] if section else "", re.M)
+    named = set(re.findall(r"`([\w/]+)`", " ".join(rows)))
+    top = "crates/%s/src/" % crate
+    here = {path[len(top):-3] for path in glob.glob(top + "**/*.rt", recursive=True)
+            if re.search(r"^ *(pub(\(crate\))? )?(fn|struct|enum|trait|static|const) ", open(path).read(), re.M)}
+    modules += len(here)
+    wrong |= {(name, crate) for name in here ^ named}
+for name, crate in sorted(wrong):
+    fails("LAYERS names %s of %s, which isn't there, or leaves it out" % (name, crate))
+if not wrong and modules > 100:
+    print("ok: LAYERS names the %d modules of the libraries and the program" % modules)
 
 size = os.path.getsize("README.md")
 if size <= 10 * 1024:
