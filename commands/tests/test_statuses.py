@@ -19,7 +19,7 @@ import parv_commands
 from parv_commands import programs, repair, rescue
 from parv_commands.signals import SIGNALS
 
-from .rooms import PARV, Room, packet, set_of, write
+from .rooms import PARV, Room, packet, read, set_of, write
 
 BIN = os.path.join(os.path.dirname(os.path.dirname(os.path.realpath(parv_commands.__file__ or ""))), "bin")
 REPAIR, RESCUE = os.path.join(BIN, "parv-repair"), os.path.join(BIN, "parv-rescue")
@@ -172,6 +172,18 @@ class Statuses(unittest.TestCase):
         self.assertIn("rename stray to first.txt", ended[1])
         ended = self.call(REPAIR, "room", shell='ulimit -n 200; exec "$@"')
         self.assertEqual((ended[0], self.room.lacks()), (0, []), ended)
+
+    def test_parv_is_not_called_for_each_set_of_a_folder(self) -> None:
+        told = os.path.join(self.room.top, "told")
+        counting = self.program("counting", f'#!/bin/sh\necho "$1" >> {told}\nexec "{PARV}" "$@"\n')
+        calls: List[int] = []
+        for count in 0, 300:
+            write(told, b"")
+            self.room.put("others.par2", b"".join(set_of({b"%d" % number: b"other"}, 8, 0) for number in range(count)))
+            ended = self.call(REPAIR, "--dry-run", "--set", self.room.packets[32:48].hex(), "room", PARV=counting)
+            self.assertEqual(ended[0], 1, ended)
+            calls.append(len(read(told).splitlines()))
+        self.assertEqual(calls[0], calls[1])
 
     def test_names_that_are_longer_than_a_command_line(self) -> None:
         for number in range(9500):
