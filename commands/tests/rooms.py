@@ -20,13 +20,14 @@ from parv_commands import changes
 PARV = os.environ.get("PARV", "parv")
 PAR2 = """#!/bin/sh
 # Stands in for par2: copies what is missing or damaged from the whole files. It ends as WRONG says: `short` with 2 if
-# it was given files to search, `fails` with 5 once it has written half a file.
+# it was given files to search, `fails` with 5 once it has written half a file, and `kills` what calls it then.
 [ "$WRONG" != short ] || [ $# -le 3 ] || { echo "You need more recovery blocks"; exit 2; }
 for whole in %s/by-number/file*; do
     name=${whole##*/}
     ! cmp -s "$whole" "$name" || continue
     [ ! -e "$name" ] && [ ! -L "$name" ] || mv "$name" "$name.1"
     [ "$WRONG" != fails ] || { head -c 4 "$whole" > "$name"; echo "Repair Failed."; exit 5; }
+    [ "$WRONG" != kills ] || [ ! -s "$whole" ] || { head -c 4 "$whole" > "$name"; kill -KILL $PPID; exec sleep 60; }
     cp "$whole" "$name"
 done
 """

@@ -119,7 +119,8 @@ class Crashes(unittest.TestCase):
         while waiting:
             path = waiting.pop(0)
             begin()
-            held = self.room.contents()
+            held = {data for name, (kind, data) in self.room.listing().items()
+                    if kind == stat.S_IFREG and name != f"{EARLIER}/moves"}
             for point in path:
                 ended = self.room.run(repair.main, [*words, "room"], At(*point, KILLED))
                 self.assertEqual(ended.status, 137, (path, ended))
@@ -141,19 +142,46 @@ class Crashes(unittest.TestCase):
         self.assertGreater(max(map(len, found.values())), 1)
 
     def test_kills_while_what_the_earlier_script_has_left_is_finished(self) -> None:
+        self.room = Room({"left": b"left hand", "right": b"right hand", "one": b"same same"})
+        self.addCleanup(self.room.close)
+
         def left() -> None:
-            damage(self.room)
+            self.room.fresh()
             for name in "files", "made", "aside":
                 os.makedirs(self.room.path(f"{EARLIER}/{name}"))
-            os.symlink("../../fine", self.room.path(f"{EARLIER}/files/fine"))
-            moves = [("stray", "one"), ("left", f"{EARLIER}/aside/0"), (f"{EARLIER}/aside/1", "left"),
-                     (f"{EARLIER}/aside/0", "right")]
-            self.room.rename("right", f"{EARLIER}/aside/1")
+            os.symlink("../../one", self.room.path(f"{EARLIER}/files/one"))
+            for name, other in ("one", "stray"), ("right", "x"), ("left", f"{EARLIER}/aside/1"), ("x", "left"):
+                self.room.rename(name, other)
             numbers = {name: os.stat(self.room.path(name)).st_ino for name in ("stray", "left", f"{EARLIER}/aside/1")}
             numbers[f"{EARLIER}/aside/0"] = numbers["left"]
+            moves = [("stray", "one"), ("left", f"{EARLIER}/aside/0"), (f"{EARLIER}/aside/1", "left"),
+                     (f"{EARLIER}/aside/0", "right")]
             self.room.put(f"{EARLIER}/moves", b"".join(b"%d\0%s\0%s\0" % (
                 numbers[origin], origin.encode(), target.encode()) for origin, target in moves))
-        self.assertGreater(len(self.each_state(left)), 50)
+        self.assertGreater(len(self.each_state(left)), 10)
+
+    def test_a_kill_while_par2_writes_loses_nothing(self) -> None:
+        damage(self.room)
+        self.assertEqual(self.again(WRONG="kills").status, 137)
+        self.assertIn(4, [len(data) for name, (_, data) in self.room.listing().items() if "/files/" in name])
+        self.is_held("", self.held)
+        self.completes("", self.again())
+        self.is_held("", self.held)
+
+    def test_a_kill_while_backups_are_removed_takes_nothing_else(self) -> None:
+        words = ["--remove-backups", "room"]
+        damage(self.room)
+        calls = self.room.run(repair.main, words).calls
+        held = self.room.contents()
+        first = len(calls) - calls[::-1].index("syncfs")
+        for number in range(first, len(calls) + 1):
+            for when in "before", "after":
+                damage(self.room)
+                ended = self.room.run(repair.main, words, At(number, when, KILLED))
+                self.assertEqual(ended.status, 137, (number, when))
+                self.is_held((number, when), held)
+                self.completes((number, when), self.room.run(repair.main, words))
+                self.is_held((number, when), held)
 
     def test_a_signal_at_each_call_leaves_all_as_it_was_or_comes_too_late(self) -> None:
         for number, each in ((signal.SIGTERM, 1), (signal.SIGINT, 9), (signal.SIGHUP, 10)):
