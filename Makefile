@@ -14,7 +14,7 @@ CRATE ?= parv
 SIZE ?= small
 PARV = crates/parv/out/parv
 
-.PHONY: demo build test checks faults bench dist check try plant mustfail format install uninstall
+.PHONY: demo build test checks faults bench dist deb check try plant mustfail format install uninstall
 
 # Builds the proved program and runs it on a real damaged set. Its log is out/demo.log.
 demo:
@@ -104,3 +104,7 @@ uninstall:
 # The archive that installs without the toolchain, out/dist/parv-VERSION-x86_64-linux.tar.gz.
 dist: $(if $(filter file,$(origin PARV)),build)
 	@PARV="$(PARV)" tools/dist.sh
+
+# A Debian package with the same files in Debian's places, out/dist/parv_VERSION-1_amd64.deb.
+deb: $(if $(filter file,$(origin PARV)),build)
+	@PARV="$(PARV)" tools/deb.sh

@@ -2,6 +2,7 @@
 # The archive: it holds what is installed and sums that hold, it installs without a toolchain, what it
 # installs runs, and it is the same bytes whenever and wherever it is made.
 . "$(dirname "$0")/wants.sh"
+. "$tools/checks/packed.sh"
 cd "$work" || exit 1
 
 made() {
@@ -16,13 +17,12 @@ else
 fi
 tar -xzf first/*.tar.gz
 room=$(echo parv-*-x86_64-linux)
-version=$(sed -n 's/^## \([0-9.]*\), .*/\1/p' "$top/CHANGELOG.md" | head -n 1)
 if [ "$room" = "parv-$version-x86_64-linux" ] && (cd "$room" && sha256sum --quiet -c SHA256SUMS) \
-    && grep -q "^commit [0-9a-f]\{40\}\|^commit unknown" "$room/BUILD" && grep -q "^kit " "$room/BUILD" \
+    && cmp -s "$parv" "$room/bin/parv" && has_build "$room/share/doc/parv/BUILD" \
     && [ "$(cd "$room" && find . -type f -not -name SHA256SUMS | wc -l)" -eq "$(wc -l < "$room/SHA256SUMS")" ]; then
-    echo "ok: the archive names its version, commit and kit, and the sums are those of all its files"
+    echo "ok: the archive has the built program, names its version, commit and kit, and the sums are those of all its files"
 else
-    fails "what the archive holds: $room, $(cat "$room/BUILD")"
+    fails "what the archive holds: $room, $(diff "$said/build" "$room/share/doc/parv/BUILD")"
 fi
 grep -q "version $version" "$top/README.md" && grep -q "version $version" "$top/docs/parv.1" \
     && echo "ok: the pages are of that version" || fails "the pages are of another version than $version"
@@ -49,7 +49,10 @@ wants "where PATH has the folder it says no more of that" 0 "$last" "" \
     env -i PATH="$path:$work/a place/bin" "$room/install.sh" "$work/a place/"
 wants "a relative folder is below that of the caller, and is told whole" 0 "${last//"$work/a place"/"$work/below"}" "" \
     env -i PATH="$path:$work/below/bin" "$room/install.sh" below
+cmp -s "$parv" below/bin/parv || fails "nothing is installed in a relative folder"
 mkdir elsewhere
+cp -r "$room" elsewhere
+printf other > "elsewhere/$room/bin/parv"
 wants "another folder for cd has no say" 0 "$last" "" \
     env -i CDPATH="$work/elsewhere" PATH="$path:$work/a place/bin" "$room/install.sh" "$work/a place/"
 for name in parv-repair parv-rescue; do

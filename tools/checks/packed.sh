@@ -1,0 +1,15 @@
+# Read after wants.sh by the checks of what is handed on: what BUILD says of the program.
+version=$(sed -n 's/^## \([0-9.]*\), .*/\1/p' "$top/CHANGELOG.md" | head -n 1)
+
+# has_build FILE: it has the version, the commit from which the program was built, the kit, and the program's sum. Of
+# another program than the built one no commit is known.
+has_build() {
+    local commit kit
+    commit=$(git -C "$top" rev-parse HEAD 2> "$said/git") || commit=unknown
+    [ -z "$(git -C "$top" status --porcelain -uno 2> "$said/git")" ] && [ "$commit" != unknown ] || commit+=", with changes"
+    [ "$parv" -ef "$top/crates/parv/out/parv" ] || commit="unknown: the program was given"
+    kit=$(rt version 2> "$said/kit" | head -n 1)
+    printf '%s\n' "parv $version" "commit $commit" "kit ${kit:-unknown}" "program $(sha256sum < "$parv" | cut -d ' ' -f 1)" \
+        > "$said/build"
+    cmp -s "$said/build" "$1"
+}

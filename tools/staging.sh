@@ -1,0 +1,27 @@
+# Read by dist.sh and deb.sh: the files that both of them pack, below a folder, with BUILD, which names the commit and
+# the kit. PARV names the program.
+set -euo pipefail
+cd "$(dirname "${BASH_SOURCE[0]}")/.."
+built=crates/parv/out/parv
+parv=${PARV:-$built}
+[ -x "$parv" ] || { echo "There is no program at $parv: 'make build' builds it." >&2; exit 1; }
+version=$(sed -n 's/^## \([0-9.]*\), .*/\1/p' CHANGELOG.md | head -n 1)
+
+# What the program was built from is known only of the one that `make build` leaves.
+commit=$(git rev-parse HEAD 2> /dev/null || echo unknown)
+git diff --quiet HEAD 2> /dev/null || commit="$commit, with changes"
+[ "$parv" -ef "$built" ] || commit="unknown: the program was given"
+kit=$(rt version 2> /dev/null | head -n 1) || kit=unknown
+
+# stage ROOM NAME=VALUE..: installs below ROOM, where the Makefile says, with these of its variables.
+stage() {
+    local room=$1
+    shift
+    make -s install PARV="$parv" DESTDIR="$room" "$@" > /dev/null
+    local docs
+    docs=$(dirname "$(cd "$room" && find . -name FORMATS.md)")
+    printf '%s\n' "parv $version" "commit $commit" "kit $kit" "program $(sha256sum < "$parv" | sed 's/ .*//')" \
+        > "$room/$docs/BUILD"
+    chmod 644 "$room/$docs/BUILD"
+    find "$room" -type d -exec chmod 755 {} +
+}
