@@ -1,7 +1,7 @@
 #!/usr/bin/env bash
 # Makes out/dist/parv_VERSION-1_amd64.deb, a Debian package of the built program and what is installed
-# beside it. The same commit and toolchain make the same bytes: times are those of the commit, or of
-# SOURCE_DATE_EPOCH.
+# beside it. The same commit and toolchain make the same bytes: times are those of SOURCE_DATE_EPOCH, of
+# the commit, or, without git, of the release.
 . "$(dirname "$0")/staging.sh"
 command -v dpkg-deb > /dev/null || { echo "There is no dpkg-deb, with which Debian makes packages." >&2; exit 1; }
 umask 022
@@ -9,7 +9,8 @@ release=$version-1
 package=parv_${release}_amd64.deb
 dist=${DIST:-out/dist}
 mkdir -p "$dist"
-export SOURCE_DATE_EPOCH=${SOURCE_DATE_EPOCH:-$(git log -1 --format=%ct 2> /dev/null || echo 0)}
+released=$(sed -n "s/^## $version, //p" CHANGELOG.md)
+export SOURCE_DATE_EPOCH=${SOURCE_DATE_EPOCH:-$(git log -1 --format=%ct 2> /dev/null || date -u -d "$released" +%s)}
 work=$(mktemp -d)
 trap 'rm -rf "$work"' EXIT
 room=$work/room

@@ -8,8 +8,11 @@ parv=${PARV:-$built}
 version=$(sed -n 's/^## \([0-9.]*\), .*/\1/p' CHANGELOG.md | head -n 1)
 
 # What the program was built from is known only of the one that `make build` leaves.
-commit=$(git rev-parse HEAD 2> /dev/null || echo unknown)
-git diff --quiet HEAD 2> /dev/null || commit="$commit, with changes"
+if commit=$(git rev-parse HEAD 2> /dev/null); then
+    git diff --quiet HEAD || commit+=", with changes"
+else
+    commit=unknown
+fi
 [ "$parv" -ef "$built" ] || commit="unknown: the program was given"
 kit=$(rt version 2> /dev/null | head -n 1) || kit=unknown
 
