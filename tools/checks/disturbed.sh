@@ -100,4 +100,19 @@ for words in "packets v.par2 w.par2" "set v.par2 w.par2" "find v.par2 x.bin y.bi
     # shellcheck disable=SC2086
     disturb SHORT $words
 done
+
+# sees FAULT LINE WHAT: a run with this fault of wrong_disk.c, which fails so.
+sees() {
+    local line
+    line=$(WRONG=$1 UNMET=1 BEFORE=$work/wrong.so "$tools/disturb/disturb.sh" "$3" find v.par2 x.bin)
+    case $line in
+    "FAILED: $3 "$2": "*) echo "ok: it is seen by $3: $1" ;;
+    *) fails "it isn't seen by $3: $1: $line" ;;
+    esac
+}
+gcc -shared -fPIC -O1 -o wrong.so "$tools/disturb/wrong_disk.c" -ldl || exit 1
+sees "opened for writing too" "0: 2 files opened for more than reading" FAIL_READ
+sees "zeros past an early end" "1: status *" CUT_READ
+sees "stale bytes past an early end" "1: status *" CUT_READ
+sees "a failed read tried again" "1: 2 reads and writes behind the one that was disturbed" FAIL_READ
 exit $failed

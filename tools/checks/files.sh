@@ -36,6 +36,9 @@ cannot "a broken link" broken.par2 packets broken.par2
 cannot "a folder behind files that are open" folder.par2 packets v.par2 link.par2 folder.par2
 "$tools/models/list_packets.py" link.par2 > linked
 gives "a link to a file" 0 linked "" "$parv" packets link.par2
+gcc -shared -fPIC -O1 -o wrong.so "$tools/disturb/wrong_disk.c" -ldl || exit 1
+wants "a link to a file, if links weren't followed" 6 "" "parv: cannot open link.par2" \
+    env WRONG="a link isn't followed" LD_PRELOAD="$work/wrong.so" "$parv" packets link.par2
 deep=$(printf 'none\t/%.0s' $(seq 650))
 cannot "a path of 3,909 bytes, each tab of which is shown by four" \
     "${deep//$'\t'/\\x09}none.par2" packets "${deep}none.par2"

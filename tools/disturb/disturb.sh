@@ -12,6 +12,7 @@
 # undisturbed run.
 # Usage: disturb.sh REFUSE|FAIL_OPEN|FAIL_STAT|FAIL_READ|CUT_READ|FAIL_WRITE|EMPTY_WRITE|SHORT ARGUMENTS, in the
 # folder of the files. DISTURB, where it is set, is the library that disturbs, built there by the first that lacks it.
+# BEFORE is a library that is loaded before it.
 set -uo pipefail
 here=$(cd "$(dirname "$0")" && pwd)
 parv=${PARV:-$here/../../crates/parv/out/parv}
@@ -28,7 +29,7 @@ fail() {
 # The run that is disturbed at place n (0: nowhere), and what it left: `status`, `text`, `err`, `line` and `met`.
 run() {
     : > "$work/report"
-    timeout 20 env "$what=$n" REPORT="$work/report" LD_PRELOAD="$library" "$parv" "$@" \
+    timeout 20 env "$what=$n" REPORT="$work/report" LD_PRELOAD="${BEFORE-} $library" "$parv" "$@" \
         > "$work/text" 2> "$work/err" < /dev/null
     status=$?
     line=$(< "$work/err")

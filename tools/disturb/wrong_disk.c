@@ -1,6 +1,6 @@
 /* Preloaded into a program, before disturb.c: what the system is asked, and what the program is answered, if
    disk.rt or what reads by it had the fault that WRONG names, or the system another answer. A run that comes to
-   no place of that name ends with 125. */
+   no place of that name ends with 125, unless UNMET is set. */
 #define _GNU_SOURCE
 #include <dlfcn.h>
 #include <errno.h>
@@ -29,7 +29,7 @@ static int is_wrong(const char *fault)
 
 __attribute__((destructor)) static void end(void)
 {
-    if (getenv("WRONG") && !met)
+    if (getenv("WRONG") && !met && !getenv("UNMET"))
         _exit(125);
 }
 

@@ -1,13 +1,12 @@
 #!/usr/bin/env python3
 """Compares the sources with the list of places where they answer want of memory or ask for room.
 
-usage: answers.py check | amend
+usage: answers.py read | check | amend
 
-`check` reads the sources of all crates but those of tests, and wants each place in the list
-(tools/checks/memory_answers.txt), with a reason, and nothing else there. Then it plants each fault of
-tools/checks/memory_faults.txt in a copy of them: one that is `made` must come with a place that isn't
-listed, after one that is `gone` a listed place must be missing, and what is `harmless` must be let be.
-`amend` writes the list anew: reasons stay with their places, and a new place has a `?`, with the reason
+`read` reads the sources of all crates but those of tests, and wants each place in the list
+(tools/checks/memory_answers.txt), with a reason, and nothing else there. `check` does that, and then plants each
+fault of tools/faults that `check memory_answers` must see, or let pass, in a copy of the sources: there must be
+a line with the text that the fault's file has for it, or none. `amend` writes the list anew: reasons stay with their places, and a new place has a `?`, with the reason
 of one that went from the same function or had the same code, where there is one.
 """
 
@@ -22,13 +21,15 @@ HERE = os.path.dirname(os.path.realpath(__file__))
 sys.path[0] = os.path.dirname(HERE)  # tools/, where imports begin
 sys.dont_write_bytecode = True
 
+from faults.fault import Fault, Misfit, parts_of, paths_of
 from memory.reading import Place, Source, places_of
 
 TOP = os.path.dirname(os.path.dirname(HERE))
 LIST = os.path.join(TOP, "tools/checks/memory_answers.txt")
-FAULTS = os.path.join(TOP, "tools/checks/memory_faults.txt")
 PARTS = ("answers", "rooms")
-KINDS = ("made", "gone", "harmless")
+CHECK = "memory_answers"   # the check that this is
+# The texts that faults have for its lines; the empty one is of those after which there must be none.
+KINDS = {"answers that aren't in", "rooms that aren't in", "of memory_answers.txt that aren't in the sources", ""}
 FIXTURES = "parfixtures"   # what tests are made over; their crates end in _tests
 
 
@@ -98,47 +99,32 @@ def told(place):
     return f"{place.file} {place.owner}: {place.code}"
 
 
+def lines_of(new, gone):
+    return [f"{place.part} that aren't in memory_answers.txt: {told(place)}" for place in new] \
+        + [f"{place.part} of memory_answers.txt that aren't in the sources: {told(place)}" for place in gone]
+
+
 def faults():
-    """Each fault: its kind, its name, and its edits, which are a file, a text there, how and what to put there."""
+    """Each fault of which this check must say something, with the texts of its lines; none, if it must say nothing."""
     found = []
-    with open(FAULTS, encoding="utf-8") as file:
-        for line in file.read().splitlines():
-            key, colon, value = line.partition(": ")
-            if not line or line.startswith("#"):
-                continue
-            if colon and key in KINDS:
-                found.append((key, value, []))
-            elif colon and key == "in":
-                found[-1][2].append([value, "", "", ""])
-            elif colon and key == "at":
-                found[-1][2][-1][1] = value
-            elif colon and key in ("before", "behind", "instead"):
-                found[-1][2][-1][2:] = [key, value]
-            else:
-                found[-1][2][-1][3] += "\n" + line.strip()
+    for path in paths_of():
+        fault = Fault(path)
+        texts = [text for what, name, text in map(parts_of, fault.seen) if (what, name) == ("check", CHECK)]
+        if texts or any(parts_of(said)[:2] == ("check", CHECK) for said in fault.passes):
+            found.append((fault, texts))
     return found
 
 
-def planted(text, at, how, what):
-    """The text with a fault, or None where that doesn't apply."""
-    if not at or text.count(at) != 1:
-        return None
-    return text.replace(at, {"before": f"{what}\n{at}", "behind": f"{at}\n{what}", "instead": what}[how])
-
-
-def judged(sources, kind, edits, entries, before):
-    """What is wrong with the answer to a fault; nothing, where it is the one that is wanted."""
-    right, wrong = {}, {}
-    for file, at, how, what in edits:
-        path = os.path.join(sources.top, file)
-        if path not in right:
-            if not os.path.isfile(path):
-                return f"doesn't apply: there is no {file}"
-            with open(path, encoding="utf-8") as source:
-                right[path] = wrong[path] = source.read()
-        wrong[path] = planted(wrong[path], at, how, what)
-        if wrong[path] is None:
-            return f"doesn't apply: {file} doesn't have this text once: {at}"
+def judged(sources, fault, texts, entries, before):
+    """What is wrong with the lines to a fault; nothing, if they are those that are wanted."""
+    try:
+        wrong = fault.planted(sources.top)
+    except Misfit as why:
+        return str(why)
+    right = {}
+    for path in wrong:
+        with open(path, encoding="utf-8") as source:
+            right[path] = source.read()
     try:
         write(wrong)
         new, gone = differences(sources.places(), entries)
@@ -146,12 +132,14 @@ def judged(sources, kind, edits, entries, before):
         return f"can't be read: {error}"
     finally:
         write(right)
-    changed = {file for file, *_ in edits}
-    new = [place for place in new if place.key not in before and place.file in changed]
-    gone = [place for place in gone if place.key not in before]
-    if kind == "harmless":
-        return "is refused: " + told((new + gone)[0]) if new or gone else ""
-    return "" if (new if kind == "made" else gone) else "is let pass"
+    lines = lines_of([place for place in new if place.key not in before and place.file in fault.paths()],
+                     [place for place in gone if place.key not in before])
+    if not texts:
+        return f"is refused: {lines[0]}" if lines else ""
+    for text in texts:
+        if not any(text in line for line in lines):
+            return f"is let pass: no line has: {text}"
+    return ""
 
 
 def write(texts):
@@ -160,12 +148,12 @@ def write(texts):
             source.write(text)
 
 
-def check():
-    read, entries = Sources(TOP), listed()[1]
-    places, known = read.places(), [place for place, _ in entries]
+def read():
+    """Compares the sources with the list: the sources as they were read, what differs, and whether nothing is wrong."""
+    read_now, entries = Sources(TOP), listed()[1]
+    places, known = read_now.places(), [place for place, _ in entries]
     new, gone = differences(places, known)
-    failures = [f"{place.part} that aren't in memory_answers.txt: {told(place)}" for place in new]
-    failures += [f"{place.part} of memory_answers.txt that aren't in the sources: {told(place)}" for place in gone]
+    failures = lines_of(new, gone)
     failures += [f"no reason in memory_answers.txt: {told(place)}" for place, reason in entries
                  if not reason or reason.startswith("?")]
     for failure in failures:
@@ -174,22 +162,27 @@ def check():
         answers = sum(place.part == "answers" for place in places)
         print(f"ok: each of {answers} answers of want of memory that are made by hand is listed, with its reason")
         print(f"ok: each of {len(places) - answers} rooms that are asked for is listed, with its bound")
+    return read_now, {place.key for place in new + gone}, not failures
 
-    before, planned = {place.key for place in new + gone}, faults()
-    if {kind for kind, *_ in planned} != set(KINDS):
-        failures.append("kinds")
-        print("FAILED: memory_faults.txt doesn't have faults of each kind")
+
+def check():
+    read_now, before, is_right = read()
+    planned, known = faults(), [place for place, _ in listed()[1]]
+    texts = {text for _, texts in planned for text in texts} | {"" for _, texts in planned if not texts}
+    for kind in KINDS - texts:
+        is_right = False
+        print(f"FAILED: no fault has this line: {kind or 'none'}")
     with tempfile.TemporaryDirectory() as work:
         for path in glob.glob(os.path.join(TOP, "crates/*/src")):
             shutil.copytree(path, os.path.join(work, os.path.relpath(path, TOP)))
-        sources = Sources(work, read.known)
-        for kind, name, edits in planned:
-            wrong = judged(sources, kind, edits, known, before)
+        sources = Sources(work, read_now.known)
+        for fault, texts in planned:
+            wrong = judged(sources, fault, texts, known, before)
             if wrong:
-                failures.append(name)
-            right = "let be" if kind == "harmless" else "refused"
-            print(f"FAILED: {name}: {wrong}" if wrong else f"ok: {right}: {name}")
-    return 1 if failures else 0
+                is_right = False
+            right = "refused" if texts else "let be"
+            print(f"FAILED: {fault.name}: {wrong}" if wrong else f"ok: {right}: {fault.name}")
+    return 0 if is_right else 1
 
 
 def amend():
@@ -221,11 +214,13 @@ def lost_reason(lost, place):
 
 
 def main():
-    if sys.argv[1:] not in (["check"], ["amend"]):
+    if sys.argv[1:] not in (["read"], ["check"], ["amend"]):
         sys.exit(__doc__.split("\n\n")[1])
     try:
+        if sys.argv[1] == "read":
+            return 0 if read()[2] else 1
         return check() if sys.argv[1] == "check" else amend()
-    except (ValueError, IndexError) as error:
+    except (ValueError, IndexError, Misfit) as error:
         print(f"FAILED: can't read {error}")
         return 1
 

@@ -1,0 +1,120 @@
+"""A fault that can be planted, as its file says; run.py tells how such a file is written."""
+
+import glob
+import os
+import re
+
+HERE = os.path.dirname(os.path.realpath(__file__))
+TOP = os.path.dirname(os.path.dirname(HERE))
+INDENT = "    "
+
+
+class Misfit(Exception):
+    """Why a fault can't be planted, or isn't written as it must be."""
+
+
+class Fault:
+    def __init__(self, path):
+        self.name = os.path.basename(path).removesuffix(".fault")
+        self.crate, self.edits, self.beside, self.seen, self.passes = "", [], [], [], []
+        with open(path, encoding="utf-8") as file:
+            fields = list(fields_of(file.read()))
+        at = ""
+        for key, value in fields:
+            if key == "crate":
+                self.crate = value
+            elif key == "file":
+                at = value
+            elif key == "old" and at:
+                self.edits.append([at, value, None])
+            elif key == "new" and self.edits and self.edits[-1][2] is None:
+                self.edits[-1][2] = value
+            elif key in ("beside", "seen", "passes"):
+                getattr(self, key).append(value)
+            else:
+                raise Misfit(f"has a line that isn't understood: {key}: {value}")
+        if not self.crate or not self.edits or self.edits[-1][2] is None or not self.seen + self.passes:
+            raise Misfit("plants nothing, or nothing says of it")
+
+    def paths(self):
+        return {os.path.join("crates", self.crate, at) for at, _, _ in self.edits}
+
+    def planted(self, top):
+        """The texts of its files below this folder, by their paths, with the fault in them."""
+        texts = {}
+        for at, old, new in self.edits:
+            path = os.path.join(top, "crates", self.crate, at)
+            if path not in texts:
+                if not os.path.isfile(path):
+                    raise Misfit(f"doesn't apply: there is no {at} in {self.crate}")
+                with open(path, encoding="utf-8") as file:
+                    texts[path] = file.read()
+            if old == new or texts[path].count(old) != 1:
+                raise Misfit(f"doesn't apply: {at} has {texts[path].count(old)} times: {old}")
+            texts[path] = texts[path].replace(old, new)
+        return texts
+
+    def plant(self, top):
+        for path, text in self.planted(top).items():
+            with open(path, "w", encoding="utf-8") as file:
+                file.write(text)
+
+
+def fields_of(text):
+    """The keys of a file with their values; a line that begins with blanks goes on with the value above."""
+    found = []
+    for line in text.splitlines():
+        if line.startswith(INDENT) and found:
+            found[-1][1] += "\n" + line.removeprefix(INDENT)
+        elif line and not line.startswith("#"):
+            key, _, value = line.partition(": ")
+            found.append([key.removesuffix(":"), value])
+    return found
+
+
+def parts_of(said):
+    """What says something of a fault: a check with a text, or a crate's test; the text may be empty."""
+    what, name, *text = said.split(" ", 2)
+    return what, name, text[0] if text else ""
+
+
+def paths_of(folder=HERE):
+    return sorted(glob.glob(os.path.join(folder, "*.fault")))
+
+
+def misfits(folder):
+    """What is wrong with the faults of a folder: a line for each that doesn't apply, or names what isn't there."""
+    with open(os.path.join(TOP, "crates.txt"), encoding="utf-8") as file:
+        crates = {line.split(":")[0].split()[0] for line in file if ":" in line}
+    lines, known = [], {}
+    for path in paths_of(folder):
+        name = os.path.basename(path)
+        try:
+            fault = Fault(path)
+            fault.planted(TOP)
+            for crate in {fault.crate, *fault.beside} - crates:
+                raise Misfit(f"names a crate that isn't there: {crate}")
+            for said in fault.seen + fault.passes:
+                must_be_there(said)
+            same = known.setdefault((fault.crate, str(fault.edits)), name)
+            if same != name:
+                raise Misfit(f"plants what {same} plants")
+        except Misfit as why:
+            lines.append(f"{name} {why}")
+    return lines
+
+
+def must_be_there(said):
+    what, name, text = parts_of(said)
+    if what == "check":
+        if not os.path.isfile(os.path.join(TOP, "tools/checks", f"{name}.sh")):
+            raise Misfit(f"names a check that isn't there: {name}")
+    elif what == "test" and text:
+        found = 0
+        for path in glob.glob(os.path.join(TOP, "crates", name, "src/**/*.rt"), recursive=True):
+            with open(path, encoding="utf-8") as file:
+                found += len(re.findall(rf"\bfn {re.escape(text)}\b", file.read()))
+        if found != 1:
+            raise Misfit(f"names a test that stands {found} times in {name}: {text}")
+    else:
+        raise Misfit(f"isn't understood: {said}")
