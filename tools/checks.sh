@@ -1,9 +1,12 @@
 #!/usr/bin/env bash
-# Runs each check of the built program, crates/parv/out/parv, one a processor (RT_JOBS at once, where
-# that is set), those that take long first. What one says is shown once it has ended; one that says
-# nothing has failed. The last line counts what they say.
+# usage: checks.sh [NAME..]
+# Runs each check of the built program, crates/parv/out/parv: each script of the folder checks, or those that are
+# named. One a processor runs at once, or RT_JOBS. What one says is shown once it has ended; one that says nothing, or
+# can't be run, has failed. The last line counts what they say.
 set -uo pipefail
 cd "$(dirname "$0")/checks" || exit 1
+# These take long, so they begin first.
+long="commands_tests refused greatest limits memory refused_sets refused_tails refused_tests hostile repair address_space disturbed"
 logs=$(mktemp -d) || exit 1
 trap 'rm -rf "$logs"' EXIT
 export logs
@@ -15,11 +18,15 @@ run() {
     flock "$logs" cat "$logs/$1"
 }
 export -f run
-printf '%s\n' commands_tests refused greatest limits memory refused_sets refused_tails refused_tests hostile repair address_space disturbed \
-    names completions costs readings ends tails cursors examples manual files verdicts memory_answers hand_proofs \
-    installed dist pages reads digests disk creators rescue rescue_names slice_map check_tree progress derived reopening \
-    search_parts script_signals repairs foreign_programs crashes full_disks outputs prose | xargs -P "${RT_JOBS:-$(nproc)}" -I{} bash -c 'run {}' \
+names() {
+    if [ $# -gt 0 ]; then
+        printf '%s\n' "$@"
+    else
+        for name in $long *.sh; do echo "${name%.sh}"; done | awk '!seen[$0]++'
+    fi
+}
+names "$@" | xargs -P "${RT_JOBS:-$(nproc)}" -I{} bash -c 'run {}' \
     || echo "FAILED: not every check was run" | tee "$logs/xargs"
-failed=$(grep -h '^FAILED: ' "$logs"/* | wc -l)
-echo "checks: $(grep -h '^ok: ' "$logs"/* | wc -l) passed, $failed failed"
+failed=$(cat "$logs"/* | grep -c '^FAILED: ')
+echo "checks: $(cat "$logs"/* | grep -c '^ok: ') passed, $failed failed"
 [ "$failed" -eq 0 ]

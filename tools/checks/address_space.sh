@@ -1,7 +1,7 @@
 #!/usr/bin/env bash
 # The system's own limit on memory, in steps: from the least at which the program ends by itself on no
 # words, each command ends with 8, its line and a beginning of the text, or as it does without a limit.
-. "$(dirname "$0")/wants.sh"
+. "$(dirname "$0")/with/wants.sh"
 cd "$work" || exit 1
 cp "$top/crates/parv/data/v.par2" v.par2
 printf 'XXabcdefgh' > x.bin

@@ -1,7 +1,7 @@
 #!/usr/bin/env bash
 # examples/check_tree.sh: a line for each set of a folder, by set ID and folder, damaged ones too, and nothing read
 # by a name of a set that isn't one below its folder.
-. "$(dirname "$0")/wants.sh"
+. "$(dirname "$0")/with/wants.sh"
 cd "$work" || exit 1
 export LC_ALL=C
 export PARV=$parv

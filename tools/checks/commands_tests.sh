@@ -1,6 +1,7 @@
 #!/usr/bin/env bash
 # The tests of parv-repair and parv-rescue, a line for each, and the types of their package by mypy, if it is installed.
-. "$(dirname "$0")/wants.sh"
+# PARV_TESTS_EACH=1 has each run that is ended by force be ended at each call of the run after it too, which takes hours.
+. "$(dirname "$0")/with/wants.sh"
 cd "$top/commands" || exit 1
 export PARV=$parv
 TMPDIR=$work python3 -m tests || failed=1

@@ -2,7 +2,7 @@
 # The completions, typed into bash itself, and into zsh where it is there: each line is typed at a
 # terminal with a key behind it, and then it must be the one that is wanted. fish, where it is there,
 # is asked for what it offers for the same lines.
-. "$(dirname "$0")/wants.sh"
+. "$(dirname "$0")/with/wants.sh"
 cd "$work" || exit 1
 mkdir 'a folder' folder typed
 mkdir sets

@@ -3,7 +3,7 @@
 # full of them, a file of 1 TiB for a set whose slices have no checksums, a large set over 64 MiB in which nothing
 # stands, beside md5sum, one over a file that is full of its slices, and tails of 60 KiB beside such of 1 KiB. Then
 # what many words cost, and the states of many files.
-. "$(dirname "$0")/wants.sh"
+. "$(dirname "$0")/with/wants.sh"
 cd "$work" || exit 1
 
 PYTHONPATH=$tools python3 - << 'END'

@@ -1,9 +1,9 @@
 #!/usr/bin/env bash
 # A repair that was ended by force after its files had got their names, and what people do before the next one: nothing
 # that they have written since is lost. The same with a list of moves that can't be written, and with a planted one.
-. "$(dirname "$0")/wants.sh"
-. "$tools/checks/commands.sh"
-. "$tools/checks/rooms.sh"
+. "$(dirname "$0")/with/wants.sh"
+. "$tools/checks/with/commands.sh"
+. "$tools/checks/with/rooms.sh"
 cd "$work" || exit 1
 export PAR2=$tools/stand_in/par2.py ORIGINALS=$work/whole GIVEN=$work/given TMPDIR=$said    # a kill leaves links there
 

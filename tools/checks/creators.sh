@@ -2,7 +2,7 @@
 # Sets as other creators lay theirs out: the order of packets and how often they stand there, optional and packed ones,
 # files that aren't recoverable, exponents, names, and what stands between packets. Each against independent readings,
 # whole and damaged, and texts that are worked out by hand.
-. "$(dirname "$0")/wants.sh"
+. "$(dirname "$0")/with/wants.sh"
 cd "$work" || exit 1
 "$tools/make/creator_sets.py" . || exit 1
 "$tools/make/creator_sets.py" read || exit 1

@@ -2,7 +2,7 @@
 # A search that is cut in two, and what becomes of its second part where the scanned files are others: a cursor of
 # the second version is refused where a name, a length or the order is another, and no file is then read. What the
 # mark doesn't see, that cursors of the first version go on over any files, and which fault comes first.
-. "$(dirname "$0")/wants.sh"
+. "$(dirname "$0")/with/wants.sh"
 cd "$work" || exit 1
 cp "$top/crates/parv/data/v.par2" v.par2
 cp v.par2 w.par2

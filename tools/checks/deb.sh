@@ -2,8 +2,8 @@
 # The Debian package: the same bytes whenever and wherever it is made, what the archive has in Debian's places, fields
 # that are right, nothing of which lintian complains; installed below a folder it has the built program, which runs, and
 # a purge leaves nothing.
-. "$(dirname "$0")/wants.sh"
-. "$tools/checks/packed.sh"
+. "$(dirname "$0")/with/wants.sh"
+. "$tools/checks/with/packed.sh"
 cd "$work" || exit 1
 PATH=$PATH:/usr/sbin:/sbin
 

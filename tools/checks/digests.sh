@@ -3,7 +3,7 @@
 # taken of a window, how many indexes are made, how often a search goes on, and how often tails that look ahead are stopped.
 # Each number is worked out from the files, by the definitions of the formats and of MD5, but for turns, pieces
 # and tables of zeros, which have a bound.
-. "$(dirname "$0")/wants.sh"
+. "$(dirname "$0")/with/wants.sh"
 cd "$work" || exit 1
 gcc -O1 -Wall -Wextra -o entries "$tools/digests/entries.c" || exit 1
 nm "$parv" > symbols || exit 1

@@ -2,7 +2,7 @@
 # What the system is asked of files on disk: how they are opened, in which order and by which path, what their kind
 # and length are taken from, and which bytes of which file each read asks for, call by call; that no byte is made up
 # past an early end, and that a read that failed isn't made again. Each fault that is named must change a run.
-. "$(dirname "$0")/recording.sh"
+. "$(dirname "$0")/with/recording.sh"
 set=617cdc72ba53d94fe713fea2ae18f776
 file=e345eacbe656c0e6fd20ed63cb7b062c
 # O_RDONLY with O_CLOEXEC and O_NOCTTY; the flag by which statx asks of an open file.

@@ -1,8 +1,8 @@
 #!/usr/bin/env bash
 # The archive: it holds what is installed and sums that hold, it installs without a toolchain, what it
 # installs runs, and it is the same bytes whenever and wherever it is made.
-. "$(dirname "$0")/wants.sh"
-. "$tools/checks/packed.sh"
+. "$(dirname "$0")/with/wants.sh"
+. "$tools/checks/with/packed.sh"
 cd "$work" || exit 1
 
 made() {

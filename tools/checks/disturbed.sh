@@ -1,7 +1,7 @@
 #!/usr/bin/env bash
 # Runs that are disturbed at each place in turn, and that each end leaves nothing behind: openings, reads and
 # writes that fail, and files that end while they are read. (Memory that is refused: refused.sh.)
-. "$(dirname "$0")/disturbing.sh"
+. "$(dirname "$0")/with/disturbing.sh"
 "$tools/make/packet_files.py" sets > made || exit 1
 printf 'abcdXXXX' > z.bin
 

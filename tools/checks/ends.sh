@@ -1,7 +1,7 @@
 #!/usr/bin/env bash
 # How the program ends: its exit status and its line for words that are no plan, sets that are none, outputs
 # that fail and verdicts, and that no word is skipped.
-. "$(dirname "$0")/wants.sh"
+. "$(dirname "$0")/with/wants.sh"
 cd "$work" || exit 1
 cp "$top/crates/parv/data/v.par2" v.par2
 cp v.par2 w.par2

@@ -1,7 +1,7 @@
 #!/usr/bin/env bash
 # The scripts of examples/: a folder that is checked while its files come, and a search in parts,
 # whole, stopped and gone on with.
-. "$(dirname "$0")/wants.sh"
+. "$(dirname "$0")/with/wants.sh"
 cd "$work" || exit 1
 export PARV=$parv
 watch=$top/examples/watch_folder.sh

@@ -1,6 +1,6 @@
 #!/usr/bin/env bash
 # Files that can't be opened: which is named, and in which order they are opened. A link to a file can.
-. "$(dirname "$0")/wants.sh"
+. "$(dirname "$0")/with/wants.sh"
 cd "$work" || exit 1
 cp "$top/crates/parv/data/v.par2" v.par2
 printf 'XXabcdefgh' > x.bin

@@ -1,8 +1,8 @@
 #!/usr/bin/env bash
 # Folders that have programs of their own, as a download may: none of these is run, however parv, par2 and PATH are named.
-. "$(dirname "$0")/wants.sh"
-. "$tools/checks/commands.sh"
-. "$tools/checks/rooms.sh"
+. "$(dirname "$0")/with/wants.sh"
+. "$tools/checks/with/commands.sh"
+. "$tools/checks/with/rooms.sh"
 cd "$work" || exit 1
 export ORIGINALS=$work/whole GIVEN=$work/given
 

@@ -1,9 +1,9 @@
 #!/usr/bin/env bash
 # If temporary files can't be written, a tree of damaged sets isn't reported as a whole one, and no line of it is lost
 # without a word.
-. "$(dirname "$0")/wants.sh"
-. "$tools/checks/commands.sh"
-. "$tools/checks/rooms.sh"
+. "$(dirname "$0")/with/wants.sh"
+. "$tools/checks/with/commands.sh"
+. "$tools/checks/with/rooms.sh"
 cd "$work" || exit 1
 
 # Five sets in five folders, of which one is whole, and one folder with two sets in one packet file.

@@ -3,7 +3,7 @@
 # their limit, a million packets, the greatest slice size, lengths and offsets behind 2^32 and at the end of the
 # longest file, and as many files as words may name. Each run has its text and status: none ends with 8, for want of
 # memory.
-. "$(dirname "$0")/wants.sh"
+. "$(dirname "$0")/with/wants.sh"
 export most=600
 cd "$work" || exit 1
 

@@ -2,7 +2,7 @@
 # Hostile packet files: two thousand cases against the plain model, and a thousand that must end as
 # any run may. Two hundred cases of joined files and two hundred of content that repeats, against the
 # plain model. HOSTILE, FUZZED, JOINED and REPEATED are the numbers of cases, SEED is that of all.
-. "$(dirname "$0")/wants.sh"
+. "$(dirname "$0")/with/wants.sh"
 cd "$work" || exit 1
 export PARV=$parv PYTHONDONTWRITEBYTECODE=1
 

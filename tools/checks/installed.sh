@@ -1,7 +1,7 @@
 #!/usr/bin/env bash
 # The installed files: the program, its pages, its completions and its scripts in their places and nothing else,
 # without a toolchain, and nothing of them after the removal.
-. "$(dirname "$0")/wants.sh"
+. "$(dirname "$0")/with/wants.sh"
 
 commands="parv parv-repair parv-rescue"
 places=$({

@@ -2,7 +2,7 @@
 # Large input, against independent readings: a packet file of 5 MB, a hundred and three hundred packet files at
 # once, sets of 3,000 and of 32,768 files, 40,000 recovery slices, twenty files to scan and a long one, and
 # 3,000, or 600 where no more may be open, and what stands behind 4 GiB. How often a file is read, and a list written.
-. "$(dirname "$0")/wants.sh"
+. "$(dirname "$0")/with/wants.sh"
 cd "$work" || exit 1
 
 "$tools/make/many_packets.py" 6000 long.par2

@@ -2,7 +2,7 @@
 # The manual pages: mandoc and man have nothing to say of them, where they are there. That of parv has each option and
 # each line of standard error, and each of its examples is run in a folder with the files that it names. Those of the
 # commands have each option and exit status of their help, and their examples are run too.
-. "$(dirname "$0")/wants.sh"
+. "$(dirname "$0")/with/wants.sh"
 cd "$work" || exit 1
 page=$top/docs/parv.1
 

@@ -2,7 +2,7 @@
 # What memory costs: the greatest resident size of runs at two sizes of each input, within the formulas of
 # docs/MEMORY.md, and slices of 268,435,456 bytes with a stack of 128 KiB. What room is asked for and not used is
 # seen by address_space.sh.
-. "$(dirname "$0")/wants.sh"
+. "$(dirname "$0")/with/wants.sh"
 cd "$work" || exit 1
 export PARV=$parv
 "$tools/bench/memory_cost.py" || failed=1

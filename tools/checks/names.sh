@@ -1,7 +1,7 @@
 #!/usr/bin/env bash
 # Names of a set that are paths: whatever lies there, it isn't opened. Files are opened by the words
 # that name them; the names of the set are compared with these, and shown.
-. "$(dirname "$0")/wants.sh"
+. "$(dirname "$0")/with/wants.sh"
 mkdir "$work/below"
 cd "$work/below" || exit 1
 

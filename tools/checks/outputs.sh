@@ -6,7 +6,7 @@
 # whole lines as make up a block. For words that have no plan nothing is written there, and by a run that was cut short
 # the first of these writes. Each fault that is named must be seen. (disk.sh sees that the program writes by `write`
 # only.)
-. "$(dirname "$0")/disturbing.sh"
+. "$(dirname "$0")/with/disturbing.sh"
 gcc -shared -fPIC -O1 -o disturb.so "$tools/disturb/disturb.c" -ldl || exit 1
 gcc -shared -fPIC -O1 -o outputs.so "$tools/disturb/outputs.c" -ldl || exit 1
 

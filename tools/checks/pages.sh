@@ -1,9 +1,8 @@
 #!/usr/bin/env bash
-# The pages: links and paths in them lead somewhere, none is long, README is short and its example, its
-# calls of scripts and its ways to install do what it says, LAYERS and DEFINITIONS name each module, and
-# each clause that a row of PROVED names stands at a call of a name in this row, or in a file that has a
-# type in it.
-. "$(dirname "$0")/wants.sh"
+# The pages: links and paths in them lead somewhere, README is short and its example, its calls of
+# scripts and its ways to install do what it says, LAYERS names each module, and each clause that a row of
+# PROVED names stands at a call of a name in this row, or in a file that has a type in it.
+. "$(dirname "$0")/with/wants.sh"
 cd "$work" || exit 1
 
 cat > pages.py << 'PYTHON'

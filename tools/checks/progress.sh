@@ -1,6 +1,6 @@
 #!/usr/bin/env bash
 # examples/progress.sh: the words, output and exit status of parv, and on a terminal alone what was read so far.
-. "$(dirname "$0")/wants.sh"
+. "$(dirname "$0")/with/wants.sh"
 cd "$work" || exit 1
 export LC_ALL=C
 export PARV=$parv

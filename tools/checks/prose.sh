@@ -1,6 +1,6 @@
 #!/usr/bin/env bash
 # The English of pages and usage texts: none has more hard phrases than prose.txt allows, whose numbers may only fall.
-. "$(dirname "$0")/wants.sh"
+. "$(dirname "$0")/with/wants.sh"
 count=$tools/hard_phrases.py
 ceilings=$tools/checks/prose.txt
 

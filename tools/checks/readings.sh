@@ -1,6 +1,6 @@
 #!/usr/bin/env bash
 # The set in demo/, one of whose volumes is damaged, against independent readings of the same bytes.
-. "$(dirname "$0")/wants.sh"
+. "$(dirname "$0")/with/wants.sh"
 cd "$top/demo" || exit 1
 
 wants "the packets of the damaged set are those of the independent lister" 0 \
@@ -43,6 +43,6 @@ for tails in "" --tails; do
     done
 done
 
-"$tools/checks/cut_search.sh" ./*.par2 notes.txt "$work/cut.bin" || failed=1
-"$tools/checks/cut_search.sh" --tails ./*.par2 notes.txt "$work/cut.bin" || failed=1
+"$tools/checks/with/cut_search.sh" ./*.par2 notes.txt "$work/cut.bin" || failed=1
+"$tools/checks/with/cut_search.sh" --tails ./*.par2 notes.txt "$work/cut.bin" || failed=1
 exit $failed

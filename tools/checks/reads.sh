@@ -1,7 +1,7 @@
 #!/usr/bin/env bash
 # What reading costs: which files are opened and read by a run, in which order, and by reads of which places and
 # sizes, as worked out from where things stand in files that are made for it.
-. "$(dirname "$0")/recording.sh"
+. "$(dirname "$0")/with/recording.sh"
 
 # What was opened, in order, and the reads: a line for each run of reads of one file of which each begins where the
 # one before ended, with the file, the offset where it begins, and the sizes; 4096*3 is three reads of 4,096. A read

@@ -1,7 +1,7 @@
 #!/usr/bin/env bash
 # Allocations of runs that are refused in turn, at most kinds of end, also where an opening, a read or a write
 # fails too; each end leaves nothing behind. (More sets: refused_sets.sh, refused_tails.sh.)
-. "$(dirname "$0")/disturbing.sh"
+. "$(dirname "$0")/with/disturbing.sh"
 head -c 92 v.par2 > main.par2
 mkdir grown
 { cat x.bin; printf X; } > grown/x.bin

@@ -2,7 +2,7 @@
 # Allocations that are refused in turn over more sets: a packet inside another, a recovery slice that stands
 # twice and none, places with equal slices, a set of some hundred packets, and that of the demonstration; and those of
 # an index that a survey makes on its way.
-. "$(dirname "$0")/disturbing.sh"
+. "$(dirname "$0")/with/disturbing.sh"
 "$tools/make/packet_files.py" sets > made || exit 1
 printf 'abcd' > a.bin
 printf 'aaaaXaaaa' > e.bin

@@ -1,7 +1,7 @@
 #!/usr/bin/env bash
 # Allocations that are refused in turn where tails are looked for: before other bytes, several slices at one place,
 # and as many lengths as may be.
-. "$(dirname "$0")/disturbing.sh"
+. "$(dirname "$0")/with/disturbing.sh"
 "$tools/make/tail_sets.py" . || exit 1
 
 for words in "two.par2 turned" "three.par2 abcd"; do

@@ -5,7 +5,7 @@
 # A crate of tests has its own name before the _tests of its program. The gate leaves these programs; elsewhere
 # there may be none, and then nothing is run. The other tests, whose refusals are tried on the built program, give
 # back what they take.
-. "$(dirname "$0")/wants.sh"
+. "$(dirname "$0")/with/wants.sh"
 gcc -shared -fPIC -O1 -o "$work/disturb.so" "$tools/disturb/disturb.c" -ldl || fails "no compiler"
 while IFS='|' read -r crate mode word told; do
     tests=$top/crates/$crate/out/${crate}_tests

@@ -2,7 +2,7 @@
 # A reopening gives its window up before it takes another: one of 4 MiB, with the room of 6 MiB beside what a
 # small test takes, and not with that of 2 MiB. The gate leaves the tests; elsewhere there may be none, and then
 # nothing is run.
-. "$(dirname "$0")/wants.sh"
+. "$(dirname "$0")/with/wants.sh"
 tests=$top/crates/search_tests/out/search_tests_tests
 if [ ! -x "$tests" ]; then
     if [ -n "${GATE:-}" ]; then

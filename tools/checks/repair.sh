@@ -1,11 +1,11 @@
 #!/usr/bin/env bash
 # parv-repair on real damage, with a stand-in for par2: what becomes of each file, that nothing is
 # overwritten or lost, that all is left as it was if it fails, is interrupted or refuses a name, and why.
-. "$(dirname "$0")/wants.sh"
-. "$tools/checks/rooms.sh"
+. "$(dirname "$0")/with/wants.sh"
+. "$tools/checks/with/rooms.sh"
 cd "$work" || exit 1
 export PAR2=$tools/stand_in/par2.py ORIGINALS=$work/whole GIVEN=$work/given
-. "$tools/checks/commands.sh"
+. "$tools/checks/with/commands.sh"
 script=${repair[0]}
 one_set=$tools/make/one_set.py
 

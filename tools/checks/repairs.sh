@@ -1,9 +1,9 @@
 #!/usr/bin/env bash
 # Sets that a repair once failed at, or took too long for: two sets that share names, an empty file, names that par2
 # writes in other ways, many long names of unprintable bytes, and a subfolder on another file system.
-. "$(dirname "$0")/wants.sh"
-. "$tools/checks/commands.sh"
-. "$tools/checks/rooms.sh"
+. "$(dirname "$0")/with/wants.sh"
+. "$tools/checks/with/commands.sh"
+. "$tools/checks/with/rooms.sh"
 cd "$work" || exit 1
 export ORIGINALS=$work/whole GIVEN=$work/given
 one_set=$tools/make/one_set.py

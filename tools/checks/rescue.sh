@@ -2,7 +2,7 @@
 # parv-rescue: what it copies out of files is compared with the originals by an independent search, and
 # the holes that it lists; images of discs, with short last slices where they are expected, decoys in their place, and
 # some elsewhere; runs that go on, that were stopped, or have other files; slices that are seen at each offset.
-. "$(dirname "$0")/wants.sh"
+. "$(dirname "$0")/with/wants.sh"
 cd "$work" || exit 1
 export PARV=$parv TMPDIR=$said      # a kill leaves links there
 extract=$top/commands/bin/parv-rescue

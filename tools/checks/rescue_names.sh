@@ -2,7 +2,7 @@
 # parv-rescue with packets that anyone may have made: names that lead out of the folder, things that are in it already,
 # links on the way, and things that were put there between two runs. Nothing around it is made or changed, and
 # nothing in it written over. Folders that it doesn't take, words that are none, and files that it can't read.
-. "$(dirname "$0")/wants.sh"
+. "$(dirname "$0")/with/wants.sh"
 cd "$work" || exit 1
 export PARV=$parv LC_ALL=C
 extract=$top/commands/bin/parv-rescue

@@ -1,9 +1,9 @@
 #!/usr/bin/env bash
 # Commands that are ended while parv reads, by a signal of their own or by Ctrl-C: parv ends with them, nothing of theirs
 # stays, and their exit status is that of the signal.
-. "$(dirname "$0")/wants.sh"
-. "$tools/checks/commands.sh"
-. "$tools/checks/rooms.sh"
+. "$(dirname "$0")/with/wants.sh"
+. "$tools/checks/with/commands.sh"
+. "$tools/checks/with/rooms.sh"
 cd "$work" || exit 1
 export ORIGINALS=$work/whole GIVEN=$work/given PAR2=$tools/stand_in/par2.py
 

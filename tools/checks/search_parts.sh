@@ -1,9 +1,9 @@
 #!/usr/bin/env bash
 # A search in parts: a folder that has other files is left as it is, a part that a loss of power has cut isn't taken for
 # a whole one, one run at a time works in a folder, and what isn't parv is told.
-. "$(dirname "$0")/wants.sh"
-. "$tools/checks/commands.sh"
-. "$tools/checks/rooms.sh"
+. "$(dirname "$0")/with/wants.sh"
+. "$tools/checks/with/commands.sh"
+. "$tools/checks/with/rooms.sh"
 cd "$work" || exit 1
 cp "$top/demo/photos.par2" .
 cat "$top/demo/"*.raw > image

@@ -2,7 +2,7 @@
 # examples/slice_map.py: its signs are those of an independent search at every offset, of whole files, damaged ones, and
 # slices that are seen again and again; its widths, colours, pages and drawings, of which one is docs/slice_map.svg;
 # names that lead elsewhere or are markup; files that are there already.
-. "$(dirname "$0")/wants.sh"
+. "$(dirname "$0")/with/wants.sh"
 cd "$work" || exit 1
 export PARV=$parv LC_ALL=C
 unset NO_COLOR COLUMNS

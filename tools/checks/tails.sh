@@ -1,7 +1,7 @@
 #!/usr/bin/env bash
 # Tails: short last slices that stand before other bytes are found with --tails alone, in the order of the slices
 # at each place; searches that go on with the flag and without it; verdicts; too many lengths; words that are no plan.
-. "$(dirname "$0")/wants.sh"
+. "$(dirname "$0")/with/wants.sh"
 cd "$work" || exit 1
 export PARV=$parv
 "$tools/make/tail_sets.py" . || exit 1
@@ -59,8 +59,8 @@ goes_on "a part that ends before a whole slice" "--tails --limit 1 two.par2" tur
 goes_on "on without --tails" "--cursor $two_at:0:1:2 two.par2" turned 3:01:0 end
 goes_on "a part that ends behind the tail" "--limit 1 two.par2" turned 3:01:0 "cursor $two_at:0:3:1"
 goes_on "on with --tails, behind the tail" "--tails --cursor $two:0:3:1 two.par2" turned end
-"$tools/checks/cut_search.sh" --tails three.par2 abcd before turned two || failed=1
-"$tools/checks/cut_search.sh" --tails 256.par2 005 001 003 || failed=1
+"$tools/checks/with/cut_search.sh" --tails three.par2 abcd before turned two || failed=1
+"$tools/checks/with/cut_search.sh" --tails 256.par2 005 001 003 || failed=1
 
 # Verdicts.
 line="set $two size 4 slices 2"

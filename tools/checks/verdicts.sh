@@ -1,6 +1,6 @@
 #!/usr/bin/env bash
 # Verdicts on the set in demo/, whose lines follow from what was done to its files.
-. "$(dirname "$0")/wants.sh"
+. "$(dirname "$0")/with/wants.sh"
 cd "$top/demo" || exit 1
 
 line="set 589c76e09f0580b9203c5b64963b8957 size 1024 slices 38"

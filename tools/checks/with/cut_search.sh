@@ -4,7 +4,7 @@
 # and its cursor, and together they have the lines of the whole search.
 # Usage: cut_search.sh [--tails] FILES, in the folder of the files.
 set -euo pipefail
-parv=${PARV:-$(cd "$(dirname "$0")/../.." && pwd)/crates/parv/out/parv}
+parv=${PARV:-$(cd "$(dirname "$0")/../../.." && pwd)/crates/parv/out/parv}
 
 find_part() {
     timeout 20 "$parv" find "$@"

@@ -2,7 +2,7 @@
 # must print.
 # Each comparison prints a line that begins with 'ok: ' or 'FAILED: '. A check ends by `exit $failed`.
 set -uo pipefail
-tools=$(cd "$(dirname "${BASH_SOURCE[0]}")/.." && pwd)
+tools=$(cd "$(dirname "${BASH_SOURCE[0]}")/../.." && pwd)
 top=$(dirname "$tools")
 parv=${PARV:-$top/crates/parv/out/parv}
 work=$(mktemp -d)

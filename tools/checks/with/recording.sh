@@ -1,6 +1,6 @@
 # Read by the checks of what is asked of the system: the files of disturbing.sh, and a run whose calls on files are
 # recorded. Where WRONG is set, the run has that fault of wrong_disk.c.
-. "$(dirname "$0")/disturbing.sh"
+. "$(dirname "$0")/with/disturbing.sh"
 gcc -shared -fPIC -O1 -o disturb.so "$tools/disturb/disturb.c" -ldl || exit 1
 gcc -shared -fPIC -O1 -o wrong.so "$tools/disturb/wrong_disk.c" -ldl || exit 1
 
