@@ -70,24 +70,7 @@ steps verify repeats.par2 long
 # packets, and 64 MiB to scan, in 4 MiB more than the least. Nor are bodies held more than once that lie in one
 # another, nor is more room asked for where there are more packet files; a search asks for one window.
 few=$((least + 4096))
-PYTHONPATH=$tools python3 - << 'END'
-from bench.memory_cost import one_file
-from hostile.hostile_packets import nested_creators
-from make.packets import desc_body, main_body, packet, set_of
-owner, content = bytes(16), bytes(64 << 20)
-with open("large.par2", "wb") as file:
-    file.write(packet(owner, "recvslic", bytes(4) + content))
-with open("sparse.par2", "wb") as file:
-    file.truncate(1 << 30)
-with open("zeros.bin", "wb") as file:
-    file.truncate(len(content))
-with open("zeros.par2", "wb") as file:
-    file.write(set_of(main_body(65536, [owner]), ("filedesc", desc_body(owner, b"zeros.bin", content))))
-with open("window.par2", "wb") as file:
-    file.write(one_file(len(content), 4, 1))
-with open("nested.par2", "wb") as file:
-    file.write(nested_creators(128 << 10))
-END
+PYTHONPATH=$tools python3 "$tools/checks/address_space_sets.py"
 in_few=(sh -c 'ulimit -v "$0" && exec "$@"' $few "$parv")
 wants "a recovery slice of 64 MiB in $few KiB" 0 "large.par2 0 67108932 recvslic 00000000000000000000000000000000
 packets 1" "" "${in_few[@]}" packets large.par2

@@ -39,17 +39,7 @@ gives "the packets of a set of 32,768 files" 0 wanted "" "$parv" packets full/*.
 
 # The set of g.bin with 40,000 recovery slices, no two alike and in no order, of which some stand twice, and
 # some have an exponent above the limit.
-PYTHONPATH=$tools python3 - << 'END'
-import random
-from make.packet_files import DESC_OF_G, G_SET, MAIN_OF_G, SUMS_OF_G
-from make.packets import packet, recvslic_body
-exponents = [*range(25535, 65545), *range(30000, 32000)]
-random.Random(1).shuffle(exponents)
-with open("exponents.par2", "wb") as out:
-    out.write(MAIN_OF_G + DESC_OF_G + SUMS_OF_G)
-    for exponent in exponents:
-        out.write(packet(G_SET, "recvslic", recvslic_body(exponent, b"data")))
-END
+PYTHONPATH=$tools python3 "$tools/checks/limits_exponents.py"
 "$tools/models/describe_set.py" exponents.par2 > wanted
 [ "$(grep '^have' wanted)" = "have 40000" ] || fails "the exponents are not as they should be: $(grep '^have' wanted)"
 gives "a set with 40,000 exponents" 0 wanted "" "$parv" set exponents.par2
@@ -95,16 +85,7 @@ printf 'XXabcdefgh' > x.bin
 counts "two sightings and the end" 3 3 writes find v.par2 x.bin
 # 8 MiB are 2,048 pieces of 4,096 bytes for the search of slices, 129 of 65,536 for that of packets, of which
 # two share seven bytes, and 256 of 32,768 for an MD5; beside them a packet file is read.
-PYTHONPATH=$tools python3 - << 'END'
-from make.packets import desc_body, main_body, set_of
-owner, content = bytes(16), bytes(8 << 20)
-with open("zeros.bin", "wb") as out:
-    out.write(content)
-with open("zeros.par2", "wb") as out:
-    out.write(set_of(main_body(65536, [owner]), ("filedesc", desc_body(owner, b"zeros.bin", content))))
-with open("padded.par2", "wb") as out:
-    out.write(content)
-END
+PYTHONPATH=$tools python3 "$tools/checks/limits_zeros.py"
 dd if=v.par2 of=padded.par2 conv=notrunc status=none
 counts "a search of 8 MiB for slices" 2049 2060 reads find v.par2 zeros.bin
 counts "a search of 8 MiB for packets" 129 140 reads packets padded.par2

@@ -7,11 +7,7 @@ cd "$work" || exit 1
 export PARV=$parv
 "$tools/bench/memory_cost.py" || failed=1
 
-PYTHONPATH=$tools python3 - << 'END'
-from bench.memory_cost import one_file
-with open("deep.par2", "wb") as out:
-    out.write(one_file(268435456, 268435461, 2))
-END
+PYTHONPATH=$tools python3 "$tools/checks/memory_set.py"
 printf 'XXabcdefgh' > x.bin
 line=$("$tools/models/describe_set.py" deep.par2 | sed -n 1p)
 small_stack=(env -i sh -c 'ulimit -s 128; exec "$@"' sh "$parv")

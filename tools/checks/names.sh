@@ -7,16 +7,7 @@ cd "$work/below" || exit 1
 
 # Writes that.par2, the set of one file of this name that holds abcdefgh, and prints its ID.
 one_file() {
-    PYTHONPATH=$tools PYTHONDONTWRITEBYTECODE=1 python3 - "$1" << 'END'
-import os, sys
-from make.packets import desc_body, file_id, ifsc_body, main_body, md5, set_of
-name, content = os.fsencode(sys.argv[1]), b"abcdefgh"
-owner = file_id(name, content)
-main = main_body(4, [owner])
-with open("that.par2", "wb") as out:
-    out.write(set_of(main, ("filedesc", desc_body(owner, name, content)), ("ifsc", ifsc_body(owner, content, 4))))
-print(md5(main).hex())
-END
+    PYTHONPATH=$tools PYTHONDONTWRITEBYTECODE=1 python3 "$tools/checks/names_set.py" "$1"
 }
 
 # passes WHAT: no word names what lies there, and it is neither verified nor searched.

@@ -78,15 +78,7 @@ repaired "a damaged file below a folder 'Wait...'" 'Wait.../one.mp3'
 # 40 names of 3.8 KB of unprintable bytes, 20 folders deep; a second of the processor is plenty for one.
 rm -rf room
 mkdir room
-PYTHONPATH=$tools python3 - << 'END'
-from make.packets import desc_body, file_id, main_body, set_of
-deep = b"\xff" * 200 + b"/" + (b"\xfe" * 200 + b"/") * 18
-names = [deep + b"%05d" % number for number in range(40)]
-ids = [file_id(name, b"") for name in names]
-with open("room/set.par2", "wb") as out:
-    out.write(set_of(main_body(1024, sorted(ids, key=lambda each: each[::-1])),
-                     *[("filedesc", desc_body(owner, name)) for owner, name in zip(ids, names)]))
-END
+PYTHONPATH=$tools python3 "$tools/checks/repairs_names.py"
 ends "long names of unprintable bytes" 0 complete bash -c 'ulimit -t 40 && exec "$@"' - "${repair[@]}"
 [ "$(find room -type f -empty | wc -l)" -eq 40 ] || fails "long names of unprintable bytes: not each file was made"
 ends "long names of unprintable bytes that are there" 0 complete bash -c 'ulimit -t 40 && exec "$@"' - "${repair[@]}"

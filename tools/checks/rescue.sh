@@ -228,18 +228,8 @@ for tails in "" --tails; do
     fi
 done
 # Begun again at each sighting of a slice that is there.
-cat > anew << 'END'
-#!/usr/bin/env python3
-import os
-import sys
-sys.path.insert(0, os.environ["commands"])
-from parv_commands import rescue, search
-search.WASTE = 0
-sys.exit(rescue.main())
-END
-chmod +x anew
 script=$extract
-extract=$work/anew
+extract=$tools/checks/rescue_anew.py
 for tails in "" --tails; do
     # shellcheck disable=SC2086
     commands=$top/commands extracts "slices that are seen again, each time anew${tails:+, with $tails}" \
@@ -250,15 +240,7 @@ extract=$script
 # of that has another byte.
 mkdir large
 { head -c 300000 /dev/zero; head -c 100000 "$parv"; head -c 200000 /dev/zero; printf 'end'; } > large/zeros
-PYTHONPATH=$tools python3 - << 'END'
-from make.packets import desc_body, ifsc_body, main_body, set_of
-with open("large/zeros", "rb") as file:
-    content = file.read()
-with open("large.par2", "wb") as out:
-    owner = bytes(16)
-    out.write(set_of(main_body(65536, [owner]), ("filedesc", desc_body(owner, b"zeros", content)),
-                     ("ifsc", ifsc_body(owner, content, 65536))))
-END
+PYTHONPATH=$tools python3 "$tools/checks/rescue_large.py"
 truncate -s 256M large.img
 { head -c 330000 large/zeros | tail -c 80000; printf '?'; tail -c +330002 large/zeros; } >> large.img
 truncate -s 512M large.img
@@ -277,13 +259,7 @@ else
 fi
 
 # All slices are there, and the file isn't that of the set.
-PYTHONPATH=$tools python3 - << 'END'
-from make.packets import desc_body, ifsc_body, main_body, set_of
-owner = bytes(16)
-with open("wrong.par2", "wb") as out:
-    out.write(set_of(main_body(4, [owner]), ("filedesc", desc_body(owner, b"wrong", b"abcdefgh")),
-                     ("ifsc", ifsc_body(owner, b"abcdefgX", 4))))
-END
+PYTHONPATH=$tools python3 "$tools/checks/rescue_wrong.py"
 printf 'efgXabcd' > pieces
 wants "a file that isn't that of the set" 1 "wrong wrong 2/2
 slices 2/2, copied now 2" "" "$extract" wrong wrong.par2 pieces

@@ -227,47 +227,7 @@ if cmp drawing.svg "$top/docs/slice_map.svg"; then
 else
     fails "the drawing isn't that of docs/"
 fi
-cat > reads.py << 'END'
-"""Reads a page and a drawing: all that is opened is closed, and nothing comes from elsewhere."""
-import html.parser
-import sys
-import xml.etree.ElementTree
-
-
-class Page(html.parser.HTMLParser):
-    def __init__(self):
-        super().__init__()
-        self.open, self.cells, self.texts = [], 0, []
-
-    def handle_starttag(self, tag, attributes):
-        assert tag in ("html head meta title style body p svg path text h2 details summary ul li").split(), tag
-        assert not {"src", "href", "onload"} & dict(attributes).keys()
-        self.cells += tag == "title" and self.open[-1] == "path"
-        if tag != "meta":
-            self.open.append(tag)
-
-    def handle_startendtag(self, tag, attributes):
-        self.handle_starttag(tag, attributes)
-        self.open.pop()
-
-    def handle_endtag(self, tag):
-        assert self.open.pop() == tag
-
-    def handle_data(self, data):
-        self.texts.append(data)
-
-
-page = Page()
-with open("page.html", encoding="ascii") as file:
-    page.feed(file.read())
-page.close()
-assert page.open == [], page.open
-drawing = xml.etree.ElementTree.parse("drawing.svg")
-print(page.cells)
-print(*[text for text in page.texts if text.strip() and not text.startswith("body{")], sep="\n")
-print(*[node.text for node in drawing.iter() if node.tag.endswith("}text")], sep="\n")
-END
-python3 reads.py > read || fails "the page or the drawing can't be read"
+python3 "$tools/checks/slice_map_read.py" > read || fails "the page or the drawing can't be read"
 for text in 38 "harbour.raw: 12 moved" "slice 3: moved, in ./port.raw at 3072" "slices 0 to 11 in ./port.raw from 0" \
     "slice 1: missing" "slice 0: in place" "24 in place, 12 moved, 2 missing; need 2 have 1"; do
     grep -qxF "$text" read || fails "neither page nor drawing has $text"
@@ -287,30 +247,13 @@ wants "a folder that isn't there" 6 "$("$map" photos.par2)" "$me: cannot write n
     "$map" --html none/page.html photos.par2
 
 # Names that are markup or lead elsewhere; what they lead to isn't opened, though a FIFO is there.
-PYTHONPATH=$tools python3 - << 'END'
-import os
-from make.packets import desc_body, file_id, ifsc_body, main_body, set_of
-names = [b"<script>alert('1')</script>", b"a&b\"c\".bin", b"\x1b[31mred\n", os.path.realpath(b"fifo"), b"../odd/fifo"]
-os.mkdir("odd")
-os.mkfifo("odd/fifo")
-os.mkfifo("fifo")
-bodies, ids = [], []
-for name in names:
-    content = b"a slice of " + name * 4000
-    ids.append(file_id(name, content))
-    bodies += [("filedesc", desc_body(ids[-1], name, content)), ("ifsc", ifsc_body(ids[-1], content, 64))]
-    if b"/" not in name:
-        with open(b"odd/" + name.replace(b"/", b""), "wb") as out:
-            out.write(content)
-with open("odd.par2", "wb") as out:
-    out.write(set_of(main_body(64, ids), *bodies))
-END
+PYTHONPATH=$tools python3 "$tools/checks/slice_map_names.py"
 rm page.html drawing.svg
 cd odd || exit 1
 timeout 60 "$map" --html ../page.html --svg ../drawing.svg ../odd.par2 a* $'\e[31mred\n' > ../text 2> ../line
 status=$?
 cd .. || exit 1
-python3 reads.py > read || fails "the page or the drawing with odd names can't be read"
+python3 "$tools/checks/slice_map_read.py" > read || fails "the page or the drawing with odd names can't be read"
 if [ $status -eq 0 ] && [ ! -s line ] && ! grep -q "$(printf '\033')" text page.html drawing.svg \
     && ! grep -q '<script' page.html drawing.svg && grep -q '^\\x1b\[31mred\\x0a: [0-9]* in place; up to 2 slices a sign$' text \
     && grep -qF 'a&b"c".bin: ' read; then

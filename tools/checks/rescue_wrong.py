@@ -1,0 +1,6 @@
+"""Writes wrong.par2: each slice has its checksums, and the file has the MD5 of another."""
+from make.packets import desc_body, ifsc_body, main_body, set_of
+owner = bytes(16)
+with open("wrong.par2", "wb") as out:
+    out.write(set_of(main_body(4, [owner]), ("filedesc", desc_body(owner, b"wrong", b"abcdefgh")),
+                     ("ifsc", ifsc_body(owner, b"abcdefgX", 4))))
