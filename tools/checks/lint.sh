@@ -1,0 +1,56 @@
+#!/usr/bin/env bash
+# Scripts and Python files, as linters see them: shellcheck (with .shellcheckrc) and pyflakes complain of none, and
+# each line that turns one of their rules off says why. Debian has both linters.
+cd "$(dirname "$0")/../.." || exit 1
+work=$(mktemp -d) || exit 1
+trap 'rm -rf "$work"' EXIT
+failed=0
+
+# headed SUFFIX WORD: the files with this suffix, and those whose first line calls a program of this name.
+headed() {
+    find tools commands examples .ci -name __pycache__ -prune -o -type f -print 2> "$work/none" | while IFS= read -r file; do
+        case $file in
+        *"$1") echo "$file" ;;
+        *.*) ;;
+        *) head -n 1 "$file" | grep -aqE "^#!.*\b$2\b" && echo "$file" ;;
+        esac
+    done | sort
+}
+
+# lints NAME LINTER..: it says nothing of the files that are listed, and does of one that is wrong.
+lints() {
+    local name=$1
+    shift
+    if ! command -v "$1" > "$work/none"; then
+        echo "not run: there is no $1"
+    elif ! xargs -d '\n' "$@" < "$work/files" > "$work/said" 2>&1; then
+        echo "FAILED: $1: $name: $(head -c 1000 "$work/said")"
+        failed=1
+    elif "$@" "$work/wrong" > "$work/said" 2>&1; then
+        echo "FAILED: $1 sees nothing wrong in: $(cat "$work/wrong")"
+        failed=1
+    else
+        echo "ok: $1 has nothing to say of $(wc -l < "$work/files") $name"
+    fi
+}
+
+headed .sh '(ba)?sh' > "$work/all"
+grep '^tools/checks/with/\|^tools/staging.sh$' "$work/all" > "$work/read"
+grep -vxFf "$work/read" "$work/all" > "$work/files"
+printf '#!/bin/sh\necho $1\n' > "$work/wrong"
+lints scripts shellcheck
+# What others read has variables that they set or use.
+mv "$work/read" "$work/files"
+printf 'echo $1\n' > "$work/wrong"
+lints "scripts that others read" shellcheck -s bash -e SC2034,SC2154
+headed .py 'python3?' > "$work/files"
+printf 'import os\n' > "$work/wrong"
+lints "Python files" pyflakes3
+
+if without=$(xargs -d '\n' grep -HnE '# *(shellcheck disable=[A-Z0-9,]+|noqa.*) *$' < "$work/all"); then
+    echo "FAILED: a rule is turned off without a reason: $without"
+    failed=1
+else
+    echo "ok: each rule that is turned off has its reason"
+fi
+exit $failed
