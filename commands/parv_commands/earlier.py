@@ -5,7 +5,6 @@ Its list of moves is finished as a journal is, and what else is in it is kept.""
 from __future__ import annotations
 
 import contextlib
-import os
 import re
 import stat
 from decimal import Decimal

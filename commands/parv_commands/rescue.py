@@ -5,10 +5,10 @@ from __future__ import annotations
 import contextlib
 import os
 import time
-from typing import List, NamedTuple, Optional, Sequence, Set, Tuple
+from typing import List, NamedTuple, Optional, Set, Tuple
 
 from . import changes, output, programs, signals, words
-from .faults import FILES, NO_SET, USAGE, Fault, faults_of
+from .faults import NO_SET, USAGE, Fault, faults_of
 from .folders import Folder
 from .given import Given, read_given
 from .names import shown

@@ -91,10 +91,10 @@ class Moves(unittest.TestCase):
         for name in "first", "second", "third":
             self.turn()
 
-            def changes() -> None:
+            def change() -> None:
                 with open(self.room.path(name), "ab") as out:
                     out.write(b", changed")
-            ended = self.run_it(watch=At(1, "before", changes, ["rename"]))
+            ended = self.run_it(watch=At(1, "before", change, ["rename"]))
             self.assertEqual(ended.status, 6, ended)
             self.assertIn("has changed meanwhile", ended.said)
             self.assertTrue(any(data.endswith(b", changed") for data in self.room.contents()), name)

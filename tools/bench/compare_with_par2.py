@@ -124,7 +124,6 @@ def by_par2(packet_files, files):
     text = run.stdout
     blocks = re.search(r"You have (\d+) out of (\d+) data blocks available", text)
     have = re.search(r"You have (\d+) recovery blocks available", text)
-    total = re.search(r"There are a total of (\d+) data blocks", text)
     if "repair is not required" in text:
         verdict, need = "complete", 0
     else:
