@@ -71,7 +71,7 @@ steps verify repeats.par2 long
 # another, nor is more room asked for where there are more packet files; a search asks for one window.
 few=$((least + 4096))
 PYTHONPATH=$tools python3 "$tools/checks/address_space_sets.py"
-in_few=(sh -c 'ulimit -v "$0" && exec "$@"' $few "$parv")
+in_few=(sh -c 'ulimit -v "$0" && exec "$@"' "$few" "$parv")
 wants "a recovery slice of 64 MiB in $few KiB" 0 "large.par2 0 67108932 recvslic 00000000000000000000000000000000
 packets 1" "" "${in_few[@]}" packets large.par2
 wants "a file of 1 GiB in $few KiB" 0 "packets 0" "" "${in_few[@]}" packets sparse.par2
@@ -80,11 +80,11 @@ truncate -s 1G behind.par2
 "$tools/models/describe_set.py" v.par2 | sed 's/v[.]par2/behind.par2/' > wanted
 gives "a set before 1 GiB in $few KiB" 0 wanted "" "${in_few[@]}" set behind.par2
 many=()
-for i in $(seq 300); do many+=(v.par2); done
+for _ in $(seq 300); do many+=(v.par2); done
 wants "three hundred packet files in $few KiB" 1 "need 0 have 0
 result possible" "" "${in_few[@]}" verify -q "${many[@]}" x.bin
 for words in find "find --tails"; do
-    # shellcheck disable=SC2086
+    # shellcheck disable=SC2086 # (these are words)
     wants "a window of 64 MiB in $((few + 65536)) KiB: $words" 0 end "" \
         sh -c 'ulimit -v "$0" && exec "$@"' $((few + 65536)) "$parv" $words window.par2 x.bin
 done

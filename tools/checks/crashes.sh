@@ -28,7 +28,7 @@ ended() {
     [ "$3" = KILL ] || wanted=143
     ROOM=$work/room PLACED=$work/room/$2 SIGNAL=$3 MEANWHILE=$4 PARV=$work/ends "${repair[@]}" room > text 2> line
     status=$?
-    [ $status -eq $wanted ] && [ ! -s text ] || fails "no run was ended: $1: status $status, $(cat text line)"
+    { [ $status -eq $wanted ] && [ ! -s text ]; } || fails "no run was ended: $1: status $status, $(cat text line)"
     # (A program that it has called may hold the folder for a moment.)
     for _ in $(seq 100); do flock -n room true && break; sleep 0.1; done
 } 2> "$said/ended"
@@ -224,7 +224,7 @@ long=$(printf 'n%.0s' $(seq 60))
 words=()
 for number in $(seq 10 29); do words+=("$number$long/$number$long/$number$long" "content $number"); done
 furnish 16 0 "${words[@]}"
-for number in $(seq 10 29); do mv "room/$number$long/$number$long/$number$long" room/$number; done
+for number in $(seq 10 29); do mv "room/$number$long/$number$long/$number$long" "room/$number"; done
 rm -r room/*"$long"
 listed room > before
 limited 6 "${repair[@]}" room > text 2> line

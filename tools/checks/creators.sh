@@ -17,15 +17,15 @@ gathers() {
 is_read() {
     local tails status
     for tails in "" --tails; do
-        # shellcheck disable=SC2086
+        # shellcheck disable=SC2086 # (these are words)
         "$tools/models/find_slices.py" $tails "${packets[@]}" "${files[@]}" > "$said/sightings"
-        # shellcheck disable=SC2086
+        # shellcheck disable=SC2086 # (these are words)
         gives "$1: the sightings${tails:+, with $tails}" 0 "$said/sightings" "" \
             "$parv" find $tails "${packets[@]}" "${files[@]}"
-        # shellcheck disable=SC2086
+        # shellcheck disable=SC2086 # (these are words)
         "$tools/models/tell_states.py" $tails "${packets[@]}" "${files[@]}" > "$said/states"
         status=$?
-        # shellcheck disable=SC2086
+        # shellcheck disable=SC2086 # (these are words)
         gives "$1: the states${tails:+, with $tails}" $status "$said/states" "" \
             "$parv" verify $tails "${packets[@]}" "${files[@]}"
     done
@@ -88,7 +88,7 @@ creator=104:creator
 
 # All but recovery slices and the creator stand once, twice and three times beside one, two and four of these.
 cd "$work/interleaved" || exit 1
-# shellcheck disable=SC2086
+# shellcheck disable=SC2086 # (these are words)
 lists "packets that are interleaved" "$(laid set.par2 $three $main $descs $sums $creator
 laid set.vol0+1.par2 $three $slice $main $descs $sums $creator
 laid set.vol1+2.par2 $three $slice $main $descs $sums $slice $main $descs $sums $creator
@@ -117,7 +117,7 @@ result possible" "" "$parv" verify set.vol3+4.par2 second.txt third.dat
 
 cd "$work/at_the_end" || exit 1
 turned=82414d2385e3ddcac437b3c91dc6795a
-# shellcheck disable=SC2086
+# shellcheck disable=SC2086 # (these are words)
 lists "packets that stand at the end again" "$(laid set.vol00+02.PAR2 $turned 76:creator $slice $slice \
     $main $descs $sums $main $descs $sums $main $descs $sums
 laid set.vol02+03.PAR2 $turned 76:creator $slice $slice $slice $sums $descs $main $sums $descs $main)" \
@@ -131,7 +131,7 @@ creator One of 2004" set.par2 set.vol00+02.PAR2 set.vol02+03.PAR2
 cd "$work/optional" || exit 1
 coffee=be66a32c116a15f6381b8a97476060ea
 beside="96:unknown 76:unknown 100:unknown 84:unknown 96:unknown 96:unknown 120:unknown"
-# shellcheck disable=SC2086
+# shellcheck disable=SC2086 # (these are words)
 lists "optional packets are unknown" "$(laid set.par2 $coffee 92:main 128:filedesc 120:ifsc $beside $creator
 laid set.vol0+1.par2 $coffee $beside $slice $creator 92:main 128:filedesc 120:ifsc)" set.par2 set.vol0+1.par2
 describes "a set with optional packets has none aside" "set $coffee size 8 slices 2
@@ -150,7 +150,7 @@ result impossible" "" "$parv" verify set.par2 set.vol0+1.par2
 
 # A packed Main and packed recovery slices are no others.
 cd "$work/packed" || exit 1
-# shellcheck disable=SC2086
+# shellcheck disable=SC2086 # (these are words)
 lists "packed packets are unknown" \
     "$(laid set.par2 d6b23b1fcf57d8104e8b423eb6fa2d24 132:unknown $descs $sums $creator 76:unknown 76:unknown)" set.par2
 for command in set find verify; do
@@ -267,7 +267,7 @@ result impossible" "" "$parv" verify --set $three set.par2 second.txt fourth thi
 
 # A line, an exclamation mark, zeros up to the next 512 bytes, the magic, fronts of packets and one with another byte.
 cd "$work/junk" || exit 1
-# shellcheck disable=SC2086
+# shellcheck disable=SC2086 # (these are words)
 lists "packets between other bytes" "$(laid set.par2 $three 20:- $main 1:- $descs 483:- 140:ifsc 8:- 100:ifsc \
     99:- 100:ifsc 76:- $slice 7:- $creator)" set.par2
 describes "their set alone" "$lines_of_three

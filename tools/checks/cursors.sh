@@ -125,7 +125,7 @@ wants "no files, and a cursor of none" 0 end "" "$parv" find --cursor 2:$set:"$(
 
 # The first version: one text for all files.
 for words in "x.bin y.bin" "-B d d/x.bin y.bin"; do
-    # shellcheck disable=SC2086
+    # shellcheck disable=SC2086 # (these are words)
     goes_on "version 1, over $words" "$rest" $set:0:2:1 v.par2 $words
 done
 goes_on "version 1, over other files" "y.bin 3 $file 1

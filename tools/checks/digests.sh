@@ -55,7 +55,7 @@ costs() {
     local name=$1 words=$2 last=$3 number of count wrong=
     shift 3
     rm -f counts
-    # shellcheck disable=SC2086
+    # shellcheck disable=SC2086 # (these are words)
     ./entries counts "${places[@]}" -- "$parv" $words > text 2> line < /dev/null
     [ "$(tail -n 1 text)" = "$last" ] || wrong="$(tail -n 1 text)$(head -c 200 line), "
     for number; do

@@ -24,8 +24,11 @@ if [ "$room" = "parv-$version-x86_64-linux" ] && (cd "$room" && sha256sum --quie
 else
     fails "what the archive holds: $room, $(diff "$said/build" "$room/share/doc/parv/BUILD")"
 fi
-grep -q "version $version" "$top/README.md" && grep -q "version $version" "$top/docs/parv.1" \
-    && echo "ok: the pages are of that version" || fails "the pages are of another version than $version"
+if grep -q "version $version" "$top/README.md" && grep -q "version $version" "$top/docs/parv.1"; then
+    echo "ok: the pages are of that version"
+else
+    fails "the pages are of another version than $version"
+fi
 
 path=$work/path
 mkdir "$path"

@@ -76,16 +76,16 @@ done
 # Any error of a write is a fault too: one that was interrupted isn't made again.
 for number in 4 11 28; do
     for words in "packets v.par2 w.par2" "find v.par2 x.bin y.bin"; do
-        # shellcheck disable=SC2086
+        # shellcheck disable=SC2086 # (these are words)
         ERROR=$number disturb FAIL_WRITE $words
     done
 done
 # Texts of several blocks: where a block can't be written, none is behind it.
 "$tools/make/many_packets.py" 3500 blocks.par2 || exit 1
 for words in "packets blocks.par2" "packets v.par2 blocks.par2"; do
-    # shellcheck disable=SC2086
+    # shellcheck disable=SC2086 # (these are words)
     disturb FAIL_WRITE $words
-    # shellcheck disable=SC2086
+    # shellcheck disable=SC2086 # (these are words)
     disturb EMPTY_WRITE $words
 done
 disturb SHORT packets none.par2
@@ -93,22 +93,24 @@ for words in "packets v.par2 w.par2" "set v.par2 w.par2" "find v.par2 x.bin y.bi
     "find --cursor 2:$set:$list:0:2:1 v.par2 x.bin" "find --cursor $set:0:2:1 v.par2 x.bin" \
     "find --tails tails/two.par2 tails/turned" "verify --tails tails/two.par2 tails/turned" \
     "find --tails tails/three.par2 tails/abcd" "verify --tails tails/three.par2 tails/abcd"; do
-    # shellcheck disable=SC2086
+    # shellcheck disable=SC2086 # (these are words)
     disturb FAIL_WRITE $words
-    # shellcheck disable=SC2086
+    # shellcheck disable=SC2086 # (these are words)
     disturb EMPTY_WRITE $words
-    # shellcheck disable=SC2086
+    # shellcheck disable=SC2086 # (these are words)
     disturb SHORT $words
 done
 
 # sees FAULT LINE WHAT: a run with this fault of wrong_disk.c, which fails so.
 sees() {
-    local line
+    local line wanted="FAILED: $3 $2: *"
     line=$(WRONG=$1 UNMET=1 BEFORE=$work/wrong.so "$tools/disturb/disturb.sh" "$3" find v.par2 x.bin)
-    case $line in
-    "FAILED: $3 "$2": "*) echo "ok: it is seen by $3: $1" ;;
-    *) fails "it isn't seen by $3: $1: $line" ;;
-    esac
+    # shellcheck disable=SC2053 # (it is a pattern)
+    if [[ $line == $wanted ]]; then
+        echo "ok: it is seen by $3: $1"
+    else
+        fails "it isn't seen by $3: $1: $line"
+    fi
 }
 gcc -shared -fPIC -O1 -o wrong.so "$tools/disturb/wrong_disk.c" -ldl || exit 1
 sees "opened for writing too" "0: 2 files opened for more than reading" FAIL_READ

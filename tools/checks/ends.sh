@@ -69,7 +69,7 @@ print(open("limited").read(), end="")' "$parv"
 
 # Words and the environment lie on the stack too, so there are few and none here.
 for words in "packets v.par2" "set v.par2" "find v.par2 x.bin" "find --tails v.par2 x.bin" "verify v.par2 g.bin"; do
-    # shellcheck disable=SC2086
+    # shellcheck disable=SC2086 # (these are words)
     "$parv" $words > "$said/alone"
     gives "a stack of 128 KiB: $words" 0 "$said/alone" "" \
         env -i sh -c "ulimit -s 128; exec \"\$0\" $words" "$parv"

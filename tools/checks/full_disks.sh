@@ -18,7 +18,7 @@ cat tree/1/set.par2 tree/5/set.par2 > tree/two/both.par2
 cp "tree/5/a file of set 5" tree/two
 "${tree[@]}" tree > lines 2> line
 status=$?
-[ $status -eq 2 ] && [ "$(wc -l < lines)" -eq 7 ] && [ "$(grep -c '^[12] ' lines)" -eq 5 ] && [ ! -s line ] \
+{ [ $status -eq 2 ] && [ "$(wc -l < lines)" -eq 7 ] && [ "$(grep -c '^[12] ' lines)" -eq 5 ] && [ ! -s line ]; } \
     || fails "with room: status $status, $(cat lines line)"
 
 # told NAME COMMAND..: each set that isn't whole has its line, and the status is that of the worst; or it is 6, and a
@@ -45,7 +45,6 @@ for words in "one by one" "side by side"; do
     if can_mount "a full folder for temporary files, $words"; then
         mkdir -p full
         for kib in 4 8 12 16 20 24 28 32 48; do
-            # shellcheck disable=SC2016
             TMPDIR=$work/full told "$kib KiB for temporary files, $words" mounting bash -c \
                 'mount -t tmpfs -o size='$kib'k tmpfs "$TMPDIR" && exec "$@"' - "${command[@]}"
         done
@@ -62,10 +61,17 @@ done
 # Nor is it, when the lines themselves can't be written.
 "${tree[@]}" tree > /dev/full 2> line
 status=$?
-[ $status -eq 6 ] && echo "ok: lines before a full device" || fails "lines before a full device: status $status, $(cat line)"
+if [ $status -eq 6 ]; then
+    echo "ok: lines before a full device"
+else
+    fails "lines before a full device: status $status, $(cat line)"
+fi
 rm -r tree/[1-4] tree/two
 "${tree[@]}" tree > /dev/full 2> line
 status=$?
-[ $status -eq 6 ] && echo "ok: a line of a whole set before a full device" \
-    || fails "a line of a whole set before a full device: status $status, $(cat line)"
+if [ $status -eq 6 ]; then
+    echo "ok: a line of a whole set before a full device"
+else
+    fails "a line of a whole set before a full device: status $status, $(cat line)"
+fi
 exit $failed

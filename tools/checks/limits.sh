@@ -26,7 +26,7 @@ for i in $(seq 300); do files+=("three$i.par2"); done
 gives "the packets of three hundred files" 0 wanted "" "$parv" packets "${files[@]}"
 
 "$tools/make/big_set.py" big 3000 2
-"$tools/models/describe_set.py" big/*.par2 > set
+"$tools/models/describe_set.py" big/*.par2 > "set"
 gives "a set of 3,000 files" 0 set "" "$parv" set big/*.par2
 "$tools/make/big_set.py" full 32768 1
 "$tools/models/describe_set.py" full/*.par2 > wanted
@@ -70,6 +70,7 @@ counts() {
     shift 4
     rm -f report
     REPORT=report LD_PRELOAD=$PWD/disturb.so "$parv" "$@" > text
+    # shellcheck disable=SC2034 # (`what` is the name of one of them)
     read -r _ _ _ _ _ writes _ reads < report
     count=${!what}
     if [ "$count" -ge "$least" ] && [ "$count" -le "$most" ]; then

@@ -12,10 +12,10 @@ printf 'XXabcdefgh' > x.bin
 line=$("$tools/models/describe_set.py" deep.par2 | sed -n 1p)
 small_stack=(env -i sh -c 'ulimit -s 128; exec "$@"' sh "$parv")
 for tails in "" --tails; do
-    # shellcheck disable=SC2086
+    # shellcheck disable=SC2086 # (these are words)
     wants "a stack of 128 KiB: find${tails:+ $tails} in slices of 268,435,456 bytes" 0 end "" \
         "${small_stack[@]}" find $tails deep.par2 x.bin
-    # shellcheck disable=SC2086
+    # shellcheck disable=SC2086 # (these are words)
     wants "a stack of 128 KiB: verify${tails:+ $tails} in slices of 268,435,456 bytes" 2 "$line
 missing a 0/2
 need 2 have 0

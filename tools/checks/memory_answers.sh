@@ -5,6 +5,4 @@
 # each change that is harmless is not. The sources alone are read, and no program.
 export PYTHONDONTWRITEBYTECODE=1
 # (In a copy with a fault, PLANTED is set, and no other one is planted.)
-what=check
-[ -z "${PLANTED-}" ] || what=read
-"$(dirname "$0")/../memory/answers.py" $what
+"$(dirname "$0")/../memory/answers.py" "$([ -z "${PLANTED-}" ] && echo check || echo read)"

@@ -106,7 +106,7 @@ is_cut() {
     FAIL_OPEN) end="6 parv: cannot open *" ;;
     esac
     count=$(grep -c '^1 ' outputs)
-    # shellcheck disable=SC2053
+    # shellcheck disable=SC2053 # (it is a pattern)
     [[ "$status $(< line)" == $end ]] && [ "$(wc -l < line)" = 1 ] && is_told \
         && cmp -s <(grep '^1 ' outputs) <(head -n "$count" sizes) \
         && cmp -s text <(head -c "$(awk '$1 == 1 { sum += $3 } END { print sum + 0 }' outputs)" wanted)

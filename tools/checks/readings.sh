@@ -26,18 +26,18 @@ scanned=(beach.raw harbour.raw tower.raw notes.txt)
 } > "$work/cut.bin"
 for tails in "" --tails; do
     with=${tails:+, with $tails}
-    # shellcheck disable=SC2086
+    # shellcheck disable=SC2086 # (these are words)
     wants "the slices in the files of the set are those that the independent search finds$with" 0 \
         "$("$tools/models/find_slices.py" $tails ./*.par2 "${scanned[@]}")" "" \
         "$parv" find $tails ./*.par2 "${scanned[@]}"
-    # shellcheck disable=SC2086
+    # shellcheck disable=SC2086 # (these are words)
     wants "the slices in a file that was cut and put together$with" 0 \
         "$("$tools/models/find_slices.py" $tails ./*.par2 "$work/cut.bin")" "" \
         "$parv" find $tails ./*.par2 "$work/cut.bin"
     for files in "${scanned[*]}" "notes.txt $work/cut.bin"; do
-        # shellcheck disable=SC2086
+        # shellcheck disable=SC2086 # (these are words)
         states=$("$tools/models/tell_states.py" $tails ./*.par2 $files)
-        # shellcheck disable=SC2086
+        # shellcheck disable=SC2086 # (these are words)
         wants "the states of the set are those of the independent reading$with" $? "$states" "" \
             "$parv" verify $tails ./*.par2 $files
     done

@@ -32,7 +32,7 @@ reads_of() {
 reads() {
     local name=$1 words=$2 last=$3
     { printf 'open %s\n' "$4"; [ $# -lt 5 ] || printf '%s\n' "${@:5}"; } > wanted
-    # shellcheck disable=SC2086
+    # shellcheck disable=SC2086 # (these are words)
     record $words
     reads_of > found
     if [ "$(tail -n 1 text)" = "$last" ] && cmp -s found wanted; then
@@ -153,12 +153,12 @@ reads "no search for slices without their sums" "verify n.par2 a c other20000" "
 
 # Each of these faults makes other reads, of each command.
 for words in "packets body.par2" "set body.par2 s.par2" "find s.par2 a c" "verify -q s.par2 a b cc"; do
-    # shellcheck disable=SC2086
+    # shellcheck disable=SC2086 # (these are words)
     record $words
     reads_of > wanted
     for fault in "one byte a read" "a piece of half the size" "each read made twice" "64 bytes read again" \
         "all read again" "opened twice"; do
-        # shellcheck disable=SC2086
+        # shellcheck disable=SC2086 # (these are words)
         WRONG=$fault record $words
         reads_of > found
         if [ "$status" -lt 124 ] && ! cmp -s found wanted; then

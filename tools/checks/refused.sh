@@ -48,7 +48,7 @@ CUT_READ=2 disturb REFUSE verify v.par2 x.bin
 FAIL_OPEN=2 disturb REFUSE find v.par2 x.bin
 FAIL_STAT=2 disturb REFUSE find v.par2 x.bin
 for words in "packets v.par2" "set v.par2" "find v.par2 x.bin" "verify v.par2 x.bin"; do
-    # shellcheck disable=SC2086
+    # shellcheck disable=SC2086 # (these are words)
     FAIL_WRITE=1 disturb REFUSE $words
 done
 exit $failed

@@ -9,9 +9,9 @@ printf 'aaaaXaaaa' > e.bin
 "$tools/make/big_set.py" big 40 3 || exit 1
 disturb REFUSE packets sets/packet_in_packet.par2
 for words in "" -q "-q -q"; do
-    # shellcheck disable=SC2086
+    # shellcheck disable=SC2086 # (these are words)
     disturb REFUSE verify $words sets/a_with_a_slice_twice.par2 a.bin
-    # shellcheck disable=SC2086
+    # shellcheck disable=SC2086 # (these are words)
     disturb REFUSE verify $words sets/a.par2 a.bin
 done
 disturb REFUSE find sets/a_and_b.par2 e.bin

@@ -5,11 +5,11 @@
 "$tools/make/tail_sets.py" . || exit 1
 
 for words in "two.par2 turned" "three.par2 abcd"; do
-    # shellcheck disable=SC2086
+    # shellcheck disable=SC2086 # (these are words)
     disturb REFUSE find --tails $words
-    # shellcheck disable=SC2086
+    # shellcheck disable=SC2086 # (these are words)
     disturb REFUSE verify --tails $words
-    # shellcheck disable=SC2086
+    # shellcheck disable=SC2086 # (these are words)
     disturb REFUSE find --tails --limit 1 $words
 done
 three=$("$tools/models/describe_set.py" three.par2 | sed -n '1s/^set \([^ ]*\) .*/\1/p')

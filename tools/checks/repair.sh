@@ -111,7 +111,6 @@ complete" "" --remove-backups
 whole_now "a repair without its backups" second.txt.1 kept second.txt.2 ijklXXXX
 
 # Names of any bytes: shown as parv shows them, also if parv takes them only by a link or par2 reads them as others.
-# shellcheck disable=SC2016
 names=($'line\nfeed\n' ' two  blanks ' -dash --set $'caf\xe9' 'back\slash' 'st*r[x]?' '$(id)`id`"' "it's" '%41' '@' '*' \
     'in a/sub/folder' .hidden 'from a to b' other.par2 $'\xff\n.PAR2')
 words=()

@@ -106,7 +106,7 @@ slices 38/38, copied now 38" "" "$extract" --tails joined.out "$demo/photos.par2
 image=(disc.par2 disc.img)
 rm calls
 for tails in "" --tails; do
-    # shellcheck disable=SC2086
+    # shellcheck disable=SC2086 # (these are words)
     PARV=$work/logs extracts "an image of a disc${tails:+, with $tails}" 0 19 disc "disc$tails out" $tails "${image[@]}"
     diff -r --exclude=$record disc "disc$tails out" || fails "the files of the disc aren't whole"
 done
@@ -217,7 +217,7 @@ slices 6/38, copied now 1" "" "$extract" --tails changed "$demo/photos.par2" not
 "$tools/make/rescue_sets.py" . || exit 1
 for tails in "" --tails; do
     rm -f calls
-    # shellcheck disable=SC2086
+    # shellcheck disable=SC2086 # (these are words)
     PARV=$work/logs extracts "slices that are seen again and again${tails:+, with $tails}" 1 21 \
         repeated "again$tails" $tails repeated.par2 repeated.img
     searches=$(grep -c '^find ' calls)
@@ -231,7 +231,7 @@ done
 script=$extract
 extract=$tools/checks/rescue_anew.py
 for tails in "" --tails; do
-    # shellcheck disable=SC2086
+    # shellcheck disable=SC2086 # (these are words)
     commands=$top/commands extracts "slices that are seen again, each time anew${tails:+, with $tails}" \
         1 21 repeated "again$tails anew" $tails repeated.par2 repeated.img
 done
@@ -245,7 +245,7 @@ truncate -s 256M large.img
 { head -c 330000 large/zeros | tail -c 80000; printf '?'; tail -c +330002 large/zeros; } >> large.img
 truncate -s 512M large.img
 for tails in "" --tails; do
-    # shellcheck disable=SC2086
+    # shellcheck disable=SC2086 # (these are words)
     wants "zeros for a long way${tails:+, with $tails}" 1 "damaged zeros 9/10
 hole 327680 65536 zeros
 slices 9/10, copied now 9" "" "$extract" $tails "zeros$tails" large.par2 large.img

@@ -6,7 +6,7 @@
 cd "$work" || exit 1
 export PARV=$parv LC_ALL=C
 extract=$top/commands/bin/parv-rescue
-me=parv-rescue
+me="parv-rescue"
 record=.parv-rescue
 
 mkdir room
@@ -105,7 +105,7 @@ no_way="its place can't be opened"
 tells "what stands in places already" 5 "(fine|new.*|y*)" "late: $there" "in/fine: $no_way: Not a directory" \
     "in/deep/..fine: $no_way: Not a directory" "way/through: $no_way: Not a directory" \
     "both/in: $no_way: Not a directory" "-dash: $there" "back\\\\slash: $there"
-[ "$(cat out/late)" = mine ] && [ -p out/both ] && [ -L out/way ] && [ -L out/in ] && [ -d out/-dash ] \
+{ [ "$(cat out/late)" = mine ] && [ -p out/both ] && [ -L out/way ] && [ -L out/in ] && [ -d out/-dash ]; } \
     || fails "what stood in places is gone"
 rm -r out/late out/in out/way out/both out/-dash 'out/back\slash'
 tells "all of it, once that is gone" 14 ".*"

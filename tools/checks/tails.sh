@@ -22,11 +22,11 @@ finds() {
     for option in "" --tails; do
         words=$4
         [ -z "$option" ] || words=$5
-        # shellcheck disable=SC2086
+        # shellcheck disable=SC2086 # (these are words)
         { sightings "$file" $words; echo end; } > wanted
-        # shellcheck disable=SC2086
+        # shellcheck disable=SC2086 # (these are words)
         gives "$name${option:+, with $option}" 0 wanted "" "$parv" find $option "$set.par2" "$file"
-        # shellcheck disable=SC2086
+        # shellcheck disable=SC2086 # (these are words)
         "$tools/models/find_slices.py" $option "$set.par2" "$file" | cmp -s - wanted \
             || fails "$name: the independent search finds something else"
     done
@@ -47,7 +47,7 @@ three_at=2:$three:$("$tools/models/cursor_texts.py" abcd)
 # goes_on NAME WORDS FILE [SIGHTING ..] LAST: the lines of `find` with these words, and the last one.
 goes_on() {
     local name=$1 words=$2 file=$3
-    # shellcheck disable=SC2086
+    # shellcheck disable=SC2086 # (these are words)
     wants "$name" 0 "$(sightings "$file" "${@:4:$#-4}"; echo "${!#}")" "" "$parv" find $words "$file"
 }
 goes_on "in the midst of a place" "--tails --cursor $three:0:0:1 three.par2" abcd 0:02:0 0:03:0 end
@@ -131,7 +131,7 @@ done
 usage="parv: usage: parv packets|set|find|verify [options] FILES"
 for words in "find --tails --tails" "verify --tails --tails" "verify --tails -q --tails" "packets --tails" \
     "set --tails" "find --tails=1" "find --tails=" "find --tail" "verify -t" "--tails find"; do
-    # shellcheck disable=SC2086
+    # shellcheck disable=SC2086 # (these are words)
     wants "wrong usage: $words" 3 "" "$usage" "$parv" $words two.par2 turned
 done
 wants "--tails and no file" 3 "" "$usage" "$parv" find --tails
