@@ -102,6 +102,7 @@ parv=$(type -P -- "${PARV:-parv}" && echo .) || {
 parv=${parv%$'\n'.}
 [[ $parv == /* ]] || parv=$PWD/$parv
 parts=$PATH:
+# shellcheck disable=SC2123 # (it is the search path, without relative folders)
 PATH=
 while [ -n "$parts" ]; do
     [[ $parts != /* ]] || PATH+=${PATH:+:}${parts%%:*}
@@ -383,7 +384,7 @@ sets_in() {
     for path; do
         name_of "$path"
         ids_in "$path"
-        [ $status -eq 0 ] || failed[/$path]="$status $said"
+        [ "$status" -eq 0 ] || failed[/$path]="$status $said"
         [ ${#found[@]} -gt 0 ] || lost+=("$path")
         for id in "${found[@]}"; do
             [ -n "${files_of[$id]-}" ] || ids+=("$id")

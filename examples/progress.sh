@@ -68,6 +68,7 @@ show() {
 
 said=$(mktemp -d) || exit 6
 trap 'rm -rf "$said"' EXIT
+# shellcheck disable=SC2317 # (signals call it)
 ended() {
     kill "$child" 2> /dev/null
     wait "$child" 2> /dev/null

@@ -43,6 +43,7 @@ parv=$(type -P -- "${PARV:-parv}" && echo .) || {
 parv=${parv%$'\n'.}
 [[ $parv == /* ]] || parv=$PWD/$parv
 parts=$PATH:
+# shellcheck disable=SC2123 # (it is the search path, without relative folders)
 PATH=
 while [ -n "$parts" ]; do
     [[ $parts != /* ]] || PATH+=${PATH:+:}${parts%%:*}

@@ -17,7 +17,7 @@ help=$(awk 'NR > 1 { if (!/^#/) exit; sub(/^# ?/, ""); print }' "$script")
 for word in -j -q --tails 0 1 2 3 4 6 8; do grep -q -- "^  $word  *[a-zN]" <<< "$help" || fails "its help has no $word"; done
 for word in -h --help; do wants "its help by $word" 0 "$help" "" "$script" $word; done
 for words in '' '--wrong tree' 'tree tree' '-j 0 tree' '-j' '-j x tree'; do
-    # shellcheck disable=SC2086
+    # shellcheck disable=SC2086 # (these are words)
     wants "wrong words: $words" 3 "" "$usage" "$script" $words
 done
 wants "a folder that isn't there" 6 "" "check_tree.sh: cannot open no\\x0ane" "$script" $'no\nne'
@@ -65,7 +65,6 @@ wants "nothing to tell" 0 "" "" "$script" -q tree
 mv tree/a/photos.vol* .
 mv tree/b/c/*.[pP]* .
 wants "lost volumes, and a lost set, with -q" 0 "" "" "$script" -q tree
-# shellcheck disable=SC2016
 wants "lost volumes, and a lost set, by a comparison" 1 "1c1
 < 0 $photos need 0 have 14 a/photos
 ---
@@ -172,9 +171,7 @@ done
 wants "a file in a subfolder" 0 "0 $id need 0 have 0 set/set" "" "$script" tree
 
 # Ends of parv that are no answers, and an end of the script.
-# shellcheck disable=SC2016
 printf '#!/bin/sh\n[ "$1" != verify ] || kill -KILL $$\nexec "%s" "$@"\n' "$parv" > ends
-# shellcheck disable=SC2016
 printf '#!/bin/sh\n[ "$1" != verify ] || { echo $$ > "%s/pid"; exec "%s" "$@" "%s/endless"; }\nexec "%s" "$@"\n' \
     "$work" "$parv" "$work" "$parv" > long
 truncate -s 1T endless
@@ -186,7 +183,6 @@ mkdir -p once/set
 cp "$demo"/{*.raw,notes.txt,photos.par2} once/set
 cp v.par2 once/set/photos.vol0+1.par2
 for status in 1 6 8 137; do
-    # shellcheck disable=SC2016
     printf '#!/bin/sh\n[ "$1 $2" != "packets ./photos.vol0+1.par2" ] || exit %s\nexec "%s" "$@"\n' $status "$parv" > fails
     chmod +x fails
     told=$status

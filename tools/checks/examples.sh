@@ -61,9 +61,8 @@ words=("$demo/photos.par2" 'disc image' "$demo/notes.txt")
 [ "$(wc -l < wanted--tails)" -gt "$(wc -l < wanted)" ] || fails "there is no tail to find"
 for tails in "" --tails; do
     for limit in 7 1000; do
-        # shellcheck disable=SC2086
-        "$search" $tails parts$limit$tails $limit "${words[@]}" > found 2> told
-        if [ $? -eq 0 ] && cmp -s found wanted$tails; then
+        # shellcheck disable=SC2086 # (these are words)
+        if "$search" $tails parts$limit$tails $limit "${words[@]}" > found 2> told && cmp -s found wanted$tails; then
             parts=$(wc -l < told)
             echo "ok: a search in $parts parts of $limit${tails:+ with $tails} finds what the independent search finds"
         else
@@ -75,8 +74,7 @@ done
 last=$(find parts7 -name '[0-9]*' | wc -l)
 head -c 50 "parts7/$((last - 1))" > parts7/new
 rm "parts7/$last" "parts7/$((last - 1))"
-"$search" parts7 7 "${words[@]}" > found 2> told
-if [ $? -eq 0 ] && cmp -s found wanted && [ "$(wc -l < told)" -eq 2 ]; then
+if "$search" parts7 7 "${words[@]}" > found 2> told && cmp -s found wanted && [ "$(wc -l < told)" -eq 2 ]; then
     echo "ok: a search that was stopped goes on behind its last whole part"
 else
     fails "a search that goes on: $(cmp found wanted 2>&1), $(cat told)"
@@ -93,8 +91,7 @@ wants "a search in parts over a file that has grown" 3 "" "parv: cursor of other
 wants "a search that is over, of a file that has grown since" 0 "$(cat wanted)" "" "$search" parts7 7 "${words[@]}"
 truncate -s -1 'disc image'
 for kind in marked plain; do
-    "$search" parts/$kind 7 "${words[@]}" > found 2> told
-    if [ $? -eq 0 ] && cmp -s found wanted && [ "$(wc -l < told)" -eq 1 ]; then
+    if "$search" parts/$kind 7 "${words[@]}" > found 2> told && cmp -s found wanted && [ "$(wc -l < told)" -eq 1 ]; then
         echo "ok: a search in parts goes on from a $kind cursor"
     else
         fails "a search from a $kind cursor: $(cmp found wanted 2>&1), $(cat told)"

@@ -11,8 +11,8 @@ places=$({
 /usr/share/fish/vendor_completions.d/$name.fish
 /usr/share/man/man1/$name.1"
     done
-    cd "$top/examples" && ls | sed 's|^|/usr/share/doc/parv/examples/|'
-    cd "$top/commands/parv_commands" && ls ./*.py | sed 's|^.|/usr/lib/parv/parv_commands|'
+    cd "$top/examples" && printf '/usr/share/doc/parv/examples/%s\n' *
+    cd "$top/commands/parv_commands" && printf '/usr/lib/parv/parv_commands/%s\n' *.py
     echo "/usr/share/doc/parv/FORMATS.md
 /usr/share/doc/parv/GLOSSARY.md"
     echo /usr/share/zsh/site-functions/_parv

@@ -22,8 +22,7 @@ for page in "${pages[@]}"; do
         echo "not run: there is no mandoc"
     fi
     if command -v man > /dev/null; then
-        MANWIDTH=80 man --warnings -E UTF-8 -l "$page" 2> said > text
-        if [ $? -eq 0 ] && [ ! -s said ] && grep -q '^EXIT STATUS' text; then
+        if MANWIDTH=80 man --warnings -E UTF-8 -l "$page" 2> said > text && [ ! -s said ] && grep -q '^EXIT STATUS' text; then
             echo "ok: man --warnings is silent: ${page##*/}"
         else
             fails "man --warnings: ${page##*/}: $(head -c 600 said)"
@@ -52,7 +51,7 @@ page=$top/docs/parv.1
 for word in --set -B --base --limit --cursor --tails -q; do
     grep -q "^\.It.* Fl ${word#-}\b" "$page" || fails "the page has no $word"
 done
-grep -o '`parv: [^`]*`' "$top/docs/FORMATS.md" | tr -d '`\\' | sed 's/ <[A-Za-z]*>$//' > messages
+grep -o '`parv: [^`]*`' "$top/docs/FORMATS.md" | tr -d '\140\134' | sed 's/ <[A-Za-z]*>$//' > messages
 while IFS= read -r message; do
     grep -qF "It \"$message" "$page" || fails "the page has no '$message'"
 done < messages

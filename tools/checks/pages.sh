@@ -13,7 +13,7 @@ awk '/^    \$ parv verify/ { here = 1 } here && !/^    / { exit } here { sub(/^ 
 words=$(sed -n '1s/^\$ parv //p' example)
 cd "$top/demo" || exit 1
 [ "$(wc -l < "$work/example")" -ge 7 ] || fails "README has no example"
-# shellcheck disable=SC2086
+# shellcheck disable=SC2086 # (these are words)
 wants "the example of README" 1 "$(sed 1d "$work/example")" "" "$parv" $words
 
 # Its calls of parv and of commands, each in a folder with what it names: how it ends, and its last line.

@@ -14,7 +14,7 @@ help=$(awk 'NR > 1 { if (!/^#/) exit; sub(/^# ?/, ""); print }' "$script")
 for word in 3 6; do grep -q "^  $word  [a-z]" <<< "$help" || fails "its help has no $word"; done
 for word in -h --help; do wants "its help by $word" 0 "$help" "" "$script" $word; done
 for words in '' 'set' 'packets demo.par2' '-q verify'; do
-    # shellcheck disable=SC2086
+    # shellcheck disable=SC2086 # (these are words)
     wants "wrong words: $words" 3 "" "$usage" "$script" $words
 done
 mkdir path

@@ -79,7 +79,7 @@ rm linked/3 linked/[4-9]
 ln -sf "$work/room/elsewhere/thesis" linked/new
 whole "a link \`new\` among parts" linked 5
 [ "$(cat room/elsewhere/thesis)" = 'my thesis' ] || fails "what a link leads to is written"
-[ -f linked/3 ] && [ ! -L linked/3 ] || fails "a part is a link"
+{ [ -f linked/3 ] && [ ! -L linked/3 ]; } || fails "a part is a link"
 
 # What a loss of power leaves of a part: nothing, a beginning of a line, or whole lines.
 last=$(find empty -name '[0-9]*' | wc -l)
@@ -87,11 +87,11 @@ for part in 1 3 "$last"; do
     for length in 0 5 200 -1; do
         rm -rf cut
         cp -r empty cut
-        truncate -s "$([ $length -ge 0 ] && echo $length || echo $(($(stat -c %s "empty/$part") - 1)))" cut/$part
+        truncate -s "$([ $length -ge 0 ] && echo $length || echo $(($(stat -c %s "empty/$part") - 1)))" "cut/$part"
         whole "part $part is cut to $length bytes" cut 5
         # Once more, with parts that were longer than those before.
         cp -r empty/. cut
-        truncate -s "$([ $length -ge 0 ] && echo $length || echo $(($(stat -c %s "empty/$part") - 1)))" cut/$part
+        truncate -s "$([ $length -ge 0 ] && echo $length || echo $(($(stat -c %s "empty/$part") - 1)))" "cut/$part"
         whole "part $part is cut to $length bytes, and parts are longer then" cut 11
         whole "once more, and all is there" cut 11
     done
@@ -187,7 +187,11 @@ for program in true echo false; do
 done
 "${search[@]}" full 5 "${words[@]}" > /dev/full 2> told
 status=$?
-[ $status -eq 6 ] && echo "ok: a full device" || fails "a full device: status $status, $(cat told)"
+if [ $status -eq 6 ]; then
+    echo "ok: a full device"
+else
+    fails "a full device: status $status, $(cat told)"
+fi
 limited 0 "${search[@]}" none 5 "${words[@]}" > found 2> told
 status=$?
 if [ $status -eq 6 ] && [ ! -s found ]; then

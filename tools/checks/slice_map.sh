@@ -90,16 +90,16 @@ wants "the name of -B ends in a slash" 0 "$(sed 's/2 moved/2 in place/; s/++/##/
 "$tools/make/rescue_sets.py" . || exit 1
 cd repeated || exit 1
 for tails in "" --tails; do
-    # shellcheck disable=SC2086
+    # shellcheck disable=SC2086 # (these are words)
     maps "slices that are seen again and again${tails:+, with $tails}" $tails ../repeated.par2 ../repeated.img
-    # shellcheck disable=SC2086
+    # shellcheck disable=SC2086 # (these are words)
     maps "slices that are in place, and others that are the same${tails:+, with $tails}" $tails ../repeated.par2 \
         zeros ones odd begins no_sums
 done
 truncate -s -50 zeros
 truncate -s 1948 ends
 for tails in "" --tails; do
-    # shellcheck disable=SC2086
+    # shellcheck disable=SC2086 # (these are words)
     maps "slices of zeros that aren't inside${tails:+, with $tails}" $tails ../repeated.par2 zeros ends
 done
 mv no_sums renamed
@@ -146,7 +146,7 @@ ${legend//  /$'\n'}
 5 in place, 2 moved, 31 missing; need 31 have 0" "" "$map" --width 2 "${wide[@]}"
 for columns in 7 30 79; do
     for words in "--width $columns" ""; do
-        # shellcheck disable=SC2086
+        # shellcheck disable=SC2086 # (these are words)
         if COLUMNS=$columns "$map" $words "${wide[@]}" | sed '1,/^$/d; $d' | awk -v n=$columns 'length > n { exit 1 }'
         then
             echo "ok: no line of a file is longer than $columns${words:+, by --width}"
@@ -227,7 +227,7 @@ if cmp drawing.svg "$top/docs/slice_map.svg"; then
 else
     fails "the drawing isn't that of docs/"
 fi
-python3 "$tools/checks/slice_map_read.py" > read || fails "the page or the drawing can't be read"
+python3 "$tools/checks/slice_map_read.py" > "read" || fails "the page or the drawing can't be read"
 for text in 38 "harbour.raw: 12 moved" "slice 3: moved, in ./port.raw at 3072" "slices 0 to 11 in ./port.raw from 0" \
     "slice 1: missing" "slice 0: in place" "24 in place, 12 moved, 2 missing; need 2 have 1"; do
     grep -qxF "$text" read || fails "neither page nor drawing has $text"
@@ -242,7 +242,7 @@ for file in mine link broken; do
         wants "--$kind where $file is" 6 "" "$me: $file is there already" "$map" --$kind $file photos.par2 beach.raw
     done
 done
-[ "$(cat mine)" = mine ] && [ ! -e none ] && [ -L link ] || fails "something was written over"
+{ [ "$(cat mine)" = mine ] && [ ! -e none ] && [ -L link ]; } || fails "something was written over"
 wants "a folder that isn't there" 6 "$("$map" photos.par2)" "$me: cannot write none/page.html: No such file or directory" \
     "$map" --html none/page.html photos.par2
 
@@ -253,7 +253,7 @@ cd odd || exit 1
 timeout 60 "$map" --html ../page.html --svg ../drawing.svg ../odd.par2 a* $'\e[31mred\n' > ../text 2> ../line
 status=$?
 cd .. || exit 1
-python3 "$tools/checks/slice_map_read.py" > read || fails "the page or the drawing with odd names can't be read"
+python3 "$tools/checks/slice_map_read.py" > "read" || fails "the page or the drawing with odd names can't be read"
 if [ $status -eq 0 ] && [ ! -s line ] && ! grep -q "$(printf '\033')" text page.html drawing.svg \
     && ! grep -q '<script' page.html drawing.svg && grep -q '^\\x1b\[31mred\\x0a: [0-9]* in place; up to 2 slices a sign$' text \
     && grep -qF 'a&b"c".bin: ' read; then
