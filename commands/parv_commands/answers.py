@@ -114,14 +114,16 @@ def read_set(text: bytes) -> SetAnswer:
     return SetAnswer(lines[0], head[1], int(head[2]), files, have, frozenset(aside))
 
 
+def read_packet(line: str) -> PacketLine:
+    packet = _PACKET.fullmatch(line)
+    if packet is None:
+        raise NoAnswer("packets")
+    return PacketLine(packet[1], int(packet[2]), int(packet[3]), packet[4], packet[5])
+
+
 def read_packets(text: bytes) -> List[PacketLine]:
     lines = lines_of(text, "packets")
-    found: List[PacketLine] = []
-    for line in lines[:-1]:
-        packet = _PACKET.fullmatch(line)
-        if packet is None:
-            raise NoAnswer("packets")
-        found.append(PacketLine(packet[1], int(packet[2]), int(packet[3]), packet[4], packet[5]))
+    found = [read_packet(line) for line in lines[:-1]]
     if lines[-1] != f"packets {len(found)}":
         raise NoAnswer("packets")
     return found

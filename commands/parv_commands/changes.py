@@ -151,6 +151,12 @@ def move(place: int, name: bytes, new_place: int, new_name: bytes) -> None:
         raise OSError(fault, os.strerror(fault))
 
 
+def replace(place: int, name: bytes, new_name: bytes) -> None:
+    """Gives a file a name in the same folder, and takes it from the file that has it: at each moment one of them has."""
+    with _change("rename"):
+        os.replace(name, new_name, src_dir_fd=place, dst_dir_fd=place)
+
+
 def _move_by_link(place: int, name: bytes, new_place: int, new_name: bytes) -> None:
     """The same on a file system that can't do it in one call: the file has both names in between."""
     with _change("link"):

@@ -45,25 +45,32 @@ def _clear(folder: Folder) -> None:
 
 
 @contextlib.contextmanager
+def folder_within(above: Folder) -> Iterator[Folder]:
+    """A new folder for temporary files, which goes once it isn't used any more."""
+    name = f"parv-{secrets.token_hex(8)}".encode()
+    with faults_of("make a temporary folder in", above.shown):
+        changes.make_folder(above.place, name, 0o700)
+    try:
+        with faults_of("open", above.shown):
+            folder = above.inner(name)
+        try:
+            yield folder
+        finally:
+            with contextlib.suppress(OSError):
+                _clear(folder)
+            folder.close()
+    finally:
+        with contextlib.suppress(OSError):
+            changes.remove_folder(above.place, name)
+
+
+@contextlib.contextmanager
 def temporary_folder() -> Iterator[Folder]:
     """A folder for temporary files, which goes however the command is ended."""
     above = Folder.opened(os.fsencode(os.path.abspath(os.environ.get("TMPDIR") or "/tmp")))
     try:
-        name = f"parv-{secrets.token_hex(8)}".encode()
-        with faults_of("make a temporary folder in", above.shown):
-            changes.make_folder(above.place, name, 0o700)
-        try:
-            with faults_of("open", above.shown):
-                folder = above.inner(name)
-            try:
-                yield folder
-            finally:
-                with contextlib.suppress(OSError):
-                    _clear(folder)
-                folder.close()
-        finally:
-            with contextlib.suppress(OSError):
-                changes.remove_folder(above.place, name)
+        with folder_within(above) as folder:
+            yield folder
     finally:
         above.close()
 

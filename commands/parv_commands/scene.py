@@ -34,6 +34,15 @@ class Found(NamedTuple):
     words: List[str]
 
 
+def preferred(there: Dict[bytes, Identity], members: Set[bytes], lengths: Set[int]) -> List[bytes]:
+    """The files of a folder in the order in which they are looked at if there are too many: those with names of the set,
+    then those with a length of one of its files, then the longest."""
+    def order(path: bytes) -> Tuple[bool, bool, int]:
+        length = there[path].length or 0
+        return path not in members, length not in lengths, -length
+    return sorted(there, key=order)
+
+
 class Scene:
     """A folder, and what parv has said of it."""
 
@@ -114,20 +123,14 @@ class Scene:
         return sorted(path for path in found if not path or self.folder.is_folder(path[:-1]))
 
     def to_scan(self, found: Found) -> List[bytes]:
-        """As many of the files as parv takes: first those with names of the set, then those with a length of one of its
-        files, then the longest."""
+        """As many of the files as parv takes."""
         room = min(MOST_FILES, self.most_open - SPARE_FILES) - len(found.words)
         if len(self.there) <= room:
             return list(self.there)
-        members = {file.name for file in found.set.files}
-        lengths = {file.length for file in found.set.files}
-
-        def order(path: bytes) -> Tuple[bool, bool, int]:
-            length = self.there[path].length or 0
-            return path not in members, length not in lengths, -length
         room = max(room, 0)
         self.say(f"{len(self.there) - room} of {len(self.there)} files aren't looked at: parv takes {room} here")
-        return sorted(self.there, key=order)[:room]
+        return preferred(self.there, {file.name for file in found.set.files},
+                         {file.length for file in found.set.files})[:room]
 
     def look(self, found: Found, paths: Sequence[bytes], tails: bool = False) -> Looked:
         """What parv says of files of the folder."""

@@ -1,0 +1,143 @@
+"""Runs of a program side by side, in one process: a job asks for a run, and goes on with its answer."""
+
+from __future__ import annotations
+
+import collections
+import contextlib
+import os
+import selectors
+import time
+from typing import IO, Callable, Deque, Generator, List, NamedTuple, Optional, Sequence, Tuple, Union
+
+from . import progress
+from .faults import FILES, Fault
+from .programs import MOST_OUTPUT, MOST_SAID, PIECE, Answer, Program, running
+from .signals import interruptible
+
+_SOON = 0.01        # seconds after which it is asked again whether a program has ended that writes nothing any more
+
+
+class Call(NamedTuple):
+    """A run that a job asks for: the words, the folder in which it runs, and the folders that are kept open for it.
+    `takes` gets what it writes on standard output as it comes; without it, all of that is in the answer."""
+    words: Sequence[bytes]
+    place: int
+    kept: Tuple[int, ...]
+    takes: Optional[Callable[[bytes], None]] = None
+
+
+Job = Generator[Call, Answer, None]
+
+
+class _Run:
+    """A run, and the job that waits for its end."""
+
+    def __init__(self, program: Program, call: Call, job: Job) -> None:
+        self.program, self.job = program, job
+        self.out, self.said = bytearray(), bytearray()
+        self.takes = call.takes or self._keep
+        self.read = 0
+        self.stack = contextlib.ExitStack()
+        self.process = self.stack.enter_context(running(program, call.words, call.place, call.kept))
+        assert self.process.stdout is not None and self.process.stderr is not None
+        self.pipes: List[IO[bytes]] = [self.process.stdout, self.process.stderr]
+
+    def _keep(self, piece: bytes) -> None:
+        self.out += piece
+        if len(self.out) > MOST_OUTPUT:
+            raise Fault(FILES, f"{self.program.shown} writes more than an answer has")
+
+    def take(self, pipe: IO[bytes], piece: bytes) -> None:
+        """Takes a piece of what it writes on one of its outputs."""
+        if pipe is self.process.stdout:
+            self.takes(piece)
+        elif len(self.said) < MOST_SAID:
+            self.said += piece
+
+
+class Pool:
+    """As many runs of a program as may be at once. Jobs begin in the order in which they wait; one that goes on may have
+    others wait, before all or after them."""
+
+    def __init__(self, program: Program, most: int) -> None:
+        self.program, self.most = program, most
+        self.waiting: Deque[Job] = collections.deque()
+        self._runs: List[_Run] = []
+        self._pipes = selectors.DefaultSelector()
+        self._read, self._shown = 0, 0.0
+
+    def run(self, each: Callable[[], None]) -> None:
+        """Runs all jobs to their ends. `each` is called whenever some have gone on."""
+        try:
+            while self._runs or self.waiting:
+                while self.waiting and len(self._runs) < self.most:
+                    job = self.waiting.popleft()
+                    self._advance(job, job.__next__)
+                each()
+                if self._runs:
+                    self._wait()
+        finally:
+            for run in self._runs:
+                run.stack.close()
+                run.job.close()
+            self._pipes.close()
+
+    def _advance(self, job: Job, go_on: Callable[[], Call]) -> None:
+        """Has a job go on until it asks for a run, which is begun, or ends."""
+        try:
+            call = go_on()
+            while True:
+                try:
+                    run = _Run(self.program, call, job)
+                    break
+                except Fault as fault:
+                    call = job.throw(fault)
+        except StopIteration:
+            return
+        self._runs.append(run)
+        for pipe in run.pipes:
+            os.set_blocking(pipe.fileno(), False)
+            self._pipes.register(pipe, selectors.EVENT_READ, run)
+
+    def _wait(self) -> None:
+        """Waits until something is written or has ended, and has the jobs of what has ended go on."""
+        ready: List[Tuple[selectors.SelectorKey, int]] = []
+        with interruptible():
+            ready = self._pipes.select(progress.EACH if all(run.pipes for run in self._runs) else _SOON)
+        for key, _ in ready:
+            if key.data in self._runs:
+                self._take(key.data, key.fileobj)       # type: ignore[arg-type]
+        for run in list(self._runs):
+            status = None if run.pipes else run.process.poll()
+            if status is not None:
+                self._go_on(run, Answer(status, bytes(run.out), bytes(run.said)))
+        self._show()
+
+    def _take(self, run: _Run, pipe: IO[bytes]) -> None:
+        piece = os.read(pipe.fileno(), PIECE)
+        if not piece:
+            self._pipes.unregister(pipe)
+            run.pipes.remove(pipe)
+            return
+        try:
+            run.take(pipe, piece)
+        except Fault as fault:
+            self._go_on(run, fault)
+
+    def _go_on(self, run: _Run, end: Union[Answer, Fault]) -> None:
+        """Ends a run, and has its job go on with the answer or the fault."""
+        for pipe in run.pipes:
+            self._pipes.unregister(pipe)
+        self._runs.remove(run)
+        self._read += run.read
+        run.stack.close()
+        job = run.job
+        self._advance(job, lambda: job.throw(end) if isinstance(end, Fault) else job.send(end))
+
+    def _show(self) -> None:
+        """Tells on a terminal how much all runs have read."""
+        if time.monotonic() - self._shown >= progress.EACH:
+            for run in self._runs:
+                run.read = max(run.read, progress.read_by(run.process.pid))
+            progress.show(self._read + sum(run.read for run in self._runs))
+            self._shown = time.monotonic()

@@ -1,0 +1,143 @@
+"""Verifying a set where it is, by jobs that ask for runs of parv: which files of its folder it is verified with, and
+whether each file of it is there under its own name."""
+
+from __future__ import annotations
+
+import contextlib
+import stat
+from typing import Callable, Dict, Generator, Iterator, List, NamedTuple, Optional, Sequence
+
+from . import answers, names
+from .answers import SetAnswer, Verdict
+from .beside import Call
+from .faults import POSSIBLE, faults_of
+from .folders import Folder, Identity, identity_of
+from .names import shown
+from .parv import MOST_FILES, SPARE_FILES, Links, Parv, path_below
+from .plan import is_same
+from .programs import Answer
+from .scene import preferred
+
+Sayer = Callable[[str], None]
+
+
+class Checked(NamedTuple):
+    """A verdict with the status that the files have under their own names."""
+    status: int
+    need: int
+    have: int
+
+
+class Ways:
+    """What is at names below a folder, and on the ways to them; each part is looked at once."""
+
+    def __init__(self, folder: Folder) -> None:
+        self.folder = folder
+        self._kinds: Dict[bytes, int] = {}
+
+    def kind(self, path: bytes) -> int:
+        """The kind of what is at a path, or 0 if nothing is."""
+        if path not in self._kinds:
+            now = self.folder.look(path)
+            self._kinds[path] = 0 if now is None else stat.S_IFMT(now.st_mode)
+        return self._kinds[path]
+
+    def is_clear(self, name: bytes) -> bool:
+        """Whether no link is at a name, nor on the way to it."""
+        at = name.find(b"/")
+        while at >= 0:
+            kind = self.kind(name[:at])
+            if kind != stat.S_IFDIR:
+                return kind != stat.S_IFLNK
+            at = name.find(b"/", at + 1)
+        return self.kind(name) != stat.S_IFLNK
+
+
+def folders_of(folder: Folder, found: SetAnswer, say: Sayer) -> List[bytes]:
+    """The folders in which the files of a set may be, each with a slash after it, and the folder itself as nothing; it says
+    of which names nothing is read."""
+    ways, chosen = Ways(folder), {b""}
+    for file in found.files:
+        if not names.is_plain(file.name):
+            say(f"the name {file.shown} is refused: it is no plain path below the folder")
+        elif not ways.is_clear(file.name):
+            say(f"{file.shown} is a link, or behind one, and isn't read")
+        elif b"/" in file.name:
+            above = file.name.rpartition(b"/")[0]
+            if ways.kind(above) == stat.S_IFDIR:
+                chosen.add(above + b"/")
+    return sorted(chosen)
+
+
+def files_there(folder: Folder, found: SetAnswer, folders: Sequence[bytes]) -> Dict[bytes, Identity]:
+    """The files in these folders, except packet files that the set hasn't."""
+    members = {file.name for file in found.files}
+    there: Dict[bytes, Identity] = {}
+    for path in folders:
+        with faults_of("open", shown(path[:-1]) or folder.shown):
+            inner = folder.inner(path[:-1] or b".")
+        with contextlib.closing(inner):
+            for name, now in inner.entries().items():
+                if stat.S_ISREG(now.st_mode) and (path + name in members or not names.is_packet_file(name)):
+                    there[path + name] = identity_of(now)
+    return there
+
+
+def is_complete(folder: Folder, found: SetAnswer, sources: Sequence[Optional[bytes]],
+                there: Dict[bytes, Identity]) -> bool:
+    """Whether each file of a set is at its name: of several files with its content parv names the first."""
+    if any(source is None or file.name not in there for file, source in zip(found.files, sources)):
+        return False
+    return all(source == file.name or is_same(folder, file.name, source or b"")
+               for file, source in zip(found.files, sources))
+
+
+class Looking:
+    """The runs of parv over a folder."""
+
+    def __init__(self, parv: Parv, folder: Folder, say: Sayer) -> None:
+        self.parv, self.folder, self.say = parv, folder, say
+
+    def word_of(self, path: bytes, is_packet_file: bool = False) -> str:
+        return self.parv.links.word(path_below(self.folder, path), shown(path), is_packet_file)
+
+    def call(self, command: str, words: Sequence[str], takes: Optional[Callable[[bytes], None]] = None) -> Call:
+        links = self.parv.links
+        return Call([word.encode() for word in (command, *words)], links.folder.place, links.kept, takes)
+
+    def ask(self, command: str, words: Sequence[str], statuses: Sequence[int]) -> Generator[Call, Answer, Answer]:
+        """The answer of a run, which ends with one of these statuses or a fault."""
+        ended = yield self.call(command, words)
+        if ended.status not in statuses:
+            raise self.parv.fault_of(ended.status, ended.said, command)
+        return ended
+
+    def check(self, owner: str, packet_files: Sequence[bytes], tails: bool,
+              most_open: int) -> Generator[Call, Answer, Checked]:
+        """Verifies the set of an ID, which these packet files have."""
+        packet_words = [self.word_of(name, True) for name in packet_files]
+        found = answers.read_set((yield from self.ask("set", ["--set", owner, "--", *packet_words], (0,))).out)
+        there = files_there(self.folder, found, folders_of(self.folder, found, self.say))
+        paths = self._to_scan(found, there, min(MOST_FILES, most_open - SPARE_FILES) - len(packet_words))
+        words = {self.word_of(path): path for path in paths}
+        ended = yield from self.ask(
+            "verify", [*(["--tails"] if tails else []), "--set", owner, "--", *packet_words, *words], (0, 1, 2))
+        verdict = answers.read_verdict(ended.out, ended.status, found)
+        sources = list(self._sources(verdict, words))
+        status = 0 if is_complete(self.folder, found, sources, there) else max(verdict.status, POSSIBLE)
+        return Checked(status, verdict.need, verdict.have)
+
+    def _to_scan(self, found: SetAnswer, there: Dict[bytes, Identity], room: int) -> List[bytes]:
+        """As many of the files as parv takes."""
+        if len(there) <= room:
+            return list(there)
+        room = max(room, 0)
+        self.say(f"{len(there) - room} of {len(there)} files aren't looked at: parv takes {room} here")
+        return preferred(there, {file.name for file in found.files}, {file.length for file in found.files})[:room]
+
+    def _sources(self, verdict: Verdict, words: Dict[str, bytes]) -> Iterator[Optional[bytes]]:
+        """The path of a file with the content of each file of the set, if there is one."""
+        for state in verdict.states:
+            if state.word is not None and state.word not in words:
+                raise answers.NoAnswer("verify")
+            yield None if state.word is None else words[state.word]

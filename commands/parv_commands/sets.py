@@ -1,0 +1,101 @@
+"""Which sets the packet files of a folder have, by their packets, and what these sets are called."""
+
+from __future__ import annotations
+
+import hashlib
+import re
+from typing import Dict, Iterable, List, Optional, Set
+
+from .answers import NoAnswer, PacketLine, read_packet
+from .packets import HEADER, PacketFiles
+
+NO_MAIN = "no usable set: no main"
+_MOST_BODY = 1 << 20        # bytes of a Main packet that parv reads, and what it may say
+_MOST_SIZE = 1 << 28
+_MOST_IDS = 32_768
+_LONGEST_LINE = 4096
+_VOLUME = re.compile(rb"(.+)\.vol[0-9]+[-+][0-9]+", re.IGNORECASE | re.DOTALL)
+
+
+def called(name: bytes) -> bytes:
+    """What a packet file is called without `.par2`, and without `.vol0+1` or the like before it."""
+    front = name[:-5]
+    volume = _VOLUME.fullmatch(front)
+    return volume[1] if volume else front
+
+
+class Listed:
+    """The answer of `parv packets`, read as it comes: the IDs of the sets of which a packet file has packets, in the order
+    of these, by its word; the Main packets by the ID of their set; and which sets have descriptions of files."""
+
+    def __init__(self, words: Iterable[str]) -> None:
+        self.ids: Dict[str, Dict[str, None]] = {word: {} for word in words}
+        self.mains: Dict[str, List[PacketLine]] = {}
+        self.described: Set[str] = set()
+        self._rest = b""
+        self._count = 0
+        self._is_whole = False
+
+    def take(self, piece: bytes) -> None:
+        *lines, self._rest = (self._rest + piece).split(b"\n")
+        for line in lines:
+            self._line(line)
+        if len(self._rest) > _LONGEST_LINE:
+            raise NoAnswer("packets")
+
+    def _line(self, line: bytes) -> None:
+        if self._is_whole:
+            raise NoAnswer("packets")
+        if line == b"packets %d" % self._count:
+            self._is_whole = True
+            return
+        packet = read_packet(line.decode("ascii", "replace"))
+        if packet.word not in self.ids:
+            raise NoAnswer("packets")
+        self._count += 1
+        self.ids[packet.word][packet.set] = None
+        if packet.kind == "main":
+            self.mains.setdefault(packet.set, []).append(packet)
+        elif packet.kind == "filedesc":
+            self.described.add(packet.set)
+
+    def end(self) -> None:
+        """Sees that the answer has come to its end."""
+        if self._rest or not self._is_whole:
+            raise NoAnswer("packets")
+
+    def add(self, other: Listed) -> None:
+        """Takes in what was read of other files."""
+        self.ids.update(other.ids)
+        self.described |= other.described
+        for owner, lines in other.mains.items():
+            self.mains.setdefault(owner, []).extend(lines)
+
+    def why_none(self, owner: str, files: PacketFiles) -> Optional[str]:
+        """Why the packets of an ID are no set, in the words of parv, if they have no Main packet or no description. Of
+        others only parv knows."""
+        mains = self.mains.get(owner, [])
+        if not mains:
+            return NO_MAIN
+        if owner in self.described:
+            return None
+        for line in mains:
+            body = files.read(line)[HEADER:] if line.length - HEADER <= _MOST_BODY else b""
+            if _is_usable(body, owner):
+                first = _ids_of(body)[:int.from_bytes(body[8:12], "little")]
+                least = min(first, key=lambda each: each[::-1], default=None)
+                return None if least is None else f"no usable set: no description of {least.hex()}"
+        return NO_MAIN
+
+
+def _ids_of(main: bytes) -> List[bytes]:
+    return [main[at:at + 16] for at in range(12, len(main), 16)]
+
+
+def _is_usable(main: bytes, owner: str) -> bool:
+    """Whether parv takes a Main packet with this body for that of a set."""
+    if len(main) < 12 or (len(main) - 12) % 16:
+        return False
+    ids, size = _ids_of(main), int.from_bytes(main[:8], "little")
+    return (int.from_bytes(main[8:12], "little") <= len(ids) <= _MOST_IDS and len(set(ids)) == len(ids)
+            and 0 < size <= _MOST_SIZE and size % 4 == 0 and hashlib.md5(main).hexdigest() == owner)
