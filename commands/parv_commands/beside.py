@@ -56,8 +56,8 @@ class _Run:
 
 
 class Pool:
-    """As many runs of a program as may be at once. Jobs begin in the order in which they wait; one that goes on may have
-    others wait, before all or after them."""
+    """As many runs of a program as may be at once. Jobs begin in the order in which they wait; one that goes on may
+    have others wait, before all or after them."""
 
     def __init__(self, program: Program, most: int) -> None:
         self.program, self.most = program, most

@@ -152,7 +152,7 @@ def move(place: int, name: bytes, new_place: int, new_name: bytes) -> None:
 
 
 def replace(place: int, name: bytes, new_name: bytes) -> None:
-    """Gives a file a name in the same folder, and takes it from the file that has it: at each moment one of them has."""
+    """Gives a file a name in the same folder, and takes it from the file that has it: at each moment one has it."""
     with _change("rename"):
         os.replace(name, new_name, src_dir_fd=place, dst_dir_fd=place)
 

@@ -4,10 +4,11 @@ whether each file of it is there under its own name."""
 from __future__ import annotations
 
 import contextlib
+import os
 import stat
 from typing import Callable, Dict, Generator, Iterator, List, NamedTuple, Optional, Sequence
 
-from . import answers, names
+from . import answers, changes, names
 from .answers import SetAnswer, Verdict
 from .beside import Call
 from .faults import POSSIBLE, faults_of
@@ -18,6 +19,9 @@ from .plan import is_same
 from .programs import Answer
 from .scene import preferred
 
+HERE = b"f"             # the link to the folder
+PLACE = 9               # bytes that a word takes on a command line beside its own
+PART_OF_ROOM = 4        # of the room of a command line words of paths take a fourth at most: short ones are to fit too
 Sayer = Callable[[str], None]
 
 
@@ -54,8 +58,8 @@ class Ways:
 
 
 def folders_of(folder: Folder, found: SetAnswer, say: Sayer) -> List[bytes]:
-    """The folders in which the files of a set may be, each with a slash after it, and the folder itself as nothing; it says
-    of which names nothing is read."""
+    """The folders in which the files of a set may be, each with a slash after it, and the folder itself as nothing. Of
+    names at which nothing is read it says so."""
     ways, chosen = Ways(folder), {b""}
     for file in found.files:
         if not names.is_plain(file.name):
@@ -93,13 +97,26 @@ def is_complete(folder: Folder, found: SetAnswer, sources: Sequence[Optional[byt
 
 
 class Looking:
-    """The runs of parv over a folder."""
+    """The runs of parv over a folder. A file has its path after that of one link to the folder as its word. It gets a
+    link of its own if parv wouldn't take that word for what it is, or if a command line has no room for all of them."""
 
     def __init__(self, parv: Parv, folder: Folder, say: Sayer) -> None:
         self.parv, self.folder, self.say = parv, folder, say
+        self.paths: Dict[str, bytes] = {}       # of the files by their words, as these are shown
+        self._room = os.sysconf("SC_ARG_MAX") // PART_OF_ROOM
+        with faults_of("make a link in", parv.links.folder.shown):
+            changes.make_link(parv.links.folder.place, HERE, path_below(folder, b"."))
 
     def word_of(self, path: bytes, is_packet_file: bool = False) -> str:
-        return self.parv.links.word(path_below(self.folder, path), shown(path), is_packet_file)
+        """The word for a file."""
+        word = b"%s/%s" % (HERE, path)
+        if len(word) + PLACE <= self._room and names.is_packet_file(path) == is_packet_file and _is_text(word):
+            self._room -= len(word) + PLACE
+            self.parv.links.shown[shown(word)] = shown(path)
+        else:
+            word = self.parv.links.word(path_below(self.folder, path), shown(path), is_packet_file).encode()
+        self.paths[shown(word)] = path
+        return word.decode()
 
     def call(self, command: str, words: Sequence[str], takes: Optional[Callable[[bytes], None]] = None) -> Call:
         links = self.parv.links
@@ -119,11 +136,11 @@ class Looking:
         found = answers.read_set((yield from self.ask("set", ["--set", owner, "--", *packet_words], (0,))).out)
         there = files_there(self.folder, found, folders_of(self.folder, found, self.say))
         paths = self._to_scan(found, there, min(MOST_FILES, most_open - SPARE_FILES) - len(packet_words))
-        words = {self.word_of(path): path for path in paths}
+        words = [self.word_of(path) for path in paths]
         ended = yield from self.ask(
             "verify", [*(["--tails"] if tails else []), "--set", owner, "--", *packet_words, *words], (0, 1, 2))
         verdict = answers.read_verdict(ended.out, ended.status, found)
-        sources = list(self._sources(verdict, words))
+        sources = list(self._sources(verdict))
         status = 0 if is_complete(self.folder, found, sources, there) else max(verdict.status, POSSIBLE)
         return Checked(status, verdict.need, verdict.have)
 
@@ -135,9 +152,17 @@ class Looking:
         self.say(f"{len(there) - room} of {len(there)} files aren't looked at: parv takes {room} here")
         return preferred(there, {file.name for file in found.files}, {file.length for file in found.files})[:room]
 
-    def _sources(self, verdict: Verdict, words: Dict[str, bytes]) -> Iterator[Optional[bytes]]:
+    def _sources(self, verdict: Verdict) -> Iterator[Optional[bytes]]:
         """The path of a file with the content of each file of the set, if there is one."""
         for state in verdict.states:
-            if state.word is not None and state.word not in words:
+            if state.word is not None and state.word not in self.paths:
                 raise answers.NoAnswer("verify")
-            yield None if state.word is None else words[state.word]
+            yield None if state.word is None else self.paths[state.word]
+
+
+def _is_text(word: bytes) -> bool:
+    try:
+        word.decode()
+    except UnicodeDecodeError:
+        return False
+    return True

@@ -35,8 +35,8 @@ class Found(NamedTuple):
 
 
 def preferred(there: Dict[bytes, Identity], members: Set[bytes], lengths: Set[int]) -> List[bytes]:
-    """The files of a folder in the order in which they are looked at if there are too many: those with names of the set,
-    then those with a length of one of its files, then the longest."""
+    """The files of a folder in the order in which they are looked at if there are too many: those with names of the
+    set, then those with a length of one of its files, then the longest."""
     def order(path: bytes) -> Tuple[bool, bool, int]:
         length = there[path].length or 0
         return path not in members, length not in lengths, -length

@@ -4,7 +4,7 @@ from __future__ import annotations
 
 import hashlib
 import re
-from typing import Dict, Iterable, List, Optional, Set
+from typing import Dict, Iterable, List, Mapping, Optional, Set
 
 from .answers import NoAnswer, PacketLine, read_packet
 from .packets import HEADER, PacketFiles
@@ -25,13 +25,15 @@ def called(name: bytes) -> bytes:
 
 
 class Listed:
-    """The answer of `parv packets`, read as it comes: the IDs of the sets of which a packet file has packets, in the order
-    of these, by its word; the Main packets by the ID of their set; and which sets have descriptions of files."""
+    """The answer of `parv packets`, read as it comes: the IDs of the sets of which each packet file has packets, in the
+    order of these; the Main packets by the ID of their set; and which sets have descriptions of files. `paths` has the
+    packet files by their words, as parv shows these."""
 
-    def __init__(self, words: Iterable[str]) -> None:
-        self.ids: Dict[str, Dict[str, None]] = {word: {} for word in words}
+    def __init__(self, paths: Mapping[str, bytes], packet_files: Iterable[bytes]) -> None:
+        self.ids: Dict[bytes, Dict[str, None]] = {path: {} for path in packet_files}
         self.mains: Dict[str, List[PacketLine]] = {}
         self.described: Set[str] = set()
+        self._paths = paths
         self._rest = b""
         self._count = 0
         self._is_whole = False
@@ -50,10 +52,11 @@ class Listed:
             self._is_whole = True
             return
         packet = read_packet(line.decode("ascii", "replace"))
-        if packet.word not in self.ids:
+        path = self._paths.get(packet.word)
+        if path not in self.ids:
             raise NoAnswer("packets")
         self._count += 1
-        self.ids[packet.word][packet.set] = None
+        self.ids[path][packet.set] = None
         if packet.kind == "main":
             self.mains.setdefault(packet.set, []).append(packet)
         elif packet.kind == "filedesc":

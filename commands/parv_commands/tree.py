@@ -89,7 +89,7 @@ class Asked(NamedTuple):
 
 
 class Place:
-    """A folder with packet files: its path with a slash after it or nothing, their names, the lines of its sets, as they
+    """A folder with packet files: its path with a slash after it or nothing, their names, the lines of its sets as they
     come to be known, what there is to say before each, and the faults of packet files by their names."""
 
     def __init__(self, path: bytes) -> None:
@@ -191,22 +191,20 @@ class Tree:
 
     def _list(self, place: Place) -> Job:
         """The job that finds the sets of a folder, and has them wait to be verified before all others."""
-        listed = Listed([])
-        words_of: Dict[bytes, str] = {}
+        listed = Listed({}, [])
         sets: List[OneSet] = []
         try:
             with self._looking(place, []) as look:
+                words_of = {name: look.word_of(name, True) for name in place.packet_files}
                 for at in range(0, len(place.packet_files), AT_ONCE):
-                    for name in place.packet_files[at:at + AT_ONCE]:
-                        words_of[name] = look.word_of(name, True)
                     yield from self._read(look, place, listed, place.packet_files[at:at + AT_ONCE], words_of)
-                with contextlib.closing(_packet_files(look, words_of)) as files:
-                    sets = self._sets(place, listed, words_of, files)
+                with contextlib.closing(_packet_files(look)) as files:
+                    sets = self._sets(place, listed, files)
         except (Fault, OSError) as fault:
             place.lines, place.said = [], {}
             for name in place.packet_files:
                 place.faults.setdefault(name, _fault_of(fault))
-            sets = self._sets(place, listed, words_of, None)
+            sets = self._sets(place, listed, None)
         place.is_known = True
         self.pool.waiting.extendleft(self._check(place, each) for each in reversed(sets))
 
@@ -214,7 +212,7 @@ class Tree:
               words_of: Dict[bytes, str]) -> Generator[Call, Answer, None]:
         """Lists the packets of packet files: at once, or if that fails one by one."""
         given = [words_of[name] for name in packet_files]
-        here = Listed(given)
+        here = Listed(look.paths, packet_files)
         fault: Optional[Fault] = None
         try:
             ended = yield look.call("packets", ["--", *given], here.take)
@@ -232,10 +230,9 @@ class Tree:
         if fault is not None:
             place.faults[packet_files[0]] = fault
 
-    def _sets(self, place: Place, listed: Listed, words_of: Dict[bytes, str],
-              files: Optional[PacketFiles]) -> List[OneSet]:
+    def _sets(self, place: Place, listed: Listed, files: Optional[PacketFiles]) -> List[OneSet]:
         """The sets of a folder that are to be verified. The lines of others are known then."""
-        ids = {name: listed.ids.get(words_of.get(name, ""), {}) for name in place.packet_files}
+        ids = {name: listed.ids.get(name, {}) for name in place.packet_files}
         found: Dict[str, List[bytes]] = {}
         lost: Dict[bytes, List[bytes]] = {}
         for name in place.packet_files:
@@ -357,13 +354,11 @@ class Tree:
             self._rises_to(fault.status)
 
 
-def _packet_files(look: Looking, words_of: Dict[bytes, str]) -> PacketFiles:
+def _packet_files(look: Looking) -> PacketFiles:
     """The packet files of a folder, read again."""
-    names = {word: name for name, word in words_of.items()}
-
     def opener(word: str) -> BinaryIO:
-        return open(look.folder.open_to_read(names[word]), "rb")
-    return PacketFiles(look.parv, list(names), opener)
+        return open(look.folder.open_to_read(look.paths[word]), "rb")
+    return PacketFiles(look.parv, list(look.paths), opener)
 
 
 def _fault_of(fault: Exception) -> Fault:

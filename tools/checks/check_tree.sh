@@ -1,28 +1,41 @@
 #!/usr/bin/env bash
-# examples/check_tree.sh: a line for each set of a folder, by set ID and folder, damaged ones too, and nothing read
-# by a name of a set that isn't one below its folder.
-. "$(dirname "$0")/with/wants.sh"
+# parv-tree: a line for each set of a folder, by set ID and folder, damaged ones too, and nothing read by a name of a
+# set that isn't one below its folder.
+. "$(dirname "$0")/wants.sh"
 cd "$work" || exit 1
 export LC_ALL=C
 export PARV=$parv
-script=$top/examples/check_tree.sh
+script=$top/commands/bin/parv-tree
 one_set=$tools/make/one_set.py
 demo=$top/demo
 photos=589c76e09f0580b9203c5b64963b8957
 
-usage='usage: check_tree.sh [-j N] [-q] [--tails] FOLDER'
-# Its help is its head comment, with each option at the beginning of a line, and with each exit status.
-help=$(awk 'NR > 1 { if (!/^#/) exit; sub(/^# ?/, ""); print }' "$script")
+usage='usage: parv-tree [-j N] [-q] [--tails] [--json] [--state FILE] FOLDER'
+# Its help has each option at the beginning of a line, and each exit status.
+help=$("$script" -h)
 [ "${help%%$'\n'*}" = "$usage" ] || fails "its help begins with ${help%%$'\n'*}"
-for word in -j -q --tails 0 1 2 3 4 6 8; do grep -q -- "^  $word  *[a-zN]" <<< "$help" || fails "its help has no $word"; done
-for word in -h --help; do wants "its help by $word" 0 "$help" "" "$script" $word; done
-for words in '' '--wrong tree' 'tree tree' '-j 0 tree' '-j' '-j x tree'; do
-    # shellcheck disable=SC2086 # (these are words)
-    wants "wrong words: $words" 3 "" "$usage" "$script" $words
+for word in -j -q --tails --json --state 0 1 2 3 4 5 6 8; do
+    grep -q -- "^  $word  *[a-zF]\|^  $word N  *[a-z]" <<< "$help" || fails "its help has no $word"
 done
-wants "a folder that isn't there" 6 "" "check_tree.sh: cannot open no\\x0ane" "$script" $'no\nne'
+for word in -h --help; do wants "its help by $word" 0 "$help" "" "$script" $word; done
+while IFS='|' read -r words why; do
+    # shellcheck disable=SC2086
+    wants "wrong words: $words" 3 "" "parv-tree: $why
+parv-tree: $usage" "$script" $words
+done << 'END'
+|there is no FOLDER
+--wrong tree|unrecognized arguments: --wrong
+tree tree|unrecognized arguments: tree
+-j 0 tree|argument -j: it is a number from 1 to 99999
+-j|argument -j: expected one argument
+-j x tree|argument -j: it is a number from 1 to 99999
+-j100000 tree|argument -j: it is a number from 1 to 99999
+--state|argument --state: expected one argument
+--state= tree|--state has no FILE
+END
+wants "a folder that isn't there" 6 "" "parv-tree: cannot open no\\x0ane: No such file or directory" "$script" $'no\nne'
 mkdir tree
-wants "a folder without packet files" 3 "" "check_tree.sh: tree: no packet file" "$script" tree
+wants "a folder without packet files" 3 "" "parv-tree: tree: no packet file" "$script" tree
 
 # Of several folders, of which one has two sets, and one a copy of a set of another.
 mkdir -p tree/{a,b/c,'b d/-e'} small
@@ -44,8 +57,8 @@ lines="0 $photos need 0 have 14 a/photos
 4 - need - have - b d/lost
 1 $photos need 1 have 9 b/c/Photos of summer
 4 - need - have - b/c/"
-told="check_tree.sh: b d/lost: no usable set: no main
-check_tree.sh: b/c/: no usable set: no main"
+told="parv-tree: b d/lost: no usable set: no main
+parv-tree: b/c/: no usable set: no main"
 wants "sets of several folders" 4 "$lines" "$told" "$script" tree
 for sides in 1 2 9; do
     wants "$sides sets side by side" 4 "$lines" "$told" "$script" -j "$sides" tree
@@ -62,6 +75,8 @@ cp "$demo"/tower.raw tree/a
 wants "nothing to tell" 0 "" "" "$script" -q tree
 # Protection that is lost alone: with -q nothing tells it, and a comparison of the lines does.
 "$script" tree > before
+"$script" -q --state kept tree 2> "$said/new"
+grep -q '^parv-tree: kept is new' "$said/new" || fails "a new state: $(cat "$said/new")"
 mv tree/a/photos.vol* .
 mv tree/b/c/*.[pP]* .
 wants "lost volumes, and a lost set, with -q" 0 "" "" "$script" -q tree
@@ -71,8 +86,12 @@ wants "lost volumes, and a lost set, by a comparison" 1 "1c1
 > 0 $photos need 0 have 0 a/photos
 3d2
 < 0 $photos need 0 have 9 b/c/Photos of summer" "" bash -c '"$1" tree > now; diff before now' - "$script"
+wants "the same by the state" 5 "fewer $photos have 0 was 14 a/photos
+gone $photos b/c/Photos of summer" "" "$script" -q --state kept tree
+wants "the same a second time" 0 "" "" "$script" -q --state kept tree
 mv photos.vol* tree/a
 mv ./*.VOL* other.par2 tree/b/c
+wants "what is back" 0 "" "" "$script" -q --state kept tree
 { cat "$demo/notes.txt"; echo more; } > tree/b/c/notes.txt
 wants "without --tails" 1 "1 $photos need 1 have 9 b/c/Photos of summer" "" "$script" -q tree
 wants "with --tails" 1 "1 $photos need 0 have 9 b/c/Photos of summer" "" "$script" -q --tails tree
@@ -82,10 +101,10 @@ rm -r tree
 mkdir tree
 main=$("$parv" packets v.par2 | awk '$4 == "main" { print $3 }')
 tail -c +$((main + 1)) v.par2 > tree/no_main.par2
-wants "a set without Main" 4 "4 $v need - have - no_main" "check_tree.sh: no_main: no usable set: no main" "$script" tree
+wants "a set without Main" 4 "4 $v need - have - no_main" "parv-tree: no_main: no usable set: no main" "$script" tree
 cp "$demo/photos.vol03+4.damaged.par2" "$demo/photos.par2" tree
 wants "damaged packet files" 4 "4 $v need - have - no_main
-2 $photos need 38 have 3 photos" "check_tree.sh: no_main: no usable set: no main" "$script" tree
+2 $photos need 38 have 3 photos" "parv-tree: no_main: no usable set: no main" "$script" tree
 cp v.par2 tree/v.par2
 wants "the same with Main elsewhere" 2 "2 $v need 2 have 0 no_main
 2 $photos need 38 have 3 photos" "" "$script" tree
@@ -130,7 +149,7 @@ refused() {
     "$one_set" tree/set/set.par2 4 0 whole bad.txt "$1"
     id=$("$parv" packets tree/set/set.par2 | awk '$4 == "main" { print $5 }')
     wants "the name ${1@Q}" 2 "2 $id need 2 have 0 set/set" \
-        "check_tree.sh: set/set: the name $2 is refused: it is no plain path below the folder" "$script" tree
+        "parv-tree: set/set: the name $2 is refused: it is no plain path below the folder" "$script" tree
 }
 refused ../outside ../outside
 refused ../../outside ../../outside
@@ -144,7 +163,7 @@ refused $'../\xff\n' '../\xff\x0a'
 id=$("$parv" packets tree/set/set.par2 | awk '$4 == "main" { print $5 }')
 linked() {
     wants "$1" 2 "2 $id need 2 have 0 set/set" \
-        "check_tree.sh: set/set: sub/bad.txt is a link, or behind one, and isn't read" "$script" tree
+        "parv-tree: set/set: sub/bad.txt is a link, or behind one, and isn't read" "$script" tree
 }
 ln -s "$work/outer/bad.txt" tree/set/sub/bad.txt
 linked "a link at a name"
@@ -170,34 +189,37 @@ for name in .verify_and_repair .parv-repair; do
 done
 wants "a file in a subfolder" 0 "0 $id need 0 have 0 set/set" "" "$script" tree
 
-# Ends of parv that are no answers, and an end of the script.
+# Ends of parv that are no answers, and an end of the command.
+# shellcheck disable=SC2016
 printf '#!/bin/sh\n[ "$1" != verify ] || kill -KILL $$\nexec "%s" "$@"\n' "$parv" > ends
 printf '#!/bin/sh\n[ "$1" != verify ] || { echo $$ > "%s/pid"; exec "%s" "$@" "%s/endless"; }\nexec "%s" "$@"\n' \
     "$work" "$parv" "$work" "$parv" > long
 truncate -s 1T endless
 chmod +x ends long
-PARV=$work/ends wants "parv is ended" 137 "137 $id need - have - set/set" \
-    "check_tree.sh: set/set: parv has ended with status 137" "$script" tree
+PARV=$work/ends wants "parv is ended" 6 "6 $id need - have - set/set" \
+    "parv-tree: set/set: $work/ends was ended by signal 9" "$script" tree
 # A packet file at which parv failed once is told, also if the others of its name are a set that is complete.
 mkdir -p once/set
 cp "$demo"/{*.raw,notes.txt,photos.par2} once/set
 cp v.par2 once/set/photos.vol0+1.par2
 for status in 1 6 8 137; do
-    printf '#!/bin/sh\n[ "$1 $2" != "packets ./photos.vol0+1.par2" ] || exit %s\nexec "%s" "$@"\n' $status "$parv" > fails
+    # shellcheck disable=SC2016
+    printf '#!/bin/sh\ncase "$*" in packets*photos.vol0+1.par2) echo "%s" >&2; exit %s ;; esac\nexec "%s" "$@"\n' \
+        'parv: read fault in f/photos.vol0+1.par2' $status "$parv" > fails
     chmod +x fails
-    told=$status
-    [ $status -gt 2 ] || told=6
+    told=$status line="read fault in photos.vol0+1.par2"
+    case $status in 1 | 137) told=6 line="$work/fails packets has ended with status $status, and isn't parv" ;; esac
     PARV=$work/fails wants "a packet file at which parv ends with $status" $told "0 $photos need 0 have 0 set/photos" \
-        "check_tree.sh: set/photos.vol0+1.par2: parv has ended with status $told" "$script" once
+        "parv-tree: set/photos.vol0+1.par2: $line" "$script" once
 done
 # No parv is told once, ahead of all else.
 mkdir path
-for tool in bash sed; do ln -s "$(command -v $tool)" path; done
+ln -s "$(python3 -c 'import sys; print(sys.executable)')" path/python3
 for folder in tree none; do
-    wants "no parv, and the folder $folder" 6 "" "check_tree.sh: cannot run ./none: put parv in PATH, or name it by PARV" \
+    wants "no parv, and the folder $folder" 6 "" "parv-tree: cannot run ./none: put parv in PATH, or name it by PARV" \
         env PARV=./none "$script" $folder
     wants "no parv in PATH, and the folder $folder" 6 "" \
-        "check_tree.sh: cannot run parv: put parv in PATH, or name it by PARV" env -u PARV PATH="$work/path" "$script" $folder
+        "parv-tree: cannot run parv: put parv in PATH, or name it by PARV" env -u PARV PATH="$work/path" "$script" $folder
 done
 rm tree/set/sub/bad.txt
 PARV=$work/long "$script" tree > text 2> line &
@@ -209,7 +231,7 @@ status=$?
 sleep 0.3
 # (What was ended may not have been waited for by then.)
 if [ $status -eq 143 ] && ! grep -q '^State:[[:blank:]][^Z]' "/proc/$(< pid)/status" 2> "$said/kill"; then
-    echo "ok: parv ends with the script"
+    echo "ok: parv ends with the command"
 else
     fails "an end by SIGTERM: status $status, $(cat text line)"
 fi
@@ -219,7 +241,7 @@ user=()
 [ "$(id -u)" -ne 0 ] || user=(setpriv --reuid 65534 --regid 65534 --clear-groups)
 chmod 711 .
 cp "$parv" parv
-cp "$script" script
+cp -r "$top/commands" commands
 rm -r tree
 mkdir -p tree/{a,b,c}
 cp v.par2 small/g.bin tree/a
@@ -229,8 +251,8 @@ cp tree/a/* tree/c
 chmod 000 tree/a/g.bin tree/b/v.par2 tree/c
 wants "what may not be read" 6 "6 $v need - have - a/v
 0 $v need 0 have 0 b/w
-6 - need - have - b/v" "check_tree.sh: tree: './c': Permission denied
-check_tree.sh: a/v: cannot open ./g.bin
-check_tree.sh: b/v: cannot open ./v.par2" env PARV="$work/parv" "${user[@]}" ./script tree
+6 - need - have - b/v" "parv-tree: tree: cannot read c: Permission denied
+parv-tree: a/v: cannot open g.bin
+parv-tree: b/v: cannot open v.par2" env PARV="$work/parv" "${user[@]}" commands/bin/parv-tree tree
 chmod 700 tree/c
 exit $failed
