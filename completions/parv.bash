@@ -1,5 +1,5 @@
-# Completion of parv, parv-repair and parv-rescue for bash. The package bash-completion loads it once it is installed
-# below share/bash-completion/completions under each of these names; without that package: . completions/parv.bash
+# Completion of parv, parv-repair, parv-rescue and parv-tree for bash. The package bash-completion loads it once it is
+# installed below share/bash-completion/completions under each of these names; without that package: . completions/parv.bash
 
 # The IDs of the sets of the packet files that were typed, or that are in a folder that was typed for parv-repair.
 _parv_sets() {
@@ -81,10 +81,15 @@ _parv_command() {
     for given in "${COMP_WORDS[@]:1:COMP_CWORD - 1}"; do
         [ "$given" != -- ] || ended=1
         case $given in
-        --*) options=${options/$given/} ;;
+        -[jq] | --*) options=${options/$given/} ;;
         esac
     done
-    if [ -z "$ended" ] && [ "${COMP_WORDS[COMP_CWORD - 1]}" = --set ]; then
+    given=${COMP_WORDS[COMP_CWORD - 1]}
+    if [ -z "$ended" ] && [ "$given" = -j ]; then
+        return
+    elif [ -z "$ended" ] && [ "$given" = --state ]; then
+        compopt -o default -o filenames
+    elif [ -z "$ended" ] && [ "$given" = --set ]; then
         mapfile -t COMPREPLY < <(compgen -W "$(_parv_sets)" -- "$word")
     elif [ -z "$ended" ] && [[ $word == -* ]]; then
         mapfile -t COMPREPLY < <(compgen -W "$options" -- "$word")
@@ -101,5 +106,10 @@ _parv_rescue() {
     _parv_command '--tails --set' default
 }
 
+_parv_tree() {
+    _parv_command '--tails --json --state -j -q' dirnames
+}
+
 complete -F _parv_repair parv-repair
 complete -F _parv_rescue parv-rescue
+complete -F _parv_tree parv-tree

@@ -1,5 +1,5 @@
-# Completion of parv, parv-repair and parv-rescue for fish, which loads it from share/fish/vendor_completions.d, where it
-# is under each of these names.
+# Completion of parv, parv-repair, parv-rescue and parv-tree for fish, which loads it from share/fish/vendor_completions.d,
+# where it is under each of these names.
 
 # Whether the command that was typed is one of these.
 function __parv_is
@@ -72,7 +72,7 @@ complete -c parv -n '__parv_file_of packets set' -k -a '(__fish_complete_suffix 
 function __parv_name
     set -l words (commandline -opc)
     contains -- -- $words; and return 0
-    test "$words[-1]" != --set; and not string match -q -- '-*' (commandline -ct)
+    not contains -- $words[-1] --set --state -j; and not string match -q -- '-*' (commandline -ct)
 end
 
 for name in parv-repair parv-rescue
@@ -88,3 +88,13 @@ complete -c parv-repair -n __parv_name -a '(__fish_complete_directories)'
 complete -c parv-rescue -n 'not __fish_contains_opt tails' -l tails \
     -d 'then look at each byte for the short slices that are missing'
 complete -c parv-rescue -n __parv_name -F
+
+complete -c parv-tree -f
+complete -c parv-tree -s h -l help -d 'print what it does'
+complete -c parv-tree -n 'not __fish_contains_opt -s j' -s j -x -d 'check so many sets side by side'
+complete -c parv-tree -n 'not __fish_contains_opt -s q' -s q -d 'leave out the lines of sets that are complete'
+complete -c parv-tree -n 'not __fish_contains_opt tails' -l tails -d 'find short slices before other bytes too'
+complete -c parv-tree -n 'not __fish_contains_opt json' -l json -d 'print a JSON object for each set'
+complete -c parv-tree -n 'not __fish_contains_opt state' -l state -r -F -d 'keep the state in a file, and tell what was lost since'
+complete -c parv-tree -n 'test (commandline -opc)[-1] = --state' -F
+complete -c parv-tree -n __parv_name -a '(__fish_complete_directories)'

@@ -3,7 +3,7 @@
 # without a toolchain, and nothing of them after the removal.
 . "$(dirname "$0")/with/wants.sh"
 
-commands="parv parv-repair parv-rescue"
+commands="parv parv-repair parv-rescue parv-tree"
 places=$({
     for name in $commands; do
         echo "/usr/bin/$name
@@ -49,6 +49,8 @@ if cmp -s "$parv" "$room/usr/bin/parv" && [ -x "$room/usr/bin/parv" ] \
     && cmp -s "$top/docs/parv-rescue.1" "$room/usr/share/man/man1/parv-rescue.1" \
     && cmp -s "$top/commands/bin/parv-repair" "$room/usr/bin/parv-repair" && [ -x "$room/usr/bin/parv-repair" ] \
     && cmp -s "$top/commands/bin/parv-rescue" "$room/usr/bin/parv-rescue" && [ -x "$room/usr/bin/parv-rescue" ] \
+    && cmp -s "$top/docs/parv-tree.1" "$room/usr/share/man/man1/parv-tree.1" \
+    && cmp -s "$top/commands/bin/parv-tree" "$room/usr/bin/parv-tree" && [ -x "$room/usr/bin/parv-tree" ] \
     && diff -rq --exclude=__pycache__ "$top/commands/parv_commands" "$room/usr/lib/parv/parv_commands" > /dev/null \
     && diff -rq "$top/examples" "$room/usr/share/doc/parv/examples" > /dev/null; then
     echo "ok: what is installed is what was built"
@@ -67,7 +69,7 @@ for script in "$room"/usr/share/doc/parv/examples/* "$room"/usr/bin/parv-*; do
         fails "the help of $name: status $got, $(head -c 300 "$work/help" "$work/line")"
     fi
     words=(verify 1 x.par2)
-    case $name in check_tree.sh | parv-repair) words=("$work") ;; esac
+    case $name in parv-tree | parv-repair) words=("$work") ;; esac
     wants "$name without parv" 6 "" "$name: cannot run parv: put parv in PATH, or name it by PARV" \
         env -i PATH="$path" "$script" "${words[@]}"
 done

@@ -2,12 +2,14 @@
 # The manual pages: mandoc and man have nothing to say of them, where they are there. That of parv has each option and
 # each line of standard error, and each of its examples is run in a folder with the files that it names. Those of the
 # commands have each option and exit status of their help, and their examples are run too.
-. "$(dirname "$0")/with/wants.sh"
+. "$(dirname "$0")/wants.sh"
+. "$tools/checks/commands.sh"
 cd "$work" || exit 1
 page=$top/docs/parv.1
 
 pages=("$top"/docs/*.1)
-[ ${#pages[@]} -eq 3 ] || fails "there are ${#pages[@]} pages"
+for command in "$commands"/*; do [ -e "$top/docs/${command##*/}.1" ] || fails "there is no page of ${command##*/}"; done
+[ ${#pages[@]} -ge 4 ] || fails "there are ${#pages[@]} pages"
 for page in "${pages[@]}"; do
     # Of the pages that this one names, some may not be installed here.
     if command -v mandoc > /dev/null; then
@@ -33,11 +35,11 @@ for page in "${pages[@]}"; do
 done
 
 # Of a command the page has each option and each exit status that its help has, and no others.
-for name in parv-repair parv-rescue; do
+for name in parv-repair parv-rescue parv-tree; do
     page=$top/docs/$name.1
     "$top/commands/bin/$name" -h > help
-    sed -nE 's/^  (-h, --help|--[a-z-]*).*/\1/p; s/^  ([0-9]) .*/\1/p' help | sed 's/^-h, //' | sort > wanted
-    { sed -nE 's/^\.It Fl (h , )?-([a-z-]+).*/--\2/p' "$page"
+    sed -nE 's/^  (-h, --help|--[a-z-]*|-[a-z] ).*/\1/p; s/^  ([0-9])  .*/\1/p' help | sed 's/^-h, //; s/ //' | sort > wanted
+    { sed -nE 's/^\.It Fl (h , )?-([a-z-]+).*/--\2/p; s/^\.It Fl ([a-z])( Ar .*)?$/-\1/p' "$page"
         sed -n '/^\.Sh EXIT STATUS/,/^\.El/s/^\.It \([0-9]\)$/\1/p' "$page"; } | sort > told
     if [ "$(wc -l < wanted)" -ge 8 ] && cmp -s wanted told; then
         echo "ok: the page of $name has each option and exit status"
@@ -62,17 +64,19 @@ for script in "$top"/examples/*; do
     grep -q "^\.Pa ${script##*/}$" "$page" || fails "the page doesn't tell of ${script##*/}"
 done
 grep -o '/usr/local/share/doc/parv/[A-Za-z_./]*' "$page" | sed 's|^/usr/local/share/doc/parv/||' > paths
-[ "$(wc -l < paths)" -ge 4 ] || fails "the page names $(wc -l < paths) paths of what is installed"
+[ "$(wc -l < paths)" -ge 3 ] || fails "the page names $(wc -l < paths) paths of what is installed"
 while IFS= read -r path; do
     [ -e "$top/$path" ] || [ -e "$top/docs/$path" ] || fails "the page names $path, which isn't there"
 done < paths
 # The calls of commands in the pages: each in a copy of a folder with what it names, and how it ends.
-{ sed -n 's/^\.Dl \$ \(parv-re[a-z]* .*\)/\1/p' "$top"/docs/*.1
+{ sed -n 's/^\.Dl \$ \(parv-\(re[a-z]*\|tree\) .*\)/\1/p' "$top"/docs/*.1
     sed -n '/^\.Bd/,/^\.Ed/s/^\(\$ \|  *\)\(.*\)/\2/p' "$top/docs/parv-repair.1" | tr '\n' ' '; } | sed 's/\\-/-/g' > calls
-[ "$(wc -l < calls)" -ge 6 ] || fails "the pages have $(wc -l < calls) calls of commands"
+[ "$(wc -l < calls)" -ge 9 ] || fails "the pages have $(wc -l < calls) calls of commands"
 mkdir -p whole/download bin
 cp "$top"/demo/{photos.par2,*.raw,notes.txt} whole/download
 mv whole/download/beach.raw whole/download/other
+mkdir -p whole/backup
+cp -r whole/download whole/backup/2019
 cp -r whole/download whole/photos
 cp whole/photos/photos.par2 whole
 cat whole/photos/*.raw whole/photos/other whole/photos/notes.txt > whole/disc.img
@@ -83,26 +87,81 @@ while IFS= read -r call; do
     rm -rf part
     cp -r whole part
     wanted=0
-    case $call in *--dry-run* | "parv-rescue saved"*) wanted=1 ;; esac
-    (cd part && env -u PARV PATH="$work/bin:$PATH" bash -c "$call" > ../text 2> ../line)
+    case $call in *--dry-run* | "parv-rescue saved"* | parv-tree*) wanted=1 ;; esac
+    (cd part && env -u PARV PATH="$work/bin:$PATH" bash -c "${call//\/srv\//}" > ../text 2> ../line)
     status=$?
     last=$(tail -n 1 text)
-    if [ $status -eq $wanted ] && [[ $last == complete || $last == "a repair can be tried"* || $last == "slices "* ]]; then
+    if [ $status -eq $wanted ] && [[ $last == complete || $last == "a repair can be tried"* || $last == "slices "* \
+        || $last == "1 589c76e09f0580b9203c5b64963b8957 need 0 have 0 2019/photos" || $last == '{"status": 1, '* ]]; then
         echo "ok: $call"
     else
         fails "$call: status $status, $(cat text line)"
     fi
 done < calls
-# Its line for cron, of a folder that is whole and of one that has lost a file.
+# The line for cron: of a folder that is whole, of one that has lost a file or recovery slices, without parv, and with no
+# room for temporary files or for the state.
+page=$top/docs/parv-tree.1
 sed -n 's/^17 3 \* \* \* //p' "$page" > cron
 [ "$(wc -l < cron)" -eq 1 ] || fails "the page has no line for cron"
-sed -i "s|/usr/local/bin/parv|$parv|; s|/usr/local/share/doc/parv|$top|; s|/srv|$work|" cron
-mkdir -p backup/2019
+[ "$(grep -c '^17 3 ' "$top"/docs/*.1 | grep -vc ':0$')" -eq 1 ] || fails "there are several lines for cron"
+sed -i "s|/usr/local/bin/parv-tree|$top/commands/bin/parv-tree|; s|/usr/local/bin/parv |$parv |; s|/srv|$work|" cron
+python=$(dirname "$(python3 -c 'import sys; print(sys.executable)')")
+mkdir -p backup/2019 home
 cp "$top"/demo/{photos.par2,photos.vol07+8.par2,*.raw,notes.txt} backup/2019
-wants "the line for cron, where all is whole" 0 "" "" env -i PATH=/usr/bin:/bin sh cron
+set=589c76e09f0580b9203c5b64963b8957
+# cron NAME STATUS TEXT LINE: a night, with these variables and words around the line.
+around=() room=()
+cron() {
+    wants "the line for cron: $1" "$2" "$3" "$4" "${around[@]}" \
+        env -i HOME="$work/home" PATH="$python:/usr/bin:/bin" "${room[@]}" sh cron
+}
+cron "the first night" 0 "" "parv-tree: $work/home/.backup.parv is new: this run has nothing to compare with"
+cron "all is whole" 0 "" ""
+mv backup/2019/photos.vol07+8.par2 .
+cron "recovery slices are lost" 5 "fewer $set have 0 was 8 2019/photos" ""
+cron "they are lost still" 0 "" ""
+mv photos.vol07+8.par2 backup/2019
+cron "they are back" 0 "" ""
 rm backup/2019/tower.raw
-wants "the line for cron, where a file is lost" 1 "1 589c76e09f0580b9203c5b64963b8957 need 5 have 8 2019/photos" "" \
-    env -i PATH=/usr/bin:/bin sh cron
+cron "a file is lost" 5 "1 $set need 5 have 8 2019/photos
+worse $set status 1 was 0 2019/photos" ""
+cron "it is lost still" 1 "1 $set need 5 have 8 2019/photos" ""
+cp home/.backup.parv state
+sed -i "s|$parv |$work/none |" cron
+cron "there is no parv" 6 "" "parv-tree: cannot run $work/none: put parv in PATH, or name it by PARV"
+sed -i "s|$work/none |$parv |" cron
+if can_mount "the line for cron with no room"; then
+    mkdir small
+    export -f mounting
+    room=("TMPDIR=$work/small")
+    # shellcheck disable=SC2016
+    around=(bash -c 'mounting "$@"' - bash -c 'mount -t tmpfs -o size=4k,nr_inodes=$0 tmpfs small
+        head -c 9999 /dev/zero 2> /dev/null > small/full
+        "$@" 2> line || status=$?
+        sed "s|small/parv-[0-9a-f]*|small/parv-|" line >&2
+        exit $status')
+    around+=(2)
+    cron "no room for a temporary folder" 6 "" \
+        "parv-tree: cannot make a temporary folder in $work/small: No space left on device"
+    around[-1]=3
+    cron "no room for a second one" 6 "6 - need - have - 2019/photos" \
+        "parv-tree: 2019/photos: cannot make a temporary folder in $work/small/parv-: No space left on device
+parv-tree: 2019/photos.vol07+8.par2: cannot make a temporary folder in $work/small/parv-: No space left on device"
+    around[-1]=5
+    cron "no room for data" 1 "1 $set need 5 have 8 2019/photos" ""
+    around=(bash -c 'mounting "$@"' - bash -c 'mount -t tmpfs -o size=4k tmpfs home && cat state > home/.backup.parv && "$@"
+        status=$?
+        cmp state home/.backup.parv && [ "$(ls -A home)" = .backup.parv ] || exit 99
+        exit $status' "")
+    room=()
+    rm backup/2019/photos.vol07+8.par2
+    for night in "a first" "a second"; do
+        cron "no room for the state, $night night" 6 "2 $set need 5 have 0 2019/photos
+fewer $set have 0 was 8 2019/photos
+worse $set status 2 was 1 2019/photos" "parv-tree: cannot write $work/home/.backup.parv: No space left on device"
+    done
+fi
+page=$top/docs/parv.1
 
 # Each example is a file: its commands without `$ `, as bash reads them.
 mkdir examples

@@ -25,12 +25,10 @@ cp backup/whole/* download
 cp backup/whole/photos.par2 .
 mv download/harbour.raw download/port.raw
 { head -c 5000 /dev/zero; cat backup/whole/*.raw backup/whole/notes.txt; printf 'more'; } > disc.img
-last_match=$("$tools/models/find_slices.py" --tails photos.par2 disc.img | sed '$d' | tail -n 1)
-wanted=("1 result possible" "1 result possible"
-    "1 a repair can be tried: need 0 have 0" "0 complete" "0 slices 38/38, copied now 38" "0 " "0 result complete"
-    "0 complete" "0 $last_match" "0 38 in place; need 0 have 0")
-sed -nE 's/^    (([a-z_]+\.(sh|py)|parv(-[a-z]+)?) .*)/\1/p' "$top/README.md" > calls
-[ "$(wc -l < calls)" -eq ${#wanted[@]} ] || fails "README has $(wc -l < calls) calls of parv and of commands"
+wanted=("1 a repair can be tried: need 0 have 0" "0 complete" "0 slices 38/38, copied now 38" "0 " "0 result complete"
+    "0 38 in place; need 0 have 0")
+sed -nE 's/^    (([a-z_]+\.(sh|py)|parv-(re[a-z]+|tree)) .*)/\1/p' "$top/README.md" > calls
+[ "$(wc -l < calls)" -eq ${#wanted[@]} ] || fails "README has $(wc -l < calls) calls of scripts and commands"
 number=0
 while IFS= read -r call; do
     place=.
