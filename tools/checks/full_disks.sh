@@ -50,13 +50,14 @@ for words in "one by one" "side by side"; do
         done
     fi
 done
-# A program that the command calls may fail in the middle too.
-for name in sort awk find grep; do
-    rm -rf bin
-    mkdir bin
-    printf '#!/bin/sh\n%q "$@" | head -c 30\nexit 2\n' "$(type -P $name)" > bin/$name
-    chmod +x bin/$name
-    told "$name fails in the middle" env PATH="$work/bin:$PATH" "${tree_quiet[@]}" tree
+# parv may fail in the middle too.
+for name in packets set verify; do
+    for status in 0 1 2 6; do
+        # shellcheck disable=SC2016
+        printf '#!/bin/sh\n[ "$1" = %s ] || exec %q "$@"\n%q "$@" | head -c 30\nexit %s\n' $name "$parv" "$parv" $status > cut
+        chmod +x cut
+        told "parv $name fails in the middle, with $status" env PARV="$work/cut" "${tree_quiet[@]}" tree
+    done
 done
 # Nor is it, when the lines themselves can't be written.
 "${tree[@]}" tree > /dev/full 2> line
