@@ -1,1 +1,1 @@
-"""What the commands parv-repair and parv-rescue are made of: one module for each subject."""
+"""What the commands beside parv are made of: one module for each subject."""
