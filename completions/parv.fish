@@ -95,6 +95,6 @@ complete -c parv-tree -n 'not __fish_contains_opt -s j' -s j -x -d 'check so man
 complete -c parv-tree -n 'not __fish_contains_opt -s q' -s q -d 'leave out the lines of sets that are complete'
 complete -c parv-tree -n 'not __fish_contains_opt tails' -l tails -d 'find short slices before other bytes too'
 complete -c parv-tree -n 'not __fish_contains_opt json' -l json -d 'print a JSON object for each set'
-complete -c parv-tree -n 'not __fish_contains_opt state' -l state -r -F -d 'keep the state in a file, and tell what was lost since'
+complete -c parv-tree -n 'not __fish_contains_opt state' -l state -r -F -d 'keep the state in a file, and report what was lost since'
 complete -c parv-tree -n 'test (commandline -opc)[-1] = --state' -F
 complete -c parv-tree -n __parv_name -a '(__fish_complete_directories)'

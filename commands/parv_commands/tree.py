@@ -37,7 +37,7 @@ on a backup. It writes nothing there.
   -q              leaves out the lines of sets that are complete
   --tails         finds short slices before other bytes too
   --json          prints a JSON object for each set, one on a line
-  --state FILE    keeps the state in FILE, and tells what was lost since
+  --state FILE    keeps the state in FILE, and reports what was lost since
   -h, --help      prints this
 
 A line has the exit status of the set, its ID, what is needed and what is there,
@@ -48,12 +48,12 @@ them. Lines come in the order of folders and names. From status 3 on a line on
 standard error says why.
 
 Lost packet files change no status while all data is whole. With --state such a
-loss is told, also with -q:
+loss is reported, also with -q:
   fewer ID have 8 was 14 NAME      recovery slices are lost
   worse ID status 1 was 0 NAME     the status of the set is a greater one now
   gone ID NAME                     no packet file has a packet of the set
-Each loss is told once. FILE is written when all lines are, and its first run
-has nothing to compare with.
+Each loss is reported once. FILE is written when all lines are; the first run has
+nothing to compare with.
 
 A set is one set ID in one folder: so a folder may have several sets, and a copy
 in another folder is a set of its own. It is called by its folder and by what
@@ -63,7 +63,7 @@ like them. If there is none, they are a set of their own.
 
 A set is verified with the files in its folder, and with those in subfolders
 that its names have. Links aren't followed. A name that is no plain path below
-the folder is told and looked at nowhere.
+the folder is reported, and nothing is read there.
 
 The exit status is the greatest of all:
   0  each set is complete
