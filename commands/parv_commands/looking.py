@@ -18,6 +18,7 @@ from .parv import MOST_FILES, SPARE_FILES, Links, Parv, path_below
 from .plan import is_same
 from .programs import Answer
 from .scene import preferred
+from .signals import wait_point
 
 HERE = b"f"             # the link to the folder
 PLACE = 9               # bytes that a word takes on a command line beside its own
@@ -62,6 +63,7 @@ def folders_of(folder: Folder, found: SetAnswer, say: Sayer) -> List[bytes]:
     names at which nothing is read it says so."""
     ways, chosen = Ways(folder), {b""}
     for file in found.files:
+        wait_point()
         if not names.is_plain(file.name):
             say(f"the name {file.shown} is refused: it is no plain path below the folder")
         elif not ways.is_clear(file.name):
@@ -78,6 +80,7 @@ def files_there(folder: Folder, found: SetAnswer, folders: Sequence[bytes]) -> D
     members = {file.name for file in found.files}
     there: Dict[bytes, Identity] = {}
     for path in folders:
+        wait_point()
         with faults_of("open", shown(path[:-1]) or folder.shown):
             inner = folder.inner(path[:-1] or b".")
         with contextlib.closing(inner):
@@ -114,6 +117,7 @@ class Looking:
             self._room -= len(word) + PLACE
             self.parv.links.shown[shown(word)] = shown(path)
         else:
+            wait_point()
             word = self.parv.links.word(path_below(self.folder, path), shown(path), is_packet_file).encode()
         self.paths[shown(word)] = path
         return word.decode()

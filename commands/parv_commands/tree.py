@@ -52,8 +52,8 @@ loss is reported, also with -q:
   fewer ID have 8 was 14 NAME      recovery slices are lost
   worse ID status 1 was 0 NAME     the status of the set is a greater one now
   gone ID NAME                     no packet file has a packet of the set
-Each loss is reported once. FILE is written when all lines are; the first run has
-nothing to compare with.
+Each loss is reported once. FILE is written when all lines are. The first run
+has nothing to compare with.
 
 A set is one set ID in one folder: so a folder may have several sets, and a copy
 in another folder is a set of its own. It is called by its folder and by what
@@ -72,7 +72,7 @@ The exit status is the greatest of all:
   3  wrong words, no packet file at all, or FILE is no state of FOLDER
   4  packet files without a set
   5  something was lost since the last run with --state
-  6  a file or folder can't be read, FILE or a line can't be written, or parv can't be run
+  6  a file, a folder or a line can't be read or written, or parv can't be run
   8  no memory
 PARV names the program, if it isn't in PATH. man parv-tree has more.
 """
@@ -140,6 +140,7 @@ class Tree:
         self.asked, self.program, self.top, self.temporary, self.state = asked, program, top, temporary, state
         self.most_open = programs.raise_file_limit()
         self.pool = Pool(program, max(1, min(asked.sides, (self.most_open - SPARE_FILES) // FILES_OF_A_RUN)))
+        self.at_once = max(1, min(AT_ONCE, self.most_open - SPARE_FILES))
         self.places: Deque[Place] = collections.deque()
         self.next = 0                               # the number of the line of the first place that is told next
         self.status = 0
@@ -196,8 +197,8 @@ class Tree:
         try:
             with self._looking(place, []) as look:
                 words_of = {name: look.word_of(name, True) for name in place.packet_files}
-                for at in range(0, len(place.packet_files), AT_ONCE):
-                    yield from self._read(look, place, listed, place.packet_files[at:at + AT_ONCE], words_of)
+                for at in range(0, len(place.packet_files), self.at_once):
+                    yield from self._read(look, place, listed, place.packet_files[at:at + self.at_once], words_of)
                 with contextlib.closing(_packet_files(look)) as files:
                     sets = self._sets(place, listed, files)
         except (Fault, OSError) as fault:
