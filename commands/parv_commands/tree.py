@@ -157,11 +157,11 @@ class Tree:
         with progress.doing("sets are verified"):
             self.pool.run(self._tell)
         self._tell()
-        if self.state is not None:
-            self._compare(self.state)
         if not self.count and not self.status:
             output.say(f"{self.top.shown}: no packet file")
-            return USAGE
+            self._rises_to(USAGE)
+        if self.state is not None:
+            self._compare(self.state)
         return self.status
 
     def _rises_to(self, status: int) -> None:
@@ -336,7 +336,8 @@ class Tree:
             output.tell(lines)
 
     def _compare(self, state: State) -> None:
-        """Tells which sets are gone, and keeps the state."""
+        """Tells which sets are gone, and keeps the state. If there is no packet file at all, the disk may not be
+        mounted: then the earlier state stays."""
         for key, before in state.sets.items():
             if key in self.sets:
                 continue
@@ -346,6 +347,8 @@ class Tree:
             loss = Loss(GONE, before, before)
             self._write([json_text(json_with(json_of(before, True), [loss], before)) if self.asked.json else loss.text])
             self._rises_to(LOST)
+        if not self.count:
+            return
         if state.is_new:
             output.say(f"{state.shown} is new: this run has nothing to compare with")
         try:

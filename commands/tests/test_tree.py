@@ -274,11 +274,24 @@ class States(TreeTest):
         os.remove(self.path(b"b\xff", b"set.par2"))
         self.gives(self.words, 5, self.line_one(2, 2, 1) + self.gone(self.two, "b\\xff/set"))
         self.gives(self.words, 2, self.line_one(2, 2, 1))
-        shutil.rmtree(self.path(b"a"))
-        self.gives(self.words, 5, self.gone(self.one, "a/set"))
+        shutil.rmtree(self.path(b"b\xff"))
+        self.gives(self.words, 2, self.line_one(2, 2, 1))
+
+    def test_a_tree_without_any_set_may_not_be_mounted_and_its_state_stays(self) -> None:
+        os.rename(self.room.folder, self.room.folder + ".away")
+        os.mkdir(self.room.folder)
+        for _ in range(2):
+            self.gives(self.words, 5, self.gone(self.one, "a/set") + self.gone(self.two, "b\\xff/set"),
+                       "parv-tree: room: no packet file\n")
+        os.rmdir(self.room.folder)
+        os.rename(self.room.folder + ".away", self.room.folder)
+        self.lose_recovery()
+        self.gives(self.words, 5, self.fewer())
+        os.remove(self.state)
+        os.rename(self.room.folder, self.room.folder + ".away")
+        os.mkdir(self.room.folder)
         self.gives(self.words, 3, "", "parv-tree: room: no packet file\n")
-        self.fill()
-        self.gives(self.words, 0, "")
+        self.assertFalse(os.path.exists(self.state))
 
     def test_more_is_no_loss(self) -> None:
         self.lose_recovery(5)
