@@ -298,6 +298,10 @@ class States(TreeTest):
         self.gives(self.words, 0, "")
         self.lose_recovery(3)
         self.gives(self.words, 5, self.fewer(3, 5))
+        os.remove(self.path(b"a", b"first.txt"))
+        self.assertEqual(self.run_tree(*self.words).status, 5)
+        write(self.path(b"a", b"first.txt"), ONE[b"first.txt"])
+        self.gives(self.words, 0, "")
 
     def test_a_set_of_which_only_packets_are_left_keeps_its_count(self) -> None:
         whole = self.one
