@@ -1,10 +1,10 @@
-# Completion of parv, parv-repair, parv-rescue and parv-tree for bash. The package bash-completion loads it once it is
-# installed below share/bash-completion/completions under each of these names; without that package: . completions/parv.bash
+# Completion of parv and the commands beside it for bash. The package bash-completion loads it once it is installed below
+# share/bash-completion/completions under each of their names; without that package: . completions/parv.bash
 
 # The IDs of the sets of the packet files that were typed, or that are in a folder that was typed for parv-repair.
 _parv_sets() {
     local typed program=${COMP_WORDS[0]} files=()
-    [[ $program != *parv-re* ]] || program=${PARV:-parv}
+    [[ ${program##*/} != parv-* ]] || program=${PARV:-parv}
     for typed in "${COMP_WORDS[@]:1}"; do
         typed=${typed//[\\\'\"]/}
         case $typed in
@@ -18,12 +18,14 @@ _parv_sets() {
 
 _parv() {
     local word=${COMP_WORDS[COMP_CWORD]} option=${COMP_WORDS[COMP_CWORD - 1]}
-    local options='--set --base -B' ended='' i
+    local options='--set --base -B' commands='packets set find verify' ended='' i
+    [[ ${COMP_WORDS[0]} != *parv-progress ]] || commands='find verify'
     COMPREPLY=()
     if [ "$COMP_CWORD" -eq 1 ]; then
-        mapfile -t COMPREPLY < <(compgen -W 'packets set find verify' -- "$word")
+        mapfile -t COMPREPLY < <(compgen -W "$commands" -- "$word")
         return
     fi
+    [[ " $commands " == *" ${COMP_WORDS[1]} "* ]] || return
     case ${COMP_WORDS[1]} in
     packets | set) ;;
     find) options+=' --limit --cursor --tails' ;;
@@ -72,30 +74,36 @@ _parv() {
     esac
 }
 
-complete -F _parv parv
+complete -F _parv parv parv-progress
 
 # Completes a command that has these options, of which each stands once, and then words of this kind.
 _parv_command() {
-    local word=${COMP_WORDS[COMP_CWORD]} options="$1 --help -h" given ended=''
+    local word=${COMP_WORDS[COMP_CWORD]} option=${COMP_WORDS[COMP_CWORD - 1]} options="$1 --help -h" given ended=''
+    [ "$option" != = ] || option=${COMP_WORDS[COMP_CWORD - 2]}
     COMPREPLY=()
     for given in "${COMP_WORDS[@]:1:COMP_CWORD - 1}"; do
         [ "$given" != -- ] || ended=1
         case $given in
-        -[jq] | --*) options=${options/$given/} ;;
+        -B* | --base) options=${options/--base -B/} ;;
+        --*) options=${options/$given/} ;;
         esac
     done
-    given=${COMP_WORDS[COMP_CWORD - 1]}
-    if [ -z "$ended" ] && [ "$given" = -j ]; then
-        return
-    elif [ -z "$ended" ] && [ "$given" = --state ]; then
-        compopt -o default -o filenames
-    elif [ -z "$ended" ] && [ "$given" = --set ]; then
-        mapfile -t COMPREPLY < <(compgen -W "$(_parv_sets)" -- "$word")
-    elif [ -z "$ended" ] && [[ $word == -* ]]; then
-        mapfile -t COMPREPLY < <(compgen -W "$options" -- "$word")
-    else
-        compopt -o "$2" -o filenames
-    fi
+    case $ended$option in
+    --set) mapfile -t COMPREPLY < <(compgen -W "$(_parv_sets)" -- "$word") ;;
+    --width) ;;
+    -B | --base)
+        [ "$word" != = ] || compopt -o nospace
+        compopt -o dirnames
+        ;;
+    --html | --svg) compopt -o default -o filenames ;;
+    *)
+        if [ -z "$ended" ] && [[ $word == -* ]]; then
+            mapfile -t COMPREPLY < <(compgen -W "$options" -- "$word")
+        else
+            compopt -o "$2" -o filenames
+        fi
+        ;;
+    esac
 }
 
 _parv_repair() {
@@ -106,10 +114,21 @@ _parv_rescue() {
     _parv_command '--tails --set' default
 }
 
-_parv_tree() {
-    _parv_command '--tails --json --state -j -q' dirnames
+_parv_map() {
+    _parv_command '--tails --set --base -B --width --html --svg' default
 }
 
+_parv_watch() {
+    _parv_command --tails dirnames
+}
+
+_parv_parts() {
+    _parv_command --tails default
+}
+
+complete -F _parv_map parv-map
+complete -F _parv_watch parv-watch
+complete -F _parv_parts parv-parts
 complete -F _parv_repair parv-repair
 complete -F _parv_rescue parv-rescue
 complete -F _parv_tree parv-tree

@@ -1,5 +1,5 @@
-# Completion of parv, parv-repair, parv-rescue and parv-tree for fish, which loads it from share/fish/vendor_completions.d,
-# where it is under each of these names.
+# Completion of parv and the commands beside it for fish, which loads it from share/fish/vendor_completions.d, where it is
+# under each of their names.
 
 # Whether the command that was typed is one of these.
 function __parv_is
@@ -24,7 +24,7 @@ end
 # What is typed is the value of one of these options.
 function __parv_behind
     set -l words (commandline -opc)
-    test (count $words) -gt 2; and contains -- $words[-1] $argv
+    test (count $words) -gt 1; and contains -- $words[-1] $argv
 end
 
 # The IDs of the sets of the packet files that were typed, or that are in a folder that was typed for parv-repair.
@@ -44,40 +44,58 @@ function __parv_sets
         | string replace -rf '^.* main ([0-9a-f]{32})$' '$1' | sort -u
 end
 
-complete -c parv -f
 complete -c parv -n __parv_begins -a packets -d 'list every packet of the packet files'
 complete -c parv -n __parv_begins -a set -d 'show the recovery set that the packets describe'
-complete -c parv -n __parv_begins -a find -d 'list every slice of the set in the scanned files'
-complete -c parv -n __parv_begins -a verify -d 'tell the state of each file of the set'
-
-complete -c parv -n '__parv_behind --set' -a '(__parv_sets)'
-complete -c parv -n '__parv_behind -B --base' -a '(__fish_complete_directories)'
-
-set -l all 'packets set find verify'
-complete -c parv -n "__parv_is $all; and not __fish_contains_opt set" -l set -x -a '(__parv_sets)' \
-    -d 'take the set of this ID in place of the first'
-complete -c parv -n "__parv_is $all; and not __fish_contains_opt -s B base" -s B -l base -x \
-    -a '(__fish_complete_directories)' -d 'take a folder off the names of scanned files'
-complete -c parv -n '__parv_is find; and not __fish_contains_opt limit' -l limit -x \
-    -d 'end after so many sightings'
-complete -c parv -n '__parv_is find; and not __fish_contains_opt cursor' -l cursor -x \
-    -d 'begin at a cursor that an earlier run has written'
-complete -c parv -n '__parv_is find verify; and not __fish_contains_opt tails' -l tails \
-    -d 'see short last slices also where other bytes follow'
-complete -c parv -n '__parv_is verify' -s q -d 'leave out all but the last two lines; twice, all'
-complete -c parv -n '__parv_file_of find verify' -F
 complete -c parv -n '__parv_file_of packets set' -k -a '(__fish_complete_suffix .par2)'
+
+for name in parv parv-progress
+    set -l all 'find verify'
+    test $name = parv-progress; or set all 'packets set find verify'
+    complete -c $name -f
+    complete -c $name -n __parv_begins -a find -d 'list every slice of the set in the scanned files'
+    complete -c $name -n __parv_begins -a verify -d 'tell the state of each file of the set'
+    complete -c $name -n "__parv_is $all; and __parv_behind --set" -a '(__parv_sets)'
+    complete -c $name -n "__parv_is $all; and __parv_behind -B --base" -a '(__fish_complete_directories)'
+    complete -c $name -n "__parv_is $all; and not __fish_contains_opt set" -l set -x -a '(__parv_sets)' \
+        -d 'take the set of this ID in place of the first'
+    complete -c $name -n "__parv_is $all; and not __fish_contains_opt -s B base" -s B -l base -x \
+        -a '(__fish_complete_directories)' -d 'take a folder off the names of scanned files'
+    complete -c $name -n '__parv_is find; and not __fish_contains_opt limit' -l limit -x \
+        -d 'end after so many sightings'
+    complete -c $name -n '__parv_is find; and not __fish_contains_opt cursor' -l cursor -x \
+        -d 'begin at a cursor that an earlier run has written'
+    complete -c $name -n '__parv_is find verify; and not __fish_contains_opt tails' -l tails \
+        -d 'see short last slices also where other bytes follow'
+    complete -c $name -n '__parv_is verify' -s q -d 'leave out all but the last two lines; twice, all'
+    complete -c $name -n '__parv_file_of find verify' -F
+end
 
 # Whether a name is typed: no option and no value of one.
 function __parv_name
     set -l words (commandline -opc)
     contains -- -- $words; and return 0
-    not contains -- $words[-1] --set --state -j; and not string match -q -- '-*' (commandline -ct)
+    not contains -- $words[-1] --set -B --base --width --html --svg
+    and not string match -q -- '-*' (commandline -ct)
 end
 
-for name in parv-repair parv-rescue
+for name in parv-repair parv-rescue parv-map parv-watch parv-parts
     complete -c $name -f
     complete -c $name -s h -l help -d 'print what it does'
+end
+for name in parv-map parv-watch parv-parts
+    complete -c $name -n 'not __fish_contains_opt tails' -l tails -d 'find short slices before other bytes too'
+end
+complete -c parv-map -n '__parv_behind -B --base' -a '(__fish_complete_directories)'
+complete -c parv-map -n 'not __fish_contains_opt -s B base' -s B -l base -x -a '(__fish_complete_directories)' \
+    -d 'take a folder off the names of searched files'
+complete -c parv-map -n 'not __fish_contains_opt width' -l width -x -d 'write lines of this number of characters'
+complete -c parv-map -n 'not __fish_contains_opt html' -l html -rF -d 'write a page too'
+complete -c parv-map -n 'not __fish_contains_opt svg' -l svg -rF -d 'write a drawing too'
+complete -c parv-map -n __parv_name -F
+complete -c parv-watch -n __parv_name -a '(__fish_complete_directories)'
+complete -c parv-parts -n __parv_name -F
+
+for name in parv-repair parv-rescue parv-map
     complete -c $name -n '__parv_behind --set' -a '(__parv_sets)'
     complete -c $name -n 'not __fish_contains_opt set' -l set -x -a '(__parv_sets)' -d 'say which set, if there are several'
 end

@@ -5,7 +5,7 @@ from __future__ import annotations
 import re
 from typing import Dict, FrozenSet, List, NamedTuple, Optional, Tuple
 
-from .faults import FILES, Fault
+from .faults import FILES, Fault, NoProgram
 from .names import unshown
 
 _ID = "[0-9a-f]{32}"
@@ -18,7 +18,7 @@ _PACKET = re.compile(f"(.*) ([0-9]+) ([0-9]+) (main|filedesc|ifsc|recvslic|creat
 _SIGHTING = re.compile(f"(.*) ([0-9]+) ({_ID}) ([0-9]+)")
 
 
-class NoAnswer(Fault):
+class NoAnswer(NoProgram):
     """What was run isn't parv, or its answer was cut."""
 
     def __init__(self, command: str) -> None:

@@ -22,6 +22,10 @@ class Fault(Exception):
         self.status = status
 
 
+class NoProgram(Fault):
+    """A program can't be run, or what has run isn't the one that it should be."""
+
+
 class Refused(Exception):
     """Why one file isn't read, made or moved, while the command goes on."""
 

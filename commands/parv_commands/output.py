@@ -45,6 +45,19 @@ def tell(lines: Iterable[str]) -> None:
         raise Fault(FILES, f"cannot write standard output: {fault.strerror}") from fault
 
 
+def pass_on(data: bytes, number: int = _OUT) -> None:
+    """Writes what a program has written, or a part of it: on standard output, or else on standard error if that can be
+    written."""
+    progress.clear()
+    if number == _OUT and _Said.closed:
+        raise Fault(FILES, "cannot write standard output: it is closed")
+    try:
+        _write_all(number, data)
+    except OSError as fault:
+        if number == _OUT:
+            raise Fault(FILES, f"cannot write standard output: {fault.strerror}") from fault
+
+
 def say(text: str) -> None:
     """Writes a line on standard error, if that can be written."""
     progress.clear()

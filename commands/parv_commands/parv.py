@@ -7,17 +7,19 @@ import contextlib
 import os
 import re
 import secrets
-from typing import Dict, Generator, Iterator, List, Optional, Sequence, Tuple
+import stat
+from typing import Dict, Generator, Iterable, Iterator, List, Mapping, Optional, Sequence, Tuple
 
 from . import answers, changes, progress
-from .faults import FILES, MEMORY, NO_SET, USAGE, Fault, faults_of
+from .faults import FILES, MEMORY, NO_SET, USAGE, Fault, NoProgram, faults_of
 from .folders import Folder
-from .names import shown
+from .names import is_packet_file, shown
 from .programs import Answer, Program, answer_of, pieces_of, running, status_of
 
 MOST_FILES = 65_535         # files of one command line
 SPARE_FILES = 32            # that are open beside those that are named
 _FAULTS = (USAGE, NO_SET, FILES, MEMORY)
+_PRINTABLE = re.compile("[ -~]*")
 _ABOUT = re.compile(rb"parv: (cannot open|read fault in) ([^\n]*)\n?")
 
 
@@ -80,6 +82,34 @@ def path_below(folder: Folder, name: bytes) -> bytes:
     return b"/proc/self/fd/%d/%s" % (folder.place, name)
 
 
+def fault_of(program: Program, status: int, said: bytes, command: str, names: Mapping[str, str]) -> Fault:
+    """The fault of a run that has no answer, by what parv has said; the names in messages are by the words of files."""
+    line = said.decode("utf-8", "backslashreplace").split("\n")[0]
+    if status < 0:
+        return NoProgram(FILES, f"{program.shown} was ended by signal {-status}")
+    if status not in _FAULTS:
+        return NoProgram(FILES, f"{program.shown} {command} has ended with status {status}, and isn't parv")
+    if not line.startswith("parv: "):
+        return answers.NoAnswer(command)
+    about = _ABOUT.match(said)
+    name = names.get(about[2].decode("ascii", "replace")) if about else None
+    if about and name:
+        return Fault(status, f"{about[1].decode()} {name}")
+    return Fault(status, line[6:] if _PRINTABLE.fullmatch(line) else shown(os.fsencode(line[6:])))
+
+
+def most_read(files: Iterable[bytes], times: int) -> int:
+    """How many bytes parv reads of these files at most: three times the length of a packet file, and so many times that
+    of each other one. (It reads more of packet files only if their packets lie in one another.)"""
+    most = 0
+    for file in files:
+        with contextlib.suppress(OSError, ValueError):
+            now = os.stat(file)
+            if stat.S_ISREG(now.st_mode):
+                most += now.st_size * (3 if is_packet_file(file) else times)
+    return most
+
+
 class Parv:
     """The program, and the links to the files that it is given."""
 
@@ -87,18 +117,8 @@ class Parv:
         self.program, self.links = program, links
 
     def fault_of(self, status: int, said: bytes, command: str) -> Fault:
-        """The fault of a run that has no answer, by what parv has said."""
-        line = said.decode("utf-8", "backslashreplace").split("\n")[0]
-        if status < 0:
-            return Fault(FILES, f"{self.program.shown} was ended by signal {-status}")
-        if status not in _FAULTS or not line.startswith("parv: "):
-            return Fault(FILES, f"{self.program.shown} {command} has ended with status {status}, and isn't parv"
-                         if status not in _FAULTS else answers.NoAnswer(command).args[0])
-        about = _ABOUT.match(said)
-        name = self.links.shown.get(about[2].decode("ascii", "replace")) if about else None
-        if about and name:
-            return Fault(status, f"{about[1].decode()} {name}")
-        return Fault(status, shown(os.fsencode(line[6:])))
+        """The fault of a run that has no answer."""
+        return fault_of(self.program, status, said, command, self.links.shown)
 
     def answer(self, command: str, words: Sequence[str], most: int = 0) -> Answer:
         with progress.doing(f"parv {command}", most):

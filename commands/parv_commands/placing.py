@@ -7,8 +7,9 @@ import os
 import zlib
 from typing import Iterable, Iterator
 
-from . import changes
+from . import changes, progress
 from .faults import Refused
+from .signals import wait_point
 
 BLOCK = 4096        # zeros that are left as a hole: this number of them from a multiple of it on
 PIECE = 1 << 20
@@ -52,6 +53,16 @@ def pieces_of_file(opened: int) -> Iterator[bytes]:
     while data := os.pread(opened, PIECE, at):
         yield data
         at += len(data)
+
+
+def told(pieces: Iterable[bytes]) -> Iterator[bytes]:
+    """Pieces, while the line of progress says how many bytes they were; a signal may end the command between two."""
+    done = 0
+    for piece in pieces:
+        wait_point()
+        yield piece
+        done += len(piece)
+        progress.show(done)
 
 
 def _bytes_of(opened: int, length: int, at: int) -> bytes:

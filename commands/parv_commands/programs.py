@@ -10,10 +10,10 @@ import selectors
 import signal
 import subprocess
 import time
-from typing import Callable, Dict, IO, Iterator, List, NamedTuple, Optional, Sequence, Tuple
+from typing import Callable, Container, Dict, Iterator, List, NamedTuple, Optional, Sequence, Tuple
 
 from . import progress
-from .faults import FILES, Fault
+from .faults import FILES, NoProgram
 from .names import shown
 from .signals import interruptible
 
@@ -57,7 +57,7 @@ def needed_program(variable: str, usual: str) -> Program:
     found = find_program(variable, usual)
     if found is None:
         name = shown(os.fsencode(os.environ.get(variable) or usual))
-        raise Fault(FILES, f"cannot run {name}: put {usual} in PATH, or name it by {variable}")
+        raise NoProgram(FILES, f"cannot run {name}: put {usual} in PATH, or name it by {variable}")
     return found
 
 
@@ -70,7 +70,8 @@ def raise_file_limit() -> int:
     return 1 << 20 if soft == resource.RLIM_INFINITY else soft
 
 
-def _environment() -> Dict[str, str]:
+def environment() -> Dict[str, str]:
+    """The environment that programs get which are run."""
     return {**os.environ, "PATH": search_path(), "LC_ALL": "C"}
 
 
@@ -99,15 +100,16 @@ def _end_group(leader: int) -> None:
 
 @contextlib.contextmanager
 def running(program: Program, words: Sequence[bytes], place: Optional[int] = None,
-            kept: Tuple[int, ...] = ()) -> Iterator[subprocess.Popen[bytes]]:
-    """A program that runs in an opened folder, and doesn't afterwards."""
+            kept: Tuple[int, ...] = (), own: Container[int] = ()) -> Iterator[subprocess.Popen[bytes]]:
+    """A program that runs in an opened folder, and doesn't afterwards. If `own` has 0 or 1, it gets the standard input or
+    output of the command itself."""
     try:
-        process = subprocess.Popen([os.fsencode(program.path), *words], stdin=subprocess.DEVNULL,
-                                   stdout=subprocess.PIPE, stderr=subprocess.PIPE, env=_environment(),
-                                   preexec_fn=_child(place), pass_fds=kept)
+        process = subprocess.Popen([os.fsencode(program.path), *words], stdin=None if 0 in own else subprocess.DEVNULL,
+                                   stdout=None if 1 in own else subprocess.PIPE, stderr=subprocess.PIPE,
+                                   env=environment(), preexec_fn=_child(place), pass_fds=kept)
     except (OSError, subprocess.SubprocessError) as fault:
         why = fault.strerror if isinstance(fault, OSError) else str(fault)
-        raise Fault(FILES, f"cannot run {program.shown}: {why}") from fault
+        raise NoProgram(FILES, f"cannot run {program.shown}: {why}") from fault
     try:
         yield process
     finally:
@@ -120,27 +122,33 @@ def running(program: Program, words: Sequence[bytes], place: Optional[int] = Non
         _end_group(process.pid)
 
 
+def outputs_of(process: subprocess.Popen[bytes]) -> Iterator[Tuple[int, bytes]]:
+    """What a program writes on standard output and standard error, in pieces, each with 1 or 2."""
+    with selectors.DefaultSelector() as waiting:
+        for number, pipe in (1, process.stdout), (2, process.stderr):
+            if pipe is not None:
+                os.set_blocking(pipe.fileno(), False)
+                waiting.register(pipe, selectors.EVENT_READ, number)
+        while waiting.get_map():
+            ready: List[selectors.SelectorKey] = []
+            with interruptible():
+                ready = [key for key, _ in waiting.select(progress.EACH)]
+            progress.show(progress.read_by(process.pid))
+            for key in ready:
+                piece = os.read(key.fd, PIECE)
+                if piece:
+                    yield key.data, piece
+                else:
+                    waiting.unregister(key.fileobj)
+
+
 def pieces_of(process: subprocess.Popen[bytes], said: bytearray) -> Iterator[bytes]:
     """What a program writes on standard output, in pieces; what it says on standard error comes into `said`."""
-    out, err = process.stdout, process.stderr
-    assert out is not None and err is not None
-    with selectors.DefaultSelector() as waiting:
-        for pipe in out, err:
-            os.set_blocking(pipe.fileno(), False)
-            waiting.register(pipe, selectors.EVENT_READ)
-        while waiting.get_map():
-            ready: List[IO[bytes]] = []
-            with interruptible():
-                ready = [key.fileobj for key, _ in waiting.select(progress.EACH)]    # type: ignore[misc]
-            progress.show(progress.read_by(process.pid))
-            for pipe in ready:
-                piece = os.read(pipe.fileno(), PIECE)
-                if not piece:
-                    waiting.unregister(pipe)
-                elif pipe is out:
-                    yield piece
-                elif len(said) < MOST_SAID:
-                    said += piece
+    for number, piece in outputs_of(process):
+        if number == 1:
+            yield piece
+        elif len(said) < MOST_SAID:
+            said += piece
 
 
 class Answer(NamedTuple):
@@ -166,5 +174,5 @@ def answer_of(program: Program, words: Sequence[bytes], place: Optional[int] = N
         for piece in pieces_of(process, said):
             out += piece
             if len(out) > most:
-                raise Fault(FILES, f"{program.shown} writes more than an answer has")
+                raise NoProgram(FILES, f"{program.shown} writes more than an answer has")
         return Answer(status_of(process), bytes(out), bytes(said))

@@ -14,9 +14,11 @@ _ERR = 2
 
 
 class _Progress:
-    """What goes on now, of how much at most, and when it has begun."""
+    """What goes on now, of how much at most, whether the line comes at once and has the speed, and when it has begun."""
     what: str = ""
     most: int = 0
+    at_once: bool = False
+    done: int = 0
     shown: bool = False
     begun: float = 0.0
     last: float = 0.0
@@ -44,28 +46,46 @@ def clear() -> None:
         _Progress.shown = False
 
 
+def can_show() -> bool:
+    """Whether there is a terminal for the line, and the system tells what a program has read."""
+    return _is_terminal() and os.access("/proc/self/io", os.R_OK)
+
+
 @contextlib.contextmanager
-def doing(what: str, most: int = 0) -> Iterator[None]:
+def doing(what: str, most: int = 0, at_once: bool = False) -> Iterator[None]:
     """Says what goes on while it does, and how many bytes it has to pass at most, if that is known."""
-    before = _Progress.what, _Progress.most, _Progress.begun
-    _Progress.what, _Progress.most, _Progress.begun = what, most, time.monotonic()
+    before = _Progress.what, _Progress.most, _Progress.at_once, _Progress.begun
+    _Progress.what, _Progress.most, _Progress.at_once, _Progress.begun = what, most, at_once, time.monotonic()
+    if at_once:
+        _Progress.last, _Progress.done = _Progress.begun, 0
     try:
         yield
     finally:
         clear()
-        _Progress.what, _Progress.most, _Progress.begun = before
+        _Progress.what, _Progress.most, _Progress.at_once, _Progress.begun = before
+
+
+def stop() -> None:
+    """Has no line come any more for what goes on now."""
+    clear()
+    _Progress.what = ""
 
 
 def show(done: Optional[int]) -> None:
     """Tells how many bytes were passed so far, if that is known: once two seconds have gone, and half a second since
     the line before."""
     now = time.monotonic()
-    if not _Progress.what or now - _Progress.begun < FIRST or now - _Progress.last < EACH or not _is_terminal():
+    since = now - _Progress.last
+    if (not _Progress.what or now - _Progress.begun < FIRST and not _Progress.at_once or since < EACH
+            or not _is_terminal()):
         return
-    count = "" if done is None else f": {done >> 20} MiB"
-    most = f" of at most {(max(_Progress.most, done or 0) + 1048575) >> 20} MiB" if _Progress.most else ""
-    _write(f"\r\033[K{_Progress.what}{count}{most}")
-    _Progress.last, _Progress.shown = now, True
+    most = f" of at most {(max(_Progress.most, done) + 1048575) >> 20} MiB" if _Progress.most else ""
+    if _Progress.at_once:
+        line = f"{done >> 20} MiB{most}, {max(int((done - _Progress.done) / since), 0) >> 20} MiB/s"
+    else:
+        line = f"{_Progress.what}: {done >> 20} MiB{most}"
+    _write(f"\r\033[K{line}")
+    _Progress.last, _Progress.shown, _Progress.done = now, True, done
 
 
 @contextlib.contextmanager

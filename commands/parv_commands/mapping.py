@@ -1,0 +1,112 @@
+"""Which slices of each file of a set are in place, which are moved, and which are missing."""
+
+from __future__ import annotations
+
+import os
+from typing import BinaryIO, Dict, List, NamedTuple, Sequence, Set, Tuple
+
+from . import progress
+from .answers import SetAnswer, State
+from .faults import faults_of
+from .given import Given
+from .names import shown
+from .packets import Member, RecoverySet
+from .parv import Parv
+from .placing import is_there, md5_of, pieces_of_file, told
+from .search import Search
+from .signals import wait_point
+
+IN_PLACE, MOVED, NOT_KNOWN, MISSING = range(4)      # from the best to the worst
+WORDS = ["in place", "moved", "not known", "missing"]
+
+
+class Map(NamedTuple):
+    """The states of a file's slices, and where moved ones are: the name and the offset, by number."""
+    file: Member
+    states: List[int]
+    where: Dict[int, Tuple[str, int]]
+
+
+def tally(states: Sequence[int]) -> str:
+    """How many slices are in each state, in words."""
+    return ", ".join(f"{states.count(state)} {WORDS[state]}" for state in range(4) if state in states) or "no slices"
+
+
+def need(found: RecoverySet, states: Sequence[int]) -> str:
+    return f"need {states.count(MISSING) + states.count(NOT_KNOWN)} have {found.have}"
+
+
+def all_states(maps: Sequence[Map]) -> List[int]:
+    return [state for each in maps for state in each.states]
+
+
+def bare(path: bytes, base: bytes) -> bytes:
+    """The name of a scanned file, without the folder of -B."""
+    front = base if base.endswith(b"/") else base + b"/"
+    return path[len(front):] if base and path.startswith(front) else path
+
+
+def _is_in_place(found: RecoverySet, file: Member, number: int, opened: BinaryIO, tails: bool) -> bool:
+    """Whether an open file has the slice at its offset, looked at as parv does."""
+    own, offset = found.own_length(file, number), number * found.size
+    behind = os.fstat(opened.fileno()).st_size - offset
+    looked = own if tails else max(own, min(found.size, behind))
+    return file.sums is not None and is_there(opened.fileno(), offset, looked, found.size, file.sums[number])
+
+
+def _map_in_place(found: RecoverySet, file: Member, paths: Sequence[bytes], tails: bool) -> Map:
+    """The map of a file by the scanned files of its name: all else is missing, or not known."""
+    states = [NOT_KNOWN if file.sums is None else MISSING] * file.slices
+    for path in paths if file.sums else []:
+        with progress.doing(f"{file.shown} is read", file.length), faults_of("read", shown(path)), \
+                open(path, "rb") as opened:
+            for number in range(file.slices):
+                wait_point()
+                progress.show(number * found.size)
+                if states[number] != IN_PLACE and _is_in_place(found, file, number, opened, tails):
+                    states[number] = IN_PLACE
+    return Map(file, states, {})
+
+
+def _has_content(path: bytes, file: Member) -> bool:
+    with progress.doing(f"{file.shown} is read", file.length), faults_of("read", shown(path)), \
+            open(path, "rb") as opened:
+        return md5_of(told(pieces_of_file(opened.fileno()))) == file.whole
+
+
+def _map_of_unknown(file: Member, state: State, paths: Sequence[bytes]) -> Map:
+    """The map of a file whose checksums aren't known, by what parv says of the whole file."""
+    if state.word is None:
+        return Map(file, [NOT_KNOWN] * file.slices, {})
+    return Map(file, [IN_PLACE if any(_has_content(path, file) for path in paths) else MOVED] * file.slices, {})
+
+
+def maps_of(found: RecoverySet, answer: SetAnswer, given: Given, parv: Parv, tails: bool, base: bytes) -> List[Map]:
+    """The maps of all files."""
+    by_name: Dict[bytes, List[bytes]] = {}
+    for scanned in given.scanned:
+        path = given.paths[scanned.word]
+        by_name.setdefault(bare(path, base), []).append(path)
+    maps = [_map_in_place(found, file, by_name.get(file.name, []), tails) for file in found.files]
+    if any(file.sums is None for file in found.files):
+        most = sum(scanned.length for scanned in given.scanned) * 2
+        verdict = parv.verify(answer, given.packet_words, [scanned.word for scanned in given.scanned], False, most)
+        maps = [_map_of_unknown(each.file, state, by_name.get(each.file.name, [])) if each.file.sums is None else each
+                for each, state in zip(maps, verdict.states)]
+    _take_moved(maps, Search(found, parv, given.scanned, tails, _missing(maps)))
+    return maps
+
+
+def _missing(maps: Sequence[Map]) -> Set[int]:
+    """The numbers in the whole set of the slices that are missing."""
+    return {number for each in maps for number, state in zip(each.file.numbers, each.states) if state == MISSING}
+
+
+def _take_moved(maps: Sequence[Map], search: Search) -> None:
+    """Notes where a search finds slices that are missing so far."""
+    owners = [each for each in maps for _ in each.states]
+    for at, offset, number in search.sightings():
+        search.wanted.discard(number)
+        each = owners[number]
+        each.states[number - each.file.first] = MOVED
+        each.where[number - each.file.first] = search.scanned[at].shown, offset
