@@ -1,6 +1,6 @@
 #!/bin/sh
 # usage: ./install.sh [PREFIX]
-# Installs parv, parv-repair, parv-rescue and parv-tree with pages, completions and scripts below PREFIX, or /usr/local.
+# Installs parv and the commands beside it with their pages, completions and examples below PREFIX, or /usr/local.
 # DESTDIR goes before it. It needs no toolchain. Then PREFIX/bin has to be in PATH, for man too.
 set -eu
 case ${1-} in
@@ -24,4 +24,4 @@ case :$PATH: in
 *":$prefix/bin:"*) ;;
 *) echo "PATH has no $prefix/bin yet, by which the shell finds parv and man its page." ;;
 esac
-echo "parv, parv-repair, parv-rescue and parv-tree are installed in $prefix/bin, and scripts in $prefix/share/doc/parv/examples."
+echo "parv and the commands beside it are installed in $prefix/bin, and examples of scripts in $prefix/share/doc/parv/examples."

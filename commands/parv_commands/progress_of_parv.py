@@ -66,8 +66,7 @@ def _show(program: Program, given: List[bytes]) -> int:
     with progress.doing("parv", most_read(given[1:], times), True), \
             programs.running(program, given, own=(0,) if is_terminal else (0, 1)) as process:
         for number, piece in programs.outputs_of(process):
-            if number == 1:
-                progress.stop()     # (A line of its own would take off a part of what comes now.)
+            progress.stop()     # (The line would take off a part of what comes from now on.)
             with signals.interruptible():
                 output.pass_on(piece, number)
         status = programs.status_of(process)

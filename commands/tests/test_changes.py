@@ -20,11 +20,10 @@ from .test_repair_crashes import WHOLE, damage
 
 PACKAGE = os.path.dirname(os.path.realpath(parv_commands.__file__ or ""))
 READS: Dict[str, Set[str]] = {      # what modules may take from others that can also change something
-    "os": set("""O_CLOEXEC O_DIRECTORY O_NOFOLLOW O_NONBLOCK O_PATH O_RDONLY O_RDWR SEEK_DATA X_OK _exit access close
-              devnull environ fchdir fsencode fstat getcwd getcwdb getpid getppid isatty killpg listdir lseek open path
-              pathsep pread read readlink scandir set_blocking setpgid stat stat_result strerror sysconf urandom
-              write""".split()),
-    "shutil": set(), "tempfile": set(), "ctypes": {"CDLL"}, "pathlib": set(), "io": set(),
+    "os": set("""O_CLOEXEC O_DIRECTORY O_NOFOLLOW O_NONBLOCK O_PATH O_RDONLY O_RDWR R_OK SEEK_DATA X_OK _exit access
+              close devnull environ execve fchdir fsencode fstat getcwd getcwdb getpid getppid isatty killpg listdir lseek open path
+              pathsep pread read readlink set_blocking setpgid stat stat_result strerror urandom write""".split()),
+    "shutil": {"get_terminal_size"}, "tempfile": set(), "ctypes": {"CDLL"}, "pathlib": set(), "io": set(),
 }
 SAYING = {"output.py", "progress.py"}       # modules that write to standard output and standard error
 CALLS = dict(pair.split(":") for pair in """mkdir:mkdir mkdirat:mkdir unlinkat:unlink unlink:unlink rmdir:rmdir

@@ -15,25 +15,16 @@ import unittest
 import unittest.mock
 from typing import Dict, List, Optional, Tuple
 
-import parv_commands
 from parv_commands import programs, repair, rescue
-from parv_commands.signals import SIGNALS
 
-from .rooms import PARV, Room, packet, read, set_of, write
+from .calls import BIN, Calls
+from .rooms import PARV, Room, packet, set_of, write
 
-BIN = os.path.join(os.path.dirname(os.path.dirname(os.path.realpath(parv_commands.__file__ or ""))), "bin")
 REPAIR, RESCUE = os.path.join(BIN, "parv-repair"), os.path.join(BIN, "parv-rescue")
 FILES = {"first.txt": b"first of all", "second.txt": b"the second"}
-Ended = Tuple[int, str, str]
 
 
-def take_all_signals() -> None:
-    """Lets signals end a child, also if the tests run under nohup."""
-    for number in SIGNALS:
-        signal.signal(number, signal.SIG_DFL)
-
-
-class Statuses(unittest.TestCase):
+class Statuses(Calls):
     def setUp(self) -> None:
         self.room = Room(FILES)
         self.addCleanup(self.room.close)
@@ -41,20 +32,8 @@ class Statuses(unittest.TestCase):
         self.room.take("second.txt")
         self.before = self.room.listing()
 
-    def call(self, *words: str, shell: str = 'exec "$@"', **environment: str) -> Ended:
-        given = {**os.environ, "PARV": PARV, "PAR2": self.room.stand_in, "TMPDIR": self.room.temporary, **environment}
-        ended = subprocess.run(["/bin/bash", "-c", shell, "bash", *words], cwd=self.room.top, env=given,
-                               capture_output=True, timeout=120, stdin=subprocess.DEVNULL)
-        return ended.returncode, ended.stdout.decode(), ended.stderr.decode()
-
     def both(self) -> List[List[str]]:
         return [[REPAIR, "room"], [RESCUE, "new", "room/set.par2", "room/stray"]]
-
-    def program(self, name: str, text: str) -> str:
-        path = os.path.join(self.room.top, name)
-        write(path, text.encode())
-        os.chmod(path, 0o755)
-        return path
 
     def fails(self, words: List[str], status: int, said: str, shell: str = 'exec "$@"', **environment: str) -> None:
         ended = self.call(*words, shell=shell, **environment)
@@ -216,37 +195,6 @@ class Statuses(unittest.TestCase):
                 self.assertEqual(file.read(), handed + "\n")
 
     # Signals while programs run.
-
-    def waits(self, name: str, command: str) -> str:
-        """A program that waits when it is called so, and notes its number."""
-        return self.program(name, f'#!/bin/bash\n{command} || exec "{PARV}" "$@"\necho $$ > {self.room.top}/waiting\n'
-                                  "exec sleep 60\n")
-
-    def ended_while(self, words: List[str], number: signal.Signals, all_of_them: bool,
-                    **environment: str) -> Tuple[int, bytes]:
-        """How a command ends by a signal once such a program waits, of which then nothing is left."""
-        place = os.path.join(self.room.top, "waiting")
-        given = {**os.environ, "PARV": PARV, "PAR2": self.room.stand_in, "TMPDIR": self.room.temporary, **environment}
-        process = subprocess.Popen(words, cwd=self.room.top, env=given, stdout=subprocess.PIPE,
-                                   stderr=subprocess.STDOUT, start_new_session=True, preexec_fn=take_all_signals)
-        child: Optional[int] = None
-        until = time.monotonic() + 30
-        while child is None and time.monotonic() < until:
-            time.sleep(0.02)
-            if os.path.exists(place):
-                with open(place, encoding="ascii") as file:
-                    text = file.read()
-                child = int(text) if text.endswith("\n") else None
-        assert child is not None
-        os.remove(place)
-        (os.killpg if all_of_them else os.kill)(process.pid, number)
-        out, _ = process.communicate(timeout=30)
-        for _ in range(100):
-            if not os.path.exists(f"/proc/{child}"):
-                break
-            time.sleep(0.02)
-        self.assertFalse(os.path.exists(f"/proc/{child}"), "the program goes on")
-        return process.returncode, out
 
     def test_signals_end_the_programs_too_and_leave_nothing(self) -> None:
         cases: List[Tuple[List[str], Dict[str, str]]] = [

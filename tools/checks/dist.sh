@@ -40,11 +40,11 @@ if env -i PATH="$path" "$room/install.sh" "$work/a place" > said 2>&1 \
 else
     fails "the archive doesn't install: $(head -c 300 said)"
 fi
-last="parv, parv-repair, parv-rescue and parv-tree are installed in $work/a place/bin, and scripts in \
+last="parv and the commands beside it are installed in $work/a place/bin, and examples of scripts in \
 $work/a place/share/doc/parv/examples."
 if [ "$(cat said)" = "PATH has no $work/a place/bin yet, by which the shell finds parv and man its page.
 $last" ]; then
-    echo "ok: it says where parv and its scripts are, and that PATH has no such folder"
+    echo "ok: it says where parv and the examples are, and that PATH has no such folder"
 else
     fails "it says: $(head -c 300 said)"
 fi
@@ -58,8 +58,9 @@ cp -r "$room" elsewhere
 printf other > "elsewhere/$room/bin/parv"
 wants "another folder for cd has no say" 0 "$last" "" \
     env -i CDPATH="$work/elsewhere" PATH="$path:$work/a place/bin" "$room/install.sh" "$work/a place/"
-for name in parv-repair parv-rescue parv-tree; do
-    wants "what the archive installs runs: $name" 0 "$("$top/commands/bin/$name" -h)" "" "a place/bin/$name" -h
+for command in "$top"/commands/bin/*; do
+    name=${command##*/}
+    wants "what the archive installs runs: $name" 0 "$("$command" -h)" "" "a place/bin/$name" -h
 done
 printf '#!/bin/sh\n' > "$room/bin/planted"
 if env -i PATH="$path" "$room/install.sh" "$work/a place" > said 2>&1 && [ ! -e "a place/bin/planted" ]; then

@@ -1,9 +1,9 @@
 #!/usr/bin/env bash
-# The installed files: the program, its pages, its completions and its scripts in their places and nothing else,
+# The installed files: the program, the commands, pages, completions and examples in their places and nothing else,
 # without a toolchain, and nothing of them after the removal.
 . "$(dirname "$0")/with/wants.sh"
 
-commands="parv parv-repair parv-rescue parv-tree"
+commands="parv $(cd "$top/commands/bin" && echo *)"
 places=$({
     for name in $commands; do
         echo "/usr/bin/$name
@@ -44,22 +44,17 @@ if cmp -s "$parv" "$room/usr/bin/parv" && [ -x "$room/usr/bin/parv" ] \
     && cmp -s "$top/completions/_parv" "$room/usr/share/zsh/site-functions/_parv" \
     && cmp -s "$top/completions/parv.fish" "$room/usr/share/fish/vendor_completions.d/parv.fish" \
     && cmp -s "$top/docs/FORMATS.md" "$room/usr/share/doc/parv/FORMATS.md" \
-    && cmp -s "$top/docs/GLOSSARY.md" "$room/usr/share/doc/parv/GLOSSARY.md" \
-    && cmp -s "$top/docs/parv-repair.1" "$room/usr/share/man/man1/parv-repair.1" \
-    && cmp -s "$top/docs/parv-rescue.1" "$room/usr/share/man/man1/parv-rescue.1" \
-    && cmp -s "$top/commands/bin/parv-repair" "$room/usr/bin/parv-repair" && [ -x "$room/usr/bin/parv-repair" ] \
-    && cmp -s "$top/commands/bin/parv-rescue" "$room/usr/bin/parv-rescue" && [ -x "$room/usr/bin/parv-rescue" ] \
-    && cmp -s "$top/docs/parv-tree.1" "$room/usr/share/man/man1/parv-tree.1" \
-    && cmp -s "$top/commands/bin/parv-tree" "$room/usr/bin/parv-tree" && [ -x "$room/usr/bin/parv-tree" ] \
     && diff -rq --exclude=__pycache__ "$top/commands/parv_commands" "$room/usr/lib/parv/parv_commands" > /dev/null \
     && diff -rq "$top/examples" "$room/usr/share/doc/parv/examples" > /dev/null; then
     echo "ok: what is installed is what was built"
 else
     fails "what is installed is another"
 fi
-# Each script and command prints its help, and if there is no parv, only that.
-for script in "$room"/usr/share/doc/parv/examples/* "$room"/usr/bin/parv-*; do
+# Each command is what was built, and prints its help, and if there is no parv, only that.
+for script in "$room"/usr/share/doc/parv/examples/check_tree.sh "$room"/usr/bin/parv-*; do
     name=${script##*/}
+    [ "$name" = check_tree.sh ] || { [ -x "$script" ] && cmp "$top/commands/bin/$name" "$script" \
+        && cmp "$top/docs/$name.1" "$room/usr/share/man/man1/$name.1"; } || fails "what is installed is another: $name"
     env -i PATH="$path" "$script" -h > "$work/help" 2> "$work/line"
     got=$?
     if [ $got -eq 0 ] && [ ! -s "$work/line" ] && head -n 1 "$work/help" | grep -q "^usage: $name .*[A-Z]" \
@@ -69,7 +64,7 @@ for script in "$room"/usr/share/doc/parv/examples/* "$room"/usr/bin/parv-*; do
         fails "the help of $name: status $got, $(head -c 300 "$work/help" "$work/line")"
     fi
     words=(verify 1 x.par2)
-    case $name in parv-tree | parv-repair) words=("$work") ;; esac
+    case $name in check_tree.sh | parv-repair | parv-watch) words=("$work") ;; esac
     wants "$name without parv" 6 "" "$name: cannot run parv: put parv in PATH, or name it by PARV" \
         env -i PATH="$path" "$script" "${words[@]}"
 done

@@ -8,8 +8,7 @@ cd "$work" || exit 1
 page=$top/docs/parv.1
 
 pages=("$top"/docs/*.1)
-for command in "$commands"/*; do [ -e "$top/docs/${command##*/}.1" ] || fails "there is no page of ${command##*/}"; done
-[ ${#pages[@]} -ge 4 ] || fails "there are ${#pages[@]} pages"
+[ ${#pages[@]} -eq $(($(find "$top/commands/bin" -type f | wc -l) + 1)) ] || fails "there are ${#pages[@]} pages"
 for page in "${pages[@]}"; do
     # Of the pages that this one names, some may not be installed here.
     if command -v mandoc > /dev/null; then
@@ -35,13 +34,15 @@ for page in "${pages[@]}"; do
 done
 
 # Of a command the page has each option and each exit status that its help has, and no others.
-for name in parv-repair parv-rescue parv-tree; do
+for command in "$top"/commands/bin/*; do
+    name=${command##*/}
     page=$top/docs/$name.1
-    "$top/commands/bin/$name" -h > help
-    sed -nE 's/^  (-h, --help|--[a-z-]*|-[a-z] ).*/\1/p; s/^  ([0-9])  .*/\1/p' help | sed 's/^-h, //; s/ //' | sort > wanted
-    { sed -nE 's/^\.It Fl (h , )?-([a-z-]+).*/--\2/p; s/^\.It Fl ([a-z])( Ar .*)?$/-\1/p' "$page"
+    grep -q "^\.Xr $name 1\b" "$top/docs/parv.1" || fails "the page of parv doesn't tell of $name"
+    "$command" -h > help
+    sed -nE 's/^  (-[A-Za-z], )?(--[a-z-]+).*/\2/p; s/^  ([0-9]) .*/\1/p' help | sort > wanted
+    { sed -nE 's/^\.It Fl ([A-Za-z] , )?-([a-z-]+).*/--\2/p' "$page"
         sed -n '/^\.Sh EXIT STATUS/,/^\.El/s/^\.It \([0-9]\)$/\1/p' "$page"; } | sort > told
-    if [ "$(wc -l < wanted)" -ge 8 ] && cmp -s wanted told; then
+    if [ "$(wc -l < wanted)" -ge 3 ] && cmp -s wanted told; then
         echo "ok: the page of $name has each option and exit status"
     else
         fails "the page of $name: $(diff wanted told | tr '\n' ' ')"
@@ -69,9 +70,10 @@ while IFS= read -r path; do
     [ -e "$top/$path" ] || [ -e "$top/docs/$path" ] || fails "the page names $path, which isn't there"
 done < paths
 # The calls of commands in the pages: each in a copy of a folder with what it names, and how it ends.
-{ sed -n 's/^\.Dl \$ \(parv-\(re[a-z]*\|tree\) .*\)/\1/p' "$top"/docs/*.1
-    sed -n '/^\.Bd/,/^\.Ed/s/^\(\$ \|  *\)\(.*\)/\2/p' "$top/docs/parv-repair.1" | tr '\n' ' '; } | sed 's/\\-/-/g' > calls
-[ "$(wc -l < calls)" -ge 9 ] || fails "the pages have $(wc -l < calls) calls of commands"
+{ sed -n 's/^\.Dl \$ \(parv-[a-z]* .*\)/\1/p' "$top"/docs/*.1
+    sed -n '/^\.Bd/,/^\.Ed/s/^\(\$ \|  *\)\(.*\)/\2/p' "$top/docs/parv-repair.1" | tr '\n' ' '; } \
+    | sed 's/\\-/-/g; s/\\&//g' > calls
+[ "$(wc -l < calls)" -ge 14 ] || fails "the pages have $(wc -l < calls) calls of commands"
 mkdir -p whole/download bin
 cp "$top"/demo/{photos.par2,*.raw,notes.txt} whole/download
 mv whole/download/beach.raw whole/download/other
@@ -86,13 +88,23 @@ ln -s "$top"/commands/bin/* bin
 while IFS= read -r call; do
     rm -rf part
     cp -r whole part
-    wanted=0
-    case $call in *--dry-run* | "parv-rescue saved"* | parv-tree*) wanted=1 ;; esac
-    (cd part && env -u PARV PATH="$work/bin:$PATH" bash -c "${call//\/srv\//}" > ../text 2> ../line)
+    wanted=0 place=part
+    case $call in *--dry-run* | "parv-rescue saved"* | parv-progress*) wanted=1 ;; esac
+    [[ $call != *./\** ]] || place=part/download
+    [[ $call != parv-watch* ]] || mv part/download/other part/download/beach.raw
+    (cd $place && env -u PARV PATH="$work/bin:$PATH" bash -c "$call" > "$work/text" 2> "$work/line")
     status=$?
     last=$(tail -n 1 text)
-    if [ $status -eq $wanted ] && [[ $last == complete || $last == "a repair can be tried"* || $last == "slices "* \
-        || $last == "1 589c76e09f0580b9203c5b64963b8957 need 0 have 0 2019/photos" || $last == '{"status": 1, '* ]]; then
+    case $call in
+    parv-map*) end="* in place, * moved; need 0 have 0" ;;
+    parv-parts*) end="disc.img * 1" ;;
+    parv-progress*) end="result possible" ;;
+    parv-rescue*) end="slices *" ;;
+    *--dry-run*) end="a repair can be tried*" ;;
+    *) end=complete ;;
+    esac
+    # shellcheck disable=SC2053
+    if [ $status -eq $wanted ] && [[ $last == $end ]]; then
         echo "ok: $call"
     else
         fails "$call: status $status, $(cat text line)"

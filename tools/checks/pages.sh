@@ -27,7 +27,7 @@ mv download/harbour.raw download/port.raw
 { head -c 5000 /dev/zero; cat backup/whole/*.raw backup/whole/notes.txt; printf 'more'; } > disc.img
 wanted=("1 a repair can be tried: need 0 have 0" "0 complete" "0 slices 38/38, copied now 38" "0 " "0 result complete"
     "0 38 in place; need 0 have 0")
-sed -nE 's/^    (([a-z_]+\.(sh|py)|parv-(re[a-z]+|tree)) .*)/\1/p' "$top/README.md" > calls
+sed -nE 's/^    (([a-z_]+\.sh|parv-[a-z]+) .*)/\1/p' "$top/README.md" > calls
 [ "$(wc -l < calls)" -eq ${#wanted[@]} ] || fails "README has $(wc -l < calls) calls of scripts and commands"
 number=0
 while IFS= read -r call; do

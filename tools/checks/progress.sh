@@ -1,27 +1,27 @@
 #!/usr/bin/env bash
-# examples/progress.sh: the words, output and exit status of parv, and on a terminal alone what was read so far.
-. "$(dirname "$0")/with/wants.sh"
+# parv-progress: the words, output and exit status of parv, and on a terminal alone what was read so far.
+. "$(dirname "$0")/wants.sh"
 cd "$work" || exit 1
 export LC_ALL=C
 export PARV=$parv
-script=$top/examples/progress.sh
+script=$top/commands/bin/parv-progress
 demo=$top/demo
 
-usage='usage: progress.sh find|verify [options] FILES'
-# Its help is its head comment.
-help=$(awk 'NR > 1 { if (!/^#/) exit; sub(/^# ?/, ""); print }' "$script")
+usage='usage: parv-progress find|verify [options] FILES'
+help=$("$script" -h)
 [ "${help%%$'\n'*}" = "$usage" ] || fails "its help begins with ${help%%$'\n'*}"
 for word in 3 6; do grep -q "^  $word  [a-z]" <<< "$help" || fails "its help has no $word"; done
 for word in -h --help; do wants "its help by $word" 0 "$help" "" "$script" $word; done
 for words in '' 'set' 'packets demo.par2' '-q verify'; do
-    # shellcheck disable=SC2086 # (these are words)
-    wants "wrong words: $words" 3 "" "$usage" "$script" $words
+    # shellcheck disable=SC2086
+    wants "wrong words: $words" 3 "" "parv-progress: the first word is find or verify
+parv-progress: $usage" "$script" $words
 done
 mkdir path
-for tool in bash sed; do ln -s "$(command -v $tool)" path; done
-wants "no parv" 6 "" "progress.sh: cannot run ./none: put parv in PATH, or name it by PARV" \
+ln -s "$(python3 -c 'import sys; print(sys.executable)')" path/python3
+wants "no parv" 6 "" "parv-progress: cannot run ./none: put parv in PATH, or name it by PARV" \
     env PARV=./none "$script" verify x.par2
-wants "no parv in PATH" 6 "" "progress.sh: cannot run parv: put parv in PATH, or name it by PARV" \
+wants "no parv in PATH" 6 "" "parv-progress: cannot run parv: put parv in PATH, or name it by PARV" \
     env -u PARV PATH="$work/path" "$script" verify x.par2
 
 # Where no terminal is, it is parv, to the byte.
@@ -41,9 +41,8 @@ same "a file that isn't there" verify photos.par2 none
 # On a terminal, with a program that reads 3,000,000 bytes, and ends once a file says so.
 cat > slow << 'END'
 #!/usr/bin/env bash
-trap 'touch stopped; exit 9' TERM
 read -rN 3000000 _ < "${@: -1}"
-touch began
+echo "$PPID $$" > began
 until [ -e go ]; do sleep 0.05; done
 echo "the text of $1"
 echo "the line" >&2
@@ -98,15 +97,16 @@ fi
 
 # A signal ends the program too.
 for signal in INT:130 TERM:143 HUP:129; do
-    rm -f go began stopped
+    rm -f go began
     PARV=./slow timeout 60 env --default-signal=INT,HUP script -qefc "exec $script verify one.PAR2 five.bin" terminal \
         > /dev/null 2>&1 < /dev/null &
-    for _ in $(seq 300); do [ -e began ] && break; sleep 0.1; done
-    pkill -"${signal%:*}" -f "bash $script verify one.PAR2 five.bin"
+    for _ in $(seq 300); do [ -s began ] && break; sleep 0.1; done
+    read -r command program < began
+    kill -"${signal%:*}" "$command"
     wait $!
     got=$?
-    for _ in $(seq 300); do [ -e stopped ] && break; sleep 0.1; done
-    if [ $got -eq "${signal#*:}" ] && [ -e stopped ]; then
+    for _ in $(seq 300); do [ -e "/proc/$program" ] || break; sleep 0.1; done
+    if [ $got -eq "${signal#*:}" ] && [ -n "$program" ] && [ ! -e "/proc/$program" ]; then
         echo "ok: SIG${signal%:*} ends both"
     else
         fails "SIG${signal%:*}: status $got"

@@ -39,6 +39,7 @@ each_tells() {
     tells "slices that are drawn" "$1" "$2" "$3" 1 "${draw_tails[@]}" room/set.par2 room/image
     tells "a repair" "$1" "$2" "$3" 1 "${repair[@]}" room
     tells "a search in parts" "$1" "$2" "$3" 1 "${search[@]}" parts 100 room/set.par2 room/image
+    tells "a folder that is watched" "$1" "$2" "$3" 1 "${watch[@]}" room
 }
 for signal in INT:130 TERM:143 HUP:129; do
     for how in alone all; do

@@ -1,9 +1,74 @@
 #!/usr/bin/env bash
-# A search in parts: a folder that has other files is left as it is, a part that a loss of power has cut isn't taken for
+# A search in parts: whole, stopped and gone on with, it finds what the independent search finds; a folder that has other files is left as it is, a part that a loss of power has cut isn't taken for
 # a whole one, one run at a time works in a folder, and what isn't parv is told.
-. "$(dirname "$0")/with/wants.sh"
-. "$tools/checks/with/commands.sh"
-. "$tools/checks/with/rooms.sh"
+. "$(dirname "$0")/wants.sh"
+. "$tools/checks/commands.sh"
+. "$tools/checks/rooms.sh"
+mkdir "$work/long"
+cd "$work/long" || exit 1
+demo=$top/demo
+
+# A long file: the files of the set, cut at other places and with bytes between.
+head -c 300000 /dev/zero > 'disc image'
+{ cat "$demo/beach.raw"; printf 'x'; tail -c 9001 "$demo/harbour.raw"; } >> 'disc image'
+cat "$demo/tower.raw" "$demo/notes.txt" >> 'disc image'
+words=("$demo/photos.par2" 'disc image' "$demo/notes.txt")
+"$tools/models/find_slices.py" "${words[@]}" | sed '$d' > wanted
+"$tools/models/find_slices.py" --tails "${words[@]}" | sed '$d' > wanted--tails
+[ "$(wc -l < wanted)" -gt 25 ] || fails "there is little to find"
+[ "$(wc -l < wanted--tails)" -gt "$(wc -l < wanted)" ] || fails "there is no tail to find"
+for tails in "" --tails; do
+    for limit in 7 1000; do
+        # shellcheck disable=SC2086
+        "${search[@]}" $tails parts$limit$tails $limit "${words[@]}" > found 2> told
+        if [ $? -eq 0 ] && cmp -s found wanted$tails; then
+            parts=$(wc -l < told)
+            echo "ok: a search in $parts parts of $limit${tails:+ with $tails} finds what the independent search finds"
+        else
+            fails "a search in parts of $limit $tails: $(cmp found wanted$tails 2>&1), $(tail -n 1 told)"
+        fi
+    done
+done
+# Stopped: the last part is gone, and of the one before there is a beginning.
+last=$(find parts7 -name '[0-9]*' | wc -l)
+head -c 50 "parts7/$((last - 1))" > parts7/new
+rm "parts7/$last" "parts7/$((last - 1))"
+"${search[@]}" parts7 7 "${words[@]}" > found 2> told
+if [ $? -eq 0 ] && cmp -s found wanted && [ "$(wc -l < told)" -eq 2 ]; then
+    echo "ok: a search that was stopped goes on behind its last whole part"
+else
+    fails "a search that goes on: $(cmp found wanted 2>&1), $(cat told)"
+fi
+# Other files: a part is not taken up, and a search that is over isn't asked again. A cursor of the first version is.
+mkdir parts
+cp -r parts7 parts/marked
+rm "parts/marked/$last"
+cp -r parts/marked parts/plain
+sed -i '$s/^cursor 2:\([0-9a-f]*\):[0-9a-f]*:/cursor \1:/' "parts/plain/$((last - 1))"
+printf 'x' >> 'disc image'
+wants "a search in parts over a file that has grown" 3 "" "$search_says cursor of other files" \
+    "${search[@]}" parts/marked 7 "${words[@]}"
+wants "a search that is over, of a file that has grown since" 0 "$(cat wanted)" "" "${search[@]}" parts7 7 "${words[@]}"
+truncate -s -1 'disc image'
+for kind in marked plain; do
+    "${search[@]}" parts/$kind 7 "${words[@]}" > found 2> told
+    if [ $? -eq 0 ] && cmp -s found wanted && [ "$(wc -l < told)" -eq 1 ]; then
+        echo "ok: a search in parts goes on from a $kind cursor"
+    else
+        fails "a search from a $kind cursor: $(cmp found wanted 2>&1), $(cat told)"
+    fi
+done
+wants "a search that is over is told again" 0 "$(cat wanted)" "" "${search[@]}" parts7 7 "${words[@]}"
+wants "a search with other words" 3 "" \
+    "$search_says parts7 is of a search with other words" \
+    "${search[@]}" parts7 7 "${words[0]}" 'disc image'
+wants "a search with --tails where parts are without" 3 "" \
+    "$search_says parts7 is of a search with other words" "${search[@]}" --tails parts7 7 "${words[@]}"
+wants "a search without --tails where parts are with it" 3 "" \
+    "$search_says parts7--tails is of a search with other words" "${search[@]}" parts7--tails 7 "${words[@]}"
+wants "a search that can't begin" 6 "" "$search_says cannot open none" \
+    "${search[@]}" parts0 7 "${words[0]}" none
+
 cd "$work" || exit 1
 cp "$top/demo/photos.par2" .
 cat "$top/demo/"*.raw > image
@@ -16,7 +81,7 @@ refuses() {
     listed room > before
     "${search[@]}" "$2" 100 "${words[@]}" > found 2> told
     local status=$?
-    if [ $status -eq 3 ] && [ ! -s found ] && [ "$(wc -l < told)" -eq 1 ]; then
+    if [ $status -eq 3 ] && [ ! -s found ] && [ "$(grep -vc ': usage: ' told)" -eq 1 ]; then
         echo "ok: refused: $1"
     else
         fails "$1: status $status, $(head -c 300 found; cat told)"
@@ -45,9 +110,12 @@ user=()
 [ "$(id -u)" -ne 0 ] || user=(setpriv --reuid 65534 --regid 65534 --clear-groups)
 mkdir public
 chmod 711 .
-cp "$parv" "${search[0]}" "${words[@]}" public
+mkdir public/bin
+cp "$parv" "${words[@]}" public
+cp "${search[0]}" public/bin
+cp -r "$top/commands/parv_commands" public
 (cd public && wants "the root folder" 3 "" "$search_says / has other files" env PARV="$work/public/${parv##*/}" \
-    "${user[@]}" "./${search[0]##*/}" "${search[@]:1}" / 100 "${words[@]}") || failed=1
+    "${user[@]}" "bin/${search[0]##*/}" "${search[@]:1}" / 100 "${words[@]}") || failed=1
 printf 'a file' > room/file
 "${search[@]}" room/file 100 "${words[@]}" > found 2> told
 status=$?
@@ -123,11 +191,11 @@ printf 'other' > other/words
 refuses "words of another search" other
 (
     cd room && rm -rf ./* && cp "$work"/{photos.par2,image} .
-    for name in -n -- '* ?' $'line\nfeed' ' '; do "${search[@]}" "$name" 9 "${words[@]}" 2> ../told | cmp - ../wanted || exit 1; done
+    for name in -n -- '* ?' $'line\nfeed' ' '; do "${search[@]}" -- "$name" 9 "${words[@]}" 2> ../told | cmp - ../wanted || exit 1; done
 )
 status=$?
 if [ $status -eq 0 ]; then echo "ok: odd names of the folder"; else fails "odd names of the folder: $(cat told)"; fi
-POSIXLY_CORRECT=1 whole "a shell that is asked for POSIX" posix 9
+POSIXLY_CORRECT=1 whole "programs that are asked for POSIX" posix 9
 "${search[@]}" progress 9 "${words[@]}" > found 2> /dev/full
 status=$?
 if [ $status -eq 0 ] && cmp -s found wanted; then echo "ok: no line of its progress can be written"; else

@@ -1,13 +1,13 @@
 #!/usr/bin/env bash
-# examples/slice_map.py: its signs are those of an independent search at every offset, of whole files, damaged ones, and
+# parv-map: its signs are those of an independent search at every offset, of whole files, damaged ones, and
 # slices that are seen again and again; its widths, colours, pages and drawings, of which one is docs/slice_map.svg;
 # names that lead elsewhere or are markup; files that are there already.
 . "$(dirname "$0")/with/wants.sh"
 cd "$work" || exit 1
 export PARV=$parv LC_ALL=C
 unset NO_COLOR COLUMNS
-map=$top/examples/slice_map.py
-me=slice_map.py
+map=$top/commands/bin/parv-map
+me=parv-map
 demo=$top/demo
 set="set 589c76e09f0580b9203c5b64963b8957 size 1024 slices 38"
 legend="# in place  + moved  ? not known  . missing"
@@ -242,8 +242,8 @@ for file in mine link broken; do
         wants "--$kind where $file is" 6 "" "$me: $file is there already" "$map" --$kind $file photos.par2 beach.raw
     done
 done
-{ [ "$(cat mine)" = mine ] && [ ! -e none ] && [ -L link ]; } || fails "something was written over"
-wants "a folder that isn't there" 6 "$("$map" photos.par2)" "$me: cannot write none/page.html: No such file or directory" \
+[ "$(cat mine)" = mine ] && [ ! -e none ] && [ -L link ] || fails "something was written over"
+wants "a folder that isn't there" 6 "" "$me: cannot write none/page.html: No such file or directory" \
     "$map" --html none/page.html photos.par2
 
 # Names that are markup or lead elsewhere; what they lead to isn't opened, though a FIFO is there.
@@ -263,7 +263,7 @@ else
 fi
 
 # Words, and files that can't be read.
-usage="$me: usage: $me [-h] [--tails] [--set ID] [-B DIR] [--width N] [--html FILE] [--svg FILE] FILES"
+usage="$me: usage: $me [--tails] [--set ID] [-B DIR] [--width N] [--html FILE] [--svg FILE] FILES"
 wants "no files" 3 "" "$me: there are no FILES
 $usage" "$map"
 wants "no width" 3 "" "$me: a line has one character at least
@@ -288,7 +288,7 @@ done
 help=$("$map" -h)
 [ "${help%%$'\n'*}" = "${usage#"$me: "}" ] || fails "its help begins with ${help%%$'\n'*}"
 for word in --tails --set -B --width --html --svg 0 3 4 6 8; do
-    grep -q -- "^  $word " <<< "$help" || fails "its help has no $word"
+    grep -q -- "^  $word[ ,]" <<< "$help" || fails "its help has no $word"
 done
 for word in -h --help; do wants "its help by $word" 0 "$help" "" "$map" $word; done
 exit $failed

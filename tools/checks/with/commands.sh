@@ -8,19 +8,19 @@ repair_dry=("${repair[@]}" --dry-run)
 repair_set=("${repair[@]}" --set)
 repair_set_dry=("${repair[@]}" --dry-run --set)
 rescue_tails=("$commands/parv-rescue" --tails)
-draw_tails=("$examples/slice_map.py" --tails)
-tree=("$commands/parv-tree")
+draw_tails=("$commands/parv-map" --tails)
+tree=("$examples/check_tree.sh")
 tree_quiet=("${tree[@]}" -q)
 tree_beside=("${tree[@]}" -j)
-watch=("$examples/watch_folder.sh")
-search=("$examples/search_in_parts.sh")
+watch=("$commands/parv-watch")
+search=("$commands/parv-parts")
 # Below a folder that is repaired: what a run works in, and its list of moves.
 repair_stage=.parv-repair
 repair_list=$repair_stage/journal
 # What their messages begin with.
 repair_says="parv-repair:"
-tree_says="parv-tree:"
-search_says="search_in_parts.sh:"
+tree_says="check_tree.sh:"
+search_says="parv-parts:"
 export PARV=$parv LC_ALL=C
 
 # limited KIB COMMAND..: a command that can't make a file longer, as on a disk that is nearly full.

@@ -1,0 +1,73 @@
+"""Calls of commands as a person makes them: how they end, what they write, and signals while a program of theirs runs."""
+
+from __future__ import annotations
+
+import os
+import signal
+import subprocess
+import time
+import unittest
+from typing import List, Optional, Tuple
+
+import parv_commands
+from parv_commands.signals import SIGNALS
+
+from .rooms import PARV, Room, write
+
+BIN = os.path.join(os.path.dirname(os.path.dirname(os.path.realpath(parv_commands.__file__ or ""))), "bin")
+Ended = Tuple[int, str, str]
+
+
+def take_all_signals() -> None:
+    """Lets signals end a child, also if the tests run under nohup."""
+    for number in SIGNALS:
+        signal.signal(number, signal.SIG_DFL)
+
+
+class Calls(unittest.TestCase):
+    """Tests that call commands beside a room."""
+    room: Room
+
+    def call(self, *words: str, shell: str = 'exec "$@"', **environment: str) -> Ended:
+        given = {**os.environ, "PARV": PARV, "PAR2": self.room.stand_in, "TMPDIR": self.room.temporary, **environment}
+        ended = subprocess.run(["/bin/bash", "-c", shell, "bash", *words], cwd=self.room.top, env=given,
+                               capture_output=True, timeout=120, stdin=subprocess.DEVNULL)
+        out, said = (text.decode("utf-8", "surrogateescape") for text in (ended.stdout, ended.stderr))
+        return ended.returncode, out, said
+
+    def program(self, name: str, text: str) -> str:
+        path = os.path.join(self.room.top, name)
+        write(path, text.encode())
+        os.chmod(path, 0o755)
+        return path
+
+    def waits(self, name: str, command: str) -> str:
+        """A program that waits when it is called so, and notes its number."""
+        return self.program(name, f'#!/bin/bash\n{command} || exec "{PARV}" "$@"\necho $$ > {self.room.top}/waiting\n'
+                                  "exec sleep 60\n")
+
+    def ended_while(self, words: List[str], number: signal.Signals, all_of_them: bool,
+                    **environment: str) -> Tuple[int, bytes]:
+        """How a command ends by a signal once such a program waits, of which then nothing is left."""
+        place = os.path.join(self.room.top, "waiting")
+        given = {**os.environ, "PARV": PARV, "PAR2": self.room.stand_in, "TMPDIR": self.room.temporary, **environment}
+        process = subprocess.Popen(words, cwd=self.room.top, env=given, stdout=subprocess.PIPE,
+                                   stderr=subprocess.STDOUT, start_new_session=True, preexec_fn=take_all_signals)
+        child: Optional[int] = None
+        until = time.monotonic() + 30
+        while child is None and time.monotonic() < until:
+            time.sleep(0.02)
+            if os.path.exists(place):
+                with open(place, encoding="ascii") as file:
+                    text = file.read()
+                child = int(text) if text.endswith("\n") else None
+        assert child is not None
+        os.remove(place)
+        (os.killpg if all_of_them else os.kill)(process.pid, number)
+        out, _ = process.communicate(timeout=30)
+        for _ in range(100):
+            if not os.path.exists(f"/proc/{child}"):
+                break
+            time.sleep(0.02)
+        self.assertFalse(os.path.exists(f"/proc/{child}"), "the program goes on")
+        return process.returncode, out

@@ -1,0 +1,19 @@
+#!/usr/bin/env bash
+# usage: act_on_verdict.sh FOLDER
+# Acts on the exit status of `parv verify`: 0, 1 and 2 are its verdicts. From 3 on there is none, and a line on standard
+# error says why.
+parv=${PARV:-parv}
+CDPATH="" cd -- "$1" 2> /dev/null || { echo "act_on_verdict.sh: cannot open $1" >&2; exit 6; }
+
+# -q leaves two lines: `need N have N`, and the result. `-B .` takes the ./ off the names again.
+text=$("$parv" verify -q -B . ./*)
+status=$?
+[ -z "$text" ] || echo "$text"
+read -r _ need _ have <<< "$text"
+case $status in
+0) echo "$1: nothing to do" ;;
+1) echo "$1: now parv-repair can be called" ;;
+2) echo "$1: $((need - have)) recovery slices are missing" ;;
+*) echo "$1: no verdict" ;;
+esac
+exit $status
