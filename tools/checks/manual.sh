@@ -97,7 +97,7 @@ while IFS= read -r call; do
     last=$(tail -n 1 text)
     case $call in
     parv-map*) end="* in place, * moved; need 0 have 0" ;;
-    parv-parts*) end="disc.img * 1" ;;
+    parv-parts*) end="disc.img 37289 * 0" ;;
     parv-progress*) end="result possible" ;;
     parv-rescue*) end="slices *" ;;
     *--dry-run*) end="a repair can be tried*" ;;
