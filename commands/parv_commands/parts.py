@@ -23,6 +23,7 @@ END = "end"
 LONGEST_LAST = 4096     # bytes that the last line of a part has at most
 LONGEST_LINE = 1 << 17
 PIECE = 1 << 20
+_ODD = re.compile(rb"[^ -~\n]")       # what no line of parv has
 _LAST = re.compile(rb"(end|cursor [0-9a-f:]+)\n")
 _SPECIAL = re.compile(rb"[ !\"$&'()*,;<>?\[\\\]^`{|}]|^[#~]|(?<=[:=])~")
 
@@ -183,8 +184,8 @@ class Parts:
                 while at < part.length:
                     with faults_of("read", self._shown(name)):
                         piece = os.pread(opened, min(PIECE, part.length - at), at)
-                    if not piece:
-                        raise Fault(FILES, f"{self._shown(name)} has changed meanwhile")
+                    if not piece or _ODD.search(piece):
+                        raise Fault(FILES, f"{self._shown(name)} is damaged; you may remove it")
                     with interruptible():
                         output.pass_on(piece)
                     at += len(piece)
@@ -207,27 +208,23 @@ def locked(folder: Folder) -> Iterator[None]:
         os.close(lock)
 
 
-def _checked(lines: Sequence[bytes], left: int) -> None:
-    """Ends the run if what was written isn't the list of matches of a search with at most so many of them."""
-    if len(lines) > left + 1:
-        raise answers.NoAnswer("find")
-    for line in lines:
-        if not _LAST.fullmatch(line + b"\n"):
-            answers.read_sighting(line)
-
-
 def find(program: Program, asked: Asked, cursor: Sequence[bytes]) -> Iterator[bytes]:
     """What parv writes of a part, in pieces of whole lines."""
     tails = [b"--tails"] if asked.tails else []
     given = [b"find", *tails, b"--limit", asked.limit, *cursor, b"--", *asked.files]
-    said, rest, left = bytearray(), b"", int(asked.limit)
+    said, rest, left = bytearray(), b"", int(asked.limit)       # as many matches may still come
     with progress.doing("parv find", most_read(asked.files, 1)), programs.running(program, given) as process:
         for piece in programs.pieces_of(process, said):
             *lines, rest = (rest + piece).split(b"\n")
-            _checked(lines, left)
+            for line in lines:
+                if left >= 0 and _LAST.fullmatch(line + b"\n"):
+                    left = -1       # after the last line nothing comes
+                elif left > 0 and answers.read_sighting(line):
+                    left -= 1
+                else:
+                    raise answers.NoAnswer("find")
             if len(rest) > LONGEST_LINE:
                 raise answers.NoAnswer("find")
-            left -= len(lines)
             yield b"".join(line + b"\n" for line in lines)
         status = programs.status_of(process)
     if status != 0:

@@ -31,10 +31,10 @@ twice its length by `verify`, or with --tails three times. Mostly it is less.
 That is no sign that anything is left out.
 
 If standard error is no terminal, nothing is shown. Nor is it if `find` writes its
-lines to a terminal: these tell how far it is.
+lines to a terminal: these say how far it is.
 
 The exit status is that of parv, and also
-  3  if the first word is another
+  3  if the first word isn't find or verify
   6  if a file can't be read, the output can't be written, or parv can't be run
 PARV names the program, if it isn't in PATH. man parv-progress has more.
 """

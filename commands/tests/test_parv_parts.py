@@ -135,6 +135,7 @@ class Parts(Calls):
     def test_programs_that_are_not_parv(self) -> None:
         odd = {"cut": f'"{PARV}" "$@" | head -c 60', "early": f'"{PARV}" "$@" | head -n 1', "many":
                f'"{PARV}" find -- {" ".join(WORDS)}', "status": "exit 2", "usage": "exit 3", "killed": "kill -SEGV $$",
+               "twice": "echo end; echo end", "after": "echo end; echo 0 0 " + "0" * 32 + " 0",
                "line": "printf x; sleep 0.1; exec tr '\\0' x < /dev/zero", "binary": "printf '\\377\\nend\\n'"}
         programs = ["/bin/true", "/bin/false", "/bin/echo", "/bin/cat", "/usr/bin/yes", *(
             self.program(name, f"#!/bin/bash\n{text}\n") for name, text in odd.items())]
@@ -147,6 +148,16 @@ class Parts(Calls):
         program = self.program("says", "#!/bin/sh\nprintf 'parv: odd \\033[31m\\\\x0a\\n' >&2; exit 4\n")
         self.assertEqual(self.call(PARTS, "parts", LIMIT, *WORDS, PARV=program),
                          (4, "", "parv-parts: odd \\x1b[31m\\\\x0a\n"))
+
+    def test_a_planted_part_brings_no_bytes_to_a_terminal(self) -> None:
+        os.mkdir(self.path())
+        write(self.path("words"), b"room/set.par2\nimage\n")
+        write(self.path("1"), b"\x1b[31mred 0 00 0\nend\n")
+        ended = self.run_it(goes_on=True)
+        self.assertEqual((ended.status, ended.out, ended.said),
+                         (6, "", "parv-parts: parts/1 is damaged; you may remove it\n"))
+        os.remove(self.path("1"))
+        self.is_whole(self.run_it(goes_on=True), "it was removed")
 
     def test_closed_and_full_outputs(self) -> None:
         for shell, why in ('exec "$@" > /dev/full', "No space left"), ('exec "$@" >&-', "it is closed"):

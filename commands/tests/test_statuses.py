@@ -13,7 +13,7 @@ import sys
 import time
 import unittest
 import unittest.mock
-from typing import Dict, List, Optional, Tuple
+from typing import Dict, List, Tuple
 
 from parv_commands import programs, repair, rescue
 
