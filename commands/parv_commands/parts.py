@@ -208,6 +208,11 @@ def locked(folder: Folder) -> Iterator[None]:
         os.close(lock)
 
 
+def _is_next(line: bytes, cursor: Sequence[bytes]) -> bool:
+    """Whether a line has another cursor than that at which a part has begun."""
+    return _LAST.fullmatch(line + b"\n") is not None and line[7:] not in cursor
+
+
 def find(program: Program, asked: Asked, cursor: Sequence[bytes]) -> Iterator[bytes]:
     """What parv writes of a part, in pieces of whole lines."""
     tails = [b"--tails"] if asked.tails else []
@@ -217,7 +222,7 @@ def find(program: Program, asked: Asked, cursor: Sequence[bytes]) -> Iterator[by
         for piece in programs.pieces_of(process, said):
             *lines, rest = (rest + piece).split(b"\n")
             for line in lines:
-                if left >= 0 and _LAST.fullmatch(line + b"\n"):
+                if line == b"end" and left >= 0 or left == 0 and _is_next(line, cursor):
                     left = -1       # after the last line nothing comes
                 elif left > 0 and answers.read_sighting(line):
                     left -= 1
@@ -233,9 +238,20 @@ def find(program: Program, asked: Asked, cursor: Sequence[bytes]) -> Iterator[by
         raise answers.NoAnswer("find")
 
 
+def refuse_odd(files: Sequence[bytes]) -> None:
+    """Ends the run if parv takes no word like one of these. (It gets no links in their place, since the cursors have the
+    words.)"""
+    for file in files:
+        try:
+            file.decode("utf-8")
+        except UnicodeDecodeError as fault:
+            raise Fault(USAGE, f"the name {shown(file)} isn't UTF-8, and can't be searched") from fault
+
+
 def search(asked: Asked) -> int:
     """The whole run; its exit status."""
     program = words.needed_parv()
+    refuse_odd(asked.files)
     programs.raise_file_limit()
     with faults_of("make", shown(asked.folder)):
         changes.make_path(asked.folder)

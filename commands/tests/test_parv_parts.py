@@ -108,6 +108,8 @@ class Parts(Calls):
             ended = self.call(PARTS, *words)
             self.assertEqual((ended[0], ended[1]), (3, ""), (words, ended))
             self.assertIn("usage: parv-parts", ended[2])
+        self.assertEqual(self.call(PARTS, "parts", "1", *WORDS, os.fsdecode(b"\xff")),
+                         (3, "", "parv-parts: the name \\xff isn't UTF-8, and can't be searched\n"))
         self.assertFalse(os.path.exists(self.path()))
         ended = self.call(PARTS, "parts", "9" * 19, *WORDS)
         self.assertEqual(ended[:2], (0, self.lines), ended)
@@ -135,6 +137,7 @@ class Parts(Calls):
     def test_programs_that_are_not_parv(self) -> None:
         odd = {"cut": f'"{PARV}" "$@" | head -c 60', "early": f'"{PARV}" "$@" | head -n 1', "many":
                f'"{PARV}" find -- {" ".join(WORDS)}', "status": "exit 2", "usage": "exit 3", "killed": "kill -SEGV $$",
+               "stuck": "echo cursor 2:1", "soon": f'"{PARV}" find --limit 1 -- {" ".join(WORDS)}',
                "twice": "echo end; echo end", "after": "echo end; echo 0 0 " + "0" * 32 + " 0",
                "line": "printf x; sleep 0.1; exec tr '\\0' x < /dev/zero", "binary": "printf '\\377\\nend\\n'"}
         programs = ["/bin/true", "/bin/false", "/bin/echo", "/bin/cat", "/usr/bin/yes", *(
