@@ -148,16 +148,20 @@ class Parts:
     def add(self, pieces: Iterator[bytes]) -> int:
         """Writes the next part; how many matches it has. Once it has its name it is on the disk, and no older part comes
         after it."""
-        lines = 0
+        lines, pending = 0, bytearray()
         with faults_of("write", self._shown(NEW)):
             self._remove(NEW)
             opened = changes.make_file(self.folder.place, NEW)
         try:
             for piece in pieces:
-                with faults_of("write", self._shown(NEW)):
-                    changes.write(opened, piece)
+                pending += piece
                 lines += piece.count(b"\n")
+                if len(pending) >= PIECE:
+                    with faults_of("write", self._shown(NEW)):
+                        changes.write(opened, bytes(pending))
+                    pending.clear()
             with faults_of("write", self._shown(NEW)):
+                changes.write(opened, bytes(pending))
                 changes.sync(opened)
         finally:
             os.close(opened)

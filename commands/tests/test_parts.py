@@ -10,7 +10,7 @@ import unittest
 import unittest.mock
 from typing import List
 
-from parv_commands import answers, changes, names, programs, progress, repair, rescue
+from parv_commands import answers, map as map_command, names, parts, programs, progress, repair, rescue, watch
 from parv_commands.faults import Fault
 from parv_commands.folders import Folder
 
@@ -116,7 +116,7 @@ class Programs(unittest.TestCase):
 class Progress(unittest.TestCase):
     """A command on a terminal says what goes on, and takes the line off."""
 
-    def on_terminal(self, words: List[str], main: object, first: float) -> str:
+    def on_terminal(self, words: List[str], main: object, first: float, status: int = 0) -> str:
         room = Room({"first": b"first of all", "second": b"the second"})
         self.addCleanup(room.close)
         room.take("first")
@@ -125,16 +125,16 @@ class Progress(unittest.TestCase):
         os.chmod(slow, 0o755)
         child, terminal = pty.fork()
         if not child:
-            status = 99
+            ended = 99
             try:
                 os.chdir(room.top)
                 os.environ.update(PARV=slow, PAR2=room.stand_in, TMPDIR=room.temporary)
                 progress.FIRST, progress.EACH = first, 0.05
                 import sys
                 sys.argv = ["command", *words]
-                status = main()     # type: ignore[operator]
+                ended = main()      # type: ignore[operator]
             finally:
-                os._exit(status)
+                os._exit(ended)
         text = b""
         while True:
             try:
@@ -145,7 +145,7 @@ class Progress(unittest.TestCase):
                 break
             text += piece
         os.close(terminal)
-        self.assertEqual(os.waitpid(child, 0)[1], 0 if main is repair.main else 1 << 8)
+        self.assertEqual(os.waitpid(child, 0)[1], status << 8)
         return text.decode()
 
     def test_what_takes_long_is_told(self) -> None:
@@ -153,8 +153,12 @@ class Progress(unittest.TestCase):
         self.assertRegex(text, "\r\x1b\\[Kparv packets: [0-9]+ MiB")
         self.assertRegex(text, "\r\x1b\\[Kparv verify: [0-9]+ MiB of at most [0-9]+ MiB")
         self.assertTrue(text.endswith("\r\x1b[Krepair first\r\ncomplete\r\n"), text)
-        text = self.on_terminal(["new", "room/set.par2", "room/second"], rescue.main, 0.1)
-        self.assertRegex(text, "\r\x1b\\[Kparv find: [0-9]+ MiB of at most [0-9]+ MiB")
+        given = ["room/set.par2", "room/second"]
+        for words, main, status, command in (
+                (["new", *given], rescue.main, 1, "find"), (["parts", "1", *given], parts.main, 0, "find"),
+                (given, map_command.main, 0, "find"), (["room", "0", "1"], watch.main, 1, "verify")):
+            text = self.on_terminal(words, main, 0.1, status)
+            self.assertRegex(text, f"\r\x1b\\[Kparv {command}: [0-9]+ MiB of at most [0-9]+ MiB")
 
     def test_calls_that_tell_nothing_themselves_are_told_while_they_last(self) -> None:
         def lasts(*_: object) -> None:

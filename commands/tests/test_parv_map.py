@@ -3,6 +3,7 @@
 from __future__ import annotations
 
 import os
+import shutil
 import signal
 from typing import List, Optional
 
@@ -147,6 +148,23 @@ class Maps(Calls):
         ended = self.call(shell=f'ulimit -Sn 1024; exec {MAP} -B room room/*')
         self.assertEqual((ended[0], ended[2]), (0, ""), ended)
         self.assertIn("6 in place; need 0 have 20\n", ended[1])
+
+    def test_relative_programs_and_parts_of_the_path(self) -> None:
+        told = os.path.join(self.room.top, "told")
+        self.program("out/parv", f'#!/bin/sh\necho "$PATH" > {told}\nexec "{PARV}" "$@"\n')
+        self.program("room/out/parv", f"#!/bin/sh\ntouch {self.room.top}/run\n")
+        shutil.copy(os.path.join(self.room.folder, "out/parv"), self.room.path("parv"))
+        given = ["room/set.par2", "room/first", "room/second"]
+        for command, words in (("map", given), ("parts", ["parts", "9", *given]), ("progress", ["find", *given]),
+                               ("watch", ["room", "0", "1"])):
+            for name, path in ("out/parv", ":.:/usr/bin:out:/bin:"), ("parv", "out::/usr/bin:/bin:."), (
+                    "./out/parv", "/usr/bin:/bin"):
+                ended = self.call(os.path.join(BIN, f"parv-{command}"), *words, PARV=name, PATH=path)
+                self.assertEqual(ended[0], 0, (command, name, path, ended))
+                self.assertEqual(read(told), b"/usr/bin:/bin\n", (command, name, path))
+                os.remove(told)
+                shutil.rmtree(os.path.join(self.room.top, "parts"), ignore_errors=True)
+        self.assertFalse(os.path.exists(os.path.join(self.room.top, "run")))
 
     def test_names_of_options_and_files_are_shown(self) -> None:
         write(os.path.join(self.room.top, "--\x1b[31mred"), b"")
