@@ -146,8 +146,8 @@ class Parts:
         return None if now is None else Part(last[1].decode("ascii"), now.st_size - len(line))
 
     def add(self, pieces: Iterator[bytes]) -> int:
-        """Writes the next part; how many matches it has. Once it has its name it is on the disk, and no older part comes
-        after it."""
+        """Writes the next part; how many matches it has. Once it has its name it is on the disk, and no older part
+        comes after it."""
         lines, pending = 0, bytearray()
         with faults_of("write", self._shown(NEW)):
             self._remove(NEW)
@@ -243,8 +243,8 @@ def find(program: Program, asked: Asked, cursor: Sequence[bytes]) -> Iterator[by
 
 
 def refuse_odd(files: Sequence[bytes]) -> None:
-    """Ends the run if parv takes no word like one of these. (It gets no links in their place, since the cursors have the
-    words.)"""
+    """Ends the run if parv takes no word like one of these. (It gets no links in their place, since the cursors have
+    the words.)"""
     for file in files:
         try:
             file.decode("utf-8")

@@ -25,7 +25,7 @@ def _place_of(at: int) -> str:
 
 
 def _grid(each: Map, is_told: bool) -> Tuple[List[str], int]:
-    """The cells of a file, and how many rows they take. Each says what it stands for, or those in a state are one path."""
+    """The cells of a file, and how many rows they take. Each says what it stands for, or those of a state are one."""
     parts = spans(len(each.states), COLUMNS * ROWS)
     worst = [max(each.states[begin:end]) for begin, end in parts]
     cells: List[str] = []

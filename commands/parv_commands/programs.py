@@ -101,8 +101,8 @@ def _end_group(leader: int) -> None:
 @contextlib.contextmanager
 def running(program: Program, words: Sequence[bytes], place: Optional[int] = None,
             kept: Tuple[int, ...] = (), own: Container[int] = ()) -> Iterator[subprocess.Popen[bytes]]:
-    """A program that runs in an opened folder, and doesn't afterwards. If `own` has 0 or 1, it gets the standard input or
-    output of the command itself."""
+    """A program that runs in an opened folder, and doesn't afterwards. If `own` has 0 or 1, it gets the standard input
+    or output of the command itself."""
     try:
         process = subprocess.Popen([os.fsencode(program.path), *words], stdin=None if 0 in own else subprocess.DEVNULL,
                                    stdout=None if 1 in own else subprocess.PIPE, stderr=subprocess.PIPE,

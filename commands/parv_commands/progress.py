@@ -14,7 +14,7 @@ _ERR = 2
 
 
 class _Progress:
-    """What goes on now, of how much at most, whether the line comes at once and has the speed, and when it has begun."""
+    """What goes on now, of how much at most, whether the line comes at once and has the speed, and when it began."""
     what: str = ""
     most: int = 0
     at_once: bool = False

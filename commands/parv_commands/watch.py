@@ -110,8 +110,8 @@ class Check:
         return POSSIBLE, f"a repair can be tried: {verdict.counts}"
 
     def _is_complete(self, found: SetAnswer, verdict: Verdict, paths: Dict[str, bytes]) -> bool:
-        """Whether each file of the set is complete under its name. parv gets links with other names, and of several files
-        with the same content it names the first."""
+        """Whether each file of the set is complete under its name. parv gets links with other names, and of several
+        files with the same content it names the first."""
         for file, state in zip(found.files, verdict.states):
             if state.word is None:
                 return False

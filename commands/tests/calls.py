@@ -1,4 +1,4 @@
-"""Calls of commands as a person makes them: how they end, what they write, and signals while a program of theirs runs."""
+"""Calls of commands as a person makes them: how they end, what they write, and signals while a program runs."""
 
 from __future__ import annotations
 

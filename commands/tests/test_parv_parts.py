@@ -78,7 +78,8 @@ class Parts(Calls):
         self.assertGreater(log.count("move parts"), 2)
         for number, line in enumerate(log):
             if line == "move parts":
-                self.assertEqual((log[number - 2:number], log[number + 1]), (["sync new", "sync parts"], "sync parts"), log)
+                self.assertEqual(log[number - 2:number], ["sync new", "sync parts"], log)
+                self.assertEqual(log[number + 1], "sync parts", log)
 
     def test_what_comes_to_the_name_of_a_part_is_not_written_over(self) -> None:
         for name, kind in (("1", "rename"), ("new", "create")):
@@ -117,7 +118,8 @@ class Parts(Calls):
     def test_the_words_are_those_that_the_script_kept(self) -> None:
         dice = random.Random(1)
         every = [a + b for a in string.printable[:95] for b in ("", "x", "~", "#")]
-        every += ["x" + word for word in every] + ["".join(dice.choices(string.printable[:95], k=9)) for _ in range(300)]
+        every += ["x" + word for word in every]
+        every += ["".join(dice.choices(string.printable[:95], k=9)) for _ in range(300)]
         said = subprocess.run(["/bin/bash", "-c", "printf '%q\\n' \"$@\"", "bash", *every], capture_output=True,
                               env={"LC_ALL": "C"}, check=True).stdout.split(b"\n")[:-1]
         self.assertEqual([parts.quoted(word.encode()) for word in every], said)
@@ -131,7 +133,8 @@ class Parts(Calls):
         self.is_whole(self.run_it(goes_on=True), "a folder of the script")
 
     def cursor_after(self, count: int) -> bytes:
-        out = subprocess.run([PARV, "find", "--limit", str(count), "--", *WORDS], cwd=self.room.top, capture_output=True)
+        words = [PARV, "find", "--limit", str(count), "--", *WORDS]
+        out = subprocess.run(words, cwd=self.room.top, capture_output=True, check=True)
         return out.stdout.split(b"\n")[-2] + b"\n"
 
     def test_programs_that_are_not_parv(self) -> None:

@@ -42,8 +42,9 @@ class Progress(Calls):
 
     def test_words_come_through(self) -> None:
         shows = self.program("shows", '#!/bin/bash\nprintf "[%s]" "$@"\n')
-        words = ["verify", "", "a b", "-h", "--help", "--", "--tails", "*", "\udcff\n", "--html"]
-        self.assertEqual(self.call(PROGRESS, *words[:-2], PARV=shows)[:2], (0, "[verify][][a b][-h][--help][--][--tails][*]"))
+        words = ["verify", "", "a b", "-h", "--help", "--", "--tails", "*", "\udcff\n"]
+        self.assertEqual(self.call(PROGRESS, *words, PARV=shows),
+                         (0, "[verify][][a b][-h][--help][--][--tails][*][\udcff\n]", ""))
 
     def test_more_files_than_may_be_open_at_first(self) -> None:
         for number in range(1100):
@@ -122,8 +123,8 @@ class Progress(Calls):
         self.room.put("scanned", bytes(10 << 20))
         program = self.program("slow", "#!/bin/bash\nsleep 0.3\n")
         words = ["room/packets.PAR2", "room/scanned", "none", "room"]
-        for given, most, out in ((["verify"], 23, True), (["verify", "--tails"], 33, True), (["verify", "--"], 23, True),
-                                 (["find"], 13, False), (["find", "--tails"], 13, False)):
+        for given, most, out in ((["verify"], 23, True), (["verify", "--tails"], 33, True),
+                                 (["verify", "--"], 23, True), (["find"], 13, False), (["find", "--tails"], 13, False)):
             came = self.on_terminal([*given, *words], program, out)[1]
             self.assertIn(b"0 MiB of at most %d MiB, " % most, came, given)
 

@@ -1,4 +1,4 @@
-"""parv-watch: words that are refused, what a check says whatever the names and the number of files, and what ends it."""
+"""parv-watch: words that are refused, what a check says whatever files and names there are, and what ends it."""
 
 from __future__ import annotations
 
@@ -46,7 +46,8 @@ class Watch(Calls):
     def test_a_folder_is_taken_as_it_is_named(self) -> None:
         for name in "-", "second folder", "--", "-q":
             os.rename(self.room.folder, os.path.join(self.room.top, name))
-            self.assertEqual(self.call(WATCH, "--", name, *ONCE, OLDPWD="/", CDPATH="/tmp"), (0, "complete\n", ""), name)
+            ended = self.call(WATCH, "--", name, *ONCE, OLDPWD="/", CDPATH="/tmp")
+            self.assertEqual(ended, (0, "complete\n", ""), name)
             os.rename(os.path.join(self.room.top, name), self.room.folder)
         self.assertEqual(self.call(WATCH, "no\x1b[31mred", *ONCE),
                          (6, "", "parv-watch: cannot open no\\x1b[31mred: No such file or directory\n"))
@@ -140,9 +141,9 @@ class Watch(Calls):
                          (6, "", "parv-watch: cannot run none: put parv in PATH, or name it by PARV\n"))
 
     def test_what_parv_says_ends_nothing(self) -> None:
-        program = self.program("odd", f'#!/bin/bash\n[ ! -e here ] || exec "{PARV}" "$@"\n'
-                               f"touch here; rm -f {self.room.top}/here; [ ! -e {self.room.top}/once ] || exec {PARV} \"$@\"\n"
-                               f"touch {self.room.top}/once; echo 'parv: read fault in 1' >&2; exit 6\n")
+        once = os.path.join(self.room.top, "once")
+        program = self.program("odd", f'#!/bin/bash\n[ ! -e {once} ] || exec "{PARV}" "$@"\n'
+                               f"touch {once}; echo 'parv: read fault in 1' >&2; exit 6\n")
         self.assertEqual(self.call(WATCH, "room", "0", "5", PARV=program),
                          (0, "nothing to tell yet: read fault in 1\ncomplete\n", ""))
 
@@ -175,7 +176,8 @@ class Watch(Calls):
         for path in f":{self.room.top}/out:/usr/bin", "out:/usr/bin", f".:{self.room.top}/out:/usr/bin":
             given = {**os.environ, "PATH": path, "TMPDIR": self.room.temporary}
             del given["PARV"]
-            ran = subprocess.run([sys.executable, WATCH, "room", *ONCE], cwd=self.room.top, env=given, capture_output=True)
+            ran = subprocess.run([sys.executable, WATCH, "room", *ONCE], cwd=self.room.top, env=given,
+                                 capture_output=True)
             self.assertEqual((ran.returncode, ran.stderr), (1, b""), path)
         self.assertFalse(os.path.exists(os.path.join(self.room.top, "run")))
 
