@@ -84,18 +84,19 @@ _parv_command() {
     for given in "${COMP_WORDS[@]:1:COMP_CWORD - 1}"; do
         [ "$given" != -- ] || ended=1
         case $given in
+        -[jq]) options=${options/$given/} ;;
         -B* | --base) options=${options/--base -B/} ;;
         --*) options=${options/$given/} ;;
         esac
     done
     case $ended$option in
     --set) mapfile -t COMPREPLY < <(compgen -W "$(_parv_sets)" -- "$word") ;;
-    --width) ;;
+    --width | -j) ;;
     -B | --base)
         [ "$word" != = ] || compopt -o nospace
         compopt -o dirnames
         ;;
-    --html | --svg) compopt -o default -o filenames ;;
+    --html | --svg | --state) compopt -o default -o filenames ;;
     *)
         if [ -z "$ended" ] && [[ $word == -* ]]; then
             mapfile -t COMPREPLY < <(compgen -W "$options" -- "$word")
@@ -112,6 +113,10 @@ _parv_repair() {
 
 _parv_rescue() {
     _parv_command '--tails --set' default
+}
+
+_parv_tree() {
+    _parv_command '--tails --json --state -j -q' dirnames
 }
 
 _parv_map() {

@@ -74,7 +74,7 @@ end
 function __parv_name
     set -l words (commandline -opc)
     contains -- -- $words; and return 0
-    not contains -- $words[-1] --set -B --base --width --html --svg
+    not contains -- $words[-1] --set --state -j -B --base --width --html --svg
     and not string match -q -- '-*' (commandline -ct)
 end
 

@@ -18,10 +18,14 @@ run() {
     flock "$logs" cat "$logs/$1"
 }
 export -f run
-printf '%s\n' commands_tests refused greatest limits memory refused_sets refused_tails refused_tests hostile repair address_space disturbed \
-    names completions costs readings ends tails cursors examples manual files verdicts memory_answers hand_proofs \
-    installed dist pages reads digests disk creators rescue rescue_names slice_map watch check_tree progress derived reopening \
-    search_parts script_signals repairs foreign_programs crashes full_disks outputs | xargs -P "${RT_JOBS:-$(nproc)}" -I{} bash -c 'run {}' \
+names() {
+    if [ $# -gt 0 ]; then
+        printf '%s\n' "$@"
+    else
+        for name in $long *.sh; do echo "${name%.sh}"; done | awk '!seen[$0]++'
+    fi
+}
+names "$@" | xargs -P "${RT_JOBS:-$(nproc)}" -I{} bash -c 'run {}' \
     || echo "FAILED: not every check was run" | tee "$logs/xargs"
 failed=$(cat "$logs"/* | grep -c '^FAILED: ')
 echo "checks: $(cat "$logs"/* | grep -c '^ok: ') passed, $failed failed"

@@ -1,5 +1,5 @@
 #!/usr/bin/env python3
-"""Counts phrases that make a reader read twice, in the pages and in the usage texts of the commands and scripts.
+"""Counts phrases that make a reader read twice, in the pages and in the usage texts of the commands.
 
 usage: hard_phrases.py [NAME...]            lists them, in all pages and usage texts or in these
        hard_phrases.py --check CEILINGS     compares their numbers with a file of ceilings
@@ -84,13 +84,13 @@ def usage(text):
 
 def pages():
     """The names of pages and of programs that have a usage text."""
-    forms = ("*.md", "docs/*.md", "docs/*.[1-9]", "demo/*.md", "crates/*/README.md", "commands/bin/*", "examples/*")
+    forms = ("*.md", "docs/*.md", "docs/*.[1-9]", "demo/*.md", "crates/*/README.md", "commands/bin/*")
     return sorted(name for form in forms for name in glob.glob(form) if os.path.isfile(name))
 
 
 def prose(name):
     """The lines of a page or usage text that are prose."""
-    if name.startswith(("commands/bin/", "examples/")):
+    if name.startswith("commands/bin/"):
         run = subprocess.run([name, "-h"], stdin=subprocess.DEVNULL, capture_output=True, text=True, timeout=60)
         if run.returncode != 0 or not run.stdout:
             sys.exit(f"{name} -h ends with {run.returncode}: {run.stderr.strip()}")

@@ -14,7 +14,7 @@ from .beside import Call
 from .faults import POSSIBLE, faults_of
 from .folders import Folder, Identity, identity_of
 from .names import shown
-from .parv import MOST_FILES, SPARE_FILES, Links, Parv, path_below
+from .parv import MOST_FILES, SPARE_FILES, Parv, path_below
 from .plan import is_same
 from .programs import Answer
 from .scene import preferred

@@ -41,8 +41,9 @@ the worst is shown: missing, not known, moved, in place. It has colours on a
 terminal, unless NO_COLOR is set.
 
 --html FILE writes a page of it, which has more cells, and says what each stands
-for and where moved slices are. --svg FILE writes a picture to show elsewhere.
-Each is written whole or not at all, and never over a file that is there.
+for, and the place of each moved slice. --svg FILE writes a picture to show
+elsewhere. Each is written whole or not at all, and never over a file that is
+there.
 
 The exit status:
   0  whatever is seen

@@ -79,13 +79,14 @@ def show(done: Optional[int]) -> None:
     if (not _Progress.what or now - _Progress.begun < FIRST and not _Progress.at_once or since < EACH
             or not _is_terminal()):
         return
-    most = f" of at most {(max(_Progress.most, done) + 1048575) >> 20} MiB" if _Progress.most else ""
+    count = "" if done is None else f"{done >> 20} MiB"
+    most = f" of at most {(max(_Progress.most, done or 0) + 1048575) >> 20} MiB" if _Progress.most else ""
     if _Progress.at_once:
-        line = f"{done >> 20} MiB{most}, {max(int((done - _Progress.done) / since), 0) >> 20} MiB/s"
+        line = f"{count}{most}, {max(int(((done or 0) - _Progress.done) / since), 0) >> 20} MiB/s"
     else:
-        line = f"{_Progress.what}: {done >> 20} MiB{most}"
+        line = f"{_Progress.what}{count and ': '}{count}{most}"
     _write(f"\r\033[K{line}")
-    _Progress.last, _Progress.shown, _Progress.done = now, True, done
+    _Progress.last, _Progress.shown, _Progress.done = now, True, done or 0
 
 
 @contextlib.contextmanager

@@ -23,7 +23,7 @@ changes nothing.
 
   -h, --help      prints this, as the first word
 
-Each half second a line on standard error tells what was read:
+Each half second a line on standard error shows how much was read:
   123 MiB of at most 4567 MiB, 89 MiB/s
 At most it reads three times the length of a packet file, and more only if its
 packets lie in one another. Of another file it reads its length by `find`, and

@@ -31,7 +31,7 @@ Makes the files of a PAR2 set complete. No bytes that were in the folder are
 lost, and none that you put there in between. If a run is ended in the middle,
 the next one completes its moves or undoes them. The exit status is true.
 
-  --dry-run           tells what would be done, and writes nothing
+  --dry-run           says what it would do, and writes nothing
   --remove-backups    removes the damaged files that this run has kept
   --set ID            says which set, if FOLDER has several
   -h, --help          prints this

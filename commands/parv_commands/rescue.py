@@ -42,7 +42,7 @@ distance from another slice of its file. With --tails it is found wherever it is
 and so are files that are shorter than a slice. That can take long. Leave it out
 at first: if a line says that it might find more, go on with it in the same FOLDER.
 
-At the end a line tells of each file: `complete`, `damaged`, `wrong`, `missing`
+At the end a line for each file says `complete`, `damaged`, `wrong`, `missing`
 or `refused`, and of a damaged one a line `hole OFFSET LENGTH NAME` of each hole.
 
 The exit status:

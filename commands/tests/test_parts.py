@@ -10,7 +10,7 @@ import unittest
 import unittest.mock
 from typing import List
 
-from parv_commands import answers, map as map_command, names, parts, programs, progress, repair, rescue, watch
+from parv_commands import answers, changes, map as map_command, names, parts, programs, progress, repair, rescue, watch
 from parv_commands.faults import Fault
 from parv_commands.folders import Folder
 

@@ -18,7 +18,7 @@ from typing import Dict, List, Tuple
 from parv_commands import programs, repair, rescue
 
 from .calls import BIN, Calls
-from .rooms import PARV, Room, packet, set_of, write
+from .rooms import PARV, Room, packet, read, set_of, write
 
 REPAIR, RESCUE = os.path.join(BIN, "parv-repair"), os.path.join(BIN, "parv-rescue")
 FILES = {"first.txt": b"first of all", "second.txt": b"the second"}

@@ -1,7 +1,7 @@
 #!/usr/bin/env bash
 # parv-tree: a line for each set of a folder, by set ID and folder, damaged ones too, and nothing read by a name of a
 # set that isn't one below its folder.
-. "$(dirname "$0")/wants.sh"
+. "$(dirname "$0")/with/wants.sh"
 cd "$work" || exit 1
 export LC_ALL=C
 export PARV=$parv
@@ -19,7 +19,7 @@ for word in -j -q --tails --json --state 0 1 2 3 4 5 6 8; do
 done
 for word in -h --help; do wants "its help by $word" 0 "$help" "" "$script" $word; done
 while IFS='|' read -r words why; do
-    # shellcheck disable=SC2086
+    # shellcheck disable=SC2086 # (these are words)
     wants "wrong words: $words" 3 "" "parv-tree: $why
 parv-tree: $usage" "$script" $words
 done << 'END'
@@ -190,7 +190,6 @@ done
 wants "a file in a subfolder" 0 "0 $id need 0 have 0 set/set" "" "$script" tree
 
 # Ends of parv that are no answers, and an end of the command.
-# shellcheck disable=SC2016
 printf '#!/bin/sh\n[ "$1" != verify ] || kill -KILL $$\nexec "%s" "$@"\n' "$parv" > ends
 printf '#!/bin/sh\n[ "$1" != verify ] || { echo $$ > "%s/pid"; exec "%s" "$@" "%s/endless"; }\nexec "%s" "$@"\n' \
     "$work" "$parv" "$work" "$parv" > long
@@ -203,7 +202,6 @@ mkdir -p once/set
 cp "$demo"/{*.raw,notes.txt,photos.par2} once/set
 cp v.par2 once/set/photos.vol0+1.par2
 for status in 1 6 8 137; do
-    # shellcheck disable=SC2016
     printf '#!/bin/sh\ncase "$*" in packets*photos.vol0+1.par2) echo "%s" >&2; exit %s ;; esac\nexec "%s" "$@"\n' \
         'parv: read fault in f/photos.vol0+1.par2' $status "$parv" > fails
     chmod +x fails

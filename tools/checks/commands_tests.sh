@@ -1,6 +1,5 @@
 #!/usr/bin/env bash
-# The tests of the commands, a line for each, and the types of their package by mypy, if it is installed.
-# PARV_TESTS_EACH=1 has each run that is ended by force be ended at each call of the run after it too, which takes hours.
+# The tests of the commands beside parv, a line for each, and the types of their package by mypy, if it is installed.
 . "$(dirname "$0")/with/wants.sh"
 cd "$top/commands" || exit 1
 export PARV=$parv

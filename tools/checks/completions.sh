@@ -58,6 +58,14 @@ parv-repair sets --set 6|TAB|parv-repair sets --set 617cdc72ba53d94fe713fea2ae18
 parv-rescue --t|TAB|parv-rescue --tails
 parv-rescue --tails new ph|TAB|parv-rescue --tails new photos.par2
 parv-rescue new sets/photos.par2 --set 5|TAB|parv-rescue new sets/photos.par2 --set 589c76e09f0580b9203c5b64963b8957
+parv-tree -|ALL|parv-tree -j -q --tails --json --state --help -h
+parv-tree --j|TAB|parv-tree --json
+parv-tree --json --t|TAB|parv-tree --json --tails
+parv-tree -q --|ALL|parv-tree -q --tails --json --state --help
+parv-tree -j |TAB|parv-tree -j
+parv-tree -q se|TAB|parv-tree -q sets/
+parv-tree --state ph|TAB|parv-tree --state photos.par2
+parv-tree --state photos.par2 se|TAB|parv-tree --state photos.par2 sets/
 parv-map -|ALL|parv-map --tails --set --base -B --width --html --svg --help -h
 parv-map --w|TAB|parv-map --width
 parv-map --width 3 -B . --|ALL|parv-map --width 3 -B . --tails --set --html --svg --help

@@ -1,6 +1,6 @@
 #!/usr/bin/env bash
 # The scripts of examples/, each over a folder that is whole, one that has lost a file, and one without a set.
-. "$(dirname "$0")/wants.sh"
+. "$(dirname "$0")/with/wants.sh"
 cd "$work" || exit 1
 export PARV=$parv LC_ALL=C
 examples=$top/examples
@@ -44,7 +44,6 @@ a whole/tower.raw: 5 of 38 slices" "" "$count" 'a whole/photos.par2' part 'a who
 wants "counts slices: a file that isn't there" 6 "" "parv: cannot open nothing" "$count" 'a whole/photos.par2' nothing
 # Each of them was run, and is short.
 for script in "$examples"/*; do
-    [ "${script##*/}" != check_tree.sh ] || continue
     lines=$(wc -l < "$script")
     if grep -q "^[a-z]*=\$examples/${script##*/}$" "$tools/checks/examples.sh" && [ "$lines" -ge 10 ] && [ "$lines" -le 30 ]; then
         echo "ok: ${script##*/} has $lines lines"

@@ -53,10 +53,9 @@ done
 # parv may fail in the middle too.
 for name in packets set verify; do
     for status in 0 1 2 6; do
-        # shellcheck disable=SC2016
-        printf '#!/bin/sh\n[ "$1" = %s ] || exec %q "$@"\n%q "$@" | head -c 30\nexit %s\n' $name "$parv" "$parv" $status > cut
-        chmod +x cut
-        told "parv $name fails in the middle, with $status" env PARV="$work/cut" "${tree_quiet[@]}" tree
+        printf '#!/bin/sh\n[ "$1" = %s ] || exec %q "$@"\n%q "$@" | head -c 30\nexit %s\n' $name "$parv" "$parv" $status > broken
+        chmod +x broken
+        told "parv $name fails in the middle, with $status" env PARV="$work/broken" "${tree_quiet[@]}" tree
     done
 done
 # Nor is it, when the lines themselves can't be written.

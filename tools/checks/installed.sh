@@ -44,6 +44,7 @@ if cmp -s "$parv" "$room/usr/bin/parv" && [ -x "$room/usr/bin/parv" ] \
     && cmp -s "$top/completions/_parv" "$room/usr/share/zsh/site-functions/_parv" \
     && cmp -s "$top/completions/parv.fish" "$room/usr/share/fish/vendor_completions.d/parv.fish" \
     && cmp -s "$top/docs/FORMATS.md" "$room/usr/share/doc/parv/FORMATS.md" \
+    && cmp -s "$top/docs/GLOSSARY.md" "$room/usr/share/doc/parv/GLOSSARY.md" \
     && diff -rq --exclude=__pycache__ "$top/commands/parv_commands" "$room/usr/lib/parv/parv_commands" > /dev/null \
     && diff -rq "$top/examples" "$room/usr/share/doc/parv/examples" > /dev/null; then
     echo "ok: what is installed is what was built"
@@ -51,9 +52,9 @@ else
     fails "what is installed is another"
 fi
 # Each command is what was built, and prints its help, and if there is no parv, only that.
-for script in "$room"/usr/share/doc/parv/examples/check_tree.sh "$room"/usr/bin/parv-*; do
+for script in "$room"/usr/bin/parv-*; do
     name=${script##*/}
-    [ "$name" = check_tree.sh ] || { [ -x "$script" ] && cmp "$top/commands/bin/$name" "$script" \
+    { [ -x "$script" ] && cmp "$top/commands/bin/$name" "$script" \
         && cmp "$top/docs/$name.1" "$room/usr/share/man/man1/$name.1"; } || fails "what is installed is another: $name"
     env -i PATH="$path" "$script" -h > "$work/help" 2> "$work/line"
     got=$?
@@ -64,7 +65,7 @@ for script in "$room"/usr/share/doc/parv/examples/check_tree.sh "$room"/usr/bin/
         fails "the help of $name: status $got, $(head -c 300 "$work/help" "$work/line")"
     fi
     words=(verify 1 x.par2)
-    case $name in check_tree.sh | parv-repair | parv-watch) words=("$work") ;; esac
+    case $name in parv-tree | parv-repair | parv-watch) words=("$work") ;; esac
     wants "$name without parv" 6 "" "$name: cannot run parv: put parv in PATH, or name it by PARV" \
         env -i PATH="$path" "$script" "${words[@]}"
 done

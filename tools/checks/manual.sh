@@ -2,13 +2,14 @@
 # The manual pages: mandoc and man have nothing to say of them, where they are there. That of parv has each option and
 # each line of standard error, and each of its examples is run in a folder with the files that it names. Those of the
 # commands have each option and exit status of their help, and their examples are run too.
-. "$(dirname "$0")/wants.sh"
-. "$tools/checks/commands.sh"
+. "$(dirname "$0")/with/wants.sh"
+. "$tools/checks/with/commands.sh"
 cd "$work" || exit 1
 page=$top/docs/parv.1
 
 pages=("$top"/docs/*.1)
-[ ${#pages[@]} -eq $(($(find "$top/commands/bin" -type f | wc -l) + 1)) ] || fails "there are ${#pages[@]} pages"
+for command in "$commands"/*; do [ -e "$top/docs/${command##*/}.1" ] || fails "there is no page of ${command##*/}"; done
+[ ${#pages[@]} -eq $(($(find "$commands" -type f | wc -l) + 1)) ] || fails "there are ${#pages[@]} pages"
 for page in "${pages[@]}"; do
     # Of the pages that this one names, some may not be installed here.
     if command -v mandoc > /dev/null; then
@@ -34,13 +35,13 @@ for page in "${pages[@]}"; do
 done
 
 # Of a command the page has each option and each exit status that its help has, and no others.
-for command in "$top"/commands/bin/*; do
+for command in "$commands"/*; do
     name=${command##*/}
     page=$top/docs/$name.1
     grep -q "^\.Xr $name 1\b" "$top/docs/parv.1" || fails "the page of parv doesn't tell of $name"
     "$command" -h > help
-    sed -nE 's/^  (-[A-Za-z], )?(--[a-z-]+).*/\2/p; s/^  ([0-9]) .*/\1/p' help | sort > wanted
-    { sed -nE 's/^\.It Fl ([A-Za-z] , )?-([a-z-]+).*/--\2/p' "$page"
+    sed -nE 's/^  (-[A-Za-z], )?(--[a-z-]+).*/\2/p; s/^  (-[A-Za-z]) .*/\1/p; s/^  ([0-9]) .*/\1/p' help | sort > wanted
+    { sed -nE 's/^\.It Fl ([A-Za-z] , )?-([a-z-]+).*/--\2/p; s/^\.It Fl ([A-Za-z])( Ar .*)?$/-\1/p' "$page"
         sed -n '/^\.Sh EXIT STATUS/,/^\.El/s/^\.It \([0-9]\)$/\1/p' "$page"; } | sort > told
     if [ "$(wc -l < wanted)" -ge 3 ] && cmp -s wanted told; then
         echo "ok: the page of $name has each option and exit status"
@@ -89,10 +90,10 @@ while IFS= read -r call; do
     rm -rf part
     cp -r whole part
     wanted=0 place=part
-    case $call in *--dry-run* | "parv-rescue saved"* | parv-progress*) wanted=1 ;; esac
+    case $call in *--dry-run* | "parv-rescue saved"* | parv-progress* | parv-tree*) wanted=1 ;; esac
     [[ $call != *./\** ]] || place=part/download
     [[ $call != parv-watch* ]] || mv part/download/other part/download/beach.raw
-    (cd $place && env -u PARV PATH="$work/bin:$PATH" bash -c "$call" > "$work/text" 2> "$work/line")
+    (cd $place && env -u PARV PATH="$work/bin:$PATH" bash -c "${call//\/srv\//}" > "$work/text" 2> "$work/line")
     status=$?
     last=$(tail -n 1 text)
     case $call in
@@ -100,10 +101,12 @@ while IFS= read -r call; do
     parv-parts*) end="disc.img 37289 * 0" ;;
     parv-progress*) end="result possible" ;;
     parv-rescue*) end="slices *" ;;
+    parv-tree*--json*) end='{"status": 1, *' ;;
+    parv-tree*) end="1 589c76e09f0580b9203c5b64963b8957 need 0 have 0 2019/photos" ;;
     *--dry-run*) end="a repair can be tried*" ;;
     *) end=complete ;;
     esac
-    # shellcheck disable=SC2053
+    # shellcheck disable=SC2053 # (it is a pattern)
     if [ $status -eq $wanted ] && [[ $last == $end ]]; then
         echo "ok: $call"
     else
@@ -146,7 +149,6 @@ if can_mount "the line for cron with no room"; then
     mkdir small
     export -f mounting
     room=("TMPDIR=$work/small")
-    # shellcheck disable=SC2016
     around=(bash -c 'mounting "$@"' - bash -c 'mount -t tmpfs -o size=4k,nr_inodes=$0 tmpfs small
         head -c 9999 /dev/zero 2> /dev/null > small/full
         "$@" 2> line || status=$?

@@ -46,6 +46,11 @@ if not failed and links > 30 and paths > 30:
 elif not failed:
     fails("there are %d links and %d paths" % (links, paths))
 
+# A page that is read from its beginning has at most 16 KB; FORMATS and PROVED are looked up.
+for page in PAGES:
+    if page not in ("docs/FORMATS.md", "docs/PROVED.md") and os.path.getsize(page) > 16 * 1024:
+        fails("%s has %d bytes" % (page, os.path.getsize(page)))
+
 # LAYERS names each module that has code of its own, in the section of its crate, and no other in its tables.
 layers, modules, wrong = open("docs/LAYERS.md").read(), 0, set()
 for crate in re.findall(r"^(\w+):", open("crates.txt").read(), re.M):
@@ -63,6 +68,14 @@ for name, crate in sorted(wrong):
     fails("LAYERS names %s of %s, which isn't there, or leaves it out" % (name, crate))
 if not wrong and modules > 100:
     print("ok: LAYERS names the %d modules of the libraries and the program" % modules)
+
+# DEFINITIONS names each module of specs/.
+listed = set(re.findall(r"`(\w+)`", open("docs/DEFINITIONS.md").read()))
+specs = {os.path.basename(path)[:-5] for path in glob.glob("crates/*/specs/**/*.antt", recursive=True)} - {"Lib"}
+for name in sorted(specs - listed):
+    fails("DEFINITIONS leaves out %s" % name)
+if specs <= listed and len(specs) > 100:
+    print("ok: DEFINITIONS names the %d modules of specs/" % len(specs))
 
 size = os.path.getsize("README.md")
 if size <= 10 * 1024:

@@ -1,7 +1,8 @@
 #!/usr/bin/env bash
-# The pages: links and paths in them lead somewhere, README is short and its example, its calls of
-# scripts and its ways to install do what it says, LAYERS names each module, and each clause that a row of
-# PROVED names stands at a call of a name in this row, or in a file that has a type in it.
+# The pages: links and paths in them lead somewhere, none is long, README is short and its example, its
+# calls of scripts and its ways to install do what it says, LAYERS and DEFINITIONS name each module, and
+# each clause that a row of PROVED names stands at a call of a name in this row, or in a file that has a
+# type in it.
 . "$(dirname "$0")/with/wants.sh"
 cd "$work" || exit 1
 
@@ -25,10 +26,12 @@ cp backup/whole/* download
 cp backup/whole/photos.par2 .
 mv download/harbour.raw download/port.raw
 { head -c 5000 /dev/zero; cat backup/whole/*.raw backup/whole/notes.txt; printf 'more'; } > disc.img
-wanted=("1 a repair can be tried: need 0 have 0" "0 complete" "0 slices 38/38, copied now 38" "0 " "0 result complete"
-    "0 38 in place; need 0 have 0")
-sed -nE 's/^    (([a-z_]+\.sh|parv-[a-z]+) .*)/\1/p' "$top/README.md" > calls
-[ "$(wc -l < calls)" -eq ${#wanted[@]} ] || fails "README has $(wc -l < calls) calls of scripts and commands"
+last_match=$("$tools/models/find_slices.py" --tails photos.par2 disc.img | sed '$d' | tail -n 1)
+wanted=("1 result possible" "1 result possible"
+    "1 a repair can be tried: need 0 have 0" "0 complete" "0 slices 38/38, copied now 38" "0 " "0 result complete"
+    "0 complete" "0 $last_match" "0 38 in place; need 0 have 0")
+sed -nE 's/^    (([a-z_]+\.(sh|py)|parv(-[a-z]+)?) .*)/\1/p' "$top/README.md" > calls
+[ "$(wc -l < calls)" -eq ${#wanted[@]} ] || fails "README has $(wc -l < calls) calls of parv and of commands"
 number=0
 while IFS= read -r call; do
     place=.

@@ -1,6 +1,6 @@
 #!/usr/bin/env bash
 # parv-progress: the words, output and exit status of parv, and on a terminal alone what was read so far.
-. "$(dirname "$0")/wants.sh"
+. "$(dirname "$0")/with/wants.sh"
 cd "$work" || exit 1
 export LC_ALL=C
 export PARV=$parv
@@ -13,7 +13,7 @@ help=$("$script" -h)
 for word in 3 6; do grep -q "^  $word  [a-z]" <<< "$help" || fails "its help has no $word"; done
 for word in -h --help; do wants "its help by $word" 0 "$help" "" "$script" $word; done
 for words in '' 'set' 'packets demo.par2' '-q verify'; do
-    # shellcheck disable=SC2086
+    # shellcheck disable=SC2086 # (these are words)
     wants "wrong words: $words" 3 "" "parv-progress: the first word is find or verify
 parv-progress: $usage" "$script" $words
 done

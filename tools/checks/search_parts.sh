@@ -1,9 +1,10 @@
 #!/usr/bin/env bash
-# A search in parts: whole, stopped and gone on with, it finds what the independent search finds; a folder that has other files is left as it is, a part that a loss of power has cut isn't taken for
-# a whole one, one run at a time works in a folder, and what isn't parv is told.
-. "$(dirname "$0")/wants.sh"
-. "$tools/checks/commands.sh"
-. "$tools/checks/rooms.sh"
+# parv-parts: whole, stopped and resumed, a search finds what the independent search finds. A folder with other files
+# is left as it is, a part that a loss of power has cut isn't taken for a whole one, only one run at a time works in a
+# folder, and a program that isn't parv is reported.
+. "$(dirname "$0")/with/wants.sh"
+. "$tools/checks/with/commands.sh"
+. "$tools/checks/with/rooms.sh"
 mkdir "$work/long"
 cd "$work/long" || exit 1
 demo=$top/demo
@@ -19,9 +20,8 @@ words=("$demo/photos.par2" 'disc image' "$demo/notes.txt")
 [ "$(wc -l < wanted--tails)" -gt "$(wc -l < wanted)" ] || fails "there is no tail to find"
 for tails in "" --tails; do
     for limit in 7 1000; do
-        # shellcheck disable=SC2086
-        "${search[@]}" $tails parts$limit$tails $limit "${words[@]}" > found 2> told
-        if [ $? -eq 0 ] && cmp -s found wanted$tails; then
+        # shellcheck disable=SC2086 # (it is a word, or none)
+        if "${search[@]}" $tails parts$limit$tails $limit "${words[@]}" > found 2> told && cmp -s found wanted$tails; then
             parts=$(wc -l < told)
             echo "ok: a search in $parts parts of $limit${tails:+ with $tails} finds what the independent search finds"
         else
@@ -33,8 +33,7 @@ done
 last=$(find parts7 -name '[0-9]*' | wc -l)
 head -c 50 "parts7/$((last - 1))" > parts7/new
 rm "parts7/$last" "parts7/$((last - 1))"
-"${search[@]}" parts7 7 "${words[@]}" > found 2> told
-if [ $? -eq 0 ] && cmp -s found wanted && [ "$(wc -l < told)" -eq 2 ]; then
+if "${search[@]}" parts7 7 "${words[@]}" > found 2> told && cmp -s found wanted && [ "$(wc -l < told)" -eq 2 ]; then
     echo "ok: a search that was stopped goes on behind its last whole part"
 else
     fails "a search that goes on: $(cmp found wanted 2>&1), $(cat told)"
@@ -51,8 +50,8 @@ wants "a search in parts over a file that has grown" 3 "" "$search_says cursor o
 wants "a search that is over, of a file that has grown since" 0 "$(cat wanted)" "" "${search[@]}" parts7 7 "${words[@]}"
 truncate -s -1 'disc image'
 for kind in marked plain; do
-    "${search[@]}" parts/$kind 7 "${words[@]}" > found 2> told
-    if [ $? -eq 0 ] && cmp -s found wanted && [ "$(wc -l < told)" -eq 1 ]; then
+    if "${search[@]}" parts/$kind 7 "${words[@]}" > found 2> told && cmp -s found wanted \
+        && [ "$(wc -l < told)" -eq 1 ]; then
         echo "ok: a search in parts goes on from a $kind cursor"
     else
         fails "a search from a $kind cursor: $(cmp found wanted 2>&1), $(cat told)"

@@ -7,7 +7,7 @@ cd "$work" || exit 1
 export PARV=$parv LC_ALL=C
 unset NO_COLOR COLUMNS
 map=$top/commands/bin/parv-map
-me=parv-map
+me='parv-map'
 demo=$top/demo
 set="set 589c76e09f0580b9203c5b64963b8957 size 1024 slices 38"
 legend="# in place  + moved  ? not known  . missing"
@@ -242,7 +242,7 @@ for file in mine link broken; do
         wants "--$kind where $file is" 6 "" "$me: $file is there already" "$map" --$kind $file photos.par2 beach.raw
     done
 done
-[ "$(cat mine)" = mine ] && [ ! -e none ] && [ -L link ] || fails "something was written over"
+{ [ "$(cat mine)" = mine ] && [ ! -e none ] && [ -L link ]; } || fails "something was written over"
 wants "a folder that isn't there" 6 "" "$me: cannot write none/page.html: No such file or directory" \
     "$map" --html none/page.html photos.par2
 
@@ -288,7 +288,7 @@ done
 help=$("$map" -h)
 [ "${help%%$'\n'*}" = "${usage#"$me: "}" ] || fails "its help begins with ${help%%$'\n'*}"
 for word in --tails --set -B --width --html --svg 0 3 4 6 8; do
-    grep -q -- "^  $word[ ,]" <<< "$help" || fails "its help has no $word"
+    grep -q -- "^  ${word}[ ,]" <<< "$help" || fails "its help has no $word"
 done
 for word in -h --help; do wants "its help by $word" 0 "$help" "" "$map" $word; done
 exit $failed

@@ -1,8 +1,8 @@
 #!/usr/bin/env bash
 # parv-watch: the line and the exit status of a check while the files of a set come, and a folder that is checked until
 # its last file is there.
-. "$(dirname "$0")/wants.sh"
-. "$tools/checks/commands.sh"
+. "$(dirname "$0")/with/wants.sh"
+. "$tools/checks/with/commands.sh"
 cd "$work" || exit 1
 demo=$top/demo
 

@@ -9,7 +9,7 @@ repair_set=("${repair[@]}" --set)
 repair_set_dry=("${repair[@]}" --dry-run --set)
 rescue_tails=("$commands/parv-rescue" --tails)
 draw_tails=("$commands/parv-map" --tails)
-tree=("$examples/check_tree.sh")
+tree=("$commands/parv-tree")
 tree_quiet=("${tree[@]}" -q)
 tree_beside=("${tree[@]}" -j)
 watch=("$commands/parv-watch")
@@ -19,7 +19,7 @@ repair_stage=.parv-repair
 repair_list=$repair_stage/journal
 # What their messages begin with.
 repair_says="parv-repair:"
-tree_says="check_tree.sh:"
+tree_says="parv-tree:"
 search_says="parv-parts:"
 export PARV=$parv LC_ALL=C
 
