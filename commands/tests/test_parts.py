@@ -168,7 +168,7 @@ class Progress(unittest.TestCase):
             self.assertIn("\r\x1b[Kwhat was made is brought to the disk\r\x1b[K", text)
             self.assertIn("\r\x1b[Kwhat was moved is brought to the disk\r\x1b[K", text)
             self.assertTrue(text.endswith("\r\x1b[Krepair first\r\ncomplete\r\n"), text)
-            text = self.on_terminal(["new", "room/set.par2", "room/second"], rescue.main, 0.1)
+            text = self.on_terminal(["new", "room/set.par2", "room/second"], rescue.main, 0.1, 1)
             self.assertIn("\r\x1b[Kwhat was copied is brought to the disk\r\x1b[K", text)
 
     def test_what_takes_less_than_two_seconds_is_not(self) -> None:

@@ -21,8 +21,8 @@ from typing import Iterator, List, Tuple
 from parv_commands import changes, progress, tree
 from parv_commands.state import HEAD
 
+from .calls import BIN, take_all_signals
 from .rooms import FULL, KILLED, PARV, At, Ended, Room, file_id, md5, packet, read, set_of, write
-from .test_statuses import BIN, take_all_signals
 
 TREE = os.path.join(BIN, "parv-tree")
 ONE = {b"first.txt": b"first of all", b"second.txt": b"the second"}
