@@ -40,7 +40,7 @@ for command in "$commands"/*; do
     page=$top/docs/$name.1
     grep -q "^\.Xr $name 1\b" "$top/docs/parv.1" || fails "the page of parv doesn't tell of $name"
     "$command" -h > help
-    sed -nE 's/^  (-[A-Za-z], )?(--[a-z-]+).*/\2/p; s/^  (-[A-Za-z]) .*/\1/p; s/^  ([0-9]) .*/\1/p' help | sort > wanted
+    sed -nE 's/^  (-[A-Za-z], )?(--[a-z-]+).*/\2/p; s/^  (-[A-Za-z]) .*/\1/p; s/^  ([0-9])  .*/\1/p' help | sort > wanted
     { sed -nE 's/^\.It Fl ([A-Za-z] , )?-([a-z-]+).*/--\2/p; s/^\.It Fl ([A-Za-z])( Ar .*)?$/-\1/p' "$page"
         sed -n '/^\.Sh EXIT STATUS/,/^\.El/s/^\.It \([0-9]\)$/\1/p' "$page"; } | sort > told
     if [ "$(wc -l < wanted)" -ge 3 ] && cmp -s wanted told; then
@@ -63,7 +63,7 @@ done < messages
 
 # Each script is told of, and what is named of those installed is there.
 for script in "$top"/examples/*; do
-    grep -q "^\.Pa ${script##*/}$" "$page" || fails "the page doesn't tell of ${script##*/}"
+    grep -qE "^\.(It )?Pa ${script##*/}$" "$page" || fails "the page doesn't tell of ${script##*/}"
 done
 grep -o '/usr/local/share/doc/parv/[A-Za-z_./]*' "$page" | sed 's|^/usr/local/share/doc/parv/||' > paths
 [ "$(wc -l < paths)" -ge 3 ] || fails "the page names $(wc -l < paths) paths of what is installed"
