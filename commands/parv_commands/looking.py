@@ -3,21 +3,19 @@ whether each file of it is there under its own name."""
 
 from __future__ import annotations
 
-import contextlib
 import os
-import stat
 from typing import Callable, Dict, Generator, Iterator, List, NamedTuple, Optional, Sequence
 
 from . import answers, changes, names
 from .answers import SetAnswer, Verdict
 from .beside import Call
 from .faults import POSSIBLE, faults_of
-from .folders import Folder, Identity, identity_of
+from .folders import Folder, Identity
 from .names import shown
 from .parv import MOST_FILES, SPARE_FILES, Parv, path_below
 from .plan import is_same
 from .programs import Answer
-from .scene import preferred
+from .reach import Ways, files_there, preferred, subfolders_of
 from .signals import wait_point
 
 HERE = b"f"             # the link to the folder
@@ -33,61 +31,20 @@ class Checked(NamedTuple):
     have: int
 
 
-class Ways:
-    """What is at names below a folder, and on the ways to them; each part is looked at once."""
-
-    def __init__(self, folder: Folder) -> None:
-        self.folder = folder
-        self._kinds: Dict[bytes, int] = {}
-
-    def kind(self, path: bytes) -> int:
-        """The kind of what is at a path, or 0 if nothing is."""
-        if path not in self._kinds:
-            now = self.folder.look(path)
-            self._kinds[path] = 0 if now is None else stat.S_IFMT(now.st_mode)
-        return self._kinds[path]
-
-    def is_clear(self, name: bytes) -> bool:
-        """Whether no link is at a name, nor on the way to it."""
-        at = name.find(b"/")
-        while at >= 0:
-            kind = self.kind(name[:at])
-            if kind != stat.S_IFDIR:
-                return kind != stat.S_IFLNK
-            at = name.find(b"/", at + 1)
-        return self.kind(name) != stat.S_IFLNK
-
-
 def folders_of(folder: Folder, found: SetAnswer, say: Sayer) -> List[bytes]:
     """The folders in which the files of a set may be, each with a slash after it, and the folder itself as nothing. Of
     names at which nothing is read it says so."""
-    ways, chosen = Ways(folder), {b""}
+    ways = Ways(folder)
+    read: List[bytes] = []
     for file in found.files:
         wait_point()
         if not names.is_plain(file.name):
             say(f"the name {file.shown} is refused: it is no plain path below the folder")
         elif not ways.is_clear(file.name):
             say(f"{file.shown} is a link, or behind one, and isn't read")
-        elif b"/" in file.name:
-            above = file.name.rpartition(b"/")[0]
-            if ways.kind(above) == stat.S_IFDIR:
-                chosen.add(above + b"/")
-    return sorted(chosen)
-
-
-def files_there(folder: Folder, found: SetAnswer, folders: Sequence[bytes]) -> Dict[bytes, Identity]:
-    """The files in these folders, except packet files that the set hasn't."""
-    members = {file.name for file in found.files}
-    there: Dict[bytes, Identity] = {}
-    for path in folders:
-        wait_point()
-        with faults_of("open", shown(path[:-1]) or folder.shown):
-            inner = folder.inner(path[:-1] or b".")
-        with contextlib.closing(inner):
-            for name, now in inner.entries().items():
-                if stat.S_ISREG(now.st_mode) and (path + name in members or not names.is_packet_file(name)):
-                    there[path + name] = identity_of(now)
-    return there
+        else:
+            read.append(file.name)
+    return [b"", *subfolders_of(ways, read)]
 
 
 def is_complete(folder: Folder, found: SetAnswer, sources: Sequence[Optional[bytes]],
@@ -138,7 +95,8 @@ class Looking:
         """Verifies the set of an ID, which these packet files have."""
         packet_words = [self.word_of(name, True) for name in packet_files]
         found = answers.read_set((yield from self.ask("set", ["--set", owner, "--", *packet_words], (0,))).out)
-        there = files_there(self.folder, found, folders_of(self.folder, found, self.say))
+        there = files_there(self.folder, {file.name for file in found.files},
+                            folders_of(self.folder, found, self.say))
         paths = self._to_scan(found, there, min(MOST_FILES, most_open - SPARE_FILES) - len(packet_words))
         words = [self.word_of(path) for path in paths]
         ended = yield from self.ask(

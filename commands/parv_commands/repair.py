@@ -36,9 +36,10 @@ the next one completes its moves or undoes them. The exit status is true.
   --set ID            says which set, if FOLDER has several
   -h, --help          prints this
 
-It verifies the folder, gives renamed files their names back, has par2 repair
-make those that are damaged or missing, and verifies again. Its last word is
-`complete` then. A damaged file stays as NAME.1.
+It verifies FOLDER and the subfolders that names of the set have, gives renamed
+files their names back, has par2 repair make those that are damaged or missing,
+and verifies again. Its last word is `complete` then. A damaged file stays as
+NAME.1.
 
 The exit status:
   0  each file is complete

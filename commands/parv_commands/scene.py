@@ -7,13 +7,14 @@ from typing import BinaryIO, Dict, List, NamedTuple, Optional, Sequence, Set, Tu
 
 from . import answers, earlier, names, output, progress, stage
 from .answers import PacketLine, SetAnswer, Verdict
-from .faults import NO_SET, USAGE, Fault, faults_of
-from .folders import Folder, Identity, identity_of
+from .faults import NO_SET, USAGE, Fault
+from .folders import Folder, Identity
 from .names import shown
 from .packets import PacketFiles, RecoverySet, read_recovery_set
 from .parv import MOST_FILES, SPARE_FILES, Links, Parv, path_below
 from .plan import is_same
 from .programs import Program
+from .reach import Ways, files_there, preferred, subfolders_of
 from .search import Scanned, Search
 
 RESERVED = (stage.NAME, earlier.NAME)
@@ -32,15 +33,6 @@ class Found(NamedTuple):
     files: PacketFiles
     lines: List[PacketLine]
     words: List[str]
-
-
-def preferred(there: Dict[bytes, Identity], members: Set[bytes], lengths: Set[int]) -> List[bytes]:
-    """The files of a folder in the order in which they are looked at if there are too many: those with names of the
-    set, then those with a length of one of its files, then the longest."""
-    def order(path: bytes) -> Tuple[bool, bool, int]:
-        length = there[path].length or 0
-        return path not in members, length not in lengths, -length
-    return sorted(there, key=order)
 
 
 class Scene:
@@ -98,29 +90,9 @@ class Scene:
     def gather(self, found: Found) -> None:
         """Notes the files of the folder, and of the subfolders that the set names, except packet files."""
         members = {file.name for file in found.set.files}
-        self.there = {}
         with progress.waiting("the folder is read"):
-            for path in self._folders(members):
-                self._gather_in(path, members)
-
-    def _gather_in(self, path: bytes, members: Set[bytes]) -> None:
-        with faults_of("open", f"{self.folder.shown}/{shown(path[:-1])}"):
-            inner = self.folder if not path else self.folder.inner(path[:-1])
-        try:
-            for name, now in inner.entries().items():
-                if stat.S_ISREG(now.st_mode) and (path + name in members or not names.is_packet_file(name)):
-                    self.there[path + name] = identity_of(now)
-        finally:
-            if path:
-                inner.close()
-
-    def _folders(self, members: Set[bytes]) -> List[bytes]:
-        """The subfolders that names of the set have, each with a slash after it, and the folder itself as nothing."""
-        found = {b""}
-        for name in members:
-            if b"/" in name and names.refusal(name, RESERVED) is None:
-                found.add(name.rsplit(b"/", 1)[0] + b"/")
-        return sorted(path for path in found if not path or self.folder.is_folder(path[:-1]))
+            read = (name for name in members if names.refusal(name, RESERVED) is None)
+            self.there = files_there(self.folder, members, [b"", *subfolders_of(Ways(self.folder), read)])
 
     def to_scan(self, found: Found) -> List[bytes]:
         """As many of the files as parv takes."""

@@ -61,9 +61,10 @@ the name of its first packet file has before .par2, or .vol0+1.par2 and the
 like. Packet files in which no packet is left belong to the set that is called
 like them. If there is none, they are a set of their own.
 
-A set is verified with the files in its folder, and with those in subfolders
-that its names have. Links aren't followed. A name that is no plain path below
-the folder is reported, and nothing is read there.
+A set is verified with the files in its folder, and with those in the subfolders
+that its names have; other subfolders aren't looked at. Links aren't followed. A
+name that is no plain path below the folder is reported, and nothing is read
+there.
 
 The exit status is the greatest of all:
   0  each set is complete

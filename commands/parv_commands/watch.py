@@ -12,11 +12,12 @@ from typing import Dict, List, NamedTuple, Optional, Sequence, Tuple
 from . import answers, output, programs, progress, signals, words
 from .answers import SetAnswer, Verdict
 from .faults import IMPOSSIBLE, MEMORY, POSSIBLE, USAGE, Fault, NoProgram, faults_of
-from .folders import Folder
+from .folders import Folder, Identity, identity_of
 from .names import is_packet_file, is_plain, shown
 from .parv import MOST_FILES, SPARE_FILES, Links, Parv, path_below, temporary_folder
 from .placing import md5_of, pieces_of_file, told
 from .programs import Program
+from .reach import Ways, files_there, preferred, subfolders_of
 
 COMPLETE = 0
 SECONDS = 60.0      # from one check to the next
@@ -25,7 +26,8 @@ USAGE_TEXT = """usage: parv-watch [--tails] FOLDER [SECONDS [CHECKS]]
 
 Verifies a folder into which the files of a PAR2 set still come, again and again,
 until each file of the set is complete. It prints a line for each check, and
-changes nothing. Each check reads all files of the folder.
+changes nothing. It looks at the files in FOLDER and in the subfolders that
+names of the set have, and reads all of them in each check.
   parv-watch download
 
   --tails         finds short slices before other bytes too
@@ -61,35 +63,35 @@ class Check:
         self.there = self._files()
         self.sums: Dict[bytes, bytes] = {}
 
-    def _files(self) -> Dict[bytes, int]:
-        """The lengths of the regular files in the folder, and of those that links there lead to."""
-        found: Dict[bytes, int] = {}
+    def _files(self) -> Dict[bytes, Identity]:
+        """The regular files in the folder, and those that links there lead to."""
+        found: Dict[bytes, Identity] = {}
         with faults_of("read", self.folder.shown):
             names = sorted(map(os.fsencode, os.listdir(self.folder.place)))
         for name in names:
             with contextlib.suppress(OSError):
                 now = os.stat(name, dir_fd=self.folder.place)
                 if stat.S_ISREG(now.st_mode):
-                    found[name] = now.st_size
+                    found[name] = identity_of(now)
         return found
+
+    def _length(self, name: bytes) -> int:
+        return self.there[name].length or 0
 
     def _word(self, name: bytes, is_packets: bool) -> str:
         return self.parv.links.word(path_below(self.folder, name), shown(name), is_packets)
 
     def _to_scan(self, found: SetAnswer, packet_files: int) -> List[bytes]:
-        """The files that are scanned: those in the folder, and those in its subfolders that the set names. If they are
-        too many, those with a name or a length of the set come first."""
-        names = {file.name for file in found.files}
-        for name in names:
-            now = self.folder.look(name) if b"/" in name and is_plain(name) else None
-            if now is not None and stat.S_ISREG(now.st_mode):
-                self.there[name] = now.st_size
-        lengths = {file.length for file in found.files}
-        scanned = [name for name in self.there if name in names or not is_packet_file(name)]
+        """The files that are scanned: those of the folder, and those of the subfolders that names of the set have."""
+        members = {file.name for file in found.files}
+        self.there.update(files_there(self.folder, members,
+                                      subfolders_of(Ways(self.folder), filter(is_plain, members))))
+        scanned = [name for name in self.there if name in members or not is_packet_file(name)]
         room = max(min(MOST_FILES, self.most_open - SPARE_FILES) - packet_files, 0)
         if len(scanned) > room:
             output.say(f"{len(scanned) - room} of {len(scanned)} files aren't looked at: parv takes {room} here")
-            scanned.sort(key=lambda name: (name not in names, self.there[name] not in lengths, -self.there[name]))
+            scanned = preferred({name: self.there[name] for name in scanned}, members,
+                                {file.length for file in found.files})
         return scanned[:room]
 
     def verdict(self) -> Tuple[int, str]:
@@ -100,8 +102,8 @@ class Check:
         packet_words = [self._word(name, True) for name in packets]
         found = self.parv.set(packet_words, None)
         paths = {self._word(name, False): name for name in self._to_scan(found, len(packets))}
-        most = (sum(self.there[name] for name in paths.values()) * (3 if self.tails else 2)
-                + sum(self.there[name] for name in packets) * 3)
+        most = (sum(map(self._length, paths.values())) * (3 if self.tails else 2)
+                + sum(map(self._length, packets)) * 3)
         verdict = self.parv.verify(found, packet_words, list(paths), self.tails, most)
         if self._is_complete(found, verdict, paths):
             return COMPLETE, "complete"
@@ -124,7 +126,7 @@ class Check:
 
     def _is_same(self, name: bytes, other: bytes) -> bool:
         """Whether two files have the same length and MD5, by which parv says that a file is complete."""
-        return (other in self.there and self.there[other] == self.there[name]
+        return (other in self.there and self._length(other) == self._length(name)
                 and self._sum(name) == self._sum(other))
 
     def _sum(self, name: bytes) -> bytes:
@@ -132,7 +134,7 @@ class Check:
             with faults_of("open", shown(name)):
                 opened = os.open(name, os.O_RDONLY | os.O_NONBLOCK | os.O_CLOEXEC, dir_fd=self.folder.place)
             try:
-                with faults_of("read", shown(name)), progress.doing("equal files are compared", self.there[name]):
+                with faults_of("read", shown(name)), progress.doing("equal files are compared", self._length(name)):
                     self.sums[name] = md5_of(told(pieces_of_file(opened)))
             finally:
                 os.close(opened)

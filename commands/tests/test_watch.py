@@ -94,6 +94,29 @@ class Watch(Calls):
         self.room.put("up", b"")
         self.says(2, "not enough for a repair: need 2 have 0")
 
+    def test_it_looks_at_the_files_that_parv_repair_and_parv_tree_look_at(self) -> None:
+        files = {b"one/track1": b"the first track", b"two/track2": b"the other one", b"track3": b"and the third"}
+        self.room.put("set.par2", set_of(files, 8, 1))
+        for name, data in files.items():
+            self.room.put(os.fsdecode(name), data)
+
+        def says_all(need: int, verdict: str, status: int) -> None:
+            self.says(status, f"{verdict}: need {need} have 1")
+            status_of_repair, out, said = self.call(os.path.join(BIN, "parv-repair"), "--dry-run", "room")
+            self.assertEqual(status_of_repair, status)
+            self.assertIn(f"{verdict}: need {need} have 1\n", out + said)
+            status_of_tree, out, said = self.call(os.path.join(BIN, "parv-tree"), "room")
+            self.assertEqual((status_of_tree, said), (status, ""))
+            self.assertIn(f" need {need} have 1 ", out)
+        self.room.rename("track3", "two/t3")
+        says_all(0, "a repair can be tried", 1)
+        self.room.rename("one/track1", "two/t1")
+        says_all(0, "a repair can be tried", 1)
+        self.room.rename("two/t1", "other/track1")
+        says_all(2, "not enough for a repair", 2)
+        self.room.rename("other/track1", "two/deep/track1")
+        says_all(2, "not enough for a repair", 2)
+
     def test_links_to_files_are_followed_and_others_left_out(self) -> None:
         self.room.rename("first", "../elsewhere")
         os.symlink("../elsewhere", self.room.path("first"))

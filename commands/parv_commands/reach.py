@@ -1,0 +1,72 @@
+"""Which files a set is verified with: those of its folder, and those of the subfolders that names of the set have."""
+
+from __future__ import annotations
+
+import contextlib
+import stat
+from typing import Dict, Iterable, List, Sequence, Set, Tuple
+
+from . import names
+from .faults import faults_of
+from .folders import Folder, Identity, identity_of
+from .names import shown
+from .signals import wait_point
+
+
+class Ways:
+    """What is at names below a folder, and on the ways to them; each part is looked at once."""
+
+    def __init__(self, folder: Folder) -> None:
+        self.folder = folder
+        self._kinds: Dict[bytes, int] = {}
+
+    def kind(self, path: bytes) -> int:
+        """The kind of what is at a path, or 0 if nothing is."""
+        if path not in self._kinds:
+            now = self.folder.look(path)
+            self._kinds[path] = 0 if now is None else stat.S_IFMT(now.st_mode)
+        return self._kinds[path]
+
+    def is_clear(self, name: bytes) -> bool:
+        """Whether no link is at a name, nor on the way to it."""
+        at = name.find(b"/")
+        while at >= 0:
+            kind = self.kind(name[:at])
+            if kind != stat.S_IFDIR:
+                return kind != stat.S_IFLNK
+            at = name.find(b"/", at + 1)
+        return self.kind(name) != stat.S_IFLNK
+
+
+def subfolders_of(ways: Ways, members: Iterable[bytes]) -> List[bytes]:
+    """The subfolders that plain names of a set have, each with a slash after it."""
+    found: Set[bytes] = set()
+    for name in members:
+        wait_point()
+        above = name.rpartition(b"/")[0]
+        if above and ways.kind(above) == stat.S_IFDIR:
+            found.add(above + b"/")
+    return sorted(found)
+
+
+def files_there(folder: Folder, members: Set[bytes], folders: Sequence[bytes]) -> Dict[bytes, Identity]:
+    """The files in these folders, of which the folder itself is nothing; packet files only if the set has them."""
+    there: Dict[bytes, Identity] = {}
+    for path in folders:
+        wait_point()
+        with faults_of("open", shown(path[:-1]) or folder.shown):
+            inner = folder.inner(path[:-1] or b".")
+        with contextlib.closing(inner):
+            for name, now in inner.entries().items():
+                if stat.S_ISREG(now.st_mode) and (path + name in members or not names.is_packet_file(name)):
+                    there[path + name] = identity_of(now)
+    return there
+
+
+def preferred(there: Dict[bytes, Identity], members: Set[bytes], lengths: Set[int]) -> List[bytes]:
+    """The files of a folder in the order in which they are looked at if there are too many: those with names of the
+    set, then those with a length of one of its files, then the longest."""
+    def order(path: bytes) -> Tuple[bool, bool, int]:
+        length = there[path].length or 0
+        return path not in members, length not in lengths, -length
+    return sorted(there, key=order)
