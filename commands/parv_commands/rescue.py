@@ -91,6 +91,7 @@ class Rescue:
 
     def __init__(self, found: RecoverySet, given: Given, parv: Parv, writer: Writer) -> None:
         self.found, self.given, self.parv, self.writer = found, given, parv, writer
+        self.complete: Set[str] = set()     # the IDs of files that are told as complete
 
     def search(self, tails: bool, wanted: Set[int]) -> Search:
         return Search(self.found, self.parv, self.given.scanned, tails, wanted, not tails)
@@ -112,7 +113,8 @@ class Rescue:
                 raise Fault(NO_SET, "no usable set: too many tails")
             self._searches(self.search(True, short), TAILS)
         status, lines = self._ending()
-        return status, lines, 0 if tails else self._may_find(search, short)
+        missing = {number for number in short if search.owners[number].id not in self.complete}
+        return status, lines, 0 if tails else self._may_find(search, missing)
 
     def _reached(self, way: str) -> Tuple[int, int, int]:
         """The place from which a search of these files goes on this way: an earlier run may have come there."""
@@ -164,7 +166,7 @@ class Rescue:
     # The lines at the end.
 
     def _holes(self, file: Member) -> List[Tuple[int, int]]:
-        """The offset and length of each hole of a file, of as many slices as are missing in turn."""
+        """The offset and length of each hole of a file, of as many slices as are missing in a row."""
         gaps: List[Tuple[int, int]] = []
         for number in range(file.slices):
             if file.first + number not in self.writer.record.there:
@@ -175,13 +177,23 @@ class Rescue:
                     gaps.append((at, length))
         return gaps
 
+    def _state(self, file: Member, count: int) -> str:
+        """The state of a file of which so many slices are there by the record; something else may have completed it."""
+        if count == file.slices:
+            return self.writer.state_if_whole(file)
+        missing = next(number - file.first for number in file.numbers if number not in self.writer.record.there)
+        if file.id not in self.writer.refused and self.writer.is_whole_by_others(file, missing):
+            return "complete"
+        return "damaged" if count else "missing"
+
     def _told(self, file: Member) -> List[str]:
         """The lines about a file: its state, and its holes."""
         count = sum(number in self.writer.record.there for number in file.numbers)
-        state = self.writer.state_if_whole(file) if count == file.slices else "damaged" if count else "missing"
+        state = self._state(file, count)
         if file.id in self.writer.refused:
             return [f"refused {file.shown}"]
         if state == "complete":
+            self.complete.add(file.id)
             return [f"complete {file.shown}"]
         gaps = self._holes(file) if state == "damaged" else []
         return [f"{state} {file.shown} {count}/{file.slices}",

@@ -13,7 +13,7 @@ from . import changes, names, output, progress
 from .faults import FILES, Fault, Refused, faults_of
 from .folders import Folder
 from .packets import Member, RecoverySet
-from .placing import fill, md5_of, pieces_of_file
+from .placing import fill, is_there, md5_of, pieces_of_file, window
 from .record import NAMES, Record
 from .search import Search
 from .signals import wait_point
@@ -167,6 +167,25 @@ class Writer:
                     return "wrong"
         self.record.tell("whole", file.id, changed)
         return "complete"
+
+    def is_whole_by_others(self, file: Member, number: int) -> bool:
+        """Whether a file that lacks a slice by the record is whole nevertheless, as after a repair. It is read as a
+        whole only if it has the slice of this number in its place."""
+        with contextlib.suppress(OSError):
+            place = self.folder.open_to_read(file.name)
+            try:
+                before = os.fstat(place)
+                if not stat.S_ISREG(before.st_mode) or before.st_size != file.length:
+                    return False
+                offset, own = number * self.found.size, self.found.own_length(file, number)
+                if file.sums and not is_there(place, offset, own, self.found.size, file.sums[number]):
+                    return False
+                with progress.doing(f"{file.shown} is verified", file.length):
+                    found = md5_of(_told(window(place, 0, file.length, file.length)))
+                return found == file.whole and os.fstat(place).st_ctime_ns == before.st_ctime_ns
+            finally:
+                os.close(place)
+        return False
 
 
 def _told(pieces: Iterator[bytes]) -> Iterator[bytes]:

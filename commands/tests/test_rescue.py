@@ -108,6 +108,53 @@ class Rescue(unittest.TestCase):
         self.assertEqual((ended.status, ended.said), (1, ""), ended)
         self.assertIn("wrong long 6/6\n", ended.out)
 
+    def rescue_parts(self) -> Ended:
+        """What a rescue says that finds neither the third slice of `long` nor anything of `short`."""
+        if not os.path.exists(os.path.join(self.room.top, "parts")):
+            long = FILES["long"]
+            write(os.path.join(self.room.top, "parts"), long[:16] + b"????????" + long[24:] + FILES["in/a/folder"])
+        return self.room.run(rescue.main, ["partly", "room/set.par2", "parts"])
+
+    def test_files_that_something_else_has_completed_are_complete(self) -> None:
+        holed = ("complete empty\ncomplete in/a/folder\ndamaged long 5/6\nhole 16 8 long\nmissing short 0/1\n"
+                 "slices 7/9, copied now {}\n")
+        missing = "parv-rescue: short slices missing: 1; --tails might find more\n"
+
+        def says(status: int, out: str, said: str, what: str) -> None:
+            ended = self.rescue_parts()
+            lines = sorted(ended.out.splitlines()[:-1]) + ended.out.splitlines()[-1:]
+            self.assertEqual((ended.status, "\n".join(lines) + "\n", ended.said), (status, out, said), what)
+        shutil.rmtree(os.path.join(self.room.top, "partly"), ignore_errors=True)
+        place, short = (os.path.join(self.room.top, "partly", name) for name in ("long", "short"))
+        says(1, holed.format(7), missing, "at first")
+        for data, what in {b"X" + FILES["long"][1:]: "the slice is there, and another byte differs",
+                           FILES["long"][:23] + b"X" + FILES["long"][24:]: "the slice differs"}.items():
+            os.remove(place)
+            write(place, data)
+            says(1, holed.format(0), missing, what)
+            self.assertEqual(read(place), data)
+        os.remove(place)
+        os.symlink(os.path.join(self.room.top, "room/long"), place)
+        self.assertIn("refused long\n", self.rescue_parts().out)
+        os.remove(place)
+        write(place, FILES["long"] + b"X")
+        self.assertIn("refused long\n", self.rescue_parts().out)
+        os.remove(place)
+        write(place, FILES["long"])
+        whole = os.stat(place)
+        says(1, holed.replace("damaged long 5/6\nhole 16 8 long\n", "complete long\n").format(0), missing, "one")
+        write(short, FILES["short"])
+        says(0, "\n".join(ALL) + "\nslices 7/9, copied now 0\n", "", "both")
+        now = os.stat(place)
+        self.assertEqual((now.st_ino, now.st_ctime_ns, now.st_mtime_ns), (
+            whole.st_ino, whole.st_ctime_ns, whole.st_mtime_ns))
+        os.remove(short)
+        os.symlink(os.path.join(self.room.top, "room/short"), short)
+        self.assertIn("missing short 0/1\n", self.rescue_parts().out)
+        os.remove(short)
+        os.mkfifo(short)
+        self.assertIn("missing short 0/1\n", self.rescue_parts().out)
+
     def test_slices_are_on_the_disk_before_the_record_has_them(self) -> None:
         log = os.path.join(self.room.top, "log")
         real: Dict[str, Callable[..., None]] = {"sync": changes.sync, "write_at": changes.write_at}
