@@ -1,4 +1,4 @@
-"""A picture of a set as text: a sign for each slice, or for several in turn."""
+"""A picture of a set as text: a sign for each slice, or for several in a row."""
 
 from __future__ import annotations
 

@@ -36,7 +36,7 @@ known, its slices are in place if it is complete, moved if it is renamed, and el
 not known.
 
 The picture is text, as wide as the terminal or N characters. A sign is one
-slice, or several in turn if a file would take more than four lines. Of several
+slice, or several in a row if a file would take more than four lines. Of several
 the worst is shown: missing, not known, moved, in place. It has colours on a
 terminal, unless NO_COLOR is set.
 

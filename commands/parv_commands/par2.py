@@ -8,12 +8,12 @@ import os
 from typing import Dict, List, NamedTuple, Optional, Sequence
 
 from . import changes, progress
-from .faults import NO_REPAIR, Fault, faults_of
+from .faults import NO_REPAIR, NoProgram, faults_of
 from .folders import Folder
 from .names import shown
 from .packets import PacketFiles, RecoverySet, write_for_par2
 from .answers import PacketLine
-from .programs import answer_of, find_program
+from .programs import Program, answer_of, find_program
 from .signals import wait_point
 
 PACKETS = b"set.par2"
@@ -23,6 +23,15 @@ UP = b"../../"          # from the folder in which par2 works to that which is r
 def name_for(number: int) -> bytes:
     """The name by which par2 knows the file of the set with this number. (One of a single letter ends par2 0.8.1.)"""
     return b"file%d" % number
+
+
+def needed_par2() -> Program:
+    """The program par2, without which there is no repair."""
+    program = find_program("PAR2", "par2")
+    if program is None:
+        name = shown(os.fsencode(os.environ.get("PAR2") or "par2"))
+        raise NoProgram(NO_REPAIR, f"cannot run {name}: put par2 in PATH, or name it by PAR2")
+    return program
 
 
 class Tried(NamedTuple):
@@ -58,10 +67,7 @@ class Bench:
 
     def repair(self, extra: Sequence[bytes]) -> Tried:
         """Has par2 repair what is linked, with files under these further names."""
-        program = find_program("PAR2", "par2")
-        if program is None:
-            name = shown(os.fsencode(os.environ.get("PAR2") or "par2"))
-            raise Fault(NO_REPAIR, f"cannot run {name}: put par2 in PATH, or name it by PAR2")
+        program = needed_par2()
         with progress.doing("par2 repair"):
             ended = answer_of(program, [b"repair", b"-q", PACKETS, *extra], self.place.place)
         lines = [line for line in (ended.out + b"\n" + ended.said).replace(b"\r", b"\n").split(b"\n") if line.strip()]

@@ -6,17 +6,18 @@ import contextlib
 import fcntl
 import functools
 import os
+import re
 import stat
 from typing import Callable, Iterator, List, NamedTuple, Optional, Sequence, Set, Tuple
 
 from . import changes, earlier, names, output, packets, progress, programs, signals, stage, words
 from .answers import Verdict
-from .faults import FILES, IMPOSSIBLE, NO_REPAIR, NO_SET, POSSIBLE, Fault, Refused, faults_of
+from .faults import FILES, IMPOSSIBLE, NO_REPAIR, NO_SET, POSSIBLE, Fault, NoProgram, Refused, faults_of
 from .folders import Folder, Identity, identity_of
 from .journal import Moves
 from .making import Making
 from .names import shown
-from .par2 import name_for
+from .par2 import name_for, needed_par2
 from .parv import Links, temporary_folder
 from .plan import Backup, Plan
 from .programs import Program
@@ -24,6 +25,7 @@ from .scene import Found, Looked, Scene
 from .stage import FILES_OF_PAR2, MADE, Stage, path_of
 
 PIECE = 1 << 20
+_NUMBERED = re.compile(rb".+\.[1-9][0-9]*", re.DOTALL)
 
 USAGE_TEXT = """usage: parv-repair [--dry-run] [--remove-backups] [--set ID] FOLDER
 
@@ -80,6 +82,7 @@ class Repair:
                 looked = self._look_again(found, scanned, looked.verdict)
             sources = self.scene.settled(found, looked.sources)
             if self.scene.is_complete(found, sources):
+                self._say_of_earlier_backups(found)
                 return 0, ["complete"]
             self.scene.refuse_names(found)
             others = packets.names_of_others(found.answer, found.files, found.lines)
@@ -118,6 +121,11 @@ class Repair:
     def _told(self, found: Found, sources: Sequence[Optional[bytes]], repairs: Set[int], others: Set[bytes],
               verdict: Verdict) -> Tuple[int, List[str]]:
         plan = self._plan(found, self._origins(found, sources), repairs, others)
+        if repairs:
+            try:
+                needed_par2()
+            except NoProgram as fault:
+                self.say(f"par2 will be needed: {fault}")
         return POSSIBLE, [*plan.told, f"a repair can be tried: {verdict.counts}"]
 
     def _repair(self, found: Found, sources: Sequence[Optional[bytes]], repairs: Set[int], others: Set[bytes],
@@ -230,6 +238,16 @@ class Repair:
 
     # Backups.
 
+    def _say_of_earlier_backups(self, found: Found) -> None:
+        """Says which files an earlier run may have kept. They stay: who put them there isn't known."""
+        members = {file.name for file in found.set.files}
+        kept = [path for path in sorted(self.scene.there) if path not in members and _NUMBERED.fullmatch(path)
+                and path.rpartition(b".")[0] in members]
+        if self.purge and kept:
+            more = f" and {len(kept) - 1} more like it" if len(kept) > 1 else ""
+            self.say(f"--remove-backups removes only what its own run has kept: {shown(kept[0])}{more} may be of an "
+                     "earlier one, and can be removed by rm")
+
     def _backups_to_remove(self, found: Found, backups: Sequence[Backup]) -> List[Backup]:
         """The kept files that may go: those that have a slice of the file whose name they had."""
         removed: List[Backup] = []
@@ -237,7 +255,8 @@ class Repair:
             if self._has_slices(found, backup):
                 removed.append(backup)
             else:
-                self.say(f"{shown(backup.kept)} has no slice of {found.set.files[backup.number].shown}, and stays")
+                self.say(f"{shown(backup.kept)} has no slice of {found.set.files[backup.number].shown} that is found "
+                         "without --tails, and stays")
         return removed
 
     def _has_slices(self, found: Found, backup: Backup) -> bool:

@@ -240,5 +240,7 @@ def main() -> int:
         folder, *files = map(os.fsencode, given.names or [""])
         if not folder or not files:
             parser.error("there is no FOLDER, or there are no FILES")
+        if os.path.isfile(folder):
+            parser.error(f"{os.fsdecode(folder)} is a file: FOLDER comes before FILES")
         return rescue(Asked(folder, files, given.tails, given.set))
     return words.ended("parv-rescue", run)

@@ -51,6 +51,44 @@ class Moves(unittest.TestCase):
     def completes(self, ended: Ended, what: object = "") -> None:
         self.assertEqual((ended.status, ended.last(), self.room.lacks()), (0, "complete", []), (what, ended))
 
+    def test_a_trial_says_that_par2_will_be_needed_if_it_is_not_there(self) -> None:
+        none = "parv-repair: room: par2 will be needed: cannot run none: put par2 in PATH, or name it by PAR2\n"
+        self.room.put("third", b"the thXrd one")
+        for name, said in {"none": none, self.room.stand_in: ""}.items():
+            ended = self.room.run(repair.main, ["--dry-run", "room"], PAR2=name)
+            self.assertEqual((ended.status, ended.said), (1, said), ended)
+            self.assertEqual(ended.last(), "a repair can be tried: need 1 have 20")
+        self.room.fresh()
+        self.room.rename("third", "x")
+        ended = self.room.run(repair.main, ["--dry-run", "room"], PAR2="none")
+        self.assertEqual((ended.status, ended.said), (1, ""), "a name needs no par2")
+
+    def test_a_later_run_says_of_backups_that_it_removes_none(self) -> None:
+        others = "third.01", "third.0", "third.", "third.txt", "fourth.1"
+        for name in others:
+            self.room.put(name, b"mine")
+        ended = self.run_it("--remove-backups")
+        self.assertEqual((ended.status, ended.out, ended.said), (0, "complete\n", ""))
+        self.room.put("third", b"the thXrd one")
+        self.assertEqual(self.run_it().status, 0)
+        said = ("parv-repair: room: --remove-backups removes only what its own run has kept: third.1{} may be of an "
+                "earlier one, and can be removed by rm\n")
+        ended = self.run_it("--remove-backups")
+        self.assertEqual((ended.status, ended.out, ended.said), (0, "complete\n", said.format("")))
+        self.room.put("third.12", b"more")
+        ended = self.run_it("--remove-backups")
+        self.assertEqual((ended.status, ended.out, ended.said), (0, "complete\n", said.format(" and 1 more like it")))
+        self.assertEqual(self.run_it().said, "")
+        for name in (*others, "third.1", "third.12"):
+            self.assertTrue(os.path.exists(self.room.path(name)), name)
+
+    def test_a_backup_with_only_a_short_slice_before_other_bytes_stays(self) -> None:
+        self.room.put("third", b"XXXXXXXXd one.XXXXXXXXXX")
+        ended = self.run_it("--remove-backups")
+        self.assertEqual((ended.status, ended.said), (0, "parv-repair: room: third.1 has no slice of third that is "
+                                                      "found without --tails, and stays\n"), ended)
+        self.assertTrue(os.path.exists(self.room.path("third.1")))
+
     def identity(self, name: str) -> Identity:
         now = os.stat(self.room.path(name))
         return Identity(now.st_ino, now.st_size, now.st_mtime_ns)

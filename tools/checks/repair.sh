@@ -148,7 +148,7 @@ furnish 8 1 $'line\nfeed' 0123456789 other abcdefgh
 printf 'abcd' > room/other
 ends "a name that par2 reads as another, and a backup that has no slice of its file" 0 "repair other
 keep other as other.1
-complete" "$say other.1 has no slice of other, and stays" --remove-backups
+complete" "$say other.1 has no slice of other that is found without --tails, and stays" --remove-backups
 whole_now "a name that par2 reads as another, and a backup that has no slice of its file" other.1 abcd
 
 # A set that anyone may have made has a file of the folder as an empty one, or as one of which nothing is there.
@@ -156,12 +156,12 @@ furnish 4 20 film abcdefgh thesis ""
 printf 'my thesis, of a year' > room/thesis
 ends "a foreign file at the name of an empty one" 0 "make thesis
 keep thesis as thesis.1
-complete" "$say thesis.1 has no slice of thesis, and stays" --remove-backups
+complete" "$say thesis.1 has no slice of thesis that is found without --tails, and stays" --remove-backups
 whole_now "a foreign file at the name of an empty one" thesis.1 'my thesis, of a year'
 printf 'my film, of a year' > room/film
 ends "a foreign file at the name of another" 0 "repair film
 keep film as film.1
-complete" "$say film.1 has no slice of film, and stays" --remove-backups
+complete" "$say film.1 has no slice of film that is found without --tails, and stays" --remove-backups
 whole_now "a foreign file at the name of another" thesis.1 'my thesis, of a year' film.1 'my film, of a year'
 
 # Two files of one content, and empty files.

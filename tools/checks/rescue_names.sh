@@ -165,7 +165,12 @@ mkdir out
 printf 'mine' > out/mine
 wants "a folder of others" 3 "" "$me: out isn't empty, and has no $record" "$extract" out "${names[@]}"
 [ "$(ls -A out)" = mine ] || fails "the folder of others has more now: $(ls -A out)"
-wants "a file in place of the folder" 6 "" "$me: cannot make out/mine: File exists" "$extract" out/mine "${names[@]}"
+usage="$me: usage: $me [--tails] [--set ID] FOLDER FILES"
+wants "a file in place of the folder" 3 "" "$me: out/mine is a file: FOLDER comes before FILES
+$usage" "$extract" out/mine "${names[@]}"
+wants "no folder" 3 "" "$me: names.par2 is a file: FOLDER comes before FILES
+$usage" "$extract" "${names[@]}"
+[ "$(cat out/mine)" = mine ] || fails "the file in place of the folder was changed"
 ln -s none broken
 wants "a broken link in place of the folder" 6 "" "$me: cannot make broken: File exists" "$extract" broken "${names[@]}"
 [ ! -e none ] || fails "the broken link leads to something now"
@@ -191,7 +196,6 @@ $me: refused: harbour.raw: it can't have 12288 bytes: File too large" \
     "$top/demo/notes.txt"
 
 # Words, and files that can't be read.
-usage="$me: usage: $me [--tails] [--set ID] FOLDER FILES"
 wants "no files" 3 "" "$me: there is no FOLDER, or there are no FILES
 $usage" "$extract" new
 wants "an option that there isn't" 3 "" "$me: unrecognized arguments: --tail
