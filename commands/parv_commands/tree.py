@@ -42,7 +42,7 @@ on a backup. It writes nothing there.
 
 A line has the exit status of the set, its ID, what is needed and what is there,
 and its folder and name:
-  1 589c76e09f0580b9203c5b64963b8957 need 5 have 8 2019/photos
+    1 589c76e09f0580b9203c5b64963b8957 need 5 have 8 2019/photos
 A dash means that there is no verdict or no ID. Names are shown as parv shows
 them. Lines come in the order of folders and names. From status 3 on a line on
 standard error says why.
