@@ -27,20 +27,27 @@ cp backup/whole/photos.par2 .
 mv download/harbour.raw download/port.raw
 { head -c 5000 /dev/zero; cat backup/whole/*.raw backup/whole/notes.txt; printf 'more'; } > disc.img
 last_match=$("$tools/models/find_slices.py" --tails photos.par2 disc.img | sed '$d' | tail -n 1)
-wanted=("1 result possible" "1 result possible"
-    "1 a repair can be tried: need 0 have 0" "0 complete" "0 slices 38/38, copied now 38" "0 " "0 result complete"
-    "0 complete" "0 $last_match" "0 38 in place; need 0 have 0")
-sed -nE 's/^    (([a-z_]+\.(sh|py)|parv(-[a-z]+)?) .*)/\1/p' "$top/README.md" > calls
+# Of `find -exec`, a status other than 0 becomes 1. Some have a line on standard error too.
+wanted=("1 result possible" "1 result possible" "1 result possible"
+    "1 a repair can be tried: need 0 have 0" "0 complete" "1 slices 37/38, copied now 37" "0 slices 38/38, copied now 1"
+    "0 " "0 result complete" "0 complete" "0 $last_match" "0 38 in place; need 0 have 0")
+declare -A lines=(
+    ["parv-rescue saved photos.par2 disc.img"]="parv-rescue: short slices missing: 1; --tails might find more"
+    ["parv-tree -q --state sets.state /srv/backup"]="parv-tree: sets.state is new: this run has nothing to compare with")
+sed -nE 's/^    (([a-z_]+\.(sh|py)|parv(-[a-z]+)?|find \..* parv) .*)/\1/p' "$top/README.md" > calls
 [ "$(wc -l < calls)" -eq ${#wanted[@]} ] || fails "README has $(wc -l < calls) calls of parv and of commands"
 number=0
 while IFS= read -r call; do
     place=.
-    [[ $call != *" ./*" ]] || place=download
+    [[ $call != *" ./*" && $call != "find ."* ]] || place=download
+    # A subfolder is there only for the call that leaves it out.
+    [[ $call != "find ."* ]] || mkdir download/subfolder
     # What parv-parts says of its parts isn't of interest.
     got=$(cd "$place" && env -u PARV PATH="$top/examples:$top/commands/bin:$work/bin:$PATH" timeout 60 \
         bash -c "${call/\/srv/$work}" 2> "$work/line" < /dev/null > "$work/text"; echo $?)
     [[ $call != parv-parts* ]] || : > line
-    if [ "$got $(tail -n 1 text)" = "${wanted[number]-}" ] && [ ! -s line ]; then
+    [ ! -d download/subfolder ] || rmdir download/subfolder
+    if [ "$got $(tail -n 1 text)" = "${wanted[number]-}" ] && [ "$(cat line)" = "${lines[$call]-}" ]; then
         echo "ok: README's $call"
     else
         fails "README's $call: status $got, $(tail -n 1 text) $(cat line)"
