@@ -18,7 +18,7 @@ from .names import base_of, shown, unshown
 
 HEAD = b"parv-tree state "
 VERSION = b"1"
-_LINE = re.compile("([0-9]+) ([0-9a-f]{32}) need (-|[0-9]+) have (-|[0-9]+) (.*)")
+_LINE = re.compile("([0-9]) ([0-9a-f]{32}) need (-|[0-9]{1,18}) have (-|[0-9]{1,18}) ([ -~]*)")
 _LONGEST_NAME = 200     # bytes of its name that the temporary file has too
 Key = Tuple[bytes, Optional[str]]
 

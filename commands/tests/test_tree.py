@@ -403,6 +403,13 @@ class States(TreeTest):
         odd += [(b"\xff" * 99, "is no state"), (text + b"\n", "is damaged"), (b"", "is no state"),
                 (HEAD + b"2\n", "is the state of another version"),
                 (text.replace(b"state 1", b"state 12"), "is the state of another version")]
+        start, line = text.split(b"\n")[:2], text.split(b"\n")[2]
+        lines = [line + b"\xff", line + b"\x1b", b"9" * 5000 + line[1:], b"10" + line[1:],
+                 line.replace(b"need 0", b"need " + b"9" * 5000), line.replace(b"need 0", b"need " + b"9" * 30)]
+        for each in lines:
+            self.assertNotEqual(each, line)
+            made = b"\n".join([*start, each, b""])
+            odd.append((made + b"md5 " + md5(made).hex().encode() + b"\n", "is damaged"))
         other = os.path.join(self.room.top, "other")
         os.mkdir(other)
         write(os.path.join(other, "set.par2"), self.one)
