@@ -55,7 +55,7 @@ class Record:
         with faults_of("read", self.shown):
             data = os.pread(self.place, os.fstat(self.place).st_size, 0)
         lines = data[:data.rfind(b"\n") + 1].decode("ascii", "replace").split("\n")[:-1]
-        if lines and lines[0] != head:
+        if lines and lines[0] != head or not lines and not head.encode().startswith(data):
             raise Fault(USAGE, f"{self.shown} is of another set")
         for number, line in enumerate(lines[1:], 2):
             kind, _, rest = line.partition(" ")

@@ -77,6 +77,21 @@ class Rescue(unittest.TestCase):
                 self.run_it(goes_on=True)
                 self.assertEqual(read(place), b"mine", number)
 
+    def test_a_record_that_is_none_stays(self) -> None:
+        head = b"parv-rescue 1 " + self.room.packets[32:48].hex().encode()
+        place = os.path.join(self.room.top, "new", ".parv-rescue")
+        for data in b"notes without a line feed", b"\0" * 9, head + b" and more", b"notes\n", head[:-32] + b"0" * 32:
+            shutil.rmtree(os.path.dirname(place), ignore_errors=True)
+            write(place, data)
+            ended = self.run_it(goes_on=True)
+            self.assertEqual((ended.status, ended.out, read(place)), (3, "", data), ended)
+            self.assertIn(".parv-rescue is of another set", ended.said)
+            self.assertEqual(os.listdir(os.path.dirname(place)), [".parv-rescue"])
+        for data in b"", head[:20], head:
+            write(place, data)
+            self.is_whole(self.run_it(goes_on=True), data)
+            shutil.rmtree(os.path.dirname(place))
+
     def test_an_empty_file_is_not_made_where_its_name_leads_out_of_the_folder(self) -> None:
         room = Room({"whole": b"whole"})
         self.addCleanup(room.close)
