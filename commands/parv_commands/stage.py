@@ -167,7 +167,8 @@ def recover(folder: Folder, say: Sayer) -> None:
         if moves is not None:
             said = _deal_with(stage, moves)
             moves.sync()
-            stage.forget()
+            if stage.is_own():
+                stage.forget()
         stage.clear()
     say(said)
 
@@ -182,6 +183,8 @@ def _deal_with(stage: Stage, moves: Moves) -> str:
         moves.finish()
         return f"a run was ended here{' ' if said.startswith('after') else ', '}{said}"
     except Refused as why:
+        if not stage.is_own():      # its steps aren't those of a run here: there is nothing to take back
+            raise stage.stays(str(why)) from why
         try:
             moves.undo()
         except Fault as fault:

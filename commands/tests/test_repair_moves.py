@@ -260,6 +260,22 @@ class Moves(unittest.TestCase):
             self.assertEqual(os.listdir(os.path.join(self.room.top, "other")), [])
             self.assertIn(ended.status, (0, 6))
 
+    def test_a_journal_that_came_with_the_folder_takes_no_step_back_and_stays(self) -> None:
+        self.turn()
+        os.mkdir(self.room.path("empty"))
+        staged = b"%s/aside/0" % STAGE.encode()
+        self.plant([Made(b"empty"), Move(Identity(1, 2, 3), b"../out", staged)], owner=False)
+        self.room.put(os.fsdecode(staged), b"staged")
+        before = self.room.listing()
+        ended = self.run_it()
+        self.assertEqual((ended.status, self.room.listing()), (6, before), ended)
+        self.assertIn("one of them leads out of the folder; .parv-repair stays", ended.said)
+        self.turn()
+        self.plant([Made(b"empty")], owner=False)
+        planted = read(self.room.path(f"{STAGE}/journal"))
+        self.completes(self.run_it())
+        self.assertEqual(read(self.room.path("parv-repair.kept.1/journal")), planted)
+
     def test_a_journal_moves_no_file_that_it_does_not_know(self) -> None:
         self.room.put("mine", b"mine")
         known = self.identity("mine")
