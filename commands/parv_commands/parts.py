@@ -117,6 +117,8 @@ class Parts:
     def _take_words(self, text: bytes) -> None:
         """Notes the words in a new folder. One that has other files, or is of other words, is left as it is."""
         there = set(self.folder.entries())
+        if WORDS in there and not self.folder.is_file(WORDS):
+            raise Fault(USAGE, f"{self.folder.shown} has other files")
         written = self._bytes_of(WORDS, len(text) + 1)
         if not written and there - {WORDS}:
             raise Fault(USAGE, f"{self.folder.shown} has other files")

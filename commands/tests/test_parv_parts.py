@@ -102,6 +102,18 @@ class Parts(Calls):
             ended = self.call(PARTS, "/proc/sys/kernel", LIMIT, *WORDS)
             self.assertEqual((ended[0], ended[1]), (3, ""), ended)
 
+    def test_words_that_are_no_file_stay(self) -> None:
+        makes: List[Callable[[str], None]] = [lambda path: os.symlink("/etc/passwd", path), os.mkfifo, os.mkdir]
+        for make in makes:
+            os.mkdir(self.path())
+            make(self.path("words"))
+            before = os.lstat(self.path("words"))
+            ended = self.run_it(goes_on=True)
+            self.assertEqual((ended.status, ended.out, ended.said), (3, "", "parv-parts: parts has other files\n"))
+            self.assertTrue(os.path.samestat(os.lstat(self.path("words")), before))
+            self.assertEqual(os.listdir(self.path()), ["words"])
+            shutil.rmtree(self.path())
+
     def test_words_that_are_refused(self) -> None:
         wrong: List[List[str]] = [[], ["parts"], ["parts", "1"], ["parts", "1", "--"], ["", "1", *WORDS], *(
             ["parts", limit, *WORDS] for limit in ("0", "abc", "01", "-1", "1.5", "", "+1", "1" * 20))]
