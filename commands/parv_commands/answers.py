@@ -9,13 +9,15 @@ from .faults import FILES, Fault, NoProgram
 from .names import unshown
 
 _ID = "[0-9a-f]{32}"
-_SET = re.compile(f"set ({_ID}) size ([0-9]+) slices ([0-9]+)")
-_FILE = re.compile(f"file ({_ID}) ([0-9]+) ([0-9]+) (yes|no) (.*)")
-_ASIDE = re.compile("aside (.*) ([0-9]+) [0-9]+")
-_COUNTS = re.compile("need ([0-9]+) have ([0-9]+)")
-_FOUND = re.compile("([0-9]+)/([0-9]+)")
-_PACKET = re.compile(f"(.*) ([0-9]+) ([0-9]+) (main|filedesc|ifsc|recvslic|creator|unknown) ({_ID})")
-_SIGHTING = re.compile(f"(.*) ([0-9]+) ({_ID}) ([0-9]+)")
+_NUMBER = "[0-9]{1,18}"     # more than any length or offset has
+_SLICES = "[0-9]{1,5}"      # more than any set has
+_SET = re.compile(f"set ({_ID}) size ({_NUMBER}) slices ({_SLICES})")
+_FILE = re.compile(f"file ({_ID}) ({_NUMBER}) ({_SLICES}) (yes|no) (.*)")
+_ASIDE = re.compile(f"aside (.*) ({_NUMBER}) {_NUMBER}")
+_COUNTS = re.compile(f"need ({_SLICES}) have ({_NUMBER})")
+_FOUND = re.compile(f"({_SLICES})/({_SLICES})")
+_PACKET = re.compile(f"(.*) ({_NUMBER}) ({_NUMBER}) (main|filedesc|ifsc|recvslic|creator|unknown) ({_ID})")
+_SIGHTING = re.compile(f"(.*) ({_NUMBER}) ({_ID}) ({_SLICES})")
 
 
 class NoAnswer(NoProgram):
@@ -105,7 +107,7 @@ def read_set(text: bytes) -> SetAnswer:
             files.append(SetFile(file[1], int(file[2]), int(file[3]), file[4] == "yes", file[5], unshown(file[5])))
         elif put:
             aside.add((put[1], int(put[2])))
-        elif word == "have" and rest.isdigit():
+        elif word == "have" and re.fullmatch(_NUMBER, rest):
             have = int(rest)
         elif word not in ("others", "creator"):
             raise NoAnswer("set")

@@ -10,8 +10,8 @@ import time
 from typing import IO, Callable, Deque, Generator, List, NamedTuple, Optional, Sequence, Tuple, Union
 
 from . import progress
-from .faults import FILES, Fault
-from .programs import MOST_OUTPUT, MOST_SAID, PIECE, Answer, Program, running
+from .faults import Fault
+from .programs import MOST_OUTPUT, PIECE, Answer, Program, Said, running, too_much
 from .signals import interruptible
 
 _SOON = 0.01        # seconds after which it is asked again whether a program has ended that writes nothing any more
@@ -34,9 +34,10 @@ class _Run:
 
     def __init__(self, program: Program, call: Call, job: Job) -> None:
         self.program, self.job = program, job
-        self.out, self.said = bytearray(), bytearray()
+        self.out, self.said = bytearray(), Said(program)
         self.takes = call.takes or self._keep
         self.read = 0
+        self.over: Optional[float] = None       # when it was seen to have ended, or has written after that
         self.stack = contextlib.ExitStack()
         self.process = self.stack.enter_context(running(program, call.words, call.place, call.kept))
         assert self.process.stdout is not None and self.process.stderr is not None
@@ -45,14 +46,24 @@ class _Run:
     def _keep(self, piece: bytes) -> None:
         self.out += piece
         if len(self.out) > MOST_OUTPUT:
-            raise Fault(FILES, f"{self.program.shown} writes more than an answer has")
+            raise too_much(self.program)
 
     def take(self, pipe: IO[bytes], piece: bytes) -> None:
         """Takes a piece of what it writes on one of its outputs."""
+        self.over = self.over and time.monotonic()
         if pipe is self.process.stdout:
             self.takes(piece)
-        elif len(self.said) < MOST_SAID:
-            self.said += piece
+        else:
+            self.said.take(piece)
+
+    def status(self) -> Optional[int]:
+        """Its exit status once it has ended, and all that it has written was read. What it leaves running isn't waited
+        for."""
+        status = self.process.poll()
+        if status is None or not self.pipes:
+            return status
+        self.over = self.over or time.monotonic()
+        return status if time.monotonic() - self.over > progress.EACH else None
 
 
 class Pool:
@@ -108,7 +119,7 @@ class Pool:
             if key.data in self._runs:
                 self._take(key.data, key.fileobj)       # type: ignore[arg-type]
         for run in list(self._runs):
-            status = None if run.pipes else run.process.poll()
+            status = run.status()
             if status is not None:
                 self._go_on(run, Answer(status, bytes(run.out), bytes(run.said)))
         self._show()

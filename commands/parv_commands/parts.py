@@ -13,7 +13,7 @@ from . import answers, changes, output, programs, progress, words
 from .faults import FILES, USAGE, Fault, faults_of
 from .folders import Folder
 from .names import shown
-from .parv import fault_of, most_read
+from .parv import LONGEST_LINE, fault_of, most_read
 from .programs import Program
 from .signals import interruptible
 
@@ -21,7 +21,6 @@ WORDS = b"words"        # the file with the words of the search
 NEW = b"new"            # the part that is being written
 END = "end"
 LONGEST_LAST = 4096     # bytes that the last line of a part has at most
-LONGEST_LINE = 1 << 17
 PIECE = 1 << 20
 _ODD = re.compile(rb"[^ -~\n]")       # what no line of parv has
 _LAST = re.compile(rb"(end|cursor [0-9a-f:]+)\n")
@@ -223,7 +222,7 @@ def find(program: Program, asked: Asked, cursor: Sequence[bytes]) -> Iterator[by
     """What parv writes of a part, in pieces of whole lines."""
     tails = [b"--tails"] if asked.tails else []
     given = [b"find", *tails, b"--limit", asked.limit, *cursor, b"--", *asked.files]
-    said, rest, left = bytearray(), b"", int(asked.limit)       # as many matches may still come
+    said, rest, left = programs.Said(program), b"", int(asked.limit)       # as many matches may still come
     with progress.doing("parv find", most_read(asked.files, 1)), programs.running(program, given) as process:
         for piece in programs.pieces_of(process, said):
             *lines, rest = (rest + piece).split(b"\n")

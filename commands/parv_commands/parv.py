@@ -14,10 +14,11 @@ from . import answers, changes, progress
 from .faults import FILES, MEMORY, NO_SET, USAGE, Fault, NoProgram, faults_of
 from .folders import Folder
 from .names import is_packet_file, shown
-from .programs import Answer, Program, answer_of, pieces_of, running, status_of
+from .programs import Answer, Program, Said, answer_of, pieces_of, running, status_of
 
 MOST_FILES = 65_535         # files of one command line
 SPARE_FILES = 32            # that are open beside those that are named
+LONGEST_LINE = 1 << 17      # bytes that a match has at most
 _FAULTS = (USAGE, NO_SET, FILES, MEMORY)
 _PRINTABLE = re.compile("[ -~]*")
 _ABOUT = re.compile(rb"parv: (cannot open|read fault in) ([^\n]*)\n?")
@@ -152,7 +153,7 @@ class Parv:
 
     def find(self, words: Sequence[str], most: int = 0) -> Generator[answers.Sighting, None, None]:
         """The sightings, as they come; parv ends when no more are asked for."""
-        said, rest = bytearray(), b""
+        said, rest = Said(self.program), b""
         with progress.doing("parv find", most), running(
                 self.program, [b"find", *map(os.fsencode, words)], self.links.folder.place, self.links.kept) as process:
             for piece in pieces_of(process, said):
@@ -161,6 +162,8 @@ class Parv:
                     if line == b"end":
                         return
                     yield answers.read_sighting(line)
+                if len(rest) > LONGEST_LINE:
+                    raise answers.NoAnswer("find")
             status = status_of(process)
         if status != 0:
             raise self.fault_of(status, bytes(said), "find")

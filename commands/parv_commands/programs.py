@@ -123,16 +123,20 @@ def running(program: Program, words: Sequence[bytes], place: Optional[int] = Non
 
 
 def outputs_of(process: subprocess.Popen[bytes]) -> Iterator[Tuple[int, bytes]]:
-    """What a program writes on standard output and standard error, in pieces, each with 1 or 2."""
+    """What a program writes on standard output and standard error, in pieces, each with 1 or 2. What it leaves running
+    isn't waited for."""
     with selectors.DefaultSelector() as waiting:
         for number, pipe in (1, process.stdout), (2, process.stderr):
             if pipe is not None:
                 os.set_blocking(pipe.fileno(), False)
                 waiting.register(pipe, selectors.EVENT_READ, number)
         while waiting.get_map():
+            is_over = process.poll() is not None
             ready: List[selectors.SelectorKey] = []
             with interruptible():
                 ready = [key for key, _ in waiting.select(progress.EACH)]
+            if is_over and not ready:
+                return
             progress.show(progress.read_by(process.pid))
             for key in ready:
                 piece = os.read(key.fd, PIECE)
@@ -142,13 +146,33 @@ def outputs_of(process: subprocess.Popen[bytes]) -> Iterator[Tuple[int, bytes]]:
                     waiting.unregister(key.fileobj)
 
 
-def pieces_of(process: subprocess.Popen[bytes], said: bytearray) -> Iterator[bytes]:
+class Said(bytearray):
+    """What a program writes on standard error: its beginning is kept, and a program that writes more than an answer has
+    ends the command."""
+
+    def __init__(self, program: Program) -> None:
+        super().__init__()
+        self.program, self.total = program, 0
+
+    def take(self, piece: bytes) -> None:
+        self.total += len(piece)
+        if self.total > MOST_OUTPUT:
+            raise too_much(self.program)
+        if len(self) < MOST_SAID:
+            self.extend(piece)
+
+
+def too_much(program: Program) -> NoProgram:
+    return NoProgram(FILES, f"{program.shown} writes more than an answer has")
+
+
+def pieces_of(process: subprocess.Popen[bytes], said: Said) -> Iterator[bytes]:
     """What a program writes on standard output, in pieces; what it says on standard error comes into `said`."""
     for number, piece in outputs_of(process):
         if number == 1:
             yield piece
-        elif len(said) < MOST_SAID:
-            said += piece
+        else:
+            said.take(piece)
 
 
 class Answer(NamedTuple):
@@ -169,10 +193,10 @@ def status_of(process: subprocess.Popen[bytes]) -> int:
 def answer_of(program: Program, words: Sequence[bytes], place: Optional[int] = None, kept: Tuple[int, ...] = (),
               most: int = MOST_OUTPUT) -> Answer:
     """Runs a program to its end."""
-    out, said = bytearray(), bytearray()
+    out, said = bytearray(), Said(program)
     with running(program, words, place, kept) as process:
         for piece in pieces_of(process, said):
             out += piece
             if len(out) > most:
-                raise NoProgram(FILES, f"{program.shown} writes more than an answer has")
+                raise too_much(program)
         return Answer(status_of(process), bytes(out), bytes(said))

@@ -110,7 +110,10 @@ class Search:
         file, first = self.by_word.get(line.word), self.by_id.get(line.id)
         if file is None or first is None or line.number >= self.owners[first].slices:
             raise NoAnswer("find")
-        return file, line.offset, first + line.number
+        place = file, line.offset, first + line.number
+        if place < self.at or line.offset >= self.scanned[file].length:     # they come in order, and so to an end
+            raise NoAnswer("find")
+        return place
 
     def _part(self) -> Iterator[Place]:
         """The sightings as far as it is worth while to search for these slices.

@@ -62,6 +62,35 @@ class Statuses(Calls):
     def test_an_answer_without_end(self) -> None:
         for words in self.both():
             self.fails(words, 6, "writes more than an answer has", PARV=self.program("yes", "#!/bin/sh\nexec yes no\n"))
+            self.fails(words, 6, "writes more than an answer has",
+                       PARV=self.program("says", "#!/bin/sh\nexec yes no >&2\n"))
+        self.fails([REPAIR, "room"], 6, "writes more than an answer has",
+                   PAR2=self.program("odd", "#!/bin/sh\nexec yes no >&2\n"))
+
+    def test_what_a_program_leaves_running_is_not_waited_for(self) -> None:
+        program = self.program("leaves", f'#!/bin/bash\nsleep 50 &\nexec "{PARV}" "$@"\n')
+        for words in ([REPAIR, "--dry-run", "room"], [os.path.join(BIN, "parv-map"), "room/set.par2"],
+                      [os.path.join(BIN, "parv-tree"), "-j2", "room"]):
+            begun = time.monotonic()
+            self.assertEqual(self.call(*words, PARV=program), self.call(*words))
+            self.assertLess(time.monotonic() - begun, 40)
+
+    def test_matches_without_end(self) -> None:
+        only = f'#!/bin/bash\n[ "$1" = find ] || exec "{PARV}" "$@"\n'
+        line = re.sub(r" \d+ (\w+) \d+\n.*", r" 0 \1 0", self.call(
+            PARV, "find", "--limit", "1", "room/set.par2", "room/stray")[1].replace("room/stray", "1"), flags=re.DOTALL)
+        for text in f"exec yes {line}", "exec tr '\\0' x < /dev/zero", f'n=0; while echo "{line}" | sed "s/ 0 / $((n++)) /"; do :; done':
+            shutil.rmtree(os.path.join(self.room.top, "new"), ignore_errors=True)
+            self.fails([RESCUE, "new", "room/set.par2", "room/stray"], 6, "parv find .*is PARV another program",
+                       PARV=self.program("odd", only + text + "\n"))
+
+    def test_numbers_that_no_answer_has(self) -> None:
+        for command in "set", "packets", "verify":
+            for count in 30, 5000:
+                program = self.program("odd", f'#!/bin/bash\n[ "$1" = {command} ] || exec "{PARV}" "$@"\n'
+                                       f'"{PARV}" "$@" | sed -E "s/ [0-9]+( |$)/ $(printf 9%.0s {{1..{count}}})\\1/g"\n')
+                for words in self.both()[:1 if command == "verify" else 2]:
+                    self.fails(words, 6, "is PARV another program|has ended", PARV=program)
 
     def test_a_program_that_is_not_par2(self) -> None:
         for text, said in (("exit 0", "isn't complete"), ("exit 3", "status 3"), ("kill -SEGV $$", "signal 11"),
