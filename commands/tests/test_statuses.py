@@ -98,6 +98,19 @@ class Statuses(Calls):
             self.fails([REPAIR, "room"], 5, said, PAR2=self.program("odd", f"#!/bin/sh\n{text}\n"))
         self.fails([REPAIR, "room"], 5, "cannot run none: put par2 in PATH", PAR2="none")
 
+    def test_a_command_that_cannot_begin(self) -> None:
+        copy = os.path.join(self.room.top, "copy")
+        shutil.copytree(os.path.dirname(BIN), copy, ignore=shutil.ignore_patterns("tests"))
+        for text, status, said in (("raise MemoryError", 8, "MemoryError()"), ("raise OSError(24, 'open')", 6,
+                                   "OSError(24, 'open')"), ("import none\\xe9", 6, "SyntaxError(")):
+            write(os.path.join(copy, "parv_commands", "words.py"), text.encode())
+            for name in os.listdir(BIN):
+                for shell in 'exec "$@"', 'exec "$@" 2>&-', 'exec "$@" 2> /dev/full':
+                    ended = self.call(os.path.join(copy, "bin", name), "-h", shell=shell)
+                    self.assertEqual(ended[:2], (status, ""), (name, ended))
+                    if "2>" not in shell:
+                        self.assertTrue(ended[2].startswith(f"{name}: cannot begin: {said}"), ended)
+
     def test_closed_and_full_outputs(self) -> None:
         for shell, why in (('exec "$@" > /dev/full', "No space left"), ('exec "$@" >&-', "it is closed"),
                            ('exec "$@" <&- >&-', "it is closed")):
