@@ -6,13 +6,14 @@ import contextlib
 import errno
 import os
 import stat
-from typing import Container, Dict, Iterator, List, NamedTuple, Optional
+from typing import Container, Dict, Iterator, List, NamedTuple, Optional, Tuple
 
 from . import changes
 from .faults import FILES, Fault, faults_of
 from .names import base_of, folders_of, is_plain, numbered, shown
 
 _WAY = os.O_PATH | os.O_DIRECTORY | os.O_NOFOLLOW | os.O_CLOEXEC
+_STRIDE = 32            # folders from one that a walk keeps open to the next
 _ABSENT = (errno.ENOENT, errno.ENOTDIR, errno.ELOOP, errno.ENAMETOOLONG)
 
 
@@ -147,3 +148,27 @@ class Folder:
         """Gives a file below the folder another name there, at which nothing may be."""
         with self.above(name) as place, self.above(new_name, makes) as new_place:
             changes.move(place, base_of(name), new_place, base_of(new_name))
+
+
+class Descent:
+    """Opens folders below a folder as a walk comes to them, each after that which it is in. On the way to a deep one some
+    are kept open, so the way isn't gone from its beginning each time."""
+
+    def __init__(self, top: Folder) -> None:
+        self.kept: List[Tuple[bytes, Folder]] = [(b"", top)]
+
+    def opened(self, path: bytes) -> Folder:
+        """The folder with this path, which has a slash after it or is nothing."""
+        while not path.startswith(self.kept[-1][0]):
+            self.kept.pop()[1].close()
+        above, folder = self.kept[-1]
+        rest = path[len(above):]
+        inner = folder.inner(rest[:-1] or b".")
+        if rest.count(b"/") < _STRIDE:
+            return inner
+        self.kept.append((path, inner))
+        return inner.inner(b".")
+
+    def close(self) -> None:
+        for _, folder in self.kept[1:]:
+            folder.close()

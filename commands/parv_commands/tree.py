@@ -12,7 +12,7 @@ from typing import BinaryIO, Deque, Dict, Generator, Iterable, Iterator, List, N
 from . import output, progress, programs, signals, words
 from .beside import Call, Job, Pool
 from .faults import FILES, NO_SET, USAGE, Fault, faults_of
-from .folders import Folder
+from .folders import Descent, Folder
 from .lines import GONE, Line, Loss, json_of, json_text, json_with, known, losses
 from .looking import Looking
 from .names import is_packet_file, shown
@@ -117,21 +117,22 @@ class OneSet(NamedTuple):
 def _walk(top: Folder, say_unread: List[Tuple[bytes, str]]) -> Iterator[bytes]:
     """The paths of all packet files below a folder; a folder that can't be read is noted, with why."""
     waiting: List[bytes] = [b""]
-    while waiting:
-        signals.wait_point()
-        path = waiting.pop()
-        try:
-            with contextlib.closing(top.inner(path[:-1] or b".")) as folder, os.scandir(folder.place) as entries:
-                for entry in entries:
-                    name = os.fsencode(entry.name)
-                    if name in LEFT_OUT:
-                        continue
-                    if entry.is_dir(follow_symlinks=False):
-                        waiting.append(path + name + b"/")
-                    elif is_packet_file(name) and entry.is_file(follow_symlinks=False):
-                        yield path + name
-        except OSError as fault:
-            say_unread.append((path, fault.strerror or str(fault)))
+    with contextlib.closing(Descent(top)) as descent:
+        while waiting:
+            signals.wait_point()
+            path = waiting.pop()
+            try:
+                with contextlib.closing(descent.opened(path)) as folder, os.scandir(folder.place) as entries:
+                    for entry in entries:
+                        name = os.fsencode(entry.name)
+                        if name in LEFT_OUT:
+                            continue
+                        if entry.is_dir(follow_symlinks=False):
+                            waiting.append(path + name + b"/")
+                        elif is_packet_file(name) and entry.is_file(follow_symlinks=False):
+                            yield path + name
+            except OSError as fault:
+                say_unread.append((path, fault.strerror or str(fault)))
 
 
 class Tree:

@@ -18,7 +18,7 @@ import unittest
 import unittest.mock
 from typing import Iterator, List, Tuple
 
-from parv_commands import changes, progress, tree
+from parv_commands import changes, folders, progress, tree
 from parv_commands.state import HEAD
 
 from .calls import BIN, take_all_signals
@@ -195,6 +195,28 @@ class WithoutSets(TreeTest):
         write(self.path(b"a", name), packets)
         ended = self.run_tree(PARV=self.program("notes", f'echo "$1" >> {log}; exec "{PARV}" "$@"'))
         return ended, read(log).decode().split()
+
+    def test_the_way_to_a_deep_folder_is_not_gone_from_its_beginning(self) -> None:
+        for branch in b"deep", b"deeper":
+            os.mkdir(self.path(branch))
+            place = os.open(self.path(branch), os.O_RDONLY)
+            for _ in range(300):
+                os.mkdir("d", dir_fd=place)
+                inner = os.open("d", os.O_RDONLY, dir_fd=place)
+                os.close(place)
+                place = inner
+            os.close(os.open("x.par2", os.O_CREAT | os.O_WRONLY, dir_fd=place))
+            os.close(place)
+        top = folders.Folder.opened(os.fsencode(self.room.folder))
+        self.addCleanup(top.close)
+        opened = len(os.listdir("/proc/self/fd"))
+        unread: List[Tuple[bytes, str]] = []
+        with unittest.mock.patch.object(folders, "_inner", wraps=folders._inner) as inners:
+            found = set(tree._walk(top, unread))
+        self.assertEqual(unread, [])
+        self.assertTrue({branch + b"/d" * 300 + b"/x.par2" for branch in (b"deep", b"deeper")} < found)
+        self.assertLess(inners.call_count, 600 * 40)
+        self.assertEqual(len(os.listdir("/proc/self/fd")), opened)
 
     def test_thousands_of_main_packets_are_listed_once(self) -> None:
         packets = b""
