@@ -5,8 +5,13 @@
 parv=${PARV:-parv}
 CDPATH="" cd -- "$1" 2> /dev/null || { echo "act_on_verdict.sh: cannot open $1" >&2; exit 6; }
 
+# parv takes only regular files, so subfolders are left out.
+files=()
+for file in ./*; do [ ! -f "$file" ] || files+=("$file"); done
+[ ${#files[@]} -gt 0 ] || { echo "act_on_verdict.sh: no file in $1" >&2; exit 3; }
+
 # -q leaves two lines: `need N have N`, and the result. `-B .` takes the ./ off the names again.
-text=$("$parv" verify -q -B . ./*)
+text=$("$parv" verify -q -B . "${files[@]}")
 status=$?
 [ -z "$text" ] || echo "$text"
 read -r _ need _ have <<< "$text"

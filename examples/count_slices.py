@@ -9,9 +9,10 @@ import subprocess
 import sys
 
 parv = os.environ.get("PARV", "parv")
-packet_files = [name for name in sys.argv[1:] if name.lower().endswith(".par2")]
+files = [name for name in sys.argv[1:] if not os.path.isdir(name)]      # parv takes no folder
+packet_files = [name for name in files if name.lower().endswith(".par2")]
 first = subprocess.run([parv, "set", "--", *packet_files], stdout=subprocess.PIPE, text=True)
-found = subprocess.run([parv, "find", "--", *sys.argv[1:]], stdout=subprocess.PIPE, text=True)
+found = subprocess.run([parv, "find", "--", *files], stdout=subprocess.PIPE, text=True)
 if first.returncode or found.returncode:    # a line on standard error says why
     sys.exit(found.returncode or first.returncode)
 slices = first.stdout.split("\n")[0].split(" ")[-1]     # set ID size N slices N

@@ -40,7 +40,8 @@ for command in "$commands"/*; do
     page=$top/docs/$name.1
     grep -q "^\.Xr $name 1\b" "$top/docs/parv.1" || fails "the page of parv doesn't tell of $name"
     "$command" -h > help
-    sed -nE 's/^  (-[A-Za-z], )?(--[a-z-]+).*/\2/p; s/^  (-[A-Za-z]) .*/\1/p; s/^  ([0-9])  .*/\1/p' help | sort > wanted
+    sed -nE 's/^  (-[A-Za-z], )?(--[a-z-]+).*/\2/p; s/^  (-[A-Za-z]) .*/\1/p
+        /^The exit status/,$s/^  ([0-9]) .*/\1/p' help | sort > wanted
     { sed -nE 's/^\.It Fl ([A-Za-z] , )?-([a-z-]+).*/--\2/p; s/^\.It Fl ([A-Za-z])( Ar .*)?$/-\1/p' "$page"
         sed -n '/^\.Sh EXIT STATUS/,/^\.El/s/^\.It \([0-9]\)$/\1/p' "$page"; } | sort > told
     if [ "$(wc -l < wanted)" -ge 3 ] && cmp -s wanted told; then
@@ -63,7 +64,7 @@ done < messages
 
 # Each script is told of, and what is named of those installed is there.
 for script in "$top"/examples/*; do
-    grep -qE "^\.(It )?Pa ${script##*/}$" "$page" || fails "the page doesn't tell of ${script##*/}"
+    grep -q "^\.It Pa ${script##*/}$" "$page" || fails "the page doesn't tell of ${script##*/}"
 done
 grep -o '/usr/local/share/doc/parv/[A-Za-z_./]*' "$page" | sed 's|^/usr/local/share/doc/parv/||' > paths
 [ "$(wc -l < paths)" -ge 3 ] || fails "the page names $(wc -l < paths) paths of what is installed"
@@ -84,7 +85,6 @@ cp -r whole/download whole/photos
 cp whole/photos/photos.par2 whole
 cat whole/photos/*.raw whole/photos/other whole/photos/notes.txt > whole/disc.img
 printf more >> whole/disc.img
-cp whole/disc.img whole/second.img
 ln -s "$parv" bin/parv
 ln -s "$top"/commands/bin/* bin
 while IFS= read -r call; do
@@ -94,11 +94,6 @@ while IFS= read -r call; do
     case $call in *--dry-run* | "parv-rescue saved"* | parv-progress* | parv-tree*) wanted=1 ;; esac
     [[ $call != *./\** ]] || place=part/download
     [[ $call != parv-watch* ]] || mv part/download/other part/download/beach.raw
-    if [[ $call == "parv-repair saved" ]]; then     # after a rescue that has left holes
-        (cd part && "$commands/parv-rescue" saved photos.par2 disc.img > "$work/text" 2> "$work/line")
-        [ $? -eq 1 ] || fails "the rescue before $call: $(cat text line)"
-        cp "$top"/demo/photos*.par2 part/saved
-    fi
     (cd $place && env -u PARV PATH="$work/bin:$PATH" bash -c "${call//\/srv\//}" > "$work/text" 2> "$work/line")
     status=$?
     last=$(tail -n 1 text)
@@ -241,30 +236,34 @@ cd photos || exit 1
 mkdir within
 mkfifo pipe
 example 4 "the regular files of a folder" 0 "$whole"
+example 5 "these files, with the status" 0 "$whole"
+wants "all names of that folder" 6 "" "parv: cannot open ./pipe" "$parv" verify -B . ./*
 rm -r within pipe
 cp "$top/crates/parv/data/v.par2" a.par2
-example 5 "two sets in a folder" 0 "$set
+example 6 "two sets in a folder" 0 "$set
 617cdc72ba53d94fe713fea2ae18f776
 $whole"
 rm a.par2
-example 6 "a script" 0 "nothing to repair"
-example 7 "a name that begins with a dash" 2 "$gone
+example 7 "a script" 0 "nothing to repair"
+example 8 "a name that begins with a dash" 2 "$gone
 $gone"
 cp beach.raw 'a\b c.raw'
-example 8 "the names of files with slices" 0 "./a\b c.raw
+example 9 "the names of files with slices" 0 "./a\b c.raw
 ./beach.raw
 ./harbour.raw
 ./tower.raw
 ./disc.img"
 "$tools/models/find_slices.py" --tails photos.par2 disc.img > ../found
-example 9 "a search from a cursor on" 0 "$(cat ../found; awk '$1 == "end" || $2 > 51200' ../found)"
-sed -i 's/1000/3/' ../examples/10
-example 10 "a search in parts" 0 "$(sed '$d' ../found)"
+example 10 "a search from a cursor on" 0 "$(cat ../found; awk '$1 == "end" || $2 > 51200' ../found)"
+sed -i 's/1000/3/' ../examples/11
+example 11 "a search in parts" 0 "$(sed '$d' ../found)"
 example cursor "a cursor made by hand" 0 "$(awk '$1 == "end" || $2 >= 51200' ../found)"
-example 11 "a folder with its subfolders" 0 "$whole"
-example 12 "as many files as may be open" 0 "$whole"
+example 12 "a folder with its subfolders" 0 "$whole"
+example 13 "as many files as may be open" 0 "$whole"
 "$tools/models/find_slices.py" photos.par2 disc.img > ../plain
-example 13 "a search behind a bad region" 0 "$(awk '$1 == "end" || $2 >= 51200' ../plain)"
+example 14 "a search behind a bad region" 0 "$(awk '$1 == "end" || $2 >= 51200' ../plain)"
+example 15 "the recovery slices of each packet file" 0 "0 ./photos.par2
+1 ./photos.vol00+1.par2"
 printf 'XXabcdefgh' > x.bin
 { sed '/^set=/,$d' ../examples/cursor; echo 'listed "$@" | md5sum'; } > ../mark
 # marked MARK NAME [FILE]: the mark by the functions of that example.
