@@ -2,13 +2,17 @@
 
 from __future__ import annotations
 
+import errno
 import os
 import shutil
 import signal
 import subprocess
 import sys
 import time
+import unittest.mock
 from typing import List
+
+from parv_commands import folders, watch
 
 from .calls import BIN, Calls, take_all_signals
 from .rooms import PARV, Room, set_of, write
@@ -126,6 +130,14 @@ class Watch(Calls):
         os.mkfifo(self.room.path("pipe.par2"))
         os.mkdir(self.room.path("folder.par2"))
         self.says(0, "complete")
+
+    def test_a_subfolder_that_may_not_be_looked_into_ends_nothing(self) -> None:
+        self.room.put("set.par2", set_of({b"in/a": b"content"}, 8, 0))
+        refused = unittest.mock.Mock(side_effect=PermissionError(errno.EACCES, "Permission denied"))
+        with unittest.mock.patch.object(folders.Folder, "look", refused):
+            ended = self.room.run(watch.main, ["room", "0", "2"])
+        self.assertEqual((ended.status, ended.out, ended.said),
+                         (6, "nothing to tell yet: cannot open in/a: Permission denied\n" * 2, ""))
 
     def test_a_name_that_is_not_utf_8(self) -> None:
         write(os.fsdecode(os.fsencode(self.room.folder) + b"/\xff\n"), b"more")
