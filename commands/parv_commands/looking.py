@@ -40,6 +40,8 @@ def folders_of(folder: Folder, found: SetAnswer, say: Sayer) -> List[bytes]:
         wait_point()
         if not names.is_plain(file.name):
             say(f"the name {file.shown} is refused: it is no plain path below the folder")
+        elif names.has_too_many_folders(file.name):
+            say(f"the name {file.shown} is refused: it has too many folders")
         elif not ways.is_clear(file.name):
             say(f"{file.shown} is a link, or behind one, and isn't read")
         else:

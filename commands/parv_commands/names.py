@@ -41,6 +41,10 @@ def is_plain(name: bytes) -> bool:
     return not {b"", b".", b".."} & set(name.split(b"/"))
 
 
+def has_too_many_folders(name: bytes) -> bool:
+    return name.count(b"/") > MOST_FOLDERS
+
+
 def refusal(name: bytes, reserved: Iterable[bytes]) -> Optional[str]:
     """Why a name of a set is refused, if it is; the reserved names are those of the command's own entries."""
     parts = name.split(b"/")
@@ -52,7 +56,7 @@ def refusal(name: bytes, reserved: Iterable[bytes]) -> Optional[str]:
         return "its name isn't that of a file"
     if parts[0] in reserved:
         return "its name is kept for the command itself"
-    if len(parts) > MOST_FOLDERS + 1:
+    if has_too_many_folders(name):
         return "its name has too many folders"
     return "a part of its name is too long" if max(map(len, parts)) > LONGEST_PART else None
 

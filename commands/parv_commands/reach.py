@@ -23,7 +23,8 @@ class Ways:
     def kind(self, path: bytes) -> int:
         """The kind of what is at a path, or 0 if nothing is."""
         if path not in self._kinds:
-            now = self.folder.look(path)
+            with faults_of("open", shown(path)):
+                now = self.folder.look(path)
             self._kinds[path] = 0 if now is None else stat.S_IFMT(now.st_mode)
         return self._kinds[path]
 

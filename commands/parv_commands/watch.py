@@ -13,7 +13,7 @@ from . import answers, output, programs, progress, signals, words
 from .answers import SetAnswer, Verdict
 from .faults import IMPOSSIBLE, MEMORY, POSSIBLE, USAGE, Fault, NoProgram, faults_of
 from .folders import Folder, Identity, identity_of
-from .names import is_packet_file, is_plain, shown
+from .names import has_too_many_folders, is_packet_file, is_plain, shown
 from .parv import MOST_FILES, SPARE_FILES, Links, Parv, path_below, temporary_folder
 from .placing import md5_of, pieces_of_file, told
 from .programs import Program
@@ -84,8 +84,8 @@ class Check:
     def _to_scan(self, found: SetAnswer, packet_files: int) -> List[bytes]:
         """The files that are scanned: those of the folder, and those of the subfolders that names of the set have."""
         members = {file.name for file in found.files}
-        self.there.update(files_there(self.folder, members,
-                                      subfolders_of(Ways(self.folder), filter(is_plain, members))))
+        reached = [name for name in members if is_plain(name) and not has_too_many_folders(name)]
+        self.there.update(files_there(self.folder, members, subfolders_of(Ways(self.folder), reached)))
         scanned = [name for name in self.there if name in members or not is_packet_file(name)]
         room = max(min(MOST_FILES, self.most_open - SPARE_FILES) - packet_files, 0)
         if len(scanned) > room:

@@ -18,7 +18,7 @@ import unittest
 import unittest.mock
 from typing import Iterator, List, Tuple
 
-from parv_commands import changes, folders, progress, tree
+from parv_commands import changes, folders, progress, tree, watch
 from parv_commands.state import HEAD
 
 from .calls import BIN, take_all_signals
@@ -195,6 +195,18 @@ class WithoutSets(TreeTest):
         write(self.path(b"a", name), packets)
         ended = self.run_tree(PARV=self.program("notes", f'echo "$1" >> {log}; exec "{PARV}" "$@"'))
         return ended, read(log).decode().split()
+
+    def test_nothing_is_looked_for_in_too_many_folders(self) -> None:
+        for count, status in (200, 0), (201, 1):
+            name = b"d/" * count + b"name"
+            write(self.path(b"a", name), b"deep down")
+            write(self.path(b"a", b"set.par2"), set_of({name: b"deep down"}, 8, 3))
+            ended = self.run_tree()
+            self.assertEqual((ended.status, ended.out[0]), (status, str(status)), ended)
+            watched = self.room.run(watch.main, ["room/a", "0", "1"])
+            self.assertEqual((watched.status, watched.said), (status, ""), watched)
+            said = f"parv-tree: a/set: the name {name.decode()} is refused: it has too many folders\n"
+            self.assertEqual(ended.said, said * status)
 
     def test_the_way_to_a_deep_folder_is_not_gone_from_its_beginning(self) -> None:
         for branch in b"deep", b"deeper":

@@ -137,7 +137,7 @@ class Watch(Calls):
         with unittest.mock.patch.object(folders.Folder, "look", refused):
             ended = self.room.run(watch.main, ["room", "0", "2"])
         self.assertEqual((ended.status, ended.out, ended.said),
-                         (6, "nothing to tell yet: cannot open in/a: Permission denied\n" * 2, ""))
+                         (6, "nothing to tell yet: cannot open in: Permission denied\n" * 2, ""))
 
     def test_a_name_that_is_not_utf_8(self) -> None:
         write(os.fsdecode(os.fsencode(self.room.folder) + b"/\xff\n"), b"more")
