@@ -85,6 +85,7 @@ cp -r whole/download whole/photos
 cp whole/photos/photos.par2 whole
 cat whole/photos/*.raw whole/photos/other whole/photos/notes.txt > whole/disc.img
 printf more >> whole/disc.img
+cp whole/disc.img whole/second.img
 ln -s "$parv" bin/parv
 ln -s "$top"/commands/bin/* bin
 while IFS= read -r call; do
@@ -94,6 +95,11 @@ while IFS= read -r call; do
     case $call in *--dry-run* | "parv-rescue saved"* | parv-progress* | parv-tree*) wanted=1 ;; esac
     [[ $call != *./\** ]] || place=part/download
     [[ $call != parv-watch* ]] || mv part/download/other part/download/beach.raw
+    if [[ $call == "parv-repair saved" ]]; then     # after a rescue that has left holes
+        (cd part && "$commands/parv-rescue" saved photos.par2 disc.img > "$work/text" 2> "$work/line")
+        [ $? -eq 1 ] || fails "the rescue before $call: $(cat text line)"
+        cp "$top"/demo/photos*.par2 part/saved
+    fi
     (cd $place && env -u PARV PATH="$work/bin:$PATH" bash -c "${call//\/srv\//}" > "$work/text" 2> "$work/line")
     status=$?
     last=$(tail -n 1 text)
