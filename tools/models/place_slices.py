@@ -64,8 +64,8 @@ def placed(original, parts, there):
     return bytes(data), bounds
 
 
-def lines_of(file, count, bounds):
-    if count == file.slices:
+def lines_of(file, count, bounds, is_whole):
+    if count == file.slices or is_whole:
         return [f"complete {shown(file.name)}"]
     state = "damaged" if count else "missing"
     holes = [f"hole {begin} {end - begin} {shown(file.name)}" for begin, end in bounds if count]
@@ -78,21 +78,23 @@ def main():
     found = set_of(packets_of(with_bytes(filter(is_packet_file, names))))
     scanned = with_bytes(name for name in names if not is_packet_file(name))
     there = seen(found, [data for _, data in scanned], tails)
-    parts = parts_of(found)
+    parts, whole = parts_of(found), set()
     for file in found.files:
         [(_, original)] = with_bytes([os.path.join(originals, file.name)])
         own = parts.get(file.id, {})
         data, bounds = placed(original, own, there)
         count = len(there & own.keys())
-        print("\n".join(lines_of(file, count, bounds)))
+        if count and data == original:      # so it is too if only zeros are missing
+            whole.add(file.id)
+        print("\n".join(lines_of(file, count, bounds, file.id in whole)))
         if count or not original:
             path = os.path.join(folder, file.name)
             os.makedirs(os.path.dirname(path), exist_ok=True)
             with open(path, "wb") as out:
                 out.write(data)
     print(f"slices {len(there)}/{len(slices_of(found))}")
-    short = sum(own < found.size and sums is not None and at not in there
-                for at, (_, _, own, sums) in enumerate(slices_of(found)))
+    short = sum(own < found.size and sums is not None and at not in there and owner not in whole
+                for at, (owner, _, own, sums) in enumerate(slices_of(found)))
     if short:
         print(f"short slices missing: {short}", file=sys.stderr)
 
