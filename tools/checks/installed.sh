@@ -73,7 +73,9 @@ done
 cp -r "$top/demo" "$work/demo"
 rm "$work/demo/tower.raw"
 wants "the repair that was installed" 1 "repair tower.raw
-a repair can be tried: need 5 have 14" "" env -i PATH="$room/usr/bin:$path" "$room/usr/bin/parv-repair" --dry-run "$work/demo"
+a repair can be tried: need 5 have 14" \
+    "parv-repair: $work/demo: par2 will be needed: cannot run none: put par2 in PATH, or name it by PAR2" \
+    env -i PATH="$room/usr/bin:$path" PAR2=none "$room/usr/bin/parv-repair" --dry-run "$work/demo"
 touch "$room/usr/bin/other"
 if made uninstall && [ "$(standing)" = /usr/bin/other ] && [ ! -e "$room/usr/lib/parv" ]; then
     echo "ok: what is removed is what was installed"
