@@ -151,8 +151,8 @@ class Folder:
 
 
 class Descent:
-    """Opens folders below a folder as a walk comes to them, each after that which it is in. On the way to a deep one some
-    are kept open, so the way isn't gone from its beginning each time."""
+    """Opens folders below a folder as a walk comes to them, each after that which it is in. On the way to a deep one
+    some are kept open, so the way isn't gone from its beginning each time."""
 
     def __init__(self, top: Folder) -> None:
         self.kept: List[Tuple[bytes, Folder]] = [(b"", top)]

@@ -79,7 +79,8 @@ class Statuses(Calls):
         only = f'#!/bin/bash\n[ "$1" = find ] || exec "{PARV}" "$@"\n'
         line = re.sub(r" \d+ (\w+) \d+\n.*", r" 0 \1 0", self.call(
             PARV, "find", "--limit", "1", "room/set.par2", "room/stray")[1].replace("room/stray", "1"), flags=re.DOTALL)
-        for text in f"exec yes {line}", "exec tr '\\0' x < /dev/zero", f'n=0; while echo "{line}" | sed "s/ 0 / $((n++)) /"; do :; done':
+        rises = f'n=0; while echo "{line}" | sed "s/ 0 / $((n++)) /"; do :; done'
+        for text in f"exec yes {line}", "exec tr '\\0' x < /dev/zero", rises:
             shutil.rmtree(os.path.join(self.room.top, "new"), ignore_errors=True)
             self.fails([RESCUE, "new", "room/set.par2", "room/stray"], 6, "parv find .*is PARV another program",
                        PARV=self.program("odd", only + text + "\n"))
@@ -87,8 +88,9 @@ class Statuses(Calls):
     def test_numbers_that_no_answer_has(self) -> None:
         for command in "set", "packets", "verify":
             for count in 30, 5000:
+                number = f"$(printf 9%.0s {{1..{count}}})"
                 program = self.program("odd", f'#!/bin/bash\n[ "$1" = {command} ] || exec "{PARV}" "$@"\n'
-                                       f'"{PARV}" "$@" | sed -E "s/ [0-9]+( |$)/ $(printf 9%.0s {{1..{count}}})\\1/g"\n')
+                                       f'"{PARV}" "$@" | sed -E "s/ [0-9]+( |$)/ {number}\\1/g"\n')
                 for words in self.both()[:1 if command == "verify" else 2]:
                     self.fails(words, 6, "is PARV another program|has ended", PARV=program)
 
