@@ -117,7 +117,7 @@ for name in parv-repair parv-rescue; do
 done
 wants "the repair that the package installs" 1 "repair tower.raw
 a repair can be tried: need 5 have 14" "" \
-    env -u PARV PATH="$work/rooted/usr/bin:$PATH" rooted/usr/bin/parv-repair --dry-run demo
+    env -u PARV PAR2=/bin/true PATH="$work/rooted/usr/bin:$PATH" rooted/usr/bin/parv-repair --dry-run demo
 if rooted -P parv > purged 2>&1 && [ ! -e rooted/usr ] && ! grep -q parv <(find rooted); then
     echo "ok: after a purge nothing of it is left"
 else
