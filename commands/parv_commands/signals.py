@@ -50,7 +50,9 @@ def take_signals() -> None:
 
 
 def forget_signals() -> None:
-    """Has no signal end anything any more: the command is done."""
+    """Has no signal end anything any more: the command is done. (Python would take its handlers off before it ends.)"""
+    for number in SIGNALS:
+        signal.signal(number, signal.SIG_IGN)
     _Signals.ended, _Signals.open = True, False
 
 

@@ -255,6 +255,12 @@ class Statuses(Calls):
                     self.assertEqual(os.listdir(self.room.temporary), [])
                     self.assertEqual(self.room.listing(), self.before)
 
+    def test_no_signal_ends_a_command_that_is_done(self) -> None:
+        text = ("import os, sys; sys.path.insert(0, sys.argv[1]); from parv_commands import signals\n"
+                "class Last:\n    def __del__(self, kill=os.kill, me=os.getpid()): kill(me, 15)\n"
+                "sys.last = Last(); signals.take_signals(); signals.forget_signals(); os.write(1, b'done')\n")
+        self.assertEqual(self.call(sys.executable, "-c", text, os.path.dirname(BIN)), (0, "done", ""))
+
     def test_a_program_ends_when_the_command_is_killed(self) -> None:
         status, _ = self.ended_while([REPAIR, "room"], signal.SIGKILL, False, PAR2=self.waits("p5", "true"))
         self.assertEqual(status, -signal.SIGKILL)
