@@ -14,6 +14,8 @@ from .mapping import maps_of
 from .new_files import NewFiles
 from .parv import Links, Parv, temporary_folder
 
+USUAL_WIDTH = 80        # if a terminal doesn't say how wide it is
+
 USAGE_TEXT = """usage: parv-map [--tails] [--set ID] [-B DIR] [--width N] [--html FILE] [--svg FILE] FILES
 
 Draws of each file of a PAR2 set which slices are in place, which are moved, and
@@ -82,7 +84,8 @@ def draw(asked: Asked) -> int:
             answer, found = read_given(parv, given, asked.chosen)
             maps = maps_of(found, answer, given, parv, asked.tails, asked.base)
         has_colours = os.isatty(1) and not os.environ.get("NO_COLOR")
-        lines = drawing.lines_of(found, maps, asked.width or shutil.get_terminal_size().columns, has_colours)
+        lines = drawing.lines_of(found, maps, asked.width or shutil.get_terminal_size().columns or USUAL_WIDTH,
+                                 has_colours)
         with signals.interruptible():
             output.tell(lines)
         new.write([text_of(found, maps) for _, text_of in writers])

@@ -21,9 +21,9 @@ from .test_repair_crashes import WHOLE, damage
 PACKAGE = os.path.dirname(os.path.realpath(parv_commands.__file__ or ""))
 READS: Dict[str, Set[str]] = {      # what modules may take from others that can also change something
     "os": set("""O_CLOEXEC O_DIRECTORY O_NOFOLLOW O_NONBLOCK O_PATH O_RDONLY O_RDWR R_OK SEEK_DATA X_OK _exit access
-              close devnull environ execve fchdir fsencode fstat getcwd getcwdb getpid getppid isatty killpg listdir
-              lseek open path pathsep pread read readlink scandir set_blocking setpgid stat stat_result strerror sysconf
-              urandom write""".split()),
+              close devnull environ execve fchdir fsdecode fsencode fstat getcwd getcwdb getpid getppid isatty killpg
+              listdir lseek open path pathsep pread read readlink scandir set_blocking setpgid stat stat_result strerror
+              sysconf urandom write""".split()),
     "shutil": {"get_terminal_size"}, "tempfile": set(), "ctypes": {"CDLL"}, "pathlib": set(), "io": set(),
 }
 SAYING = {"output.py", "progress.py"}       # modules that write to standard output and standard error

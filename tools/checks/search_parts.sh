@@ -139,8 +139,10 @@ whole "a folder that is empty" empty 5
 whole "a folder whose name ends in a slash" empty/ 5
 mkdir planted
 ln -s "$work/room/elsewhere/words" planted/words
-whole "a folder with a link \`words\` alone, to nothing" planted 5
+wants "a folder with a link \`words\`, to nothing" 3 "" "$search_says planted has other files" \
+    "${search[@]}" planted 5 "${words[@]}"
 [ ! -e room/elsewhere/words ] || fails "what a link leads to was made"
+[ -L planted/words ] || fails "a link is gone"
 cp -r empty linked
 rm linked/3 linked/[4-9]
 ln -sf "$work/room/elsewhere/thesis" linked/new
