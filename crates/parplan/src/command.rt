@@ -95,18 +95,19 @@ pub fn files_to_scan(plan: &Plan) -> &[Scanned]
 }
 
 /// Why words are no plan, in the order in which it is tested; want of memory may come before any.
+///
+/// - `Usage`: the words are none that a command takes.
+/// - `Value`: a value is not of the stated form, or there are too many files.
+/// - `NoPacketFile`: no packet file is among the files.
+/// - `Memory`: memory was refused.
 #[derive(Clone, Copy, Debug, PartialEq, Eq, Error)]
 pub enum PlanFault {
-    /// The words are none that a command takes.
     #[error("usage")]
     Usage,
-    /// A value is not of the stated form, or there are too many files.
     #[error("bad value")]
     Value,
-    /// No packet file is among the files.
     #[error("no packet file")]
     NoPacketFile,
-    /// Memory was refused.
     #[error("out of memory")]
     Memory,
 }

@@ -23,33 +23,34 @@ pub enum Cause {
 }
 
 /// Why a run wrote no whole text.
+///
+/// - `Set`: the packets give no recovery set.
+/// - `Read`: the packet file of this number, if `packet`, or else the scanned file could not be read.
+/// - `Write`: the output failed, or took nothing.
+/// - `Memory`: memory was refused.
+/// - `OtherSet`: the cursor is one in a search for the slices of another set; nothing was written.
+/// - `OtherList`: the cursor is one of another list of files, by a name, a length or the order; no
+///   scanned file was read, and nothing was written.
+/// - `TooManyTails`: more than 256 short lengths of slices would have to be looked for; no scanned
+///   file was read, and nothing was written.
 #[derive(Clone, Copy, Debug, PartialEq, Eq, Error)]
 pub enum RunFault {
-    /// The packets give no recovery set.
     #[error("no usable set")]
     Set(Cause),
-    /// The packet file of this number, where `packet`, or else the scanned file could not be read.
     #[error("read fault")]
     Read {
         packet: bool,
         file: u32,
         fault: ReadFault,
     },
-    /// The output failed, or took nothing.
     #[error("write fault")]
     Write,
-    /// Memory was refused.
     #[error("out of memory")]
     Memory,
-    /// The cursor is one in a search for the slices of another set; nothing was written.
     #[error("cursor of another set")]
     OtherSet,
-    /// The cursor is one of another list of files, by a name, a length or the order; no scanned file
-    /// was read, and nothing was written.
     #[error("cursor of other files")]
     OtherList,
-    /// More than 256 short lengths of slices would have to be looked for; no scanned file was read,
-    /// and nothing was written.
     #[error("no usable set: too many tails")]
     TooManyTails,
 }
