@@ -35,6 +35,8 @@ pub struct Window {
     tables: RollTables,
     tails: Vec<Tail>,
     running: Option<Running>,
+    // How many bytes the next chunk of `push_until` may have. No contract sees it.
+    pace: usize,
     digests: Tally,
 }
 
@@ -80,6 +82,7 @@ impl Window {
             tables: RollTables::new(size),
             tails: tails_for(alloc, size, tails)?,
             running: running_for(alloc, size, tails.len())?,
+            pace: 1,
             digests: Tally::new(),
         })
     }
@@ -157,9 +160,10 @@ impl Window {
         roll.count
     }
 
-    // The same with tails: first a single byte, then longer and longer pieces, as long as no slice
-    // is met. If one is met in a piece, the bytes before it are the next piece, and then a single
-    // byte.
+    // The same with tails: in chunks, which get longer as long as no slice is met. If one is met in
+    // a chunk, the bytes before it are the next chunk, and then a single byte. After a call that
+    // used up its bytes, the next call goes on at its pace, since many short chunks take longer than
+    // a few long ones. After a stop at a slice, the next call begins with a single byte.
     fn push_pieces_until(&mut self, index: &Index, bytes: &[u8]) -> usize
         requires full { length self.old.content ≡ self.old.capacity }
         requires sized { self.old.capacity ≡ index.now.slice_size }
@@ -167,8 +171,9 @@ impl Window {
         ensures until { PushesUntil index.now self.old bytes.now result }
     {
         let mut done = 0;
-        let mut most = 1;
-        let mut then = 2;
+        let mut most = self.pace.max(1).min(LONGEST_PIECE);
+        let mut then = (2 * most).min(LONGEST_PIECE);
+        self.pace = 1;
         while done < bytes.len() {
             let rest = &bytes[done..];
             let piece = &rest[..rest.len().min(most)];
@@ -190,6 +195,7 @@ impl Window {
                 then = (2 * then).min(LONGEST_PIECE);
             }
         }
+        self.pace = most;
         done
     }
 
