@@ -1,6 +1,6 @@
 -- The register of a full window as bytes are pushed into it, and where it stops
 -- (CRC-32, reflected polynomial EDB88320).
-use Rattle.std.specs.Prelude.{◌≡◌, ℕ, zero, suc, ◌<◌, ◌≤◌, List, slice_index, Option, None, Some, true, false, bit_xor, IsTrue}
+use Rattle.std.specs.Prelude.{◌≡◌, ℕ, zero, suc, ◌+◌, ◌*◌, ◌<◌, ◌≤◌, List, slice_index, Option, None, Some, true, false, bit_xor, IsTrue}
 use Rattle.parwindow.specs.Crc32.{register_after, removal_of}
 use Rattle.parwindow.specs.Index.{SliceSet, set_has_crc}
 use Rattle.parwindow.specs.declared.rolling.roll.Roll.{Roll}
@@ -8,6 +8,10 @@ use Rattle.parwindow.specs.declared.rolling.roll.Roll.{Roll}
 -- the register of n + 1 bytes once the first one goes and another comes
 unfoldable pub rolled_register : ℕ → ℕ → ℕ → ℕ → ℕ
 rolled_register n register first last = register_after (bit_xor register (removal_of first n)) last
+
+-- a register with two bytes xored into it: the first one into its low byte
+abbrev pub with_two : ℕ → ℕ → ℕ → ℕ
+with_two register come next = bit_xor register (come + 256 * next)
 
 -- the register once a byte comes, and the first of n + 1 bytes goes where one falls out
 abbrev pub pushed_register : ℕ → ℕ → Option ℕ → ℕ → ℕ

@@ -1,13 +1,14 @@
 -- The register of a full window after two pushes, and after many.
-use Rattle.std.proofs.Common.{◌≡◌, ℕ, zero, suc, ◌+◌, ◌/◌, ◌<◌, ◌≤◌, List, get_or, refl, sym, ap, ◌∙◌, arith, add-one}
+use Rattle.std.proofs.Common.{◌≡◌, ℕ, zero, suc, ◌+◌, ◌*◌, ◌/◌, ◌%◌, ◌<◌, ◌≤◌, List, get_or, refl, sym, ap, ◌∙◌, arith, add-one}
 use Rattle.std.specs.Int.Bits.{bit_and, bit_xor, xor_assoc}
+use Rattle.std.proofs.lemmas.Nat.{and_mask, xor_mod, xor_shr}
 use Rattle.parwindow.specs.Crc32.{register_after, removal_of}
-use Rattle.parwindow.specs.Rolling.{rolled_register, rolled_over}
+use Rattle.parwindow.specs.Rolling.{rolled_register, rolled_over, with_two}
 use Rattle.parwindow.specs.Tables.{IsStepTable, IsRemovalTable}
 use Rattle.parwindow.proofs.crc_laws.XorLaws.{xor_laws}
 use Rattle.parwindow.proofs.crc_laws.TableLaws.{register_after-twice}
 use Rattle.parwindow.proofs.crc_laws.CrcLaws.{register_after-xor}
-use Rattle.parwindow.proofs.window_laws.PushLaws.{removal_of-more, once_rolled}
+use Rattle.parwindow.proofs.window_laws.PushLaws.{removal_of-more, once_by, once_rolled}
 
 pub twice_rolled : (n r x y u v : ℕ)
     → bit_xor (register_after (register_after r y) v)
@@ -28,7 +29,7 @@ moved_last : (h m t b : ℕ) → bit_xor (bit_xor (bit_xor h m) t) b
     ≡ bit_xor (bit_xor (bit_xor h t) b) m
 moved_last h m t b = simp xor_laws
 
-pub twice_by : (bytes two once twice : List ℕ) (n r x y u v : ℕ) → IsStepTable bytes 8
+twice_by : (bytes two once twice : List ℕ) (n r x y u v : ℕ) → IsStepTable bytes 8
     → IsStepTable two 16
     → IsRemovalTable once (n + 1) → IsRemovalTable twice (n + 2) → x < 256 → y < 256 → u < 256
     → v < 256
@@ -44,6 +45,43 @@ twice_by bytes two once twice n r x y u v steps two_steps removes two_removes x_
       two_removes x x_in,
       removes u u_in,
     ) (twice_rolled n r x y u v)
+
+-- what each byte of two looks up, once both are xored into a register
+low_of_two : (r y v : ℕ) → bit_and (with_two r y v) 255 ≡ bit_and (bit_xor r y) 255
+low_of_two r y v =
+    let low : (y + 256 * v) % 256 ≡ y % 256 = omega arith in
+    and_mask (bit_xor r (y + 256 * v)) 8
+    ∙ xor_mod r (y + 256 * v) 8
+    ∙ ap (bit_xor (r % 256)) low
+    ∙ sym (xor_mod r y 8)
+    ∙ sym (and_mask (bit_xor r y) 8)
+
+next_of_two : (r y v : ℕ) → y < 256
+    → bit_and (with_two r y v / 256) 255 ≡ bit_and (bit_xor (r / 256) v) 255
+next_of_two r y v y_in =
+    let next : (y + 256 * v) / 256 ≡ v = omega arith in
+    ap (λ h. bit_and h 255) (xor_shr r (y + 256 * v) 8 ∙ ap (bit_xor (r / 256)) next)
+
+pub once_by_two : (bytes once : List ℕ) (n r x y v : ℕ) → IsStepTable bytes 8
+    → IsRemovalTable once (n + 1) → x < 256 → y < 256
+    → bit_xor (bit_xor (r / 256) (get_or bytes (bit_and (with_two r y v) 255) 0))
+    (get_or once x 0) ≡ rolled_register n r x y
+once_by_two bytes once n r x y v steps removes x_in y_in =
+    rw (low_of_two r y v) (once_by bytes once n r x y steps removes x_in y_in)
+
+pub twice_by_two : (bytes two once twice : List ℕ) (n r x y u v : ℕ) → IsStepTable bytes 8
+    → IsStepTable two 16
+    → IsRemovalTable once (n + 1) → IsRemovalTable twice (n + 2) → x < 256 → y < 256 → u < 256
+    → v < 256
+    → bit_xor (bit_xor (bit_xor (r / 65536) (bit_xor (get_or twice x 0) (get_or once u 0)))
+    (get_or two (bit_and (with_two r y v) 255) 0))
+    (get_or bytes (bit_and (with_two r y v / 256) 255) 0)
+    ≡ rolled_register n (rolled_register n r x y) u v
+twice_by_two bytes two once twice n r x y u v steps two_steps removes two_removes x_in y_in u_in
+    v_in =
+    rw (low_of_two r y v, next_of_two r y v y_in)
+    (twice_by bytes two once twice n r x y u v steps two_steps removes two_removes x_in y_in u_in
+    v_in)
 
 -- the register rolls on by a byte, or two
 pub rolled_over-start : (n r : ℕ) (gone come : List ℕ) → rolled_over n r gone come 0 ≡ r

@@ -1,4 +1,4 @@
-ghost use Rattle.std.specs.Prelude.{◌≡◌, ◌+◌, ◌<◌, ◌≤◌, ◌++◌, length, min, IsTrue};
+ghost use Rattle.std.specs.Prelude.{◌≡◌, ℕ, ◌+◌, ◌<◌, ◌≤◌, ◌++◌, length, min, IsTrue};
 ghost use Rattle.parset.specs.Limits.{slice_size_limit};
 ghost use Rattle.parwindow.specs.Tables.{IsRemovalTable, IsStepTable};
 
@@ -29,7 +29,7 @@ pub struct RollTables {
 
 impl RollTables {
     ghost use Rattle.parwindow.specs.Crc32.{register_of};
-    ghost use Rattle.parwindow.specs.Rolling.{rolled_register, pushed_register, rolled_over, HasRegister, StopsAt};
+    ghost use Rattle.parwindow.specs.Rolling.{rolled_register, pushed_register, rolled_over, with_two, HasRegister, StopsAt};
     ghost use Rattle.parwindow.specs.Until.{pushed_content};
 
     /// The tables for a window of `size` bytes, by squaring: no byte runs through it.
@@ -66,22 +66,32 @@ impl RollTables {
             ^ self.once[gone as usize]
     }
 
-    /// The register once two bytes go and two come. It doesn't wait for the register in between.
-    pub fn rolled_twice(
-        &self,
-        register: u32,
-        gone: u8,
-        come: u8,
-        next_gone: u8,
-        next_come: u8,
-    ) -> u32
-        ensures { result ≡ rolled_register self.now.others
-            (rolled_register self.now.others register gone come) next_gone next_come }
+    // A register with two bytes that come xored into it, the first one into its low byte.
+    fn with_two(register: u32, come: u8, next: u8) -> u32
+        ensures { result ≡ with_two register come next }
+    {
+        register ^ u32::from(u16::from_le_bytes([come, next]))
+    }
+
+    // The register once one byte goes and one comes. `both` is the register with two bytes that
+    // come, of which this is the first.
+    fn rolled_once(&self, register: u32, both: u32, gone: u8) -> u32
+        ensures { (come next : ℕ) → come < 256 → next < 256 → both ≡ with_two register come next
+            → result ≡ rolled_register self.now.others register gone come }
+    {
+        (register >> 8) ^ self.bytes[(both & 0xFF) as usize] ^ self.once[gone as usize]
+    }
+
+    // The register once two bytes go and both come. It doesn't wait for the register in between.
+    fn rolled_twice(&self, register: u32, both: u32, gone: u8, next_gone: u8) -> u32
+        ensures { (come next : ℕ) → come < 256 → next < 256 → both ≡ with_two register come next
+            → result ≡ rolled_register self.now.others
+            (rolled_register self.now.others register gone come) next_gone next }
     {
         (register >> 16)
             ^ (self.twice[gone as usize] ^ self.once[next_gone as usize])
-            ^ self.two_bytes[((register ^ u32::from(come)) & 0xFF) as usize]
-            ^ self.bytes[(((register >> 8) ^ u32::from(next_come)) & 0xFF) as usize]
+            ^ self.two_bytes[(both & 0xFF) as usize]
+            ^ self.bytes[((both >> 8) & 0xFF) as usize]
     }
 
     /// Rolls a register over bytes that go and bytes that come, as long as there are both, up to
@@ -95,21 +105,23 @@ impl RollTables {
     {
         let len = gone.len().min(come.len());
         let mut register = start;
-        let mut i = 0;
-        while i + 2 <= len {
-            let between = self.rolled(register, gone[i], come[i]);
+        for turn in 0..len / 2 {
+            let i = 2 * turn;
+            // All look-ups share this value, so that the compiler loads both bytes as one number.
+            let both = RollTables::with_two(register, come[i], come[i + 1]);
+            let between = self.rolled_once(register, both, gone[i]);
             if set.has(between) {
                 return Roll::hit(i + 1, between);
             }
-            register = self.rolled_twice(register, gone[i], come[i], gone[i + 1], come[i + 1]);
-            i += 2;
+            register = self.rolled_twice(register, both, gone[i], gone[i + 1]);
             if set.has(register) {
-                return Roll::hit(i, register);
+                return Roll::hit(i + 2, register);
             }
         }
-        if i == len {
+        if len % 2 == 0 {
             return Roll::missed(len, register);
         }
+        let i = len - 1;
         let last = self.rolled(register, gone[i], come[i]);
         Roll {
             count: len,
