@@ -9,7 +9,7 @@ use Rattle.parshelf.proofs.ShelfLaws.{length-file_of}
 use Rattle.parshelf.specs.Reads.{HandsOver, FaultsWithin}
 use Rattle.parshelf.specs.declared.shelves.reading.ReadFault.{ReadFault}
 use Rattle.parshelf.proofs.PieceLaws.{read_more}
-use Rattle.parsalvage.specs.declared.files.SalvageFault.{SalvageFault}
+use Rattle.parsalvage.specs.declared.salvage_fault.SalvageFault.{SalvageFault}
 use Rattle.parsalvage.specs.declared.file_scan.FileScan.{FileScan}
 use Rattle.parsalvage.specs.Pieces.{IsPiece}
 use Rattle.parsalvage.specs.MagicPlaces.{limit_between, salvage_limit}

@@ -9,7 +9,7 @@ use Rattle.parsalvage.specs.Kept.{kept_packet, kept_of_file}
 use Rattle.parsalvage.specs.Leaves.{LieInFile}
 use Rattle.parsalvage.specs.FileScans.{kept_packet_from, packets_between, LiesIn, FoundBelow}
 use Rattle.parsalvage.specs.declared.kept.Kept.{Kept}
-use Rattle.parsalvage.specs.declared.file_scan.StoredPacket.{StoredPacket}
+use Rattle.parsalvage.specs.declared.stored.StoredPacket.{StoredPacket}
 use Rattle.parsalvage.specs.declared.file_scan.FileScan.{FileScan}
 use Rattle.parsalvage.proofs.RangeLaws.{nothing_mapped}
 

@@ -5,8 +5,8 @@ use Rattle.parshelf.specs.Reads.{HandsOver, FaultsWithin}
 use Rattle.parshelf.specs.declared.shelves.reading.ReadFault.{ReadFault}
 use Rattle.parshelf.specs.declared.shelves.reading.ReadFault.TheVariants.{Failed, Ended}
 use Rattle.parshelf.proofs.ShelfLaws.{after_handing-zero, after_handing-after_handing, Older-refl, Older-trans}
-use Rattle.parsalvage.specs.declared.files.SalvageFault.{SalvageFault}
-use Rattle.parsalvage.specs.declared.files.SalvageFault.TheVariants.{Read, Memory}
+use Rattle.parsalvage.specs.declared.salvage_fault.SalvageFault.{SalvageFault}
+use Rattle.parsalvage.specs.declared.salvage_fault.SalvageFault.TheVariants.{Read, Memory}
 use Rattle.parsalvage.specs.Leaves.{HandsAtMost}
 use Rattle.parsalvage.specs.Hands.{Hands, FaultsAfter, StopsAfter, ReadsAtMost, SalvagesAtMost}
 

@@ -1,8 +1,13 @@
--- A part of a piece of a file is a part of the file, and what follows it there is the rest.
+-- A part of a piece of a file is a part of the file, and what follows it there is the rest. The piece stays one of the
+-- file when more is read.
 use Rattle.std.proofs.Common.{◌≡◌, ◌≤◌, ◌+◌, ◌-◌, ◌∙◌, ℕ, List, ◌++◌, length, take, drop, ap, sym, arith}
 use Rattle.std.proofs.Math.Seq.{take-add}
 use Rattle.std.proofs.lemmas.List.{drop-take, take-take, drop-drop}
-use Rattle.parsalvage.specs.Pieces.{IsPiece}
+use Rattle.parshelf.specs.Shelf.{ShelfState}
+use Rattle.parsalvage.specs.declared.piece.Piece.{Piece}
+use Rattle.parsalvage.specs.Hands.{Hands}
+use Rattle.parsalvage.specs.Pieces.{IsPiece, IsPieceOf}
+use Rattle.parsalvage.proofs.HandLaws.{Hands-lengths}
 
 pub part_of_piece : (file bytes : List ℕ) (base from size : ℕ) → IsPiece file base bytes → base ≤ from
     → (from - base) + size ≤ length bytes → take size (drop (from - base) bytes) ≡ take size (drop from file)
@@ -27,3 +32,10 @@ front_then_rest file front from size is few =
     ∙ (ap (λ (xs : List ℕ). take (length front) part ++ take (size - length front) xs) (sym (drop-drop (length front) from file))
     ∙ (sym (take-add (length front) (size - length front) part)
     ∙ ap (λ (n : ℕ). take n part) all))
+
+-- more of the file was read
+pub IsPieceOf-read : (s t : ShelfState) (piece : Piece) (limit : List ℕ → ℕ) → Hands s t piece.file limit → IsPieceOf s piece → IsPieceOf t piece
+IsPieceOf-read s t piece limit h is = record {
+  known = rw (Hands-lengths s t piece.file limit h) is.known;
+  is_piece = λ files reads. is.is_piece files (h.older files reads);
+}

@@ -11,12 +11,12 @@ use Rattle.parsalvage.specs.Packets.{is_packet_at, packet_found_at}
 use Rattle.parsalvage.specs.BodyStores.{IsStore, HoldsRun}
 use Rattle.parsalvage.specs.Kept.{kept_packet, kept_body}
 use Rattle.parsalvage.specs.FileScans.{kept_body_from, FitsStore, kept_packet_from, packets_between, LiesIn, FoundBelow}
-use Rattle.parsalvage.specs.declared.stored_body.StoredBody.{StoredBody}
-use Rattle.parsalvage.specs.declared.stored_body.StoredBody.TheVariants.{Whole, Front}
+use Rattle.parsalvage.specs.declared.stored.StoredBody.{StoredBody}
+use Rattle.parsalvage.specs.declared.stored.StoredBody.TheVariants.{Whole, Front}
 use Rattle.parsalvage.specs.declared.kept.Kept.{Kept}
 use Rattle.parsalvage.specs.declared.kept.KeptBody.{KeptBody}
 use Rattle.parsalvage.specs.declared.kept.KeptBody.TheVariants as kept
-use Rattle.parsalvage.specs.declared.file_scan.StoredPacket.{StoredPacket}
+use Rattle.parsalvage.specs.declared.stored.StoredPacket.{StoredPacket}
 use Rattle.parsalvage.specs.declared.file_scan.FileScan.{FileScan}
 use Rattle.parsalvage.proofs.RangeLaws.{filter_between, filter_none_between, filter_one}
 

@@ -7,7 +7,7 @@ use Rattle.memchr.specs.Find.{occurs_at, matches}
 use Rattle.memchr.proofs.lemmas.MatchLemmas.{OccursAt-true, occurs_at-true, OccursAt-part, OccursAt-from_part}
 use Rattle.parfield.specs.Packet.{magic_bytes}
 use Rattle.parshelf.specs.Shelf.{ShelfState, ReadsAs, file_of}
-use Rattle.parsalvage.specs.declared.files.SalvageFault.{SalvageFault}
+use Rattle.parsalvage.specs.declared.salvage_fault.SalvageFault.{SalvageFault}
 use Rattle.parsalvage.specs.declared.file_scan.FileScan.{FileScan}
 use Rattle.parsalvage.specs.Packets.{is_packet_at, packet_found_at, packets_of}
 use Rattle.parsalvage.specs.Pieces.{IsPiece}
@@ -112,7 +112,7 @@ module _ (s t : ShelfState) (file base : ℕ) (window : List ℕ) (place : ℕ) 
   pub place_within : base + length window ≤ slice_index s.lengths file → base + place ≤ slice_index t.lengths file
   place_within within = omega (arith, same_length, place_fits, within)
 
-  pub piece_now : (files : List (List ℕ)) → ReadsAs t files → IsPiece (file_of files file) base window
+  piece_now : (files : List (List ℕ)) → ReadsAs t files → IsPiece (file_of files file) base window
   piece_now files reads = piece files (so_far.hands.older files reads)
 
   pub lies_before : LiesIn (slice_index t.lengths file) (base + place) found

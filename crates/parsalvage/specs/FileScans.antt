@@ -10,9 +10,9 @@ use Rattle.parsalvage.specs.Kept.{kept_packet}
 use Rattle.parsalvage.specs.declared.kept.Kept.{Kept}
 use Rattle.parsalvage.specs.declared.kept.KeptBody.{KeptBody}
 use Rattle.parsalvage.specs.declared.kept.KeptBody.TheVariants as kept
-use Rattle.parsalvage.specs.declared.stored_body.StoredBody.{StoredBody}
-use Rattle.parsalvage.specs.declared.stored_body.StoredBody.TheVariants.{Whole, Front}
-use Rattle.parsalvage.specs.declared.file_scan.StoredPacket.{StoredPacket}
+use Rattle.parsalvage.specs.declared.stored.StoredBody.{StoredBody}
+use Rattle.parsalvage.specs.declared.stored.StoredBody.TheVariants.{Whole, Front}
+use Rattle.parsalvage.specs.declared.stored.StoredPacket.{StoredPacket}
 use Rattle.parsalvage.specs.declared.file_scan.FileScan.{FileScan}
 
 -- what is held of a body, its bytes being a part of a store

@@ -3,8 +3,8 @@ use Rattle.std.specs.Prelude.{◌≡◌, ◌≤◌, ℕ, List, Result, Ok, Err}
 use Rattle.parshelf.specs.Shelf.{ShelfState, ReadsAs, Older, IsLikeNone, file_of, after_handing, after_failure, after_early_end}
 use Rattle.parshelf.specs.declared.shelves.reading.ReadFault.{ReadFault}
 use Rattle.parshelf.specs.declared.shelves.reading.ReadFault.TheVariants.{Failed, Ended}
-use Rattle.parsalvage.specs.declared.files.SalvageFault.{SalvageFault}
-use Rattle.parsalvage.specs.declared.files.SalvageFault.TheVariants.{Read, Memory}
+use Rattle.parsalvage.specs.declared.salvage_fault.SalvageFault.{SalvageFault}
+use Rattle.parsalvage.specs.declared.salvage_fault.SalvageFault.TheVariants.{Read, Memory}
 
 -- bytes of a file were handed over, in any files of which that was read at most as many as this limit of
 -- the file's bytes, and nothing else changed but what was read

@@ -2,9 +2,9 @@
 //!
 //! `bytes` salvages bytes, and `files` a file: `searching` goes over it for the magic by pieces
 //! (`piece`), `validating` tests what looks like a packet there, and `file_scan` stores each that
-//! is one, with what is held of its body (`stored_body`) in one store for all of the file
-//! (`body_store`). `kept` and `part` are how packets are kept; `keeping` keeps those of bytes,
-//! `files` those of a file. `laws` has the law of the magic.
+//! is one (`stored`), with its body in one store for all of the file (`body_store`). `kept` and
+//! `part` are how packets are kept; `keeping` keeps those of bytes, `files` those of a file.
+//! `salvage_fault` is the fault of a salvage, and `laws` has the law of the magic.
 #![tactic(auto)]
 
 mod body_store;
@@ -16,13 +16,15 @@ mod kept;
 mod laws;
 mod part;
 mod piece;
+mod salvage_fault;
 mod searching;
-mod stored_body;
+mod stored;
 mod validating;
 
 pub use crate::bytes::salvage;
-pub use crate::files::{SalvageFault, salvage_file};
+pub use crate::files::salvage_file;
 pub use crate::keeping::{BODY_LIMIT, kept_of};
 pub use crate::kept::{Kept, KeptBody};
 pub use crate::laws::magic_law;
 pub use crate::part::Part;
+pub use crate::salvage_fault::SalvageFault;

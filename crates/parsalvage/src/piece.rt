@@ -1,6 +1,7 @@
-ghost use Rattle.std.specs.Prelude.{◌≡◌, ℕ, List, ◌+◌, ◌-◌, ◌≤◌, ◌<◌, length, take, drop, slice_index, IfSome, IfNone, OnOk};
+ghost use Rattle.std.specs.Prelude.{◌≡◌, ℕ, List, ◌+◌, ◌-◌, ◌≤◌, ◌<◌, length, take, drop, slice_index, IfSome, IfNone, IfOk, OnOk};
 ghost use Rattle.parshelf.specs.Shelf.{ReadsAs, bytes_at};
 ghost use Rattle.parsalvage.specs.Hands.{ReadsAtMost};
+ghost use Rattle.parsalvage.specs.Kept.{front_of};
 ghost use Rattle.parsalvage.specs.Pieces.{IsPiece, IsPieceOf};
 
 use parshelf::{ReadFault, Shelf, fill};
@@ -8,7 +9,9 @@ use parshelf::{ReadFault, Shelf, fill};
 /// A piece of a file that was read already.
 #[derive(Clone, Copy)]
 pub struct Piece<'a> {
-    /// Its offset in the file.
+    /// The number of the file.
+    pub file: u32,
+    /// The offset of its first byte in the file.
     pub base: u64,
     /// Its bytes.
     pub bytes: &'a [u8],
@@ -46,30 +49,51 @@ impl<'a> Piece<'a> {
         let count = size.min(room - place);
         &self.bytes[place as usize..(place + count) as usize]
     }
-}
 
-/// Fills `buf` with a file's bytes from an offset on. Nothing is read where all stand in the piece.
-pub fn read<H: Shelf>(
-    shelf: &mut H,
-    file: u32,
-    piece: &Piece<'_>,
-    offset: u64,
-    buf: &mut [u8],
-) -> Result<(), ReadFault>
-    requires file { file < length (H.state shelf.old).lengths }
-    requires within { offset + length buf.old ≤ slice_index (H.state shelf.old).lengths file }
-    requires piece { IsPieceOf (H.state shelf.old) file piece.now }
+    /// Fills `buf` with the file's bytes from an offset on. Reads nothing if the piece has all of
+    /// them.
+    pub fn read<H: Shelf>(
+        &self,
+        shelf: &mut H,
+        offset: u64,
+        buf: &mut [u8],
+    ) -> Result<(), ReadFault>
+        requires within { offset + length buf.old
+            ≤ slice_index (H.state shelf.old).lengths self.now.file }
+        requires piece { IsPieceOf (H.state shelf.old) self.now }
 
-    ensures bytes { (files : List (List ℕ)) → ReadsAs (H.state shelf.new) files
-        → OnOk result (buf.new ≡ bytes_at files file offset (length buf.old)) }
-    ensures leaves { ReadsAtMost (λ _. length buf.old)
-        file (H.state shelf.old) (H.state shelf.new) result }
-{
-    match piece.part(offset, buf.len() as u64) {
-        Some(part) => {
-            buf.copy_from_slice(part);
-            Ok(())
+        ensures bytes { (files : List (List ℕ)) → ReadsAs (H.state shelf.new) files
+            → OnOk result (buf.new ≡ bytes_at files self.now.file offset (length buf.old)) }
+        ensures leaves { ReadsAtMost (λ _. length buf.old)
+            self.now.file (H.state shelf.old) (H.state shelf.new) result }
+    {
+        match self.part(offset, buf.len() as u64) {
+            Some(part) => {
+                buf.copy_from_slice(part);
+                Ok(())
+            }
+            None => fill(shelf, self.file, offset, buf),
         }
-        None => fill(shelf, file, offset, buf),
+    }
+
+    /// Returns the first four bytes of a part of the file, filled with zeros if it is shorter.
+    pub fn read_front<H: Shelf>(
+        &self,
+        shelf: &mut H,
+        from: u64,
+        size: u64,
+    ) -> Result<[u8; 4], ReadFault>
+        requires within { from + size ≤ slice_index (H.state shelf.old).lengths self.now.file }
+        requires piece { IsPieceOf (H.state shelf.old) self.now }
+
+        ensures front { (files : List (List ℕ)) → ReadsAs (H.state shelf.new) files
+            → IfOk result (λ first. first ≡ front_of (bytes_at files self.now.file from size)) }
+        ensures leaves { ReadsAtMost (λ _. size)
+            self.now.file (H.state shelf.old) (H.state shelf.new) result }
+    {
+        let mut first = [0; 4];
+        let count = size.min(4) as usize;
+        self.read(shelf, from, &mut first[..count])?;
+        Ok(first)
     }
 }

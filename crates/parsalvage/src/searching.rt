@@ -7,9 +7,9 @@ ghost use Rattle.parsalvage.specs.Pieces.{IsPieceOf};
 ghost use Rattle.parsalvage.specs.MagicPlaces.{limit_between, salvage_limit};
 
 use crate::body_store::BodyStore;
-use crate::file_scan::{FileScan, scan_at};
-use crate::files::SalvageFault;
+use crate::file_scan::FileScan;
 use crate::piece::Piece;
+use crate::salvage_fault::SalvageFault;
 use memchr::memmem;
 use parfield::MAGIC;
 use parshelf::{Shelf, fill};
@@ -21,34 +21,33 @@ const PIECE: usize = 65_536;
 // Stores the packets that begin in a piece of a file, but for its last seven places.
 fn search_piece<H: Shelf>(
     shelf: &mut H,
-    file: u32,
     piece: &Piece<'_>,
     buffer: &mut [u8],
     found: &mut FileScan,
 ) -> Result<(), SalvageFault>
-    requires file { file < length (H.state shelf.old).lengths }
     requires within { piece.now.base + length piece.now.bytes.now
-        ≤ slice_index (H.state shelf.old).lengths file }
+        ≤ slice_index (H.state shelf.old).lengths piece.now.file }
     requires long { 7 ≤ length piece.now.bytes.now }
     requires buffer { 0 < length buffer.old }
-    requires piece { IsPieceOf (H.state shelf.old) file piece.now }
-    requires lies { LiesIn (slice_index (H.state shelf.old).lengths file) piece.now.base found.old }
-    requires found { FindsBelow (H.state shelf.old) file piece.now.base found.old }
+    requires piece { IsPieceOf (H.state shelf.old) piece.now }
+    requires lies { LiesIn (slice_index (H.state shelf.old).lengths piece.now.file)
+        piece.now.base found.old }
+    requires found { FindsBelow (H.state shelf.old) piece.now.file piece.now.base found.old }
 
-    ensures lies { OnOk result (LiesIn (slice_index (H.state shelf.old).lengths file)
+    ensures lies { OnOk result (LiesIn (slice_index (H.state shelf.old).lengths piece.now.file)
         (piece.now.base + (length piece.now.bytes.now - 7)) found.new) }
-    ensures found { OnOk result (FindsBelow (H.state shelf.new) file
+    ensures found { OnOk result (FindsBelow (H.state shelf.new) piece.now.file
         (piece.now.base + (length piece.now.bytes.now - 7)) found.new) }
 
     ensures leaves { SalvagesAtMost (λ bytes. limit_between bytes
         piece.now.base (piece.now.base + (length piece.now.bytes.now - 7)))
-        file (H.state shelf.old) (H.state shelf.new) result }
+        piece.now.file (H.state shelf.old) (H.state shelf.new) result }
     ensures empty { (files : List (List ℕ)) → ReadsAs (H.state shelf.new) files
-        → packets_of (file_of files file) ≡ [] → result ≢ Err SalvageFault.Memory }
+        → packets_of (file_of files piece.now.file) ≡ [] → result ≢ Err SalvageFault.Memory }
 {
     // Two occurrences of the magic never overlap.
     for place in memmem::find_iter(piece.bytes, &MAGIC) {
-        scan_at(shelf, file, piece, piece.base + place as u64, buffer, found)?;
+        found.scan_at(shelf, piece, piece.base + place as u64, buffer)?;
     }
     Ok(())
 }
@@ -91,10 +90,11 @@ pub fn search_file<H: Shelf>(
         let size = (end - base).min(PIECE as u64) as usize;
         fill(shelf, file, base + held as u64, &mut window[held..size])?;
         let piece = Piece {
+            file,
             base,
             bytes: &window[..size],
         };
-        search_piece(shelf, file, &piece, buffer, &mut found)?;
+        search_piece(shelf, &piece, buffer, &mut found)?;
         // A magic may begin in the last seven bytes, which begin the next piece.
         window.copy_within(size - 7..size, 0);
         base += (size - 7) as u64;

@@ -2,7 +2,7 @@ use Rattle.std.proofs.lemmas.Grind.{common_steps}
 use Rattle.std.proofs.Common.{◌≡◌, ◌-◌, ◌≤◌, ◌∙◌, ℕ, List, length, take, drop, arith, length-drop, refl}
 use Rattle.std.proofs.lemmas.List.{length-take-le, length-replicate}
 use Rattle.std.proofs.lemmas.Result.{err_from_is_err_and}
-use Rattle.parsalvage.proofs.HandLaws.{not_memory}
+use Rattle.parsalvage.proofs.HandLaws.{Hands-lengths, not_memory}
 use Rattle.parsalvage.proofs.FileLaws.{FileSearched-start, FileSearched-read, FileSearched-next, FileSearched-fault, FileSearched-unread, piece_is, hands_whole, lies_whole, packets_whole}
 use borrow.Rule.Slice.PartMut.{same_len_mid}
 use Rattle.parsalvage.proofs.searching.search_file.Goals as goal
@@ -28,7 +28,10 @@ search_piece-requires-clause-piece g c =
     let high : c.min-size.result ≤ 65536 = omega arith in
     let read = FileSearched-read _ _ _ before.searched c.min-size.result c.fill.new.buf (omega (arith, before.few, wide)) (omega (arith, before.whole, high))
     c.fill.auto.buf _ c.in_ok-fill.ensures.ok c.in_ok-fill.ensures.bytes in
-    piece_is _ _ _ read (omega (arith, wide))
+    record {
+      known = rw (Hands-lengths _ _ _ _ read.hands) c.requires.file;
+      is_piece = piece_is _ _ _ read (omega (arith, wide));
+    }
 
 pub search_piece-requires-clause-found : goal.search_piece-requires-clause-found
 search_piece-requires-clause-found g c =
@@ -138,9 +141,6 @@ slice_bounds-window-end-in-loop-base g c = grind (arith, common_steps) steps 400
 
 pub slice_bounds-piece-end : goal.slice_bounds-piece-end
 slice_bounds-piece-end g c = grind (arith, common_steps) steps 400000
-
-pub search_piece-requires-clause-file : goal.search_piece-requires-clause-file
-search_piece-requires-clause-file g c = grind (arith, common_steps) steps 400000
 
 pub search_piece-requires-clause-within : goal.search_piece-requires-clause-within
 search_piece-requires-clause-within g c = grind (arith, common_steps) steps 400000

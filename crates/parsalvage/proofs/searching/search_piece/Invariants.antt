@@ -4,5 +4,5 @@ use Rattle.parsalvage.proofs.searching.search_piece.Given as goal
 -- the places that are left, of those in the piece
 abbrev pub invariant-loop-place : goal.invariant-loop-place
 invariant-loop-place g l =
-    SearchedTo (g.H.Shelf.state l.fn.shelf) l.file l.piece.base l.piece.bytes.now
+    SearchedTo (g.H.Shelf.state l.fn.shelf) l.piece.file l.piece.base l.piece.bytes.now
     (record { shelf = g.H.Shelf.state l.shelf; places = l.place-iterator; found = l.found })

@@ -2,7 +2,7 @@ use Rattle.std.proofs.lemmas.Grind.{common_steps}
 use Rattle.std.proofs.Common.{arith, length-drop}
 use Rattle.std.proofs.lemmas.Result.{err_from_is_err_and}
 use Rattle.parsalvage.proofs.HandLaws.{Hands-none, Hands-wider, FaultsAfter-wider}
-use Rattle.parsalvage.proofs.body_store.extend.Goals as goal
+use Rattle.parsalvage.proofs.body_store.BodyStore.extend_to.Goals as goal
 
 pub returns-in_err-resize-clause-leaves : goal.returns-in_err-resize-clause-leaves
 returns-in_err-resize-clause-leaves g c =
@@ -12,7 +12,7 @@ returns-in_err-resize-clause-leaves g c =
 pub returns-clause-leaves : goal.returns-clause-leaves
 returns-clause-leaves g c =
     let room = length-drop c.len-held.result c.resize.new.self.items in
-    Hands-wider _ _ c.args.file _ _ c.in_ok-read.ensures.leaves
+    Hands-wider _ _ c.args.piece.now.file _ _ c.in_ok-read.ensures.leaves
     (λ files reads. omega (arith, room, c.in_ok-resize.ensures.len, c.len-held.ensures))
 
 pub overflow_sub-last : goal.overflow_sub-last
@@ -45,9 +45,6 @@ slice_bounds-read-start g c = grind (arith, common_steps) steps 100000
 pub slice_bounds-read-end : goal.slice_bounds-read-end
 slice_bounds-read-end g c = grind (arith, common_steps) steps 100000
 
-pub read-requires-clause-file : goal.read-requires-clause-file
-read-requires-clause-file g c = grind (arith, common_steps) steps 100000
-
 pub read-requires-clause-within : goal.read-requires-clause-within
 read-requires-clause-within g c = grind (arith, common_steps) steps 400000
 
@@ -75,7 +72,7 @@ pub returns-in_err-read-clause-leaves : goal.returns-in_err-read-clause-leaves
 returns-in_err-read-clause-leaves g c =
     let same = err_from_is_err_and c.from_residual-in_err-read.result c.from_residual-in_err-read.ensures.1 in
     let room = length-drop c.len-held.result c.resize.new.self.items in
-    rw (same.1, same.2) (FaultsAfter-wider _ _ c.args.file _ _ _ c.in_err-read.ensures.leaves
+    rw (same.1, same.2) (FaultsAfter-wider _ _ c.args.piece.now.file _ _ _ c.in_err-read.ensures.leaves
     (λ files reads. omega (arith, room, c.in_ok-resize.ensures.len, c.len-held.ensures)))
 
 pub returns-clause-start : goal.returns-clause-start

@@ -9,14 +9,15 @@ use Rattle.parsalvage.specs.MagicPlaces.{framed_size}
 use Rattle.parsalvage.specs.Packets.{is_packet_at}
 use Rattle.parsalvage.proofs.ValidateLaws.{framed_packet}
 use Rattle.parsalvage.proofs.HandLaws.{Hands-none, Hands-wider, FaultsAfter-wider, SalvagesAtMost-more, SalvagesAtMost-older}
+use Rattle.parsalvage.proofs.PieceLaws.{IsPieceOf-read}
 use Rattle.parsalvage.proofs.ScanLaws.{FoundBelow-none, no_packet_late}
-use Rattle.parsalvage.proofs.file_scan.scan_at.Goals as goal
+use Rattle.parsalvage.proofs.file_scan.FileScan.scan_at.Goals as goal
 
 pub returns-then-length-at-lt64-clause-found : goal.returns-then-length-at-lt64-clause-found
 returns-then-length-at-lt64-clause-found g c = λ files reads.
-    let long = length-file_of _ files c.args.file reads in
-    FoundBelow-none c.args.file c.args.at (c.args.at + 1) _ _ (c.requires.found files reads) (omega arith)
-    (λ k low high. no_packet_late (file_of files c.args.file) k (omega (arith, long, c.length.ensures.value)))
+    let long = length-file_of _ files c.args.piece.now.file reads in
+    FoundBelow-none c.args.piece.now.file c.args.at (c.args.at + 1) _ _ (c.requires.found files reads) (omega arith)
+    (λ k low high. no_packet_late (file_of files c.args.piece.now.file) k (omega (arith, long, c.length.ensures.value)))
 
 pub returns-then-length-at-lt64-clause-leaves : goal.returns-then-length-at-lt64-clause-leaves
 returns-then-length-at-lt64-clause-leaves g c = Hands-none _ _ _
@@ -34,33 +35,30 @@ returns-in-Some-clause-found g c = c.store_packet.ensures.found
 
 pub returns-in-Some-clause-leaves : goal.returns-in-Some-clause-leaves
 returns-in-Some-clause-leaves g c =
-    SalvagesAtMost-more _ _ _ c.args.file _ _ _ c.store_packet.result c.in_ok-head.ensures.leaves c.store_packet.ensures.leaves
-    (λ files reads. costs (file_of files c.args.file) c.args.at c.in-Some.head
+    SalvagesAtMost-more _ _ _ c.args.piece.now.file _ _ _ c.store_packet.result c.in_ok-head.ensures.leaves c.store_packet.ensures.leaves
+    (λ files reads. costs (file_of files c.args.piece.now.file) c.args.at c.in-Some.head
     (rw c.in-Some.is at (c.in_ok-head.ensures.fields files reads)) (rw c.in-Some.is at (c.in_ok-head.ensures.found files reads)))
 
 pub returns-in-Some-clause-memory : goal.returns-in-Some-clause-memory
 returns-in-Some-clause-memory g c = λ files reads _.
-    let was = SalvagesAtMost-older _ _ c.args.file _ c.store_packet.result c.store_packet.ensures.leaves files reads in
+    let was = SalvagesAtMost-older _ _ c.args.piece.now.file _ c.store_packet.result c.store_packet.ensures.leaves files reads in
     sym (rw c.in-Some.is at (c.in_ok-head.ensures.found files was))
 
 pub returns-in-None-clause-found : goal.returns-in-None-clause-found
 returns-in-None-clause-found g c = λ files reads.
-    let none : false ≡ is_packet_at (file_of files c.args.file) c.args.at
+    let none : false ≡ is_packet_at (file_of files c.args.piece.now.file) c.args.at
     = rw c.in-None.is at (c.in_ok-head.ensures.found files reads) in
-    FoundBelow-none c.args.file c.args.at (c.args.at + 1) _ _
+    FoundBelow-none c.args.piece.now.file c.args.at (c.args.at + 1) _ _
     (c.requires.found files (c.in_ok-head.ensures.leaves.older files reads)) (omega arith)
     (λ k low high.
     let here : k ≡ c.args.at = omega arith in
-    ap (is_packet_at (file_of files c.args.file)) here ∙ sym none)
+    ap (is_packet_at (file_of files c.args.piece.now.file)) here ∙ sym none)
 
 pub overflow_sub-length : goal.overflow_sub-length
 overflow_sub-length g c = grind (arith, common_steps) steps 100000
 
 pub returns-then-length-at-lt64-clause-lies : goal.returns-then-length-at-lt64-clause-lies
 returns-then-length-at-lt64-clause-lies g c = grind (arith, common_steps) steps 1500000
-
-pub validate-requires-clause-file : goal.validate-requires-clause-file
-validate-requires-clause-file g c = grind (arith, common_steps) steps 100000
 
 pub validate-requires-clause-within : goal.validate-requires-clause-within
 validate-requires-clause-within g c = grind (arith, common_steps) steps 100000
@@ -80,10 +78,7 @@ returns-in_err-head-clause-found g c = grind (arith, common_steps) steps 100000
 pub returns-in_err-head-clause-leaves : goal.returns-in_err-head-clause-leaves
 returns-in_err-head-clause-leaves g c =
     let same = err_from_is_err_and c.from_residual.result c.from_residual.ensures.1 in
-    rw (same.1, same.2) (FaultsAfter-wider _ _ c.args.file _ _ _ c.in_err-head.ensures.leaves (λ files reads. omega arith))
-
-pub store_packet-requires-clause-file : goal.store_packet-requires-clause-file
-store_packet-requires-clause-file g c = grind (arith, common_steps) steps 100000
+    rw (same.1, same.2) (FaultsAfter-wider _ _ c.args.piece.now.file _ _ _ c.in_err-head.ensures.leaves (λ files reads. omega arith))
 
 pub store_packet-requires-clause-within : goal.store_packet-requires-clause-within
 store_packet-requires-clause-within g c = grind (arith, common_steps) steps 100000
@@ -92,8 +87,7 @@ pub store_packet-requires-clause-long : goal.store_packet-requires-clause-long
 store_packet-requires-clause-long g c = grind (arith, common_steps) steps 100000
 
 pub store_packet-requires-clause-piece : goal.store_packet-requires-clause-piece
-store_packet-requires-clause-piece g c = λ files reads.
-    c.requires.piece files (c.in_ok-head.ensures.leaves.older files reads)
+store_packet-requires-clause-piece g c = IsPieceOf-read _ _ _ _ c.in_ok-head.ensures.leaves c.requires.piece
 
 pub store_packet-requires-clause-packet : goal.store_packet-requires-clause-packet
 store_packet-requires-clause-packet g c = λ files reads.
@@ -117,4 +111,4 @@ pub returns-in-None-clause-lies : goal.returns-in-None-clause-lies
 returns-in-None-clause-lies g c = grind (arith, common_steps) steps 1500000
 
 pub returns-in-None-clause-leaves : goal.returns-in-None-clause-leaves
-returns-in-None-clause-leaves g c = Hands-wider _ _ c.args.file _ _ c.in_ok-head.ensures.leaves (λ files reads. omega arith)
+returns-in-None-clause-leaves g c = Hands-wider _ _ c.args.piece.now.file _ _ c.in_ok-head.ensures.leaves (λ files reads. omega arith)

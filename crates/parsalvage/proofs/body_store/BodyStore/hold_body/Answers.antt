@@ -1,12 +1,9 @@
-use Rattle.std.proofs.Common.{◌≡◌, ◌∙◌, ap, sym, length, take, drop, length-drop, arith}
+use Rattle.std.proofs.Common.{◌≡◌, ◌-◌, ◌∙◌, ap, sym, length, take, drop, length-drop, arith, rules}
 use Rattle.std.proofs.lemmas.List.{length-take-le}
 use Rattle.std.proofs.lemmas.Grind.{common_steps}
 use Rattle.parsalvage.specs.Kept.{kept_body}
 use Rattle.parsalvage.proofs.KeptLaws.{kept_whole}
-use Rattle.parsalvage.proofs.stored_body.hold_body.Goals as goal
-
-pub hold-requires-clause-file : goal.hold-requires-clause-file
-hold-requires-clause-file g c = grind (arith, common_steps) steps 100000
+use Rattle.parsalvage.proofs.body_store.BodyStore.hold_body.Goals as goal
 
 pub hold-requires-clause-within : goal.hold-requires-clause-within
 hold-requires-clause-within g c = grind (arith, common_steps) steps 100000
@@ -62,21 +59,18 @@ returns-then-is_whole-clause-run g c = grind (arith, common_steps) steps 100000
 pub returns-then-is_whole-clause-body : goal.returns-then-is_whole-clause-body
 returns-then-is_whole-clause-body g c = λ files reads.
     let part = c.in_ok-place.ensures.part files reads in
-    let long : length (take c.args.size (drop c.in_ok-place.place c.hold.new.bodies.bytes.items)) ≡ c.args.size
-    = length-take-le _ _ (omega (arith, c.in_ok-place.ensures.fits, length-drop c.in_ok-place.place c.hold.new.bodies.bytes.items)) in
-    sym (kept_whole c.args.kind _ c.args.size long (rw c.if-is_whole.true at c.is_whole.ensures)) ∙ ap (kept_body c.args.kind) part
+    let long : length (take (c.args.head.length - 64) (drop c.in_ok-place.place c.hold.new.self.bytes.items)) ≡ c.args.head.length - 64
+    = length-take-le _ _ (omega (arith, c.in_ok-place.ensures.fits, length-drop c.in_ok-place.place c.hold.new.self.bytes.items)) in
+    sym (kept_whole c.args.head.kind _ (c.args.head.length - 64) long (rw c.if-is_whole.true at c.is_whole.ensures)) ∙ ap (kept_body c.args.head.kind) part
 
 pub returns-then-is_whole-clause-leaves : goal.returns-then-is_whole-clause-leaves
 returns-then-is_whole-clause-leaves g c = grind (arith, common_steps) steps 100000
 
-pub front_at-requires-clause-file : goal.front_at-requires-clause-file
-front_at-requires-clause-file g c = grind (arith, common_steps) steps 100000
+pub read_front-requires-clause-within : goal.read_front-requires-clause-within
+read_front-requires-clause-within g c = grind (arith, common_steps) steps 100000
 
-pub front_at-requires-clause-within : goal.front_at-requires-clause-within
-front_at-requires-clause-within g c = grind (arith, common_steps) steps 100000
-
-pub front_at-requires-clause-piece : goal.front_at-requires-clause-piece
-front_at-requires-clause-piece g c = grind (arith, common_steps) steps 100000
+pub read_front-requires-clause-piece : goal.read_front-requires-clause-piece
+read_front-requires-clause-piece g c = grind (arith, common_steps) steps 100000
 
 pub returns-in_err-first-clause-store : goal.returns-in_err-first-clause-store
 returns-in_err-first-clause-store g c = grind (arith, common_steps) steps 100000
@@ -119,3 +113,9 @@ returns-clause-leaves g c = grind (arith, common_steps) steps 100000
 
 pub returns-clause-body : goal.returns-clause-body
 returns-clause-body g c = grind (arith, common_steps, g.met.H.Shelf.well_formed)
+
+pub overflow_add-from : goal.overflow_add-from
+overflow_add-from g c = search rules steps 300000
+
+pub overflow_sub-size : goal.overflow_sub-size
+overflow_sub-size g c = grind (arith, common_steps) steps 100000

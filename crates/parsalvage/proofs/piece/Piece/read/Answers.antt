@@ -1,6 +1,6 @@
 use Rattle.std.proofs.Common.{arith}
 use Rattle.parsalvage.proofs.HandLaws.{Hands-none, ReadsAtMost-from}
-use Rattle.parsalvage.proofs.piece.read.Goals as goal
+use Rattle.parsalvage.proofs.piece.Piece.read.Goals as goal
 
 pub returns-in-Some-clause-leaves : goal.returns-in-Some-clause-leaves
 returns-in-Some-clause-leaves g c = Hands-none _ _ _

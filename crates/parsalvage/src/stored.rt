@@ -1,0 +1,25 @@
+use parfield::{Hash16, Kind};
+
+/// A packet of a file.
+#[derive(Clone, Copy)]
+pub struct StoredPacket {
+    /// The offset in the file.
+    pub at: u64,
+    /// The length of the whole packet in bytes, its header included.
+    pub length: u64,
+    /// The recovery set ID.
+    pub set: Hash16,
+    /// What the packet is for.
+    pub kind: Kind,
+    /// What is held of its body.
+    pub body: StoredBody,
+}
+
+/// What is held of a packet's body.
+#[derive(Clone, Copy)]
+pub enum StoredBody {
+    /// All of it, at this place of the bytes that are held.
+    Whole { place: usize, size: usize },
+    /// Its first four bytes, filled with zeros if it is shorter, and its length in bytes.
+    Front { first: [u8; 4], len: u64 },
+}
