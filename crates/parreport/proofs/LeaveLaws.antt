@@ -11,9 +11,9 @@ use Rattle.parfind.proofs.track_laws.LaterShelfLaws.{Later, later_only, later_fa
 use Rattle.parreport.specs.Files.{FilesLeave}
 use Rattle.parreport.specs.Outcomes.{LeavesPackets, LeavesScanned, TellsPackets, TellsScanned}
 use Rattle.parplan.specs.declared.command.Plan.{Plan}
-use Rattle.parreport.specs.declared.text.faults.RunFault.{RunFault}
-use Rattle.parreport.specs.declared.text.faults.RunFault.TheVariants as fault
-use Rattle.parreport.specs.declared.text.status.Status.{Status}
+use Rattle.parreport.specs.declared.faults.RunFault.{RunFault}
+use Rattle.parreport.specs.declared.faults.RunFault.TheVariants as fault
+use Rattle.parreport.specs.declared.status.Status.{Status}
 
 -- nothing was read
 pub ReadsOnly-same : (s t : ShelfState) → t ≡ s → ReadsOnly s t

@@ -7,8 +7,8 @@ use Rattle.parreport.specs.Faults.{listing_of, IsSearchFault, OnScannedFault}
 use Rattle.parreport.specs.FindText.{WritesLine}
 use Rattle.parreport.specs.Outcomes.{Answers, TellsScanned, LeavesSink}
 use Rattle.parreport.specs.Report.{listed}
-use Rattle.parreport.specs.declared.text.faults.RunFault.{RunFault}
-use Rattle.parreport.specs.declared.text.faults.RunFault.TheVariants as fault
+use Rattle.parreport.specs.declared.faults.RunFault.{RunFault}
+use Rattle.parreport.specs.declared.faults.RunFault.TheVariants as fault
 use Rattle.parreport.proofs.BlockLaws.{appended_twice}
 
 -- a beginning of a part that follows what was written, and then a failure

@@ -9,9 +9,9 @@ use Rattle.parshelf.specs.SinkState.{SinkState, FailsAfterPrefix}
 use Rattle.parreport.proofs.CountLaws.{zip-drop_more}
 use Rattle.parplan.specs.declared.command.Command.TheVariants as command
 use Rattle.parreport.specs.Outcomes.{Answers, may_follow_text, written}
-use Rattle.parreport.specs.declared.text.status.Status.{Status}
-use Rattle.parreport.specs.declared.text.faults.RunFault.{RunFault}
-use Rattle.parreport.specs.declared.text.faults.RunFault.TheVariants as fault
+use Rattle.parreport.specs.declared.status.Status.{Status}
+use Rattle.parreport.specs.declared.faults.RunFault.{RunFault}
+use Rattle.parreport.specs.declared.faults.RunFault.TheVariants as fault
 
 -- a part broke that follows what was taken on before
 pub StopsIn_later : (why : RunFault) (a b c : SinkState) (text waiting part rest : List ℕ) → IsBuffered a b text (waiting ++ (part ++ rest))

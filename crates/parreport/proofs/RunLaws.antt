@@ -20,7 +20,7 @@ use Rattle.parfield.specs.declared.hash16.Hash16.{Hash16}
 use Rattle.parfind.specs.Starts.{TellsTails}
 use Rattle.parfind.specs.declared.searches.start_fault.StartFault.{StartFault}
 use Rattle.parfind.specs.declared.searches.start_fault.StartFault.TheVariants as start_fault
-use Rattle.parreport.specs.declared.text.faults.RunFault.TheVariants as fault
+use Rattle.parreport.specs.declared.faults.RunFault.TheVariants as fault
 use Rattle.parshelf.specs.SinkState.{SinkState, WritesPrefix}
 use Rattle.parfind.specs.declared.surveys.surveying.SurveyFault.{SurveyFault}
 use Rattle.parfind.specs.declared.surveys.surveying.SurveyFault.TheVariants as survey_fault

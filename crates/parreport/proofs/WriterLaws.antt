@@ -5,8 +5,8 @@ use Rattle.parshelf.specs.SinkState.{SinkState}
 use Rattle.parreport.specs.Blocks.{IsBuffered, WrotePrefix}
 use Rattle.parreport.specs.Writers.{Writes}
 use Rattle.parreport.specs.declared.text.block_writer.BlockWriter.{BlockWriter}
-use Rattle.parreport.specs.declared.text.faults.RunFault.{RunFault}
-use Rattle.parreport.specs.declared.text.faults.RunFault.TheVariants.{Memory}
+use Rattle.parreport.specs.declared.faults.RunFault.{RunFault}
+use Rattle.parreport.specs.declared.faults.RunFault.TheVariants.{Memory}
 use Rattle.parreport.proofs.BlockLaws.{IsBuffered_all, IsBuffered_more, WrotePrefix_all}
 use Rattle.parreport.proofs.ListingLaws.{StopsIn_later}
 

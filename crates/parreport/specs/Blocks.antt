@@ -1,8 +1,8 @@
 -- A text that is written in blocks: some of it was written, and the rest of it waits in a buffer.
 use Rattle.std.specs.Prelude.{◌≡◌, ℕ, ◌<◌, List, [], ◌++◌, length}
 use Rattle.parshelf.specs.SinkState.{SinkState, appended, FailsAfterPrefix}
-use Rattle.parreport.specs.declared.text.faults.RunFault.{RunFault}
-use Rattle.parreport.specs.declared.text.faults.RunFault.TheVariants as fault
+use Rattle.parreport.specs.declared.faults.RunFault.{RunFault}
+use Rattle.parreport.specs.declared.faults.RunFault.TheVariants as fault
 
 -- nothing is written before so many bytes wait
 abbrev pub block : ℕ

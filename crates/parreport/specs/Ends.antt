@@ -7,12 +7,12 @@ use Rattle.parshelf.specs.declared.shelves.disk.OpenFault.TheVariants.{CannotOpe
 use Rattle.parplan.specs.Commands.{scanned_paths_of}
 use Rattle.parplan.specs.declared.command.Plan.{Plan}
 use Rattle.parplan.specs.declared.command.PlanFault.TheVariants as plan_fault
-use Rattle.parreport.specs.declared.text.faults.RunFault.{RunFault}
-use Rattle.parreport.specs.declared.text.faults.RunFault.TheVariants as run
-use Rattle.parreport.specs.declared.text.status.Status.{Status}
-use Rattle.parreport.specs.declared.text.status.Status.TheVariants as status
-use Rattle.parreport.specs.declared.text.faults.Cause.{Cause}
-use Rattle.parreport.specs.declared.text.faults.Cause.TheVariants as cause
+use Rattle.parreport.specs.declared.faults.RunFault.{RunFault}
+use Rattle.parreport.specs.declared.faults.RunFault.TheVariants as run
+use Rattle.parreport.specs.declared.status.Status.{Status}
+use Rattle.parreport.specs.declared.status.Status.TheVariants as status
+use Rattle.parreport.specs.declared.faults.Cause.{Cause}
+use Rattle.parreport.specs.declared.faults.Cause.TheVariants as cause
 use Rattle.parreport.specs.declared.ends.End.{End}
 use Rattle.parreport.specs.declared.ends.End.TheVariants as end
 

@@ -8,11 +8,11 @@ use Rattle.parfind.specs.declared.searches.start_fault.StartFault.{StartFault}
 use Rattle.parfind.specs.declared.searches.start_fault.StartFault.TheVariants as start_fault
 use Rattle.parset.specs.declared.recovery_set.SetFault.{SetFault}
 use Rattle.parset.specs.declared.recovery_set.SetFault.TheVariants as set_fault
-use Rattle.parreport.specs.declared.text.faults.Cause.TheVariants as cause
-use Rattle.parreport.specs.declared.text.faults.RunFault.{RunFault}
-use Rattle.parreport.specs.declared.text.faults.RunFault.TheVariants as fault
-use Rattle.parreport.specs.declared.text.status.Status.{Status}
-use Rattle.parreport.specs.declared.text.status.Status.TheVariants.{Listed}
+use Rattle.parreport.specs.declared.faults.Cause.TheVariants as cause
+use Rattle.parreport.specs.declared.faults.RunFault.{RunFault}
+use Rattle.parreport.specs.declared.faults.RunFault.TheVariants as fault
+use Rattle.parreport.specs.declared.status.Status.{Status}
+use Rattle.parreport.specs.declared.status.Status.TheVariants.{Listed}
 
 -- the fault that a cause why there is no set is answered as
 abbrev pub set_fault_of : SetFault → RunFault

@@ -15,9 +15,9 @@ use Rattle.parreport.specs.Names.{list_of, names_of}
 use Rattle.parreport.specs.Lines.{sighting_line, end_line, cursor_line}
 use Rattle.parshelf.specs.SinkState.{SinkState, appended, FailsAfterPrefix}
 use Rattle.parplan.specs.declared.command.Scanned.{Scanned}
-use Rattle.parreport.specs.declared.text.find.Query.{Query}
-use Rattle.parreport.specs.declared.text.faults.RunFault.{RunFault}
-use Rattle.parreport.specs.declared.text.faults.RunFault.TheVariants as fault
+use Rattle.parreport.specs.declared.text.find.query.Query.{Query}
+use Rattle.parreport.specs.declared.faults.RunFault.{RunFault}
+use Rattle.parreport.specs.declared.faults.RunFault.TheVariants as fault
 
 -- a search for the slices of a set in this mode, from a cursor on, in scanned files of these names
 -- and contents

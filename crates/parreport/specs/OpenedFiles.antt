@@ -10,8 +10,8 @@ use Rattle.parreport.specs.OtherLists.{TellsList}
 use Rattle.parreport.specs.Report.{report_of}
 use Rattle.parshelf.specs.SinkState.{SinkState}
 use Rattle.parreport.specs.declared.ends.End.{End}
-use Rattle.parreport.specs.declared.text.status.Status.{Status}
-use Rattle.parreport.specs.declared.text.faults.RunFault.{RunFault}
+use Rattle.parreport.specs.declared.status.Status.{Status}
+use Rattle.parreport.specs.declared.faults.RunFault.{RunFault}
 use Rattle.parplan.specs.declared.command.Plan.{Plan}
 
 -- the exit status and the line on standard error are those of this end, about this argument

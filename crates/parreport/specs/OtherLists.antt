@@ -5,9 +5,9 @@ use Rattle.parfind.specs.declared.cursors.cursor_text.CursorText.{CursorText}
 use Rattle.parplan.specs.declared.command.Plan.{Plan}
 use Rattle.parreport.specs.Names.{list_of, names_of}
 use Rattle.parreport.specs.Outcomes.{OnFind}
-use Rattle.parreport.specs.declared.text.faults.RunFault.{RunFault}
-use Rattle.parreport.specs.declared.text.faults.RunFault.TheVariants as fault
-use Rattle.parreport.specs.declared.text.status.Status.{Status}
+use Rattle.parreport.specs.declared.faults.RunFault.{RunFault}
+use Rattle.parreport.specs.declared.faults.RunFault.TheVariants as fault
+use Rattle.parreport.specs.declared.status.Status.{Status}
 
 -- the cursor of a search is one of the list of the scanned files, by their names and these lengths
 abbrev pub is_for_files : Plan → List ℕ → Option CursorText → Bool

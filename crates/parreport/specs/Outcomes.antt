@@ -18,10 +18,10 @@ use Rattle.parshelf.specs.SinkState.{SinkState, appended, WritesPrefix, FailsAft
 use Rattle.parplan.specs.declared.command.Command.{Command}
 use Rattle.parplan.specs.declared.command.Command.TheVariants as command
 use Rattle.parplan.specs.declared.command.Plan.{Plan}
-use Rattle.parreport.specs.declared.text.find.Query.{Query}
-use Rattle.parreport.specs.declared.text.faults.RunFault.{RunFault}
-use Rattle.parreport.specs.declared.text.faults.RunFault.TheVariants as fault
-use Rattle.parreport.specs.declared.text.status.Status.{Status}
+use Rattle.parreport.specs.declared.text.find.query.Query.{Query}
+use Rattle.parreport.specs.declared.faults.RunFault.{RunFault}
+use Rattle.parreport.specs.declared.faults.RunFault.TheVariants as fault
+use Rattle.parreport.specs.declared.status.Status.{Status}
 
 -- the whole text and its answer; or a cause, which is the answer, and no text; or a fault after a
 -- beginning of the text

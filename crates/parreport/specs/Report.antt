@@ -24,11 +24,11 @@ use Rattle.parreport.specs.VerifyText.{verify_text, verify_status_of}
 use Rattle.parplan.specs.declared.command.Command.{Command}
 use Rattle.parplan.specs.declared.command.Command.TheVariants as command
 use Rattle.parplan.specs.declared.command.Plan.{Plan}
-use Rattle.parreport.specs.declared.text.find.Query.{Query}
-use Rattle.parreport.specs.declared.text.faults.RunFault.{RunFault}
-use Rattle.parreport.specs.declared.text.faults.RunFault.TheVariants as fault
-use Rattle.parreport.specs.declared.text.status.Status.{Status}
-use Rattle.parreport.specs.declared.text.status.Status.TheVariants.{Listed}
+use Rattle.parreport.specs.declared.text.find.query.Query.{Query}
+use Rattle.parreport.specs.declared.faults.RunFault.{RunFault}
+use Rattle.parreport.specs.declared.faults.RunFault.TheVariants as fault
+use Rattle.parreport.specs.declared.status.Status.{Status}
+use Rattle.parreport.specs.declared.status.Status.TheVariants.{Listed}
 
 -- a text, and the answer where nothing comes between
 pub record Report : Type 0 where

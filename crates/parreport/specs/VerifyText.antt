@@ -14,8 +14,8 @@ use Rattle.parreport.specs.Findings.{findings_of, need_of, found_count_of}
 use Rattle.parreport.specs.declared.states.findings.Findings.{Findings}
 use Rattle.parreport.specs.declared.states.state.State.{State}
 use Rattle.parreport.specs.declared.states.state.State.TheVariants as state
-use Rattle.parreport.specs.declared.text.status.Status.{Status}
-use Rattle.parreport.specs.declared.text.status.Status.TheVariants as status
+use Rattle.parreport.specs.declared.status.Status.{Status}
+use Rattle.parreport.specs.declared.status.Status.TheVariants as status
 
 -- `complete <name>`
 unfoldable pub complete_line : List ℕ → List ℕ

@@ -3,7 +3,7 @@ use Rattle.std.specs.Prelude.{◌≡◌, ℕ, List, ◌++◌, Result, OnOk, IfEr
 use Rattle.parshelf.specs.SinkState.{SinkState}
 use Rattle.parreport.specs.Blocks.{IsBuffered, StopsIn}
 use Rattle.parreport.specs.declared.text.block_writer.BlockWriter.{BlockWriter}
-use Rattle.parreport.specs.declared.text.faults.RunFault.{RunFault}
+use Rattle.parreport.specs.declared.faults.RunFault.{RunFault}
 
 -- the text follows what waited in the writer, and is on its way to the same sink, or stopped there
 pub record Writes {W A : Type 0} (state : W → SinkState) (old new : BlockWriter W) (text : List ℕ)

@@ -2,7 +2,8 @@ ghost use Rattle.std.specs.Prelude.{◌≡◌, map, option_map, slice_get};
 ghost use Rattle.parreport.specs.Ends.{argument_of, run_end_of, open_end_of};
 ghost use Rattle.parplan.specs.Commands.{scanned_paths_of};
 
-use crate::text::{RunFault, Status};
+use crate::faults::RunFault;
+use crate::status::Status;
 use parfield::Text;
 use parplan::{Plan, PlanFault, Scanned, files_to_scan};
 use parshelf::OpenFault;

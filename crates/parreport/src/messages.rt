@@ -3,7 +3,8 @@ ghost use Rattle.parfield.specs.Shown.{shown};
 ghost use Rattle.parreport.specs.Ends.{exit_status_of, message_of, error_line_of, cause_text};
 
 use crate::ends::End;
-use crate::text::{Cause, RunFault, Status};
+use crate::faults::{Cause, RunFault};
+use crate::status::Status;
 use parfield::Shown;
 use parplan::PlanFault;
 use std::alloc::{AllocError, Global};

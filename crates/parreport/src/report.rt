@@ -8,8 +8,10 @@ ghost use Rattle.parreport.specs.Outcomes.{is_packet_file_fault, written, may_fo
 ghost use Rattle.parreport.specs.OtherLists.{TellsList};
 ghost use Rattle.parreport.specs.Report.{report_of, command_report};
 
+use crate::faults::RunFault;
 use crate::salvage::salvage_files;
-use crate::text::{Query, RunFault, Status, write_find, write_packets, write_set, write_verify};
+use crate::status::Status;
+use crate::text::{Query, write_find, write_packets, write_set, write_verify};
 use parplan::{Command, Plan};
 use parsalvage::Kept;
 use parset::{RecoverySet, build};

@@ -5,7 +5,7 @@ ghost use Rattle.parreport.specs.Faults.{IsPacketFault};
 ghost use Rattle.parreport.specs.Costs.{HandsWithinSalvage};
 ghost use Rattle.parreport.specs.Outcomes.{TellsPackets};
 
-use crate::text::RunFault;
+use crate::faults::RunFault;
 use parsalvage::{Kept, SalvageFault, salvage_file};
 use parshelf::Shelf;
 use std::alloc::Global;

@@ -1,7 +1,7 @@
 ghost use Rattle.std.specs.Prelude.{◌<◌, length, string_bytes};
 ghost use Rattle.parreport.specs.Blocks.{block};
 
-use crate::text::faults::RunFault;
+use crate::faults::RunFault;
 use parshelf::{Sink, write_text};
 use std::alloc::Global;
 use std::mem::replace;

@@ -9,9 +9,9 @@ ghost use Rattle.parreport.specs.Names.{list_of, names_of};
 ghost use Rattle.parreport.specs.Report.{find_report, find_start_of, start_of};
 ghost use Rattle.parplan.specs.declared.command.Command.TheVariants as command;
 
-use crate::text::faults::RunFault;
+use crate::faults::RunFault;
+use crate::status::Status;
 use crate::text::find::sightings::write_sightings;
-use crate::text::status::Status;
 use parfind::{Cursor, CursorText, Foreign};
 use parplan::{Plan, Scanned};
 use parset::RecoverySet;
@@ -19,18 +19,10 @@ use parshelf::{Shelf, Sink, list_mark};
 use std::alloc::Global;
 
 mod lines;
+mod query;
 mod sightings;
 
-/// What `find` is asked for.
-#[derive(Clone, Copy)]
-pub(crate) struct Query {
-    /// How many lines at most, where there is a limit.
-    pub limit: Option<u64>,
-    /// Where to begin, and the set and the list of files in which a search stood there.
-    pub cursor: Option<CursorText>,
-    /// Whether short slices are seen whatever bytes come behind them.
-    pub tails: bool,
-}
+pub(crate) use crate::text::find::query::Query;
 
 /// Writes where slices of the set are seen, from the cursor on.
 // Inlined, its finder would stay on the stack beside the arrays of salvage.

@@ -1,9 +1,9 @@
 ghost use Rattle.std.specs.Prelude.{◌≡◌, Ok, IfErr};
 ghost use Rattle.parreport.specs.Outcomes.{Answers, LeavesSink};
-ghost use Rattle.parreport.specs.declared.text.faults.RunFault.TheVariants as run_fault;
+ghost use Rattle.parreport.specs.declared.faults.RunFault.TheVariants as run_fault;
 
-use crate::text::faults::RunFault;
-use crate::text::status::Status;
+use crate::faults::RunFault;
+use crate::status::Status;
 use parshelf::{Sink, write_text};
 
 /// Writes what is left of a text, and gives the status that goes with it.

@@ -3,11 +3,11 @@ ghost use Rattle.parreport.specs.Outcomes.{is_read_fault, written, may_follow_te
 ghost use Rattle.parreport.specs.Report.{set_report};
 ghost use Rattle.parplan.specs.declared.command.Command.TheVariants as command;
 
+use crate::faults::RunFault;
+use crate::status::Status;
 use crate::text::block_writer::BlockWriter;
-use crate::text::faults::RunFault;
 use crate::text::rest::write_rest;
 use crate::text::set::lines::write_set_text;
-use crate::text::status::Status;
 use parplan::Plan;
 use parset::RecoverySet;
 use parshelf::Sink;

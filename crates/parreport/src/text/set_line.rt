@@ -2,8 +2,8 @@ ghost use Rattle.std.specs.Prelude.{◌≡◌, ◌++◌, OnOk, string_bytes};
 ghost use Rattle.parreport.specs.Lines.{set_line};
 ghost use Rattle.parreport.specs.Writers.{Writes};
 
+use crate::faults::RunFault;
 use crate::text::block_writer::BlockWriter;
-use crate::text::faults::RunFault;
 use parset::RecoverySet;
 use parshelf::Sink;
 use std::alloc::AllocError;

@@ -3,7 +3,7 @@ ghost use Rattle.parreport.specs.FindText.{found_line, line_of_slice, WritesLine
 ghost use Rattle.parreport.specs.Names.{names_of};
 ghost use Rattle.parreport.specs.Lines.{sighting_line, end_line, cursor_line};
 
-use crate::text::faults::RunFault;
+use crate::faults::RunFault;
 use crate::text::names::scanned_name;
 use parfield::{Hash16, Shown};
 use parfind::{Cursor, Sighting};

@@ -7,15 +7,15 @@ ghost use Rattle.parwindow.specs.Index.{slice_set_of};
 ghost use Rattle.parreport.specs.Contents.{HandsPerFile};
 ghost use Rattle.parreport.specs.Faults.{listing_of, IsFindFault, IsSearchFault, OnScannedFault};
 ghost use Rattle.parreport.specs.SetSearch.{mode_of, has_too_many_tails, set_sought_of};
-ghost use Rattle.parreport.specs.declared.text.faults.RunFault.TheVariants as run_fault;
+ghost use Rattle.parreport.specs.declared.faults.RunFault.TheVariants as run_fault;
 ghost use Rattle.parreport.specs.FindText.{find_text, limit_left, find_search_of, WritesLinesBefore};
 ghost use Rattle.parreport.specs.Outcomes.{Answers, TellsScanned, LeavesSink};
 ghost use Rattle.parreport.specs.Report.{listed, search_report};
 
+use crate::faults::RunFault;
 use crate::modes::mode_of;
-use crate::text::faults::RunFault;
-use crate::text::find::Query;
 use crate::text::find::lines::{write_cursor, write_end, write_sighting};
+use crate::text::find::query::Query;
 use parfind::{Cursor, Finder, Step};
 use parplan::Scanned;
 use parset::RecoverySet;

@@ -4,8 +4,8 @@ ghost use Rattle.parreport.specs.Lines.{packet_line, count_line, kind_word};
 ghost use Rattle.parreport.specs.PacketsText.{chosen_of, kept_line, packets_text};
 ghost use Rattle.parreport.specs.Writers.{Writes};
 
+use crate::faults::RunFault;
 use crate::text::block_writer::BlockWriter;
-use crate::text::faults::RunFault;
 use crate::text::names::packet_name;
 use parfield::{Hash16, Kind, Shown, Text};
 use parsalvage::Kept;

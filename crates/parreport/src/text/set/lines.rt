@@ -4,8 +4,8 @@ ghost use Rattle.parreport.specs.Lines.{file_line, others_line, have_line, creat
 ghost use Rattle.parreport.specs.SetText.{set_text, counts_lines, creator_lines, set_aside_line};
 ghost use Rattle.parreport.specs.Writers.{Writes};
 
+use crate::faults::RunFault;
 use crate::text::block_writer::BlockWriter;
-use crate::text::faults::RunFault;
 use crate::text::names::packet_name;
 use crate::text::set_line::write_set_line;
 use parfield::{Shown, Text};

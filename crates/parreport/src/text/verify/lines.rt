@@ -6,12 +6,12 @@ ghost use Rattle.parreport.specs.Names.{names_of};
 ghost use Rattle.parreport.specs.VerifyText.{state_line, counted_line, complete_line, renamed_line, damaged_line, missing_line, need_line, result_line, status_word, states_text, result_text, findings_text};
 ghost use Rattle.parreport.specs.Writers.{Writes};
 
+use crate::faults::RunFault;
 use crate::states::{Findings, State};
+use crate::status::Status;
 use crate::text::block_writer::BlockWriter;
-use crate::text::faults::RunFault;
 use crate::text::names::scanned_name;
 use crate::text::set_line::write_set_line;
-use crate::text::status::Status;
 use crate::text::verify::counts::{count_at, found_counts};
 use crate::text::verify::status::status_of;
 use parfield::{Hash16, Shown};

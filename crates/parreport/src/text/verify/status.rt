@@ -4,7 +4,7 @@ ghost use Rattle.parreport.specs.States.{is_complete};
 ghost use Rattle.parreport.specs.VerifyText.{status_from, status_of};
 
 use crate::states::{Findings, State};
-use crate::text::status::Status;
+use crate::status::Status;
 use parset::RecoverySet;
 
 /// The status that the findings come to.

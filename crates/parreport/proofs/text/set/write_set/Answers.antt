@@ -1,6 +1,6 @@
 use Rattle.std.proofs.Common.{rules, Ok, string_bytes}
 use Rattle.parreport.specs.SetText.{set_text}
-use Rattle.parreport.specs.declared.text.status.Status.TheVariants.{Listed}
+use Rattle.parreport.specs.declared.status.Status.TheVariants.{Listed}
 use Rattle.parreport.proofs.ListingLaws.{listed_ends}
 use Rattle.parreport.proofs.text.set.write_set.Goals as goal
 

@@ -9,12 +9,12 @@ use Rattle.parreport.specs.States.{named_files}
 use Rattle.parreport.specs.declared.states.findings.Findings.{Findings}
 use Rattle.parplan.specs.declared.command.Plan.{Plan}
 use Rattle.parreport.specs.Outcomes.{Answers, may_follow_text, written}
-use Rattle.parreport.specs.declared.text.faults.RunFault.{RunFault}
-use Rattle.parreport.specs.declared.text.faults.RunFault.TheVariants as fault
+use Rattle.parreport.specs.declared.faults.RunFault.{RunFault}
+use Rattle.parreport.specs.declared.faults.RunFault.TheVariants as fault
 use Rattle.parplan.specs.declared.command.Command.TheVariants as command
 use Rattle.parreport.specs.Report.{Report, verify_report}
 use Rattle.parreport.specs.VerifyText.{status_of, findings_text}
-use Rattle.parreport.specs.declared.text.status.Status.{Status}
+use Rattle.parreport.specs.declared.status.Status.{Status}
 use Rattle.parfind.specs.Sought.{HasFewTails, sought_of}
 use Rattle.parfind.specs.declared.tracks.mode.Mode.{Mode}
 use Rattle.parreport.specs.SetSearch.{mode_of, set_sought_of}

@@ -1,6 +1,6 @@
 ghost use Rattle.std.specs.Prelude.{◌≡◌};
 ghost use Rattle.parreport.specs.Faults.{set_fault_of, scanned_fault_of, start_fault_of, foreign_fault_of};
-ghost use Rattle.parreport.specs.declared.text.faults.RunFault.TheVariants as run_fault;
+ghost use Rattle.parreport.specs.declared.faults.RunFault.TheVariants as run_fault;
 
 use parfield::Hash16;
 use parfind::{Foreign, StartFault, SurveyFault};
