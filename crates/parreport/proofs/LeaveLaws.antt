@@ -1,15 +1,16 @@
 -- What reading many files leaves of them, one call after another.
-use Rattle.std.proofs.Common.{◌≡◌, Result, Ok, Err, true, false, ap, subst, sym}
+use Rattle.std.proofs.Common.{◌≡◌, Result, Ok, Err, true, false, ap, refl, subst, sym}
 use Rattle.parshelf.specs.Shelf.{ShelfState, Older}
 use Rattle.parshelf.specs.Reads.{ReadsOnly}
 use Rattle.parshelf.proofs.ReadLaws.{ReadsOnly-refl, ReadsOnly_more, FaultsIn_more}
 use Rattle.parfind.specs.Sought.{Sought, HasFewTails}
 use Rattle.parfind.specs.Surveys.{SurveyPoint, SurveyLeaves, SurveyTellsTails}
 use Rattle.parfind.specs.declared.surveys.surveying.SurveyFault.{SurveyFault}
-use Rattle.parfind.specs.declared.surveys.surveying.SurveyFault.TheVariants.{Read, Memory, TooManyTails}
+use Rattle.parfind.specs.declared.surveys.surveying.SurveyFault.TheVariants as survey_fault
 use Rattle.parfind.proofs.track_laws.LaterShelfLaws.{Later, later_only, later_fault}
-use Rattle.parreport.specs.Files.{FilesLeave}
-use Rattle.parreport.specs.Outcomes.{LeavesPackets, LeavesScanned, TellsPackets, TellsScanned}
+use Rattle.parreport.specs.Faults.{scanned_fault_of}
+use Rattle.parreport.specs.Outcomes.{FaultTells, LeavesPackets, LeavesScanned, LeavesSink, TellsPackets, TellsScanned, is_packet_file_fault}
+use Rattle.parshelf.specs.SinkState.{SinkState}
 use Rattle.parplan.specs.declared.command.Plan.{Plan}
 use Rattle.parreport.specs.declared.faults.RunFault.{RunFault}
 use Rattle.parreport.specs.declared.faults.RunFault.TheVariants as fault
@@ -20,23 +21,64 @@ pub ReadsOnly-same : (s t : ShelfState) → t ≡ s → ReadsOnly s t
 ReadsOnly-same s t same = subst (ReadsOnly s) (sym same) (ReadsOnly-refl s)
 
 -- a fault after other calls that only read
-pub FilesLeave_more : (s t u : ShelfState) (why : SurveyFault) → ReadsOnly s t → FilesLeave t u why → FilesLeave s u why
-FilesLeave_more s t u (Read file fault) before next = FaultsIn_more s t u file fault before next
-FilesLeave_more s t u Memory before next = ReadsOnly_more s t u before next
-FilesLeave_more s t u TooManyTails before next = absurd next
+pub FaultTells_more : (s t u : ShelfState) (why : RunFault) → ReadsOnly s t → FaultTells t u why → FaultTells s u why
+FaultTells_more s t u (fault.Read false file why) before next = FaultsIn_more s t u file why before next
+FaultTells_more s t u fault.Memory before next = ReadsOnly_more s t u before next
+FaultTells_more s t u (fault.Read true file why) before next = absurd next
+FaultTells_more s t u (fault.Set cause) before next = absurd next
+FaultTells_more s t u fault.Write before next = absurd next
+FaultTells_more s t u fault.OtherSet before next = absurd next
+FaultTells_more s t u fault.OtherList before next = absurd next
+FaultTells_more s t u fault.TooManyTails before next = absurd next
 
 -- whatever files are read after a fault, they were before it
-pub FilesLeave_older : (s t : ShelfState) (why : SurveyFault) → FilesLeave s t why → Older s t
-FilesLeave_older s t (Read file fault) faults = (later_fault s t file fault faults).older
-FilesLeave_older s t Memory reads = reads.older
-FilesLeave_older s t TooManyTails none = absurd none
+pub FaultTells_older : (s t : ShelfState) (why : RunFault) → FaultTells s t why → Older s t
+FaultTells_older s t (fault.Read false file why) faults = (later_fault s t file why faults).older
+FaultTells_older s t fault.Memory reads = reads.older
+FaultTells_older s t (fault.Read true file why) none = absurd none
+FaultTells_older s t (fault.Set cause) none = absurd none
+FaultTells_older s t fault.Write none = absurd none
+FaultTells_older s t fault.OtherSet none = absurd none
+FaultTells_older s t fault.OtherList none = absurd none
+FaultTells_older s t fault.TooManyTails none = absurd none
 
--- a fault of a survey that has few short lengths to look for
-pub FilesLeave-survey : (A : Type 0) (sought : Sought) (old new : SurveyPoint) (why : SurveyFault) → HasFewTails sought
-    → SurveyTellsTails {A = A} sought (Err why) → SurveyLeaves {A = A} old new (Err why) → FilesLeave old.shelf new.shelf why
-FilesLeave-survey A sought old new (Read file fault) few tells leaves = leaves
-FilesLeave-survey A sought old new Memory few tells leaves = ReadsOnly-same old.shelf new.shelf (ap (λ (p : SurveyPoint). p.shelf) leaves)
-FilesLeave-survey A sought old new TooManyTails few tells leaves = absurd (tells few)
+-- it names no packet file, and is none of writing
+pub FaultTells-packet : (s t : ShelfState) (why : RunFault) → FaultTells s t why → is_packet_file_fault why ≡ false
+FaultTells-packet s t (fault.Read false file why) faults = refl
+FaultTells-packet s t fault.Memory reads = refl
+FaultTells-packet s t (fault.Read true file why) none = absurd none
+FaultTells-packet s t (fault.Set cause) none = refl
+FaultTells-packet s t fault.Write none = refl
+FaultTells-packet s t fault.OtherSet none = refl
+FaultTells-packet s t fault.OtherList none = refl
+FaultTells-packet s t fault.TooManyTails none = refl
+
+pub FaultTells-sink : (s t : ShelfState) (why : RunFault) (out : SinkState) → FaultTells s t why → LeavesSink (Err why) out out
+FaultTells-sink s t (fault.Read packet file why) out tells = refl
+FaultTells-sink s t fault.Memory out reads = refl
+FaultTells-sink s t (fault.Set cause) out none = refl
+FaultTells-sink s t fault.Write out none = absurd none
+FaultTells-sink s t fault.OtherSet out none = refl
+FaultTells-sink s t fault.OtherList out none = refl
+FaultTells-sink s t fault.TooManyTails out none = refl
+
+-- as the answer of a run it says the same of the scanned files
+pub FaultTells-scanned : (s t : ShelfState) (why : RunFault) → FaultTells s t why → TellsScanned (Err why) s t
+FaultTells-scanned s t (fault.Read false file why) faults = faults
+FaultTells-scanned s t fault.Memory reads = reads
+FaultTells-scanned s t (fault.Read true file why) none = absurd none
+FaultTells-scanned s t (fault.Set cause) none = absurd none
+FaultTells-scanned s t fault.Write none = absurd none
+FaultTells-scanned s t fault.OtherSet none = absurd none
+FaultTells-scanned s t fault.OtherList none = absurd none
+FaultTells-scanned s t fault.TooManyTails none = absurd none
+
+-- a fault of a survey that has few short lengths to look for, as one of a run
+pub FaultTells-survey : (A : Type 0) (sought : Sought) (old new : SurveyPoint) (why : SurveyFault) → HasFewTails sought
+    → SurveyTellsTails {A = A} sought (Err why) → SurveyLeaves {A = A} old new (Err why) → FaultTells old.shelf new.shelf (scanned_fault_of why)
+FaultTells-survey A sought old new (survey_fault.Read file why) few tells leaves = leaves
+FaultTells-survey A sought old new survey_fault.Memory few tells leaves = ReadsOnly-same old.shelf new.shelf (ap (λ (p : SurveyPoint). p.shelf) leaves)
+FaultTells-survey A sought old new survey_fault.TooManyTails few tells leaves = absurd (tells few)
 
 -- ---- a run changes no length and no fixed file, and reads on
 

@@ -2,13 +2,12 @@
 -- mark of their list.
 use Rattle.std.proofs.Common.{◌≡◌, ◌∙◌, ℕ, Bool, List, [], Err, true, false, ap, refl, subst, sym, append-nil, length, inl, inr}
 use Rattle.std.proofs.lemmas.Bool.{cases_lt, lt-ltb, le-ltb, ltb-false}
-use Rattle.parreport.specs.Outcomes.{Answers, TellsScanned}
+use Rattle.parreport.specs.Outcomes.{Answers, FaultTells, TellsScanned}
 use Rattle.parreport.specs.Report.{Report, report_after}
 use Rattle.parreport.specs.SetSearch.{has_too_many_tails, set_sought_of}
 use Rattle.parset.specs.RecoverySet.{SetView}
 use Rattle.parwindow.specs.Index.{SliceSet, slice_set_of}
-use Rattle.parreport.specs.Faults.{scanned_fault_of, start_fault_of}
-use Rattle.parreport.specs.Files.{FilesLeave}
+use Rattle.parreport.specs.Faults.{start_fault_of}
 use Rattle.parreport.specs.Names.{list_of}
 use Rattle.parshelf.specs.FileList.{mark_of_list}
 use Rattle.parshelf.specs.Shelf.{ShelfState}
@@ -20,10 +19,9 @@ use Rattle.parfield.specs.declared.hash16.Hash16.{Hash16}
 use Rattle.parfind.specs.Starts.{TellsTails}
 use Rattle.parfind.specs.declared.searches.start_fault.StartFault.{StartFault}
 use Rattle.parfind.specs.declared.searches.start_fault.StartFault.TheVariants as start_fault
+use Rattle.parreport.specs.declared.faults.RunFault.{RunFault}
 use Rattle.parreport.specs.declared.faults.RunFault.TheVariants as fault
 use Rattle.parshelf.specs.SinkState.{SinkState, WritesPrefix}
-use Rattle.parfind.specs.declared.surveys.surveying.SurveyFault.{SurveyFault}
-use Rattle.parfind.specs.declared.surveys.surveying.SurveyFault.TheVariants as survey_fault
 
 front_nil : (text : List ℕ) (s : SinkState) → WritesPrefix s s text
 front_nil text s = record {
@@ -34,11 +32,16 @@ front_nil text s = record {
 }
 
 -- where they were not all read before the first line, nothing is written
-pub answers_before_text : (report : Report) (why : SurveyFault) (old new : ShelfState) (s : SinkState) → FilesLeave old new why
-    → Answers report (Err (scanned_fault_of why)) s s
-answers_before_text report (survey_fault.Read file why) old new s leaves = front_nil report.text s
-answers_before_text report survey_fault.Memory old new s leaves = front_nil report.text s
-answers_before_text report survey_fault.TooManyTails old new s leaves = absurd leaves
+pub answers_before_text : (report : Report) (why : RunFault) (old new : ShelfState) (s : SinkState) → FaultTells old new why
+    → Answers report (Err why) s s
+answers_before_text report (fault.Read false file why) old new s tells = front_nil report.text s
+answers_before_text report fault.Memory old new s tells = front_nil report.text s
+answers_before_text report (fault.Read true file why) old new s none = absurd none
+answers_before_text report (fault.Set cause) old new s none = absurd none
+answers_before_text report fault.Write old new s none = absurd none
+answers_before_text report fault.OtherSet old new s none = absurd none
+answers_before_text report fault.OtherList old new s none = absurd none
+answers_before_text report fault.TooManyTails old new s none = absurd none
 
 -- ---- how many short lengths there are to look for
 pub few_are_few : (sought : Sought) → HasFewTails sought → has_too_many_tails sought ≡ false

@@ -10,7 +10,6 @@ pub mod SetText
 pub mod VerifyText
 pub mod Contents
 pub mod Costs
-pub mod Files
 pub mod Findings
 pub mod States
 pub mod Ends

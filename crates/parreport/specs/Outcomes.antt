@@ -87,6 +87,13 @@ TellsScanned (Err fault.OtherList) old new = new ≡ old
 TellsScanned (Err fault.TooManyTails) old new = new ≡ old
 TellsScanned _ old new = ReadsOnly old new
 
+-- what a fault says of scanned files that were read: a read fault is the one failure or early end of
+-- the file that it names, and want of memory comes with none; no other fault comes of reading them
+abbrev pub FaultTells : ShelfState → ShelfState → RunFault → Type 0
+FaultTells old new (fault.Read false file why) = FaultsIn old new file why
+FaultTells old new fault.Memory = ReadsOnly old new
+FaultTells old new _ = ⊥
+
 -- what a run leaves of the packet files: no more of each is handed over than one salvage may be
 pub record LeavesPackets {A : Type 0} (answer : Result A RunFault) (old new : ShelfState)
     : Type 0 where

@@ -4,11 +4,11 @@ ghost use Rattle.std.specs.Ordering.{nat_cmp};
 ghost use Rattle.parshelf.specs.Reads.{ReadsOnly};
 ghost use Rattle.parshelf.specs.Shelf.{ReadsAs, file_of};
 ghost use Rattle.parreport.specs.Contents.{HandsOnce, ReadsCandidates};
-ghost use Rattle.parreport.specs.Files.{FilesLeave};
+ghost use Rattle.parreport.specs.Outcomes.{FaultTells};
 ghost use Rattle.parreport.specs.States.{has_length, checked_of};
 
+use crate::faults::RunFault;
 use parfield::Hash16;
-use parfind::SurveyFault;
 use parset::SetFile;
 use parshelf::{Shelf, digest_of};
 use std::alloc::{AllocError, Global};
@@ -29,12 +29,12 @@ pub fn contents<Q: Shelf>(
     alloc: Global,
     files: &[SetFile],
     shelf: &mut Q,
-) -> Result<Vec<Option<LengthAndMd5>>, SurveyFault>
+) -> Result<Vec<Option<LengthAndMd5>>, RunFault>
     ensures contents { (scanned : List (List ℕ)) → ReadsAs (Q.state shelf.new) scanned
         → IfOk result (λ contents. contents.items ≡ map (checked_of files.now) scanned) }
     ensures bytes { ReadsCandidates files.now (Q.state shelf.old) (Q.state shelf.new) }
     ensures ok { OnOk result (ReadsOnly (Q.state shelf.old) (Q.state shelf.new)) }
-    ensures fault { IfErr result (FilesLeave (Q.state shelf.old) (Q.state shelf.new)) }
+    ensures fault { IfErr result (FaultTells (Q.state shelf.old) (Q.state shelf.new)) }
 {
     let lengths = lengths_of(alloc, files)?;
     let mut contents = Vec::new(alloc);
@@ -75,14 +75,14 @@ fn content_at<Q: Shelf>(
     lengths: &BTreeSet<u64>,
     shelf: &mut Q,
     file: u32,
-) -> Result<Option<LengthAndMd5>, SurveyFault>
+) -> Result<Option<LengthAndMd5>, RunFault>
     requires lengths { (n : ℕ) → contains nat_cmp lengths.now n ≡ has_length files.now n }
     requires file { file < length (Q.state shelf.old).lengths }
     ensures content { (scanned : List (List ℕ)) → ReadsAs (Q.state shelf.new) scanned
         → IfOk result (λ content. content ≡ checked_of files.now (file_of scanned file)) }
     ensures bytes { HandsOnce files.now (Q.state shelf.old) (Q.state shelf.new) file }
     ensures ok { OnOk result (ReadsOnly (Q.state shelf.old) (Q.state shelf.new)) }
-    ensures fault { IfErr result (FilesLeave (Q.state shelf.old) (Q.state shelf.new)) }
+    ensures fault { IfErr result (FaultTells (Q.state shelf.old) (Q.state shelf.new)) }
 {
     let _ = files;
     let length = shelf.length(file);
@@ -91,6 +91,10 @@ fn content_at<Q: Shelf>(
     }
     match digest_of(shelf, file) {
         Ok(whole) => Ok(Some(LengthAndMd5 { length, whole })),
-        Err(fault) => Err(SurveyFault::Read(file, fault)),
+        Err(fault) => Err(RunFault::Read {
+            packet: false,
+            file,
+            fault,
+        }),
     }
 }

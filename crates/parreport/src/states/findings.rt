@@ -3,18 +3,19 @@ ghost use Rattle.parshelf.specs.Reads.{ReadsOnly};
 ghost use Rattle.parshelf.specs.Shelf.{ReadsAs};
 ghost use Rattle.parreport.specs.Contents.{HandsPerFile, ReadsCandidates};
 ghost use Rattle.parreport.specs.Costs.{verified_length_of};
-ghost use Rattle.parreport.specs.Files.{FilesLeave};
+ghost use Rattle.parreport.specs.Outcomes.{FaultTells};
 ghost use Rattle.parreport.specs.States.{named_files};
 ghost use Rattle.parreport.specs.Findings.{findings_of, NeedsNoSearch};
 ghost use Rattle.parreport.specs.SetSearch.{set_sought_of};
 ghost use Rattle.parfind.specs.Sought.{HasFewTails};
 ghost use Rattle.parwindow.specs.Index.{slice_set_of};
 
+use crate::faults::RunFault;
 use crate::states::contents::contents;
 use crate::states::found::{found_slices, intact_ids, need_of};
 use crate::states::state::{State, states};
 use parfield::Sequence;
-use parfind::{Mode, SurveyFault};
+use parfind::Mode;
 use parplan::Scanned;
 use parset::RecoverySet;
 use parshelf::Shelf;
@@ -51,7 +52,7 @@ pub(crate) fn findings_on<Q: Shelf>(
     index: &Index,
     mode: Mode,
     shelf: &mut Q,
-) -> Result<Findings, SurveyFault>
+) -> Result<Findings, RunFault>
     requires named { length (Q.state shelf.old).lengths ≡ length files.now }
     requires index { index.now ≡ slice_set_of set.now.size set.now.slices }
     requires few { HasFewTails (set_sought_of set.now mode) }
@@ -73,7 +74,7 @@ pub(crate) fn findings_on<Q: Shelf>(
         (λ file. verified_length_of set.now mode (slice_index (Q.state shelf.old).lengths file))
         (Q.state shelf.old) (Q.state shelf.new) }
     ensures ok { OnOk result (ReadsOnly (Q.state shelf.old) (Q.state shelf.new)) }
-    ensures fault { IfErr result (FilesLeave (Q.state shelf.old) (Q.state shelf.new)) }
+    ensures fault { IfErr result (FaultTells (Q.state shelf.old) (Q.state shelf.new)) }
 {
     let set_files = set.files();
     let contents = contents(alloc, set_files, shelf)?;

@@ -11,14 +11,15 @@ ghost use Rattle.parfind.specs.Surveys.{is_sighted, StopsOnceFound};
 ghost use Rattle.parfind.specs.declared.tracks.mode.Mode.TheVariants.{Plain};
 ghost use Rattle.parreport.specs.Contents.{HandsPerFile};
 ghost use Rattle.parreport.specs.Costs.{searched_length_of};
-ghost use Rattle.parreport.specs.Files.{FilesLeave};
+ghost use Rattle.parreport.specs.Outcomes.{FaultTells};
 ghost use Rattle.parreport.specs.States.{is_intact};
 ghost use Rattle.parreport.specs.Findings.{need_of, is_in_whole_file, needs_no_search, set_scan_of};
 ghost use Rattle.parreport.specs.SetSearch.{set_sought_of};
 
+use crate::faults::RunFault;
 use crate::states::state::State;
 use parfield::Hash16;
-use parfind::{Mode, SurveyFault, survey};
+use parfind::{Mode, survey};
 use parset::{RecoverySet, SetFile, SetSlice};
 use parshelf::Shelf;
 use parwindow::Index;
@@ -65,7 +66,7 @@ pub fn found_slices<Q: Shelf>(
     mode: Mode,
     whole: &BTreeSet<Hash16>,
     shelf: &mut Q,
-) -> Result<Vec<bool>, SurveyFault>
+) -> Result<Vec<bool>, RunFault>
     requires index { index.now ≡ slice_set_of set.now.size set.now.slices }
     requires few { HasFewTails (set_sought_of set.now mode) }
 
@@ -86,7 +87,7 @@ pub fn found_slices<Q: Shelf>(
     ensures none { All (λ slice. IsTrue (needs_no_search whole.now slice)) set.now.slices →
         Q.state shelf.new ≡ Q.state shelf.old }
     ensures ok { OnOk result (ReadsOnly (Q.state shelf.old) (Q.state shelf.new)) }
-    ensures fault { IfErr result (FilesLeave (Q.state shelf.old) (Q.state shelf.new)) }
+    ensures fault { IfErr result (FaultTells (Q.state shelf.old) (Q.state shelf.new)) }
 {
     let mut found = slices_of_whole_files(alloc, set.slices(), whole)?;
     survey(alloc, index, shelf, &mut found, mode)?;

@@ -4,7 +4,7 @@ use Rattle.std.proofs.lemmas.Result.{err_from_is_err_and}
 use Rattle.parshelf.specs.Shelf.{ShelfState}
 use Rattle.parshelf.proofs.ReadLaws.{ReadsOnly_more}
 use Rattle.parreport.proofs.ContentLaws.{HandsBefore-suc, ReadsCandidates-more, checked-more, checked-all}
-use Rattle.parreport.proofs.LeaveLaws.{FilesLeave_more}
+use Rattle.parreport.proofs.LeaveLaws.{FaultTells_more}
 use Rattle.parreport.proofs.states.contents.contents.Goals as goal
 
 pub returns-in_err-lengths-clause-contents : goal.returns-in_err-lengths-clause-contents
@@ -31,7 +31,7 @@ returns-in_err-content_at-clause-ok g c = grind (arith, common_steps) steps 4000
 pub returns-in_err-content_at-clause-fault : goal.returns-in_err-content_at-clause-fault
 returns-in_err-content_at-clause-fault g c =
     let failed = err_from_is_err_and c.from_residual-in_err-content_at.result c.from_residual-in_err-content_at.ensures.1 in
-    rw (failed.1, failed.2) (FilesLeave_more (g.Q.Shelf.state c.args.shelf.now) (g.Q.Shelf.state c.loop-file.shelf)
+    rw (failed.1, failed.2) (FaultTells_more (g.Q.Shelf.state c.args.shelf.now) (g.Q.Shelf.state c.loop-file.shelf)
     (g.Q.Shelf.state c.content_at.new.shelf) c.in_err-content_at.field-0.0 c.loop-file.invariant.reads c.in_err-content_at.ensures.fault)
 
 pub returns-in_err-map_err-clause-contents : goal.returns-in_err-map_err-clause-contents

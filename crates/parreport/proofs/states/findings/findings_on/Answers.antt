@@ -9,7 +9,7 @@ use Rattle.parreport.specs.States.{named_files, checked_of, is_intact, state_of}
 use Rattle.parreport.specs.Contents.{ReadsCandidates}
 use Rattle.parshelf.proofs.ReadLaws.{ReadsOnly_more}
 use Rattle.parreport.proofs.CostLaws.{lengths_same, only_checked, checked_and_searched}
-use Rattle.parreport.proofs.LeaveLaws.{FilesLeave_more, FilesLeave_older}
+use Rattle.parreport.proofs.LeaveLaws.{FaultTells_more, FaultTells_older}
 use Rattle.parreport.proofs.SumLaws.{unsearched}
 use Rattle.parreport.proofs.StateLaws.{contents_sized, findings_made, states_read}
 use Rattle.parreport.proofs.states.findings.findings_on.Goals as goal
@@ -58,7 +58,7 @@ returns-in_err-found-clause-unsearched g c = λ contents reads needs.
     let state = state_of (named_files files contents) in
     let old : ShelfState = g.Q.Shelf.state c.args.shelf.now in
     let now : ShelfState = g.Q.Shelf.state c.contents.new.shelf in
-    let before = FilesLeave_older now (g.Q.Shelf.state c.found_slices.new.shelf) c.in_err-found.field-0.0 c.in_err-found.ensures.fault contents reads in
+    let before = FaultTells_older now (g.Q.Shelf.state c.found_slices.new.shelf) c.in_err-found.field-0.0 c.in_err-found.ensures.fault contents reads in
     let sized = contents_sized old files contents c.requires.named (c.in_ok-contents.ensures.ok.older contents before) in
     let same = c.files-set_files.ensures.field in
     let states = states_read files contents c.deref.result.now c.files-set_files.result.now set.files c.in_ok-states.states.items sized
@@ -170,7 +170,7 @@ returns-in_err-found-clause-ok g c = grind (arith, common_steps) steps 400000
 pub returns-in_err-found-clause-fault : goal.returns-in_err-found-clause-fault
 returns-in_err-found-clause-fault g c =
     let failed = err_from_is_err_and c.from_residual-in_err-found.result c.from_residual-in_err-found.ensures.1 in
-    rw (failed.1, failed.2) (FilesLeave_more (g.Q.Shelf.state c.args.shelf.now) (g.Q.Shelf.state c.contents.new.shelf)
+    rw (failed.1, failed.2) (FaultTells_more (g.Q.Shelf.state c.args.shelf.now) (g.Q.Shelf.state c.contents.new.shelf)
     (g.Q.Shelf.state c.found_slices.new.shelf) c.in_err-found.field-0.0 c.in_ok-contents.ensures.ok c.in_err-found.ensures.fault)
 
 pub returns-clause-states : goal.returns-clause-states

@@ -9,7 +9,7 @@ use Rattle.parfind.specs.Surveys.{AreAllSettled, FindsSighted, StopsOnceFound, s
 use Rattle.parwindow.specs.Index.{slice_set_of}
 use Rattle.parreport.specs.Findings.{is_in_whole_file, set_scan_of}
 use Rattle.parreport.proofs.CostLaws.{searched_once}
-use Rattle.parreport.proofs.LeaveLaws.{FilesLeave-survey}
+use Rattle.parreport.proofs.LeaveLaws.{FaultTells-survey}
 use Rattle.parreport.proofs.StateLaws.{take-all_back}
 use Rattle.parreport.proofs.SumLaws.{found_found, all_settled}
 use Rattle.parreport.proofs.states.found.found_slices.Goals as goal
@@ -84,7 +84,7 @@ pub returns-in_err-survey-clause-fault : goal.returns-in_err-survey-clause-fault
 returns-in_err-survey-clause-fault g c =
     let failed = err_from_is_err_and c.from_residual-in_err-survey.result c.from_residual-in_err-survey.ensures.1 in
     rw (failed.1, failed.2)
-    (FilesLeave-survey (Unit {0}) (sought_of c.args.index.now c.args.mode) (survey_point (g.Q.Shelf.state c.args.shelf.now) c.deref_mut.result.now)
+    (FaultTells-survey (Unit {0}) (sought_of c.args.index.now c.args.mode) (survey_point (g.Q.Shelf.state c.args.shelf.now) c.deref_mut.result.now)
     (survey_point (g.Q.Shelf.state c.survey.new.shelf) c.survey.new.found) c.in_err-survey.field-0.0
     (subst (λ set. HasFewTails (sought_of set c.args.mode)) (sym c.requires.index) c.requires.few)
     c.in_err-survey.ensures.tails c.in_err-survey.ensures.leaves)

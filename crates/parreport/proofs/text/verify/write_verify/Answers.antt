@@ -18,6 +18,7 @@ use Rattle.parreport.specs.declared.status.Status.{Status}
 use Rattle.parfind.specs.Sought.{HasFewTails, sought_of}
 use Rattle.parfind.specs.declared.tracks.mode.Mode.{Mode}
 use Rattle.parreport.specs.SetSearch.{mode_of, set_sought_of}
+use Rattle.parreport.proofs.LeaveLaws.{FaultTells-packet, FaultTells-scanned, FaultTells-sink}
 use Rattle.parreport.proofs.RunLaws.{answers_before_text, few_from_test, few_of_set, report_of_few, test_of_set}
 use Rattle.parreport.proofs.text.verify.write_verify.Goals as goal
 
@@ -72,16 +73,25 @@ returns-clause-text g c = λ files reads.
     (report_is c.args.quiet mode plan set c.in_ok-findings.findings files sized few findings) after
 
 pub returns-in_err-findings-clause-no_packet : goal.returns-in_err-findings-clause-no_packet
-returns-in_err-findings-clause-no_packet g c = grind (arith, common_steps)
+returns-in_err-findings-clause-no_packet g c =
+    let failed = err_from_is_err_and c.from_residual-in_err-findings.result c.from_residual-in_err-findings.ensures.1 in
+    rw (failed.1, failed.2) (FaultTells-packet (g.Q.Shelf.state c.args.scanned.now) (g.Q.Shelf.state c.findings_on.new.shelf)
+    c.in_err-findings.field-0.0 c.in_err-findings.ensures.fault)
 
 pub returns-in_err-findings-clause-nothing_written : goal.returns-in_err-findings-clause-nothing_written
 returns-in_err-findings-clause-nothing_written g c = grind (arith, common_steps)
 
 pub returns-in_err-findings-clause-scanned : goal.returns-in_err-findings-clause-scanned
-returns-in_err-findings-clause-scanned g c = grind (arith, common_steps)
+returns-in_err-findings-clause-scanned g c =
+    let failed = err_from_is_err_and c.from_residual-in_err-findings.result c.from_residual-in_err-findings.ensures.1 in
+    rw (failed.1, failed.2) (FaultTells-scanned (g.Q.Shelf.state c.args.scanned.now) (g.Q.Shelf.state c.findings_on.new.shelf)
+    c.in_err-findings.field-0.0 c.in_err-findings.ensures.fault)
 
 pub returns-in_err-findings-clause-sink : goal.returns-in_err-findings-clause-sink
-returns-in_err-findings-clause-sink g c = grind (arith, common_steps)
+returns-in_err-findings-clause-sink g c =
+    let failed = err_from_is_err_and c.from_residual-in_err-findings.result c.from_residual-in_err-findings.ensures.1 in
+    rw (failed.1, failed.2) (FaultTells-sink (g.Q.Shelf.state c.args.scanned.now) (g.Q.Shelf.state c.findings_on.new.shelf)
+    c.in_err-findings.field-0.0 (g.W.Sink.state c.args.out.now) c.in_err-findings.ensures.fault)
 
 pub returns-clause-no_packet : goal.returns-clause-no_packet
 returns-clause-no_packet g c = grind (arith, common_steps)
