@@ -86,15 +86,15 @@ states_text set names findings =
     (zip set.files findings.states)
 
 -- how many slices are needed and there, and the result
-unfoldable pub result_text : SetView → Findings → List ℕ
-result_text set findings =
-    need_line (need_of findings.found) set.have ++ result_line (status_of set findings)
+unfoldable pub result_text : ℕ → ℕ → Status → List ℕ
+result_text need have answer = need_line need have ++ result_line answer
 
 -- all lines, with quiet 1 the last two, else none
 unfoldable pub findings_text : ℕ → SetView → List (List ℕ) → Findings → List ℕ
 findings_text quiet set names findings =
     (if quiet == 0 then states_text set names findings else [])
-    ++ (if nat_lt quiet 2 then result_text set findings else [])
+    ++ (if nat_lt quiet 2
+    then result_text (need_of findings.found) set.have (status_of set findings) else [])
 
 -- the text over scanned files
 abbrev pub verify_text : ℕ → SetView → Mode → List NamedFile → List ℕ

@@ -18,7 +18,6 @@ use crate::status::Status;
 use crate::text::block_writer::BlockWriter;
 use crate::text::rest::write_rest;
 use crate::text::verify::lines::write_verify_text;
-use crate::text::verify::status::status_of;
 use parplan::{Plan, Scanned};
 use parset::RecoverySet;
 use parshelf::{Shelf, Sink};
@@ -96,6 +95,6 @@ fn write_findings<W: Sink>(
     let mut writer = BlockWriter::new(alloc, out);
     let told = write_verify_text(alloc, quiet, files, set, findings, &mut writer);
     let BlockWriter { sink, buffer, .. } = writer;
-    told?;
-    write_rest(sink, buffer.as_bytes(), status_of(set, findings))
+    let status = told?;
+    write_rest(sink, buffer.as_bytes(), status)
 }

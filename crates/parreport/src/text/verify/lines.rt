@@ -1,9 +1,9 @@
-ghost use Rattle.std.specs.Prelude.{◌≡◌, ◌++◌, ◌<◌, length, unwrap_or, string_bytes, OnOk};
+ghost use Rattle.std.specs.Prelude.{◌≡◌, ◌++◌, ◌<◌, length, unwrap_or, string_bytes, IfOk, OnOk};
 ghost use Rattle.std.specs.BTreeMap.{get};
 ghost use Rattle.std.specs.List.{flat_map, zip};
 ghost use Rattle.parfield.specs.HashOrder.{id_cmp};
 ghost use Rattle.parreport.specs.Names.{names_of};
-ghost use Rattle.parreport.specs.VerifyText.{state_line, counted_line, complete_line, renamed_line, damaged_line, missing_line, need_line, result_line, status_word, states_text, result_text, findings_text};
+ghost use Rattle.parreport.specs.VerifyText.{state_line, counted_line, complete_line, renamed_line, damaged_line, missing_line, need_line, result_line, status_word, status_of, states_text, result_text, findings_text};
 ghost use Rattle.parreport.specs.Writers.{Writes};
 
 use crate::faults::RunFault;
@@ -13,7 +13,7 @@ use crate::text::block_writer::BlockWriter;
 use crate::text::names::scanned_name;
 use crate::text::set_line::write_set_line;
 use crate::text::verify::counts::{count_at, found_counts};
-use crate::text::verify::status::status_of;
+use crate::text::verify::status::status_from;
 use parfield::{Hash16, Shown};
 use parplan::Scanned;
 use parset::{RecoverySet, SetFile};
@@ -21,7 +21,8 @@ use parshelf::Sink;
 use std::alloc::{AllocError, Global};
 use std::collections::BTreeMap;
 
-/// Writes the text of `verify`: all lines with `quiet` 0, the last two with 1, else none.
+/// Writes the text of `verify`: all lines with `quiet` 0, the last two with 1, else none. Returns the
+/// status that goes with it.
 pub fn write_verify_text<W: Sink>(
     alloc: Global,
     quiet: u8,
@@ -29,19 +30,23 @@ pub fn write_verify_text<W: Sink>(
     set: &RecoverySet,
     findings: &Findings,
     writer: &mut BlockWriter<'_, W>,
-) -> Result<(), RunFault>
+) -> Result<Status, RunFault>
     requires states { length findings.now.states ≡ length set.now.files }
     requires slices { length findings.now.found ≡ length set.now.slices }
-    ensures { Writes W.state writer.old writer.new
+    ensures text { Writes W.state writer.old writer.new
         (findings_text quiet set.now (names_of files.now) findings.now) result }
+    ensures status { IfOk result (λ status. status ≡ status_of set.now findings.now) }
 {
+    let need = findings.need();
+    let have = set.have();
+    let status = status_from(findings.states.as_slice(), need, have);
     match quiet {
         0 => {
             write_states(alloc, files, set, findings, writer)?;
-            write_results(set, findings, writer)
+            write_results(need, have, status, writer)
         }
-        1 => write_results(set, findings, writer),
-        _ => Ok(()),
+        1 => write_results(need, have, status, writer),
+        _ => Ok(status),
     }
 }
 
@@ -160,31 +165,35 @@ fn append_missing(text: &mut String, name: &[u8], found: u64, all: u64) -> Resul
     writeln!(text, "missing {} {found}/{all}", Shown(name))
 }
 
-// Writes the last two lines.
+// Writes the last two lines, and gives the status that goes with them.
 fn write_results<W: Sink>(
-    set: &RecoverySet,
-    findings: &Findings,
+    need: usize,
+    have: u32,
+    status: Status,
     writer: &mut BlockWriter<'_, W>,
-) -> Result<(), RunFault>
-    ensures { Writes W.state writer.old writer.new (result_text set.now findings.now) result }
+) -> Result<Status, RunFault>
+    ensures text { Writes W.state writer.old writer.new (result_text need have status) result }
+    ensures status { IfOk result (λ told. told ≡ status) }
 {
     let mut text = writer.take_buffer();
-    append_results(&mut text, set, findings)?;
-    writer.put_back(text)
+    append_results(&mut text, need, have, status)?;
+    writer.put_back(text)?;
+    Ok(status)
 }
 
 // Appends the last two lines.
 #[tactic(auto, unfolding(crate::specs::VerifyText::result_text))]
 fn append_results(
     text: &mut String,
-    set: &RecoverySet,
-    findings: &Findings,
+    need: usize,
+    have: u32,
+    status: Status,
 ) -> Result<(), AllocError>
     ensures { OnOk result (string_bytes text.new
-        ≡ string_bytes text.old ++ result_text set.now findings.now) }
+        ≡ string_bytes text.old ++ result_text need have status) }
 {
-    append_need(text, findings.need(), set.have())?;
-    append_result(text, status_of(set, findings))
+    append_need(text, need, have)?;
+    append_result(text, status)
 }
 
 // Appends how many slices are needed, and how many exponents there are.

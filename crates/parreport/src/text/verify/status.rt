@@ -1,21 +1,14 @@
 ghost use Rattle.std.specs.Prelude.{◌≡◌};
 ghost use Rattle.std.specs.List.{list_all};
 ghost use Rattle.parreport.specs.States.{is_complete};
-ghost use Rattle.parreport.specs.VerifyText.{status_from, status_of};
+ghost use Rattle.parreport.specs.VerifyText.{status_from};
 
-use crate::states::{Findings, State};
+use crate::states::State;
 use crate::status::Status;
-use parset::RecoverySet;
 
-/// The status that the findings come to.
-pub fn status_of(set: &RecoverySet, findings: &Findings) -> Status
-    ensures { result ≡ status_of set.now findings.now }
-{
-    status_from(findings.states.as_slice(), findings.need(), set.have())
-}
-
-// The status, where so many slices are needed and there are so many exponents.
-fn status_from(states: &[State], need: usize, have: u32) -> Status
+/// Returns the status of files in these states, if `need` slices are needed and there are `have`
+/// exponents.
+pub fn status_from(states: &[State], need: usize, have: u32) -> Status
     ensures { result ≡ status_from states.now need have }
 {
     if are_complete(states) {
