@@ -34,7 +34,7 @@ pub fn run_end(plan: &Plan, answer: Result<Status, RunFault>) -> (End, Option<&T
 }
 
 /// The end where the packet files can't all be opened, and the argument that it is about.
-pub fn unopened_packets(plan: &Plan, why: OpenFault) -> (End, Option<&Text>)
+pub(crate) fn unopened_packets(plan: &Plan, why: OpenFault) -> (End, Option<&Text>)
     ensures { (result.0, option_map (λ file. file.now) result.1)
         ≡ open_end_of plan.now.packets why }
 {
@@ -45,7 +45,7 @@ pub fn unopened_packets(plan: &Plan, why: OpenFault) -> (End, Option<&Text>)
 }
 
 /// The end where the scanned files can't all be opened, and the argument that it is about.
-pub fn unopened_scanned(plan: &Plan, why: OpenFault) -> (End, Option<&Text>)
+pub(crate) fn unopened_scanned(plan: &Plan, why: OpenFault) -> (End, Option<&Text>)
     ensures { (result.0, option_map (λ file. file.now) result.1)
         ≡ open_end_of (scanned_paths_of plan.now) why }
 {
@@ -55,8 +55,8 @@ pub fn unopened_scanned(plan: &Plan, why: OpenFault) -> (End, Option<&Text>)
     }
 }
 
-/// The argument that a fault of a run is about.
-pub fn argument_of(plan: &Plan, fault: RunFault) -> Option<&Text>
+// The argument that a fault of a run is about.
+fn argument_of(plan: &Plan, fault: RunFault) -> Option<&Text>
     ensures { option_map (λ file. file.now) result ≡ argument_of plan.now fault }
 {
     let RunFault::Read { packet, file, .. } = fault else {

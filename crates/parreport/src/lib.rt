@@ -20,7 +20,7 @@ mod states;
 mod status;
 mod text;
 
-pub use crate::ends::{End, argument_of, run_end, unopened_packets, unopened_scanned};
+pub use crate::ends::{End, run_end};
 pub use crate::faults::{Cause, RunFault};
 pub use crate::messages::ending;
 pub use crate::opened_files::run_opened;
