@@ -15,7 +15,7 @@ pub fn words_after_program(args: &[String]) -> &[String]
 const MOST_FILES: usize = 65_535;
 
 /// Whether a command line may give so many files.
-pub fn is_within_file_limit(files: usize) -> bool
+pub(crate) fn is_within_file_limit(files: usize) -> bool
     ensures { IsTrue result ↔ files ≤ open_file_limit }
 {
     files <= MOST_FILES

@@ -8,6 +8,6 @@ mod arguments;
 mod command;
 mod words;
 
-pub use crate::arguments::{is_within_file_limit, words_after_program};
+pub use crate::arguments::words_after_program;
 pub use crate::command::{Command, Plan, PlanFault, Scanned, files_to_scan, reads_scanned};
 pub use crate::words::plan;

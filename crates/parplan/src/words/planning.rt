@@ -4,11 +4,12 @@ ghost use Rattle.parshelf.specs.Disk.{open_file_limit};
 ghost use Rattle.parplan.specs.Commands.{LimitIsNotZero};
 ghost use Rattle.parplan.specs.Plans.{plan_of, plan_of_rows, verb_of, first_verb_of, file_names_of, AnswersPlan, TellsTaken};
 
+use crate::arguments::is_within_file_limit;
 use crate::words::files::{packet_files, scanned_files};
 use crate::words::grammar::Verb;
 use crate::words::matches::{matches_for, values_of};
 use crate::words::options::{base_given, command_given, set_given};
-use crate::{Plan, PlanFault, is_within_file_limit};
+use crate::{Plan, PlanFault};
 use clap::ArgMatches;
 use std::alloc::Global;
 
