@@ -24,4 +24,4 @@ pub use crate::cursors::{
 pub use crate::drives::{Answer, Call, Drive, calls_law, drive};
 pub use crate::searches::{Finder, StartFault, Step, finder_law, mode_law, reach_law, step_law};
 pub use crate::surveys::{SurveyFault, survey, survey_in};
-pub use crate::tracks::{MOST_TAILS, Mode};
+pub use crate::tracks::{Mode, has_too_many_tails};

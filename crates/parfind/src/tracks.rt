@@ -16,6 +16,6 @@ mod track;
 
 pub(crate) use crate::tracks::digests::Digests;
 pub use crate::tracks::mode::Mode;
-pub use crate::tracks::sought::MOST_TAILS;
-pub(crate) use crate::tracks::sought::Sought;
+pub use crate::tracks::sought::has_too_many_tails;
+pub(crate) use crate::tracks::sought::{MOST_TAILS, Sought};
 pub(crate) use crate::tracks::track::Track;

@@ -1,9 +1,9 @@
 -- What is left of a run's text where scanned files were not all read, or not searched at all; and the
 -- mark of their list.
-use Rattle.std.proofs.Common.{◌≡◌, ◌∙◌, ℕ, Bool, List, [], Err, true, false, ap, refl, subst, sym, append-nil, length, inl, inr}
-use Rattle.std.proofs.lemmas.Bool.{cases_lt, lt-ltb, le-ltb, ltb-false}
+use Rattle.std.proofs.Common.{◌≡◌, ◌∙◌, ℕ, Bool, List, [], Ok, Err, true, false, ap, refl, subst, sym, append-nil, length, inl, inr}
+use Rattle.std.proofs.lemmas.Bool.{cases_lt, lt-ltb, le-ltb}
 use Rattle.parreport.specs.Outcomes.{Answers, FaultTells, TellsScanned}
-use Rattle.parreport.specs.Report.{Report, report_after}
+use Rattle.parreport.specs.Report.{IsCause, Report, report_after}
 use Rattle.parreport.specs.SetSearch.{has_too_many_tails, set_sought_of}
 use Rattle.parset.specs.RecoverySet.{SetView}
 use Rattle.parwindow.specs.Index.{SliceSet, slice_set_of}
@@ -21,6 +21,7 @@ use Rattle.parfind.specs.declared.searches.start_fault.StartFault.{StartFault}
 use Rattle.parfind.specs.declared.searches.start_fault.StartFault.TheVariants as start_fault
 use Rattle.parreport.specs.declared.faults.RunFault.{RunFault}
 use Rattle.parreport.specs.declared.faults.RunFault.TheVariants as fault
+use Rattle.parreport.specs.declared.status.Status.{Status}
 use Rattle.parshelf.specs.SinkState.{SinkState, WritesPrefix}
 
 front_nil : (text : List ℕ) (s : SinkState) → WritesPrefix s s text
@@ -53,12 +54,15 @@ many_are_many sought many = elim (cases_lt tail_limit (length (shorter_lengths s
   | inr few ↦ absurd (many few)
 ]
 
--- as a test of them tells
-pub few_from_test : (sought : Sought) → has_too_many_tails sought ≡ false → HasFewTails sought
-few_from_test sought is = ltb-false tail_limit (length (shorter_lengths sought.mode sought.set)) is
-
 pub report_of_few : (sought : Sought) (report : Report) → HasFewTails sought → report_after sought report ≡ report
 report_of_few sought report few = rw (few_are_few sought few) refl
+
+-- of a text with its status it is no cause then
+pub few_no_cause : (sought : Sought) (text : List ℕ) (status : Status) → HasFewTails sought
+    → ¬ IsCause (report_after sought (record { text = text; answer = Ok status }))
+few_no_cause sought text status few cause =
+    let report : Report = record { text = text; answer = Ok status } in
+    let both : false ≡ true = subst IsCause (report_of_few sought report few) cause in cc
 
 -- where there are too many, that is the answer, and nothing is written
 pub too_many_answer : (sought : Sought) (report : Report) (s : SinkState) → has_too_many_tails sought ≡ true

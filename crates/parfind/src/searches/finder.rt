@@ -16,7 +16,7 @@ ghost use Rattle.parfind.specs.Steps.{StepGives, StepSees, scan_of};
 use crate::cursors::{Cursor, Sighting};
 use crate::searches::places::{next_place, rest_of};
 use crate::searches::start_fault::StartFault;
-use crate::tracks::{Digests, MOST_TAILS, Mode, Sought, Track};
+use crate::tracks::{Digests, Mode, Sought, Track, has_too_many_tails};
 use parshelf::{ReadFault, Shelf};
 use parwindow::{Index, Window};
 use std::alloc::Global;
@@ -93,11 +93,11 @@ impl Finder {
     {
         // Only the contract speaks of it.
         let _ = shelf;
-        let sought = Sought { index, mode };
-        let tails = sought.shorter_lengths();
-        if tails.len() > MOST_TAILS {
+        if has_too_many_tails(index, mode) {
             return Err(StartFault::TooManyTails);
         }
+        let sought = Sought { index, mode };
+        let tails = sought.shorter_lengths();
         let window = Window::with_tails(alloc, index.size() as usize, tails)?;
         Ok(Finder {
             opening: at,

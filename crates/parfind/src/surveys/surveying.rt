@@ -14,7 +14,7 @@ use crate::surveys::rounds::survey_twice;
 use crate::surveys::short::Short;
 use crate::surveys::smaller::Smaller;
 use crate::surveys::walk::{next_missing, survey_by};
-use crate::tracks::{MOST_TAILS, Mode, Sought};
+use crate::tracks::{Mode, Sought, has_too_many_tails};
 use parshelf::{ReadFault, Shelf};
 use parwindow::{Index, Window};
 use std::alloc::{AllocError, Global};
@@ -79,10 +79,10 @@ pub fn survey<H: Shelf>(
         (H.state shelf.old) (H.state shelf.new) }
     ensures none { AreAllSettled index.now found.old → H.state shelf.new ≡ H.state shelf.old }
 {
-    let sought = Sought { index, mode };
-    if sought.shorter_lengths().len() > MOST_TAILS {
+    if has_too_many_tails(index, mode) {
         return Err(SurveyFault::TooManyTails);
     }
+    let sought = Sought { index, mode };
     if next_missing(&sought, found, 0) == found.len() {
         return Ok(());
     }

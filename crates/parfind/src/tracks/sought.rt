@@ -1,4 +1,4 @@
-ghost use Rattle.std.specs.Prelude.{◌≡◌, ◌+◌, ◌<◌, ◌≤◌, length, IfSome};
+ghost use Rattle.std.specs.Prelude.{◌≡◌, ◌+◌, ◌<◌, ◌≤◌, length, true, false, IfSome};
 ghost use Rattle.std.specs.List.{list_any};
 ghost use Rattle.parfield.specs.Md5.{md5};
 ghost use Rattle.parset.specs.Limits.{slice_limit};
@@ -9,7 +9,7 @@ ghost use Rattle.parwindow.specs.Missing.{has_fit_crc_of, has_unfound};
 ghost use Rattle.parwindow.specs.Window.{AreTails};
 ghost use Rattle.parfind.specs.Fitting.{is_fitting_match};
 ghost use Rattle.parfind.specs.KeptDigests.{IsFullFor};
-ghost use Rattle.parfind.specs.Sought.{is_compared, compared_bytes, compared_lengths, nth_compared, shorter_lengths};
+ghost use Rattle.parfind.specs.Sought.{HasFewTails, is_compared, compared_bytes, compared_lengths, nth_compared, shorter_lengths, sought_of};
 
 use crate::tracks::mode::Mode;
 use parfield::Hash16;
@@ -17,7 +17,7 @@ use parwindow::{Index, Window};
 use std::marker::Model;
 
 /// How many shorter lengths of a window may be compared.
-pub const MOST_TAILS: usize = 256;
+pub(crate) const MOST_TAILS: usize = 256;
 
 /// The slices that are looked for, and in which mode.
 #[derive(Drop)]
@@ -149,6 +149,15 @@ impl<'a> Sought<'a> {
             }
         }
     }
+}
+
+/// Whether a mode compares more than 256 shorter lengths of a window. A window has room for no more.
+pub fn has_too_many_tails(index: &Index, mode: Mode) -> bool
+    ensures many { result ≡ true → ¬ HasFewTails (sought_of index.now mode) }
+    ensures few { result ≡ false → HasFewTails (sought_of index.now mode) }
+{
+    let sought = Sought { index, mode };
+    sought.shorter_lengths().len() > MOST_TAILS
 }
 
 // The first slice from a number on that has both sums and fits into what is left of the file.

@@ -12,12 +12,13 @@ ghost use Rattle.parreport.specs.VerifyText.{status_of, findings_text};
 ghost use Rattle.parplan.specs.declared.command.Command.TheVariants as command;
 
 use crate::faults::RunFault;
-use crate::modes::{has_too_many_tails, mode_of};
+use crate::modes::mode_of;
 use crate::states::{Findings, findings_on};
 use crate::status::Status;
 use crate::text::block_writer::BlockWriter;
 use crate::text::rest::write_rest;
 use crate::text::verify::lines::write_verify_text;
+use parfind::has_too_many_tails;
 use parplan::{Plan, Scanned};
 use parset::RecoverySet;
 use parshelf::{Shelf, Sink};

@@ -19,7 +19,7 @@ use Rattle.parfind.specs.Sought.{HasFewTails, sought_of}
 use Rattle.parfind.specs.declared.tracks.mode.Mode.{Mode}
 use Rattle.parreport.specs.SetSearch.{mode_of, set_sought_of}
 use Rattle.parreport.proofs.LeaveLaws.{FaultTells-packet, FaultTells-scanned, FaultTells-sink}
-use Rattle.parreport.proofs.RunLaws.{answers_before_text, few_from_test, few_of_set, report_of_few, test_of_set}
+use Rattle.parreport.proofs.RunLaws.{answers_before_text, few_no_cause, few_of_set, many_are_many, report_of_few, test_of_set}
 use Rattle.parreport.proofs.text.verify.write_verify.Goals as goal
 
 abbrev report : List ℕ → Status → Report
@@ -45,13 +45,13 @@ pub returns-then-has_too_many_tails-clause-text : goal.returns-then-has_too_many
 returns-then-has_too_many_tails-clause-text g c = λ files reads.
     let mode = mode_of c.args.tails in
     let many = test_of_set c.args.set.now mode c.mode_of-mode.result c.in_ok-index.index c.in_ok-index.ensures c.mode_of-mode.ensures true
-    (sym c.has_too_many_tails.ensures ∙ c.if-has_too_many_tails.true) in
+    (many_are_many (sought_of c.in_ok-index.index c.mode_of-mode.result) (c.has_too_many_tails.ensures.many c.if-has_too_many_tails.true)) in
     (rw many (refl {a = Err fault.TooManyTails}), refl)
 
 pub findings_on-requires-clause-few : goal.findings_on-requires-clause-few
 findings_on-requires-clause-few g c =
     few_of_set c.args.set.now c.mode_of-mode.result c.mode_of-mode.result c.in_ok-index.index c.in_ok-index.ensures refl
-    (few_from_test (sought_of c.in_ok-index.index c.mode_of-mode.result) (sym c.has_too_many_tails.ensures ∙ c.if-has_too_many_tails.false))
+    (c.has_too_many_tails.ensures.few c.if-has_too_many_tails.false)
 
 pub returns-in_err-findings-clause-text : goal.returns-in_err-findings-clause-text
 returns-in_err-findings-clause-text g c = λ files reads.
@@ -65,7 +65,7 @@ returns-clause-text g c = λ files reads.
     let start = g.W.Sink.state c.args.out.now in let new = g.W.Sink.state c.write_findings.new.out in
     let sized = contents_sized (g.Q.Shelf.state c.args.scanned.now) plan.scanned files c.requires (c.in_ok-findings.ensures.ok.older files reads) in
     let few = few_of_set set mode c.mode_of-mode.result c.in_ok-index.index c.in_ok-index.ensures c.mode_of-mode.ensures
-    (few_from_test (sought_of c.in_ok-index.index c.mode_of-mode.result) (sym c.has_too_many_tails.ensures ∙ c.if-has_too_many_tails.false)) in
+    (c.has_too_many_tails.ensures.few c.if-has_too_many_tails.false) in
     let findings : c.in_ok-findings.findings ≡ findings_of set mode (named_files plan.scanned files)
     = rw (c.as_slice-files.ensures, c.mode_of-mode.ensures) at (c.in_ok-findings.ensures.findings files reads) in
     let after = rw c.as_slice-files.ensures at c.write_findings.ensures.text in
@@ -119,3 +119,17 @@ returns-in_err-findings-clause-unsearched g c = rw c.as_slice-files.ensures at c
 
 pub returns-clause-unsearched : goal.returns-clause-unsearched
 returns-clause-unsearched g c = rw c.as_slice-files.ensures at c.findings_on.ensures.unsearched
+
+pub returns-in_err-findings-clause-cause : goal.returns-in_err-findings-clause-cause
+returns-in_err-findings-clause-cause g c = λ scanned sized cause.
+    let mode = mode_of c.args.tails in
+    let few = few_of_set c.args.set.now mode c.mode_of-mode.result c.in_ok-index.index c.in_ok-index.ensures c.mode_of-mode.ensures
+    (c.has_too_many_tails.ensures.few c.if-has_too_many_tails.false) in
+    absurd (few_no_cause (set_sought_of c.args.set.now mode) _ _ few cause)
+
+pub returns-clause-cause : goal.returns-clause-cause
+returns-clause-cause g c = λ scanned sized cause.
+    let mode = mode_of c.args.tails in
+    let few = few_of_set c.args.set.now mode c.mode_of-mode.result c.in_ok-index.index c.in_ok-index.ensures c.mode_of-mode.ensures
+    (c.has_too_many_tails.ensures.few c.if-has_too_many_tails.false) in
+    absurd (few_no_cause (set_sought_of c.args.set.now mode) _ _ few cause)

@@ -68,7 +68,7 @@ returns-clause-belongs g c =
     let set : SliceSet = c.args.index.now in
     let s : ShelfState = g.H.Shelf.state c.args.shelf.now in
     let lengths : c.shorter_lengths-tails.result.now ≡ shorter_lengths c.args.mode set = c.shorter_lengths-tails.ensures.all in
-    let few : HasFewTails (sought_of set c.args.mode) = omega (arith, ap (λ (xs : List ℕ). length xs) lengths, c.if-tails-gt-MOST_TAILS.false) in
+    let few : HasFewTails (sought_of set c.args.mode) = c.has_too_many_tails.ensures.few c.if-has_too_many_tails.false in
     let is : c.in_ok-window.window ≡ empty_window set.slice_size (shorter_lengths c.args.mode set) =
     c.in_ok-window.ensures ∙ ap (λ (n : ℕ). empty_window n c.shorter_lengths-tails.result.now) c.size.ensures.size
     ∙ ap (empty_window set.slice_size) lengths in
