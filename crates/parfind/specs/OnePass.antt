@@ -1,5 +1,6 @@
 -- What each call of a search is handed of the files, and what all of them were since its opening.
 use Rattle.std.specs.Prelude.{◌≡◌, ℕ, ◌+◌, ◌-◌, ◌<◌, ◌≤◌, ◌==◌, nat_lt, List, [], ◌∷◌, slice_index, if◌then◌else◌}
+use Rattle.parshelf.specs.Reads.{HandsPerFile}
 use Rattle.parfind.specs.declared.cursors.cursor.Cursor.{Cursor}
 use Rattle.parfind.specs.Fetched.{Place, ReadsUpTo, ahead_limit}
 use Rattle.parfind.specs.Places.{place_at}
@@ -32,8 +33,7 @@ room_of lengths c f = if nat_lt f c.file then 0 else slice_index lengths f - ent
 -- of each file at most what was ahead was handed over: of a file after the cursor's nothing, and of
 -- the cursor's no more than a window and 4,096 bytes further
 pub record HandsWithin (size : ℕ) (old new : SearchPoint) : Type 0 where
-  pub room : (f : ℕ) → slice_index new.shelf.handed f
-      ≤ slice_index old.shelf.handed f + room_of old.shelf.lengths old.cursor f
+  pub room : HandsPerFile (room_of old.shelf.lengths old.cursor) old.shelf new.shelf
   pub none : (f : ℕ) → new.cursor.file < f
       → slice_index new.shelf.handed f ≤ slice_index old.shelf.handed f
   pub near : slice_index new.shelf.handed new.cursor.file

@@ -1,10 +1,9 @@
 -- How many bytes of each file are handed over, by one call after another.
 use Rattle.std.proofs.Common.{◌≡◌, ◌≢◌, ◌<◌, ◌≤◌, ◌+◌, ◌∙◌, ℕ, Bool, List, [], ◌∷◌, true, false, slice_index, length, ap, refl, sym, arith, if◌then◌else◌, inl, inr}
 use Rattle.std.proofs.lemmas.Bool.{cases_lt, false_from_ne_true}
-use Rattle.parfield.specs.Added.{slice_index-added_at_same, slice_index-added_at_other}
-use Rattle.parshelf.specs.Shelf.{ShelfState, IsShelf, ReadsAs, file_of}
-use Rattle.parshelf.specs.Reads.{ReadsOnly}
-use Rattle.parsalvage.specs.Leaves.{HandsAtMost}
+use Rattle.parshelf.specs.Shelf.{ShelfState, ReadsAs, file_of}
+use Rattle.parshelf.specs.Reads.{ReadsOnly, HandsAtMost, HandsPerFile}
+use Rattle.parshelf.proofs.ReadLaws.{HandsAtMost_own, HandsAtMost_others}
 use Rattle.parsalvage.specs.MagicPlaces.{salvage_limit}
 use Rattle.parset.specs.RecoverySet.{SetView}
 use Rattle.parwindow.specs.Index.{SliceSet, slice_set_of, has_fit_of, set_has_fit}
@@ -19,7 +18,7 @@ use Rattle.parfind.specs.declared.tracks.mode.Mode.{Mode}
 use Rattle.parfind.proofs.track_laws.FetchedLaws.{hands_more}
 use Rattle.parfind.proofs.survey_laws.MissingSetLaws.{any_missing}
 use Rattle.parfind.proofs.search_laws.ReachLaws.{reach_adds_up}
-use Rattle.parreport.specs.Contents.{HandsPerFile, ReadsCandidates}
+use Rattle.parreport.specs.Contents.{ReadsCandidates}
 use Rattle.parreport.specs.Costs.{HandsWithinSalvage, searched_length_of, verified_length_of}
 
 -- ---- one file after another
@@ -35,23 +34,22 @@ until_all limit old new file before = λ k. elim (cases_lt k file) [
   | inr more ↦ omega (arith, before.unread k more)
 ]
 
-until_more : (limit : ℕ → ℕ) (old now new : ShelfState) (file : ℕ) → HandsUntil limit old now file
-    → slice_index new.handed file ≤ slice_index now.handed file + limit file
-    → ((k : ℕ) → k ≢ file → slice_index new.handed k ≡ slice_index now.handed k) → HandsUntil limit old new (file + 1)
-until_more limit old now new file before own others = record {
+pub until_more : (limit : ℕ → ℕ) (old now new : ShelfState) (file : ℕ) → HandsUntil limit old now file
+    → HandsAtMost now new file (limit file) → HandsUntil limit old new (file + 1)
+until_more limit old now new file before one = record {
   read = λ k less. elim (cases_lt k file) [
     | inl early ↦
         let other : k ≢ file = λ e. absurd (omega (arith, e)) in
-        omega (arith, others k other, before.read k early)
+        omega (arith, HandsAtMost_others now new file (limit file) one k other, before.read k early)
     | inr more ↦
         let here : k ≡ file = omega arith in
         let first = before.unread file (omega arith) in
-        rw here (omega (arith, own, first))
+        rw here (omega (arith, HandsAtMost_own now new file (limit file) one, first))
   ];
   unread = λ k more.
       let other : k ≢ file = λ e. absurd (omega (arith, e)) in
       let far : file ≤ k = omega arith in
-      others k other ∙ before.unread k far;
+      HandsAtMost_others now new file (limit file) one k other ∙ before.unread k far;
 }
 
 -- the salvages of the files before this one, whichever files these are
@@ -59,17 +57,12 @@ abbrev pub SalvagesUntil : ShelfState → ShelfState → ℕ → Type 0
 SalvagesUntil old new file =
     (files : List (List ℕ)) → ReadsAs new files → HandsUntil (λ k. salvage_limit (file_of files k)) old new file
 
-module _ (old now new : ShelfState) (file : ℕ) (shelf : IsShelf now) (there : file < length now.lengths)
+module _ (old now new : ShelfState) (file : ℕ)
     (older : (files : List (List ℕ)) → ReadsAs new files → ReadsAs now files) (before : SalvagesUntil old now file)
     (one : (files : List (List ℕ)) → ReadsAs new files → HandsAtMost now new file (salvage_limit (file_of files file))) where
   pub salvages_more : SalvagesUntil old new (file + 1)
   salvages_more files reads =
-      let h = one files reads in
-      let within : file < length now.handed = omega (arith, there, shelf.handed_each) in
-      let own : slice_index new.handed file ≡ slice_index now.handed file + h.count
-      = ap (λ xs. slice_index xs file) h.after ∙ slice_index-added_at_same now.handed file h.count within in
-      until_more (λ k. salvage_limit (file_of files k)) old now new file (before files (older files reads)) (omega (arith, own, h.within))
-      (λ k other. ap (λ xs. slice_index xs k) h.after ∙ slice_index-added_at_other now.handed file h.count k other)
+      until_more (λ k. salvage_limit (file_of files k)) old now new file (before files (older files reads)) (one files reads)
 
   pub salvages_stopped : HandsWithinSalvage old new
   salvages_stopped files reads = until_all (λ k. salvage_limit (file_of files k)) old new (file + 1) (salvages_more files reads)

@@ -1,6 +1,7 @@
 -- What reading costs: how many bytes of each file a run may be handed.
 use Rattle.std.specs.Prelude.{ℕ, ◌+◌, List, Option, None, Some, slice_index, if◌then◌else◌}
 use Rattle.parshelf.specs.Shelf.{ShelfState, ReadsAs, file_of}
+use Rattle.parshelf.specs.Reads.{HandsPerFile}
 use Rattle.parsalvage.specs.MagicPlaces.{salvage_limit}
 use Rattle.parset.specs.RecoverySet.{SetView}
 use Rattle.parwindow.specs.Index.{slice_set_of, set_has_fit}
@@ -12,7 +13,7 @@ use Rattle.parfind.specs.declared.tracks.mode.Mode.{Mode}
 use Rattle.parfind.specs.declared.cursors.cursor_text.CursorText.{CursorText}
 use Rattle.parplan.specs.declared.command.Command.{Command}
 use Rattle.parplan.specs.declared.command.Command.TheVariants as command
-use Rattle.parreport.specs.Contents.{HandsPerFile, checked_length_of}
+use Rattle.parreport.specs.Contents.{checked_length_of}
 use Rattle.parreport.specs.SetSearch.{mode_of}
 
 -- of each packet file no more than one salvage of its bytes may be handed, in any files of which that

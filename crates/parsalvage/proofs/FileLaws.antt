@@ -6,7 +6,7 @@ use Rattle.std.proofs.lemmas.List.Edits.{take-paste}
 use Rattle.std.proofs.lemmas.List.Elements.{All-nil}
 use Rattle.parshelf.specs.Shelf.{ShelfState, ReadsAs, file_of, bytes_at}
 use Rattle.parshelf.proofs.ShelfLaws.{length-file_of}
-use Rattle.parshelf.specs.Reads.{HandsOver, FaultsWithin}
+use Rattle.parshelf.specs.Reads.{ReadsOnly, FaultsIn, HandsOver, HandsAtMost}
 use Rattle.parshelf.specs.declared.shelves.reading.ReadFault.{ReadFault}
 use Rattle.parshelf.proofs.PieceLaws.{read_more}
 use Rattle.parsalvage.specs.declared.salvage_fault.SalvageFault.{SalvageFault}
@@ -14,8 +14,7 @@ use Rattle.parsalvage.specs.declared.file_scan.FileScan.{FileScan}
 use Rattle.parsalvage.specs.Pieces.{IsPiece}
 use Rattle.parsalvage.specs.MagicPlaces.{limit_between, salvage_limit}
 use Rattle.parsalvage.specs.FileScans.{LiesIn, FindsBelow}
-use Rattle.parsalvage.specs.Hands.{Hands, StopsAfter, FaultsAfter}
-use Rattle.parsalvage.proofs.HandLaws.{Hands-none, Hands-from, Hands-more, Hands-lengths, StopsAfter-more, FaultsAfter-more, FaultsAfter-within}
+use Rattle.parsalvage.proofs.HandLaws.{Handed, FaultsAfter, StopsAfter, Hands-none, Hands-from, Hands-more, Hands-lengths, StopsAfter-more, FaultsAfter-more, FaultsAfter-within}
 use Rattle.parsalvage.proofs.LimitLaws.{limit_between-split}
 use Rattle.parsalvage.proofs.ScanLaws.{LiesIn-later, FoundBelow-none, no_packet_late, packets_between-zero}
 use Rattle.parsalvage.proofs.BodyLaws.{run_none}
@@ -33,7 +32,7 @@ pub record Progress : Type 0 where
 -- the places below `base` were searched, and the front of the piece that begins there was read
 pub record FileSearched (s : ShelfState) (file : ℕ) (now : Progress) : Type 0 where
   pub room : now.held ≤ length now.window
-  pub hands : Hands s now.shelf file (λ bytes. (now.base + now.held) + limit_between bytes 0 now.base)
+  pub hands : Handed s now.shelf file (λ bytes. (now.base + now.held) + limit_between bytes 0 now.base)
   pub lies : LiesIn (slice_index s.lengths file) now.base now.found
   pub packets : FindsBelow now.shelf file now.base now.found
   pub front : (files : List (List ℕ)) → ReadsAs now.shelf files
@@ -71,7 +70,7 @@ module _ (s : ShelfState) (file : ℕ) (now : Progress) (so_far : FileSearched s
   with_piece u = record { shelf = u; base = now.base; held = size; window = put_mid now.held (size - now.held) now.window part; found = now.found }
 
   pub FileSearched-read : (u : ShelfState)
-      → HandsOver now.shelf u file (length (take (size - now.held) (drop now.held now.window)))
+      → ReadsOnly now.shelf u × HandsOver now.shelf u file (length (take (size - now.held) (drop now.held now.window)))
       → ((files : List (List ℕ)) → ReadsAs u files
       → part ≡ bytes_at files file (now.base + now.held) (length (take (size - now.held) (drop now.held now.window))))
       → FileSearched s file (with_piece u)
@@ -81,7 +80,7 @@ module _ (s : ShelfState) (file : ℕ) (now : Progress) (so_far : FileSearched s
         Hands-more s now.shelf u file _ (λ _. size - now.held) _ so_far.hands
         (Hands-from now.shelf u file _ (λ _. size - now.held) over (λ files reads. omega (arith, count))) (λ files reads. omega (arith, more));
     lies = so_far.lies;
-    packets = λ files reads. so_far.packets files (over.older files reads);
+    packets = λ files reads. so_far.packets files (over.0.older files reads);
     front = λ files reads.
         let bytes : List ℕ = file_of files file in
         let all : now.held + (size - now.held) ≡ size = omega (arith, more) in
@@ -89,7 +88,7 @@ module _ (s : ShelfState) (file : ℕ) (now : Progress) (so_far : FileSearched s
         = ap (take (size - now.held)) (bytes_are files reads ∙ ap (λ (n : ℕ). take n (drop (now.base + now.held) bytes)) count)
         ∙ take-take (size - now.held) (size - now.held) (drop (now.base + now.held) bytes) (omega arith) in
         let joined = read_more now.window part bytes now.held (size - now.held) (size - now.held) now.base so_far.room
-        (omega (arith, filled, count)) (so_far.front files (over.older files reads)) next in
+        (omega (arith, filled, count)) (so_far.front files (over.0.older files reads)) next in
         ap (λ (n : ℕ). take n (put_mid now.held (size - now.held) now.window part)) (sym all)
         ∙ (joined ∙ ap (λ (n : ℕ). take n (drop now.base bytes)) all);
   }
@@ -119,7 +118,7 @@ module _ (s : ShelfState) (file : ℕ) (now : Progress) (so_far : FileSearched s
       → moved ≡ paste now.window 0 (drop (now.held - 7) now.window) (now.held - (now.held - 7))
       → LiesIn (slice_index now.shelf.lengths file) (now.base + (length (take now.held now.window) - 7)) found
       → FindsBelow v file (now.base + (length (take now.held now.window) - 7)) found
-      → Hands now.shelf v file (λ bytes. limit_between bytes now.base (now.base + (length (take now.held now.window) - 7)))
+      → Handed now.shelf v file (λ bytes. limit_between bytes now.base (now.base + (length (take now.held now.window) - 7)))
       → FileSearched s file (record { shelf = v; base = now.base + (now.held - 7); held = 7; window = moved; found = found })
   FileSearched-next v found moved long moved_is lies packets hands = record {
     room = omega (arith, some, long, so_far.room);
@@ -138,7 +137,7 @@ module _ (s : ShelfState) (file : ℕ) (now : Progress) (so_far : FileSearched s
         (omega (arith, some, so_far.room, length-drop (now.held - 7) now.window)) in
         begins ∙ (sym (drop-take (now.held - 7) 7 now.window)
         ∙ (ap (λ (n : ℕ). drop (now.held - 7) (take n now.window)) (sym tail)
-        ∙ (ap (drop (now.held - 7)) (so_far.front files (hands.older files reads))
+        ∙ (ap (drop (now.held - 7)) (so_far.front files (hands.0.older files reads))
         ∙ (ap (λ (n : ℕ). drop (now.held - 7) (take n (drop now.base bytes))) tail
         ∙ (drop-take (now.held - 7) 7 (drop now.base bytes)
         ∙ ap (take 7) (drop-drop (now.held - 7) now.base bytes))))));
@@ -151,30 +150,30 @@ module _ (s : ShelfState) (file : ℕ) (now : Progress) (so_far : FileSearched s
       StopsAfter-more s now.shelf v file _ _ _ fault so_far.hands faults
       (λ files reads.
       let bytes : List ℕ = file_of files file in
-      let long = length-file_of s files file (so_far.hands.older files reads) in
+      let long = length-file_of s files file (so_far.hands.0.older files reads) in
       let all = limit_between-split bytes 0 (now.base + (now.held - 7)) (length bytes) (omega arith) (omega (arith, within, long)) in
       omega (arith, some, limits bytes, all, within, long))
 
 -- the read of a piece failed
 pub FileSearched-unread : (s : ShelfState) (file : ℕ) (now : Progress) (u : ShelfState) (n : ℕ) (fault : ReadFault) → FileSearched s file now
     → (now.base + now.held) + n ≤ slice_index s.lengths file
-    → FaultsWithin now.shelf u file n fault → FaultsAfter s u file salvage_limit fault
+    → FaultsIn now.shelf u file fault × HandsAtMost now.shelf u file n → FaultsAfter s u file salvage_limit fault
 FileSearched-unread s file now u n fault so_far within fails =
     FaultsAfter-more s now.shelf u file _ (λ _. n) _ fault so_far.hands
     (FaultsAfter-within now.shelf u file n (λ _. n) fault fails (λ files reads. omega arith))
     (λ files reads.
-    let long = length-file_of s files file (so_far.hands.older files reads) in
+    let long = length-file_of s files file (so_far.hands.0.older files reads) in
     let all = limit_between-split (file_of files file) 0 now.base (length (file_of files file)) (omega arith) (omega (arith, within, long)) in
     omega (arith, within, long, all))
 
 -- fewer bytes are left than a header has
 module _ (s : ShelfState) (file : ℕ) (now : Progress) (so_far : FileSearched s file now)
     (low : now.base + now.held ≤ slice_index s.lengths file) (last : slice_index s.lengths file < now.base + 64) where
-  pub hands_whole : Hands s now.shelf file salvage_limit
+  pub hands_whole : Handed s now.shelf file salvage_limit
   hands_whole =
       Hands-more s now.shelf now.shelf file _ (λ _. 0) _ so_far.hands (Hands-none now.shelf file (λ _. 0))
       (λ files reads.
-      let long = length-file_of s files file (so_far.hands.older files reads) in
+      let long = length-file_of s files file (so_far.hands.0.older files reads) in
       let all = limit_between-split (file_of files file) 0 now.base (length (file_of files file)) (omega arith) (omega (arith, low, long)) in
       omega (arith, low, all, long))
 
@@ -183,6 +182,6 @@ module _ (s : ShelfState) (file : ℕ) (now : Progress) (so_far : FileSearched s
 
   pub packets_whole : FindsBelow now.shelf file (slice_index s.lengths file) now.found
   packets_whole files reads =
-      let long = length-file_of s files file (so_far.hands.older files reads) in
+      let long = length-file_of s files file (so_far.hands.0.older files reads) in
       FoundBelow-none file now.base (slice_index s.lengths file) (file_of files file) now.found (so_far.packets files reads) (omega (arith, low))
       (λ k from up. no_packet_late (file_of files file) k (omega (arith, from, last, long)))

@@ -5,9 +5,8 @@ use Rattle.std.proofs.Math.Seq.{take-add}
 use Rattle.std.proofs.lemmas.List.{drop-take, take-take, drop-drop}
 use Rattle.parshelf.specs.Shelf.{ShelfState}
 use Rattle.parsalvage.specs.declared.piece.Piece.{Piece}
-use Rattle.parsalvage.specs.Hands.{Hands}
 use Rattle.parsalvage.specs.Pieces.{IsPiece, IsPieceOf}
-use Rattle.parsalvage.proofs.HandLaws.{Hands-lengths}
+use Rattle.parsalvage.proofs.HandLaws.{Handed, Hands-lengths}
 
 pub part_of_piece : (file bytes : List ℕ) (base from size : ℕ) → IsPiece file base bytes → base ≤ from
     → (from - base) + size ≤ length bytes → take size (drop (from - base) bytes) ≡ take size (drop from file)
@@ -34,8 +33,8 @@ front_then_rest file front from size is few =
     ∙ ap (λ (n : ℕ). take n part) all))
 
 -- more of the file was read
-pub IsPieceOf-read : (s t : ShelfState) (piece : Piece) (limit : List ℕ → ℕ) → Hands s t piece.file limit → IsPieceOf s piece → IsPieceOf t piece
+pub IsPieceOf-read : (s t : ShelfState) (piece : Piece) (limit : List ℕ → ℕ) → Handed s t piece.file limit → IsPieceOf s piece → IsPieceOf t piece
 IsPieceOf-read s t piece limit h is = record {
   known = rw (Hands-lengths s t piece.file limit h) is.known;
-  is_piece = λ files reads. is.is_piece files (h.older files reads);
+  is_piece = λ files reads. is.is_piece files (h.0.older files reads);
 }

@@ -13,8 +13,7 @@ use Rattle.parsalvage.specs.Packets.{is_packet_at, packet_found_at, packets_of}
 use Rattle.parsalvage.specs.Pieces.{IsPiece}
 use Rattle.parsalvage.specs.MagicPlaces.{is_magic_at, framed_size, limit_between}
 use Rattle.parsalvage.specs.FileScans.{LiesIn, FindsBelow}
-use Rattle.parsalvage.specs.Hands.{Hands, StopsAfter}
-use Rattle.parsalvage.proofs.HandLaws.{FitsWithin, Hands-none, Hands-more, Hands-lengths, StopsAfter-more}
+use Rattle.parsalvage.proofs.HandLaws.{Handed, StopsAfter, FitsWithin, Hands-none, Hands-more, Hands-lengths, StopsAfter-more}
 use Rattle.parsalvage.proofs.LimitLaws.{limit_between-split, limit_between-one}
 use Rattle.parsalvage.proofs.MagicLaws.{matches-all, packet_has_magic}
 use Rattle.parsalvage.proofs.ScanLaws.{LiesIn-later, FoundBelow-none, no_packet_late}
@@ -75,7 +74,7 @@ pub record SearchedTo (s : ShelfState) (file base : ℕ) (window : List ℕ) (le
   pub places_are : left.places ≡ filter (occurs_at window magic_bytes) (range_with_len (next - base) ((length window + 1) - (next - base)))
   pub lies : LiesIn (slice_index s.lengths file) next left.found
   pub packets : FindsBelow left.shelf file next left.found
-  pub hands : Hands s left.shelf file (λ bytes. limit_between bytes base next)
+  pub hands : Handed s left.shelf file (λ bytes. limit_between bytes base next)
 
 pub SearchedTo-start : (s : ShelfState) (file base : ℕ) (window : List ℕ) (found : FileScan) → LiesIn (slice_index s.lengths file) base found
     → FindsBelow s file base found
@@ -113,7 +112,7 @@ module _ (s t : ShelfState) (file base : ℕ) (window : List ℕ) (place : ℕ) 
   place_within within = omega (arith, same_length, place_fits, within)
 
   piece_now : (files : List (List ℕ)) → ReadsAs t files → IsPiece (file_of files file) base window
-  piece_now files reads = piece files (so_far.hands.older files reads)
+  piece_now files reads = piece files (so_far.hands.0.older files reads)
 
   pub lies_before : LiesIn (slice_index t.lengths file) (base + place) found
   lies_before =
@@ -137,7 +136,7 @@ module _ (s t : ShelfState) (file base : ℕ) (window : List ℕ) (place : ℕ) 
 
   pub SearchedTo-next : (u : ShelfState) (more : FileScan) → LiesIn (slice_index t.lengths file) ((base + place) + 1) more
       → FindsBelow u file ((base + place) + 1) more
-      → Hands t u file (λ bytes. 64 + 2 * framed_size (drop (base + place) bytes))
+      → Handed t u file (λ bytes. 64 + 2 * framed_size (drop (base + place) bytes))
       → SearchedTo s file base window (record { shelf = u; places = later; found = more })
   SearchedTo-next u more lies packets hands = record {
     next = (base + place) + 1;
@@ -173,13 +172,13 @@ module _ (s t : ShelfState) (file base : ℕ) (window : List ℕ) (found : FileS
 
   pub packets_after : FindsBelow t file (base + (length window - 7)) found
   packets_after files reads =
-      let is_piece = piece files (all.hands.older files reads) in
+      let is_piece = piece files (all.hands.0.older files reads) in
       FoundBelow-none file all.next (base + (length window - 7)) (file_of files file) found (all.packets files reads) all.high
       (λ k low high. no_packet_without (file_of files file) base window is_piece k (omega (arith, low, all.low)) (omega (arith, high, low, all.low))
       (passes_none (occurs_at window magic_bytes) (all.next - base) ((length window + 1) - (all.next - base)) (sym all.places_are) (k - base)
       (omega (arith, low, all.low)) (omega (arith, high, low, all.low))))
 
-  pub hands_after : Hands s t file (λ bytes. limit_between bytes base (base + (length window - 7)))
+  pub hands_after : Handed s t file (λ bytes. limit_between bytes base (base + (length window - 7)))
   hands_after =
       Hands-more s t t file _ (λ _. 0) _ all.hands (Hands-none t file (λ _. 0))
       (λ files reads.

@@ -10,9 +10,8 @@ use Rattle.parfield.specs.declared.headers.Header.{Header}
 use Rattle.parshelf.specs.Shelf.{ShelfState, ReadsAs, file_of, bytes_at}
 use Rattle.parshelf.specs.declared.shelves.reading.ReadFault.{ReadFault}
 use Rattle.parsalvage.specs.MagicPlaces.{begins_framed, framed_size}
-use Rattle.parsalvage.specs.Hands.{Hands, FaultsAfter}
 use Rattle.parsalvage.proofs.FrontLaws.{packet_hashed}
-use Rattle.parsalvage.proofs.HandLaws.{FitsWithin, Hands-more, FaultsAfter-more}
+use Rattle.parsalvage.proofs.HandLaws.{Handed, FaultsAfter, FitsWithin, Hands-more, FaultsAfter-more}
 
 pub framed_size-framed : (rest : List ℕ) → true ≡ begins_framed rest → framed_size rest ≡ length_field rest
 framed_size-framed rest framed = cond-true (begins_framed rest) (length_field rest) 0 (sym framed)
@@ -20,15 +19,15 @@ framed_size-framed rest framed = cond-true (begins_framed rest) (length_field re
 module _ (s t : ShelfState) (file at : ℕ) (head : Header)
     (framed : (files : List (List ℕ)) → ReadsAs t files → true ≡ begins_framed (drop at (file_of files file)))
     (fields : (files : List (List ℕ)) → ReadsAs t files → head ≡ header_of (drop at (file_of files file)))
-    (read : Hands s t file (λ _. 64)) where
+    (read : Handed s t file (λ _. 64)) where
   sized : (files : List (List ℕ)) → ReadsAs t files → head.length ≡ length_field (drop at (file_of files file))
   sized files reads = ap (λ (h : Header). h.length) (fields files reads)
 
   cost : FitsWithin t file (λ _. 64 + (head.length - 32)) (λ bytes. 64 + framed_size (drop at bytes))
   cost files reads = omega (arith, sized files reads, framed_size-framed (drop at (file_of files file)) (framed files reads))
 
-  pub validated_hands : (u : ShelfState) → Hands t u file (λ _. head.length - 32)
-      → Hands s u file (λ bytes. 64 + framed_size (drop at bytes))
+  pub validated_hands : (u : ShelfState) → Handed t u file (λ _. head.length - 32)
+      → Handed s u file (λ bytes. 64 + framed_size (drop at bytes))
   validated_hands u hashed = Hands-more s t u file _ _ _ read hashed cost
 
   pub validated_fault : (u : ShelfState) (fault : ReadFault) → FaultsAfter t u file (λ _. head.length - 32) fault
@@ -41,8 +40,8 @@ module _ (s t : ShelfState) (file at : ℕ) (head : Header)
   rest_cost end long files reads =
       omega (arith, long, sized files reads, framed_size-framed (drop at (file_of files file)) (framed files reads))
 
-  pub validated_rest : (u : ShelfState) (end : ℕ) → 64 ≤ head.length → Hands t u file (λ _. at + 32 + (head.length - 32) - end)
-      → Hands s u file (λ bytes. 64 + (at + framed_size (drop at bytes) - end))
+  pub validated_rest : (u : ShelfState) (end : ℕ) → 64 ≤ head.length → Handed t u file (λ _. at + 32 + (head.length - 32) - end)
+      → Handed s u file (λ bytes. 64 + (at + framed_size (drop at bytes) - end))
   validated_rest u end long hashed = Hands-more s t u file _ _ _ read hashed (rest_cost end long)
 
   pub validated_rest_fault : (u : ShelfState) (end : ℕ) (fault : ReadFault) → 64 ≤ head.length

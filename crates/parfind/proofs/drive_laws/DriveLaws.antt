@@ -68,13 +68,13 @@ tells_step old s t xs (Ok step) file shelf so_far reads =
     tells_more old s t xs (answer.Step (Ok step)) so_far (later_only s t reads) (omega (arith, ap failure_count same))
     (omega (arith, ap early_end_count same))
 tells_step old s t xs (Err Failed) file shelf so_far faults =
-    let same = faults.1.counts in
-    let more = sum-added_at s.failures file 1 (omega (arith, shelf.failures_each, faults.0)) in
+    let same = faults.counts in
+    let more = sum-added_at s.failures file 1 (omega (arith, shelf.failures_each, faults.within)) in
     tells_more old s t xs (answer.Step (Err Failed)) so_far (later_fault s t file Failed faults)
     (omega (arith, ap failure_count same, more)) (omega (arith, ap early_end_count same))
 tells_step old s t xs (Err Ended) file shelf so_far faults =
-    let same = faults.1.counts in
-    let more = sum-added_at s.early_ends file 1 (omega (arith, shelf.early_ends_each, faults.0)) in
+    let same = faults.counts in
+    let more = sum-added_at s.early_ends file 1 (omega (arith, shelf.early_ends_each, faults.within)) in
     tells_more old s t xs (answer.Step (Err Ended)) so_far (later_fault s t file Ended faults)
     (omega (arith, ap failure_count same)) (omega (arith, ap early_end_count same, more))
 

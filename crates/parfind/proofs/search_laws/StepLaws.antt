@@ -55,7 +55,7 @@ counts_of : (old new : SearchPoint) (files : List (List ℕ)) → ReadsAs new.sh
     → ReadsFile new.cursor.file old.shelf new.shelf answer → StepCounts old answer new
 counts_of old new files reads (Ok step) leaves = leaves
 counts_of old new files reads (Err Failed) leaves = leaves
-counts_of old new files reads (Err Ended) leaves = leaves.1.none files reads
+counts_of old new files reads (Err Ended) leaves = leaves.none refl files reads
 
 -- where it goes is said by the shelf's lengths, which are those of its files
 pub gives_by : (sought : Sought) (files : List (List ℕ)) (budget : Option ℕ) (old new : SearchPoint) → ReadsAs new.shelf files

@@ -3,13 +3,8 @@ use Rattle.std.proofs.Common.{◌≡◌, ℕ, ◌+◌, ◌<◌, ◌≤◌, true,
 use Rattle.std.proofs.lemmas.Bool.{cases_lt, cases_eq, lt-ltb, le-ltb, eq-eqb, ne_eqb}
 use Rattle.std.proofs.lemmas.List.{get_or_past}
 use Rattle.parfield.specs.Added.{added_at, length-added_at, slice_index-added_at_same, slice_index-added_at_other}
+use Rattle.parshelf.proofs.ReadLaws.{added_at-most}
 use Rattle.parfind.specs.Fetched.{Place, upto, HandsUpTo}
-
-added_at-most : (xs : List ℕ) (place n : ℕ) → slice_index (added_at xs place n) place ≤ slice_index xs place + n
-added_at-most xs place n = elim (cases_lt place (length xs)) [
-  | inl there ↦ omega (arith, slice_index-added_at_same xs place n there)
-  | inr past ↦ omega (arith, get_or_past (added_at xs place n) place 0 (omega (arith, length-added_at xs place n)))
-]
 
 module _ (lengths : List ℕ) (p : Place) (f : ℕ) where
   pub upto-before : f < p.file → upto lengths p f ≡ slice_index lengths f

@@ -26,16 +26,16 @@ later_only s t reads = record {
 
 pub later_fault : (s t : ShelfState) (file : ℕ) (fault : ReadFault) → FaultsIn s t file fault → Later s t
 later_fault s t file Failed faults = record {
-  paths = ap (λ (u : ShelfState). u.paths) faults.1.counts;
-  lengths = ap (λ (u : ShelfState). u.lengths) faults.1.counts;
-  fixed = ap (λ (u : ShelfState). u.fixed) faults.1.counts;
-  older = faults.1.older;
+  paths = ap (λ (u : ShelfState). u.paths) faults.counts;
+  lengths = ap (λ (u : ShelfState). u.lengths) faults.counts;
+  fixed = ap (λ (u : ShelfState). u.fixed) faults.counts;
+  older = faults.older;
 }
 later_fault s t file Ended faults = record {
-  paths = ap (λ (u : ShelfState). u.paths) faults.1.counts;
-  lengths = ap (λ (u : ShelfState). u.lengths) faults.1.counts;
-  fixed = ap (λ (u : ShelfState). u.fixed) faults.1.counts;
-  older = faults.1.older;
+  paths = ap (λ (u : ShelfState). u.paths) faults.counts;
+  lengths = ap (λ (u : ShelfState). u.lengths) faults.counts;
+  fixed = ap (λ (u : ShelfState). u.fixed) faults.counts;
+  older = faults.older;
 }
 
 pub later_read : {A : Type 0} (s t : ShelfState) (file : ℕ) (answer : Result A ReadFault) → ReadsFile file s t answer → Later s t

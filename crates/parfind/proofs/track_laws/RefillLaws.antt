@@ -1,9 +1,10 @@
 -- What one read gives a track: some bytes of its file, none before the file's length, or a failure.
 use Rattle.std.proofs.Common.{◌≡◌, ℕ, ◌+◌, ◌<◌, ◌≤◌, List, length, take, slice_index, ap, refl, ◌∙◌, arith}
 use Rattle.std.proofs.lemmas.List.{length-take-le}
-use Rattle.parshelf.specs.Shelf.{ShelfState, ReadsAs, after_failure, after_read, file_of}
-use Rattle.parshelf.specs.Reads.{HandsOver, FailsOnce, EndsOnce}
-use Rattle.parshelf.proofs.ShelfLaws.{HandsOver-read, IsLikeNone-read, Older-read, Older-same, after_read-none, read_told_some}
+use Rattle.parshelf.specs.Shelf.{ShelfState, ReadsAs, after_read, file_of}
+use Rattle.parshelf.specs.Reads.{ReadsOnly, FaultsIn, HandsOver}
+use Rattle.parshelf.specs.declared.shelves.reading.ReadFault.TheVariants.{Ended}
+use Rattle.parshelf.proofs.ShelfLaws.{ReadsOnly-read, HandsOver-read, FaultsIn-ended, read_told_some}
 use Rattle.parwindow.specs.Window.{WindowState}
 use Rattle.parfind.specs.declared.tracks.track.Track.{Track}
 use Rattle.parfind.specs.Tracks.{HasBytes, IsReadOn, IsTied, next_offset}
@@ -17,26 +18,18 @@ module _ (s t : ShelfState) (file offset room : ℕ) (buf : List ℕ) (n : ℕ) 
   pub refills : 0 < n → HandsOver s t file n
   refills some = rw length_read at (HandsOver-read s t file offset room (take n buf) (omega (arith, length_read)) read)
 
+  pub refill_reads : 0 < n → ReadsOnly s t
+  refill_reads some = ReadsOnly-read s t file offset room (take n buf) (omega (arith, length_read)) read
+
   pub refill_bytes : 0 < n → (files : List (List ℕ)) → ReadsAs t files → HasBytes (file_of files file) offset (take n buf)
   refill_bytes some files reads =
       let told = read_told_some s t file offset room (take n buf) (omega (arith, length_read)) read files reads in
       read_bytes (file_of files file) offset n buf fits (rw length_read at told.bytes)
 
-  pub refill_ends : n ≡ 0 → 0 < room → offset < slice_index s.lengths file → EndsOnce s t file
-  refill_ends none given before =
+  pub refill_ends : file < length s.lengths → n ≡ 0 → 0 < room → offset < slice_index s.lengths file → FaultsIn s t file Ended
+  refill_ends there none given before =
       let zero : length (take n buf) ≡ 0 = length_read ∙ none in
-      let now = read ∙ after_read-none s file offset room (take n buf) zero given before in
-      record {
-        counts = rw now refl;
-        older = Older-read s t _ (ap (λ (u : ShelfState). u.lengths) now) (ap (λ (u : ShelfState). u.readings) now);
-        none = IsLikeNone-read s t file offset room (take n buf) zero given before read;
-      }
-
-pub refill_fails : (s t : ShelfState) (file : ℕ) → t ≡ after_failure s file → FailsOnce s t file
-refill_fails s t file now = record {
-  counts = rw now refl;
-  older = Older-same s t (ap (λ (u : ShelfState). u.lengths) now) (ap (λ (u : ShelfState). u.readings) now);
-}
+      FaultsIn-ended s t file offset room (take n buf) there zero given before read
 
 -- what was read ahead is used up and the file has more: bytes that were read on are the file's
 pub tied_refilled : (s t : ShelfState) (w : WindowState) (a b : Track) → IsTied s w a → IsReadOn a b → Later s t

@@ -1,9 +1,9 @@
-ghost use Rattle.std.specs.Prelude.{◌≡◌, ◌||◌, ◌==◌, ◌<◌, ℕ, List, length, map, IfOk, OnOk, IfErr};
+ghost use Rattle.std.specs.Prelude.{◌≡◌, ◌||◌, ◌==◌, ◌<◌, ℕ, List, length, map, slice_index, IfOk, OnOk, IfErr};
 ghost use Rattle.std.specs.BTreeSet.{contains};
 ghost use Rattle.std.specs.Ordering.{nat_cmp};
-ghost use Rattle.parshelf.specs.Reads.{ReadsOnly};
+ghost use Rattle.parshelf.specs.Reads.{ReadsOnly, HandsAtMost};
 ghost use Rattle.parshelf.specs.Shelf.{ReadsAs, file_of};
-ghost use Rattle.parreport.specs.Contents.{HandsOnce, ReadsCandidates};
+ghost use Rattle.parreport.specs.Contents.{ReadsCandidates, checked_length_of};
 ghost use Rattle.parreport.specs.Outcomes.{FaultTells};
 ghost use Rattle.parreport.specs.States.{has_length, checked_of};
 
@@ -80,7 +80,8 @@ fn content_at<Q: Shelf>(
     requires file { file < length (Q.state shelf.old).lengths }
     ensures content { (scanned : List (List ℕ)) → ReadsAs (Q.state shelf.new) scanned
         → IfOk result (λ content. content ≡ checked_of files.now (file_of scanned file)) }
-    ensures bytes { HandsOnce files.now (Q.state shelf.old) (Q.state shelf.new) file }
+    ensures bytes { HandsAtMost (Q.state shelf.old) (Q.state shelf.new) file
+        (checked_length_of files.now (slice_index (Q.state shelf.old).lengths file)) }
     ensures ok { OnOk result (ReadsOnly (Q.state shelf.old) (Q.state shelf.new)) }
     ensures fault { IfErr result (FaultTells (Q.state shelf.old) (Q.state shelf.new)) }
 {

@@ -1,7 +1,8 @@
 ghost use Rattle.std.specs.Prelude.{◌≡◌, ℕ, List, length, slice_index, IfOk, OnOk, IfErr};
 ghost use Rattle.parshelf.specs.Reads.{ReadsOnly};
 ghost use Rattle.parshelf.specs.Shelf.{ReadsAs};
-ghost use Rattle.parreport.specs.Contents.{HandsPerFile, ReadsCandidates};
+ghost use Rattle.parshelf.specs.Reads.{HandsPerFile};
+ghost use Rattle.parreport.specs.Contents.{ReadsCandidates};
 ghost use Rattle.parreport.specs.Costs.{verified_length_of};
 ghost use Rattle.parreport.specs.Outcomes.{FaultTells};
 ghost use Rattle.parreport.specs.States.{named_files};

@@ -9,7 +9,7 @@ ghost use Rattle.parwindow.specs.Index.{slice_set_of};
 ghost use Rattle.parfind.specs.Sought.{HasFewTails};
 ghost use Rattle.parfind.specs.Surveys.{is_sighted, StopsOnceFound};
 ghost use Rattle.parfind.specs.declared.tracks.mode.Mode.TheVariants.{Plain};
-ghost use Rattle.parreport.specs.Contents.{HandsPerFile};
+ghost use Rattle.parshelf.specs.Reads.{HandsPerFile};
 ghost use Rattle.parreport.specs.Costs.{searched_length_of};
 ghost use Rattle.parreport.specs.Outcomes.{FaultTells};
 ghost use Rattle.parreport.specs.States.{is_intact};

@@ -1,7 +1,7 @@
-ghost use Rattle.std.specs.Prelude.{◌≡◌, ◌+◌, ◌++◌, ◌<◌, ◌≤◌, ◌↔◌, List, ℕ, length, slice_index, OnOk, IfOk, IfErr};
+ghost use Rattle.std.specs.Prelude.{◌≡◌, ◌+◌, ◌++◌, ◌<◌, ◌≤◌, List, ℕ, length, slice_index, OnOk, IfOk};
 ghost use Rattle.md5.specs.Md5.{md5, Holds};
-ghost use Rattle.parshelf.specs.Shelf.{ReadsAs, bytes_at, file_of, failure_count, early_end_count};
-ghost use Rattle.parshelf.specs.Reads.{HandsOver, FaultsWithin};
+ghost use Rattle.parshelf.specs.Shelf.{ReadsAs, bytes_at, file_of};
+ghost use Rattle.parshelf.specs.Reads.{ReadsPart};
 
 use crate::shelves::shelf::Shelf;
 use crate::sinks::Failed;
@@ -26,19 +26,9 @@ pub fn fill<H: Shelf>(
 ) -> Result<(), ReadFault>
     requires file { file < length (H.state shelf.old).lengths }
     requires within { offset + length buf.old ≤ slice_index (H.state shelf.old).lengths file }
-
-    ensures ok { OnOk result
-        (HandsOver (H.state shelf.old) (H.state shelf.new) file (length buf.old)) }
+    ensures leaves { ReadsPart file (length buf.old) (H.state shelf.old) (H.state shelf.new) result }
     ensures bytes { (files : List (List ℕ)) → ReadsAs (H.state shelf.new) files →
         OnOk result (buf.new ≡ bytes_at files file offset (length buf.old)) }
-
-    // There is one failure or early end at most, and none is passed over.
-    ensures fault { IfErr result
-        (FaultsWithin (H.state shelf.old) (H.state shelf.new) file (length buf.old)) }
-    ensures failed { (result ≡ Err ReadFault.Failed)
-        ↔ (failure_count (H.state shelf.old) < failure_count (H.state shelf.new)) }
-    ensures ended { (result ≡ Err ReadFault.Ended)
-        ↔ (early_end_count (H.state shelf.old) < early_end_count (H.state shelf.new)) }
 {
     let mut done = 0;
     while done < buf.len() {
@@ -58,19 +48,10 @@ const PIECE: usize = 32_768;
 /// The MD5 of a whole file.
 pub fn digest_of<H: Shelf>(shelf: &mut H, file: u32) -> Result<Hash16, ReadFault>
     requires { file < length (H.state shelf.old).lengths }
-
-    ensures ok { OnOk result (HandsOver (H.state shelf.old) (H.state shelf.new) file
-        (slice_index (H.state shelf.old).lengths file)) }
+    ensures leaves { ReadsPart file (slice_index (H.state shelf.old).lengths file)
+        (H.state shelf.old) (H.state shelf.new) result }
     ensures digest { (files : List (List ℕ)) → ReadsAs (H.state shelf.new) files →
         IfOk result (λ hash. hash.0 ≡ md5 (file_of files file)) }
-
-    // There is one failure or early end at most, and none is passed over.
-    ensures fault { IfErr result (FaultsWithin (H.state shelf.old) (H.state shelf.new) file
-        (slice_index (H.state shelf.old).lengths file)) }
-    ensures failed { (result ≡ Err ReadFault.Failed)
-        ↔ (failure_count (H.state shelf.old) < failure_count (H.state shelf.new)) }
-    ensures ended { (result ≡ Err ReadFault.Ended)
-        ↔ (early_end_count (H.state shelf.old) < early_end_count (H.state shelf.new)) }
 {
     let end = shelf.length(file);
     let mut buffer = [0; PIECE];
@@ -88,17 +69,9 @@ pub fn digest_of_part<H: Shelf>(
     requires file { file < length (H.state shelf.old).lengths }
     requires within { offset + size ≤ slice_index (H.state shelf.old).lengths file }
     requires buffer { 0 < length buffer.old }
-
-    ensures ok { OnOk result (HandsOver (H.state shelf.old) (H.state shelf.new) file size) }
+    ensures leaves { ReadsPart file size (H.state shelf.old) (H.state shelf.new) result }
     ensures digest { (files : List (List ℕ)) → ReadsAs (H.state shelf.new) files →
         IfOk result (λ hash. hash.0 ≡ md5 (bytes_at files file offset size)) }
-
-    // There is one failure or early end at most, and none is passed over.
-    ensures fault { IfErr result (FaultsWithin (H.state shelf.old) (H.state shelf.new) file size) }
-    ensures failed { (result ≡ Err ReadFault.Failed)
-        ↔ (failure_count (H.state shelf.old) < failure_count (H.state shelf.new)) }
-    ensures ended { (result ≡ Err ReadFault.Ended)
-        ↔ (early_end_count (H.state shelf.old) < early_end_count (H.state shelf.new)) }
 {
     let mut hasher = Md5::new();
     hash_part(shelf, file, offset, size, buffer, &mut hasher)?;
@@ -118,18 +91,10 @@ pub fn hash_part<H: Shelf>(
     requires file { file < length (H.state shelf.old).lengths }
     requires within { offset + size ≤ slice_index (H.state shelf.old).lengths file }
     requires buffer { 0 < length buffer.old }
-
-    ensures ok { OnOk result (HandsOver (H.state shelf.old) (H.state shelf.new) file size) }
+    ensures leaves { ReadsPart file size (H.state shelf.old) (H.state shelf.new) result }
     ensures hashed { (files : List (List ℕ)) → ReadsAs (H.state shelf.new) files
         → (front : List ℕ) → Holds hasher.old front
         → OnOk result (Holds hasher.new (front ++ bytes_at files file offset size)) }
-
-    // There is one failure or early end at most, and none is passed over.
-    ensures fault { IfErr result (FaultsWithin (H.state shelf.old) (H.state shelf.new) file size) }
-    ensures failed { (result ≡ Err ReadFault.Failed)
-        ↔ (failure_count (H.state shelf.old) < failure_count (H.state shelf.new)) }
-    ensures ended { (result ≡ Err ReadFault.Ended)
-        ↔ (early_end_count (H.state shelf.old) < early_end_count (H.state shelf.new)) }
 {
     let room = buffer.len() as u64;
     let mut done = 0;

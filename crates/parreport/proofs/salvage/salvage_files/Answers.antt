@@ -11,10 +11,9 @@ pub loop-file-preserved : goal.loop-file-preserved
 loop-file-preserved g c =
     let start : ShelfState = g.H.Shelf.state c.args.shelf.now in
     let now : ShelfState = g.H.Shelf.state c.loop-file.shelf in
-    let new : ShelfState = g.H.Shelf.state c.salvage_file.new.shelf in
-    let lengths = ap (λ (s : ShelfState). length s.lengths) c.loop-file.invariant.reads.counts in record {
+    let new : ShelfState = g.H.Shelf.state c.salvage_file.new.shelf in record {
       reads = ReadsOnly_more start now new c.loop-file.invariant.reads c.in-Ok.ensures.leaves;
-      handed = salvages_more start now new c.loop-file.file (g.met.H.Shelf.well_formed c.loop-file.shelf) (omega (arith, lengths))
+      handed = salvages_more start now new c.loop-file.file
           c.in-Ok.ensures.leaves.older c.loop-file.invariant.handed c.in-Ok.ensures.bound;
       kept = rw c.in_ok-append-in-Ok.ensures.items (kept_of_files-more start now new c.loop-file.file _ _ (omega arith)
           c.loop-file.invariant.reads c.in-Ok.ensures.leaves c.loop-file.invariant.kept c.in-Ok.ensures.kept);
@@ -54,23 +53,20 @@ returns-clause-handed g c =
 
 pub returns-in_err-append-in-Ok-clause-handed : goal.returns-in_err-append-in-Ok-clause-handed
 returns-in_err-append-in-Ok-clause-handed g c =
-    let lengths = ap (λ (s : ShelfState). length s.lengths) c.loop-file.invariant.reads.counts in
     salvages_stopped (g.H.Shelf.state c.args.shelf.now) (g.H.Shelf.state c.loop-file.shelf) (g.H.Shelf.state c.salvage_file.new.shelf)
-    c.loop-file.file (g.met.H.Shelf.well_formed c.loop-file.shelf) (omega (arith, lengths)) c.in-Ok.ensures.leaves.older
+    c.loop-file.file c.in-Ok.ensures.leaves.older
     c.loop-file.invariant.handed c.in-Ok.ensures.bound
 
 pub returns-in-Err-Memory-clause-handed : goal.returns-in-Err-Memory-clause-handed
 returns-in-Err-Memory-clause-handed g c =
-    let lengths = ap (λ (s : ShelfState). length s.lengths) c.loop-file.invariant.reads.counts in
     salvages_stopped (g.H.Shelf.state c.args.shelf.now) (g.H.Shelf.state c.loop-file.shelf) (g.H.Shelf.state c.salvage_file.new.shelf)
-    c.loop-file.file (g.met.H.Shelf.well_formed c.loop-file.shelf) (omega (arith, lengths))
+    c.loop-file.file
     (rw c.in-Err-Memory.field-0-is at c.in-Err-Memory.ensures.leaves).older c.loop-file.invariant.handed c.in-Err-Memory.ensures.bound
 
 pub returns-in-Err-Read-clause-handed : goal.returns-in-Err-Read-clause-handed
 returns-in-Err-Read-clause-handed g c =
-    let lengths = ap (λ (s : ShelfState). length s.lengths) c.loop-file.invariant.reads.counts in
     let later = later_fault (g.H.Shelf.state c.loop-file.shelf) (g.H.Shelf.state c.salvage_file.new.shelf) c.loop-file.file c.in-Err-Read.fault
     (rw c.in-Err-Read.field-0-is at c.in-Err-Read.ensures.leaves) in
     salvages_stopped (g.H.Shelf.state c.args.shelf.now) (g.H.Shelf.state c.loop-file.shelf) (g.H.Shelf.state c.salvage_file.new.shelf)
-    c.loop-file.file (g.met.H.Shelf.well_formed c.loop-file.shelf) (omega (arith, lengths)) later.older
+    c.loop-file.file later.older
     c.loop-file.invariant.handed c.in-Err-Read.ensures.bound

@@ -4,7 +4,7 @@ ghost use Rattle.parfind.specs.Finders.{BelongsTo};
 ghost use Rattle.parfind.specs.OnePass.{room_of};
 ghost use Rattle.parfind.specs.Places.{place_at};
 ghost use Rattle.parwindow.specs.Index.{slice_set_of};
-ghost use Rattle.parreport.specs.Contents.{HandsPerFile};
+ghost use Rattle.parshelf.specs.Reads.{HandsPerFile};
 ghost use Rattle.parreport.specs.Faults.{listing_of, IsFindFault, IsSearchFault, OnScannedFault};
 ghost use Rattle.parreport.specs.SetSearch.{mode_of, has_too_many_tails, set_sought_of};
 ghost use Rattle.parreport.specs.declared.faults.RunFault.TheVariants as run_fault;

@@ -2,13 +2,13 @@ use Rattle.std.proofs.Common.{refl, arith, ◌∙◌}
 use Rattle.std.proofs.lemmas.Result.{err_from_is_err_and}
 use Rattle.std.proofs.lemmas.Grind.{common_steps}
 use Rattle.parshelf.proofs.ShelfLaws.{length-file_of}
-use Rattle.parsalvage.proofs.HandLaws.{Hands-counted, StopsAfter-counted, not_memory}
+use Rattle.parsalvage.proofs.HandLaws.{Hands-counted, not_memory}
 use Rattle.parsalvage.proofs.FoundLaws.{found_all, found_none, found_inside}
 use Rattle.parsalvage.proofs.files.salvage_file.Goals as goal
 
 pub returns-clause-kept : goal.returns-clause-kept
 returns-clause-kept g c = λ files reads.
-    let long = length-file_of _ files c.args.file (c.in_ok-found.ensures.leaves.older files reads) in
+    let long = length-file_of _ files c.args.file (c.in_ok-found.ensures.leaves.0.older files reads) in
     c.in_ok-keep_found.ensures.kept ∙ found_all _ _ _ _ (c.in_ok-found.ensures.found files reads) long
 
 pub returns-clause-inside : goal.returns-clause-inside
@@ -18,7 +18,7 @@ returns-clause-inside g c = found_inside _ _ _ _ c.in_ok-found.ensures.lies c.in
 
 pub returns-in_err-keep_found-clause-empty : goal.returns-in_err-keep_found-clause-empty
 returns-in_err-keep_found-clause-empty g c = λ files reads none _.
-    let long = length-file_of _ files c.args.file (c.in_ok-found.ensures.leaves.older files reads) in
+    let long = length-file_of _ files c.args.file (c.in_ok-found.ensures.leaves.0.older files reads) in
     c.in_err-keep_found.ensures.some (found_none _ _ _ _ (c.in_ok-found.ensures.found files reads) long none)
 
 pub slice_bounds-search_file-end : goal.slice_bounds-search_file-end
@@ -40,7 +40,7 @@ pub returns-in_err-found-clause-leaves : goal.returns-in_err-found-clause-leaves
 returns-in_err-found-clause-leaves g c = grind (arith, common_steps) steps 400000
 
 pub returns-in_err-found-clause-bound : goal.returns-in_err-found-clause-bound
-returns-in_err-found-clause-bound g c = StopsAfter-counted _ _ c.args.file _ _ c.in_err-found.ensures.leaves
+returns-in_err-found-clause-bound g c = Hands-counted _ _ c.args.file _ c.in_err-found.ensures.leaves.1
 
 pub returns-in_err-found-clause-empty : goal.returns-in_err-found-clause-empty
 returns-in_err-found-clause-empty g c =
@@ -60,13 +60,13 @@ pub returns-in_err-keep_found-clause-leaves : goal.returns-in_err-keep_found-cla
 returns-in_err-keep_found-clause-leaves g c = grind (arith, common_steps) steps 400000
 
 pub returns-in_err-keep_found-clause-bound : goal.returns-in_err-keep_found-clause-bound
-returns-in_err-keep_found-clause-bound g c = Hands-counted _ _ c.args.file _ c.in_ok-found.ensures.leaves
+returns-in_err-keep_found-clause-bound g c = Hands-counted _ _ c.args.file _ c.in_ok-found.ensures.leaves.1
 
 pub returns-clause-leaves : goal.returns-clause-leaves
 returns-clause-leaves g c = grind (arith, common_steps) steps 400000
 
 pub returns-clause-bound : goal.returns-clause-bound
-returns-clause-bound g c = Hands-counted _ _ c.args.file _ c.in_ok-found.ensures.leaves
+returns-clause-bound g c = Hands-counted _ _ c.args.file _ c.in_ok-found.ensures.leaves.1
 
 pub returns-clause-empty : goal.returns-clause-empty
 returns-clause-empty g c = grind (arith, common_steps) steps 100000

@@ -27,7 +27,7 @@ search_piece-requires-clause-piece g c =
     let wide : 64 ≤ c.min-size.result = omega arith in
     let high : c.min-size.result ≤ 65536 = omega arith in
     let read = FileSearched-read _ _ _ before.searched c.min-size.result c.fill.new.buf (omega (arith, before.few, wide)) (omega (arith, before.whole, high))
-    c.fill.auto.buf _ c.in_ok-fill.ensures.ok c.in_ok-fill.ensures.bytes in
+    c.fill.auto.buf _ c.in_ok-fill.ensures.leaves c.in_ok-fill.ensures.bytes in
     record {
       known = rw (Hands-lengths _ _ _ _ read.hands) c.requires.file;
       is_piece = piece_is _ _ _ read (omega (arith, wide));
@@ -39,7 +39,7 @@ search_piece-requires-clause-found g c =
     let wide : 64 ≤ c.min-size.result = omega arith in
     let high : c.min-size.result ≤ 65536 = omega arith in
     let read = FileSearched-read _ _ _ before.searched c.min-size.result c.fill.new.buf (omega (arith, before.few, wide)) (omega (arith, before.whole, high))
-    c.fill.auto.buf _ c.in_ok-fill.ensures.ok c.in_ok-fill.ensures.bytes in
+    c.fill.auto.buf _ c.in_ok-fill.ensures.leaves c.in_ok-fill.ensures.bytes in
     read.packets
 
 pub loop-base-preserved : goal.loop-base-preserved
@@ -48,7 +48,7 @@ loop-base-preserved g c =
     let wide : 64 ≤ c.min-size.result = omega arith in
     let high : c.min-size.result ≤ 65536 = omega arith in
     let read = FileSearched-read _ _ _ before.searched c.min-size.result c.fill.new.buf (omega (arith, before.few, wide)) (omega (arith, before.whole, high))
-    c.fill.auto.buf _ c.in_ok-fill.ensures.ok c.in_ok-fill.ensures.bytes in
+    c.fill.auto.buf _ c.in_ok-fill.ensures.leaves c.in_ok-fill.ensures.bytes in
     record {
       within = omega arith;
       few = omega arith;
@@ -78,7 +78,7 @@ returns-in_err-fill-clause-leaves g c =
     let full = part_length c.loop-base.window c.loop-base.held c.min-size.result before.whole (omega (arith, before.few, wide)) high in
     rw (same.1, same.2)
     (FileSearched-unread _ _ _ _ _ _ before.searched
-    (omega (arith, full, before.few, wide, c.length-end.ensures.value)) c.in_err-fill.ensures.fault)
+    (omega (arith, full, before.few, wide, c.length-end.ensures.value)) c.in_err-fill.ensures.leaves)
 
 pub returns-in_err-search_piece-clause-leaves : goal.returns-in_err-search_piece-clause-leaves
 returns-in_err-search_piece-clause-leaves g c =
@@ -87,7 +87,7 @@ returns-in_err-search_piece-clause-leaves g c =
     let wide : 64 ≤ c.min-size.result = omega arith in
     let high : c.min-size.result ≤ 65536 = omega arith in
     let read = FileSearched-read _ _ _ before.searched c.min-size.result c.fill.new.buf (omega (arith, before.few, wide)) (omega (arith, before.whole, high))
-    c.fill.auto.buf _ c.in_ok-fill.ensures.ok c.in_ok-fill.ensures.bytes in
+    c.fill.auto.buf _ c.in_ok-fill.ensures.leaves c.in_ok-fill.ensures.bytes in
     rw (same.1, same.2)
     (FileSearched-fault _ _ _ read (omega (arith, wide)) _ _
     (omega (arith, c.length-end.ensures.value)) c.in_err-search_piece.ensures.leaves)

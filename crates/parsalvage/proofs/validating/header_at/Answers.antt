@@ -15,14 +15,14 @@ returns-else-head-room-clause-leaves g c = c.in_ok-read.ensures.leaves
 pub returns-in_default-clause-found : goal.returns-in_default-clause-found
 returns-in_default-clause-found g c = λ files reads.
     let bytes : List ℕ = file_of files c.args.piece.now.file in
-    let size = length-file_of _ files c.args.piece.now.file (c.in_ok-read.ensures.leaves.older files reads) in
+    let size = length-file_of _ files c.args.piece.now.file (c.in_ok-read.ensures.leaves.0.older files reads) in
     let long : 64 ≤ length (drop c.args.at bytes) = omega (arith, length-drop c.args.at bytes, size) in
     framed_no_header (drop c.args.at bytes) _ (c.in_ok-read.ensures.bytes files reads) long c.in_default.ensures.found
 
 pub returns-then-head-room-clause-found : goal.returns-then-head-room-clause-found
 returns-then-head-room-clause-found g c = λ files reads.
     let bytes : List ℕ = file_of files c.args.piece.now.file in
-    let size = length-file_of _ files c.args.piece.now.file (c.in_ok-read.ensures.leaves.older files reads) in
+    let size = length-file_of _ files c.args.piece.now.file (c.in_ok-read.ensures.leaves.0.older files reads) in
     let rest = length-drop c.args.at bytes in
     let long : 64 ≤ length (drop c.args.at bytes) = omega (arith, rest, size) in
     framed_yes (drop c.args.at bytes) _ (c.in_ok-read.ensures.bytes files reads) long c.in-Ok.head
@@ -31,14 +31,14 @@ returns-then-head-room-clause-found g c = λ files reads.
 pub returns-then-head-room-clause-fields : goal.returns-then-head-room-clause-fields
 returns-then-head-room-clause-fields g c = λ files reads.
     let bytes : List ℕ = file_of files c.args.piece.now.file in
-    let size = length-file_of _ files c.args.piece.now.file (c.in_ok-read.ensures.leaves.older files reads) in
+    let size = length-file_of _ files c.args.piece.now.file (c.in_ok-read.ensures.leaves.0.older files reads) in
     let long : 64 ≤ length (drop c.args.at bytes) = omega (arith, length-drop c.args.at bytes, size) in
     c.in-Ok.ensures.fields ∙ fields_same (drop c.args.at bytes) _ (c.in_ok-read.ensures.bytes files reads) long
 
 pub returns-else-head-room-clause-found : goal.returns-else-head-room-clause-found
 returns-else-head-room-clause-found g c = λ files reads.
     let bytes : List ℕ = file_of files c.args.piece.now.file in
-    let size = length-file_of _ files c.args.piece.now.file (c.in_ok-read.ensures.leaves.older files reads) in
+    let size = length-file_of _ files c.args.piece.now.file (c.in_ok-read.ensures.leaves.0.older files reads) in
     let rest = length-drop c.args.at bytes in
     let long : 64 ≤ length (drop c.args.at bytes) = omega (arith, rest, size) in
     framed_too_long (drop c.args.at bytes) _ (c.in_ok-read.ensures.bytes files reads) long c.in-Ok.head

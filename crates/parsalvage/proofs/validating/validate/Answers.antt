@@ -21,7 +21,7 @@ returns-then-eq-clause-found g c = λ files reads.
     validated_packet _ _ c.args.piece.now.file c.args.at c.in-Some.head
     (λ files reads. rw c.in-Some.is at (c.in_ok-head.ensures.found files reads))
     (λ files reads. rw c.in-Some.is at (c.in_ok-head.ensures.fields files reads))
-    c.in_ok-head.ensures.leaves files (c.in_ok-hash-in-Some.ensures.leaves.older files reads)
+    c.in_ok-head.ensures.leaves files (c.in_ok-hash-in-Some.ensures.leaves.0.older files reads)
     c.in_ok-hash-in-Some.hash.0 true (c.in_ok-hash-in-Some.ensures.digest files reads) c.if-eq.ensures
 
 pub returns-then-eq-clause-leaves : goal.returns-then-eq-clause-leaves
@@ -36,7 +36,7 @@ returns-else-eq-clause-found g c = λ files reads.
     validated_packet _ _ c.args.piece.now.file c.args.at c.in-Some.head
     (λ files reads. rw c.in-Some.is at (c.in_ok-head.ensures.found files reads))
     (λ files reads. rw c.in-Some.is at (c.in_ok-head.ensures.fields files reads))
-    c.in_ok-head.ensures.leaves files (c.in_ok-hash-in-Some.ensures.leaves.older files reads)
+    c.in_ok-head.ensures.leaves files (c.in_ok-hash-in-Some.ensures.leaves.0.older files reads)
     c.in_ok-hash-in-Some.hash.0 false (c.in_ok-hash-in-Some.ensures.digest files reads) c.if-eq.ensures
 
 pub returns-else-eq-clause-leaves : goal.returns-else-eq-clause-leaves
@@ -118,7 +118,7 @@ returns-then-eq-clause-long g c = grind (arith, common_steps) steps 400000
 
 pub returns-then-eq-clause-fields : goal.returns-then-eq-clause-fields
 returns-then-eq-clause-fields g c = λ files reads.
-    rw c.in-Some.is at (c.in_ok-head.ensures.fields files (c.in_ok-hash-in-Some.ensures.leaves.older files reads))
+    rw c.in-Some.is at (c.in_ok-head.ensures.fields files (c.in_ok-hash-in-Some.ensures.leaves.0.older files reads))
 
 pub returns-else-eq-clause-fits : goal.returns-else-eq-clause-fits
 returns-else-eq-clause-fits g c = grind (arith, common_steps) steps 100000

@@ -4,7 +4,7 @@ use Rattle.std.proofs.lemmas.Grind.{common_steps}
 use Rattle.std.proofs.lemmas.List.Sums.{sum_by-cons}
 use Rattle.parfield.specs.Added.{length-added_at, sum-added_at}
 use Rattle.parshelf.specs.Shelf.{ShelfState, failure_count}
-use Rattle.parshelf.specs.Reads.{ReadsOnly, FailsOnce}
+use Rattle.parshelf.specs.Reads.{ReadsOnly, FaultsIn}
 use Rattle.parshelf.specs.declared.shelves.reading.ReadFault.{ReadFault}
 use Rattle.parshelf.specs.declared.shelves.reading.ReadFault.TheVariants.{Failed, Ended}
 use Rattle.parfind.specs.declared.cursors.cursor.Cursor.{Cursor}
@@ -41,18 +41,18 @@ leaves_read old new reads =
       told = λ _. omega (arith, ap failure_count same);
     }
 
-leaves_failed : (old new : ShelfState) (file : ℕ) → file < length old.lengths → FailsOnce old new file → Leaves old new 1
-leaves_failed old new file there fails =
+leaves_failed : (old new : ShelfState) (file : ℕ) → FaultsIn old new file Failed → Leaves old new 1
+leaves_failed old new file fails =
     let same = fails.counts in record {
       lengths_are = ap (λ (s : ShelfState). s.lengths) same;
       each = ap (λ (s : ShelfState). length s.failures) same ∙ length-added_at old.failures file 1;
-      told = λ each. ap failure_count same ∙ sum-added_at old.failures file 1 (omega (arith, each, there));
+      told = λ each. ap failure_count same ∙ sum-added_at old.failures file 1 (omega (arith, each, fails.within));
     }
 
 pub step_leaves : (scan : Scan) (budget : Option ℕ) (old new : SearchPoint) (r : Result Step ReadFault)
     → StepGives scan budget old r new → Leaves old.shelf new.shelf (told_failures (answer.Step r))
 step_leaves scan budget old new (Ok step) h = leaves_read old.shelf new.shelf h.counts
-step_leaves scan budget old new (Err Failed) h = leaves_failed old.shelf new.shelf new.cursor.file h.counts.0 h.counts.1
+step_leaves scan budget old new (Err Failed) h = leaves_failed old.shelf new.shelf new.cursor.file h.counts
 step_leaves scan budget old new (Err Ended) h = absurd h.counts
 
 -- a call goes on over exactly the sighting of its answer

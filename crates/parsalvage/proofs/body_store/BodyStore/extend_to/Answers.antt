@@ -61,7 +61,9 @@ pub returns-in_err-read-clause-len : goal.returns-in_err-read-clause-len
 returns-in_err-read-clause-len g c = grind (arith, common_steps) steps 1500000
 
 pub returns-in_err-read-clause-keeps : goal.returns-in_err-read-clause-keeps
-returns-in_err-read-clause-keeps g c = grind (arith, common_steps) steps 400000
+returns-in_err-read-clause-keeps g c =
+    let same = err_from_is_err_and c.from_residual-in_err-read.result c.from_residual-in_err-read.ensures.1 in
+    rw same.1 tt
 
 pub returns-in_err-read-clause-bytes : goal.returns-in_err-read-clause-bytes
 returns-in_err-read-clause-bytes g c =

@@ -9,7 +9,7 @@ use Rattle.parsalvage.proofs.body_store.BodyStore.hold.Goals as goal
 pub returns-clause-run : goal.returns-clause-run
 returns-clause-run g c = λ files reads.
     let file : List ℕ = file_of files c.args.piece.now.file in
-    let before = c.reach.ensures.run file (c.requires.run files (c.in_ok-extend_to.ensures.leaves.older files reads)) in
+    let before = c.reach.ensures.run file (c.requires.run files (c.in_ok-extend_to.ensures.leaves.0.older files reads)) in
     let store = c.reach.ensures.store _ (omega arith) c.requires.store in
     let after = c.in_ok-extend_to.ensures in
     rw (after.start, after.end)
@@ -19,7 +19,7 @@ returns-clause-run g c = λ files reads.
 pub returns-clause-part : goal.returns-clause-part
 returns-clause-part g c = λ files reads.
     let file : List ℕ = file_of files c.args.piece.now.file in
-    let before = c.reach.ensures.run file (c.requires.run files (c.in_ok-extend_to.ensures.leaves.older files reads)) in
+    let before = c.reach.ensures.run file (c.requires.run files (c.in_ok-extend_to.ensures.leaves.0.older files reads)) in
     let store = c.reach.ensures.store _ (omega arith) c.requires.store in
     let after = c.in_ok-extend_to.ensures in
     let whole = run_more file c.reach.new.self.bytes.items c.extend_to.new.self.bytes.items c.reach.new.self.start c.reach.new.self.end c.max-last.result

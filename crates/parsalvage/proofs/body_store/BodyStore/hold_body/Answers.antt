@@ -106,7 +106,7 @@ pub returns-clause-keeps : goal.returns-clause-keeps
 returns-clause-keeps g c = grind (arith, common_steps) steps 100000
 
 pub returns-clause-run : goal.returns-clause-run
-returns-clause-run g c = λ files reads. c.requires.run files (c.in_ok-first.ensures.leaves.older files reads)
+returns-clause-run g c = λ files reads. c.requires.run files (c.in_ok-first.ensures.leaves.0.older files reads)
 
 pub returns-clause-leaves : goal.returns-clause-leaves
 returns-clause-leaves g c = grind (arith, common_steps) steps 100000

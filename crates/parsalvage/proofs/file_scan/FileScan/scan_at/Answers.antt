@@ -49,7 +49,7 @@ returns-in-None-clause-found g c = λ files reads.
     let none : false ≡ is_packet_at (file_of files c.args.piece.now.file) c.args.at
     = rw c.in-None.is at (c.in_ok-head.ensures.found files reads) in
     FoundBelow-none c.args.piece.now.file c.args.at (c.args.at + 1) _ _
-    (c.requires.found files (c.in_ok-head.ensures.leaves.older files reads)) (omega arith)
+    (c.requires.found files (c.in_ok-head.ensures.leaves.0.older files reads)) (omega arith)
     (λ k low high.
     let here : k ≡ c.args.at = omega arith in
     ap (is_packet_at (file_of files c.args.piece.now.file)) here ∙ sym none)
@@ -102,7 +102,7 @@ store_packet-requires-clause-lies g c = grind (arith, common_steps) steps 100000
 
 pub store_packet-requires-clause-found : goal.store_packet-requires-clause-found
 store_packet-requires-clause-found g c = λ files reads.
-    c.requires.found files (c.in_ok-head.ensures.leaves.older files reads)
+    c.requires.found files (c.in_ok-head.ensures.leaves.0.older files reads)
 
 pub returns-in-Some-clause-lies : goal.returns-in-Some-clause-lies
 returns-in-Some-clause-lies g c = grind (arith, common_steps) steps 100000

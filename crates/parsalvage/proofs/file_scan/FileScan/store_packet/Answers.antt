@@ -17,7 +17,7 @@ returns-clause-lies g c =
 
 pub returns-clause-found : goal.returns-clause-found
 returns-clause-found g c = λ files reads.
-    let was = c.in_ok-body.ensures.leaves.older files reads in
+    let was = c.in_ok-body.ensures.leaves.0.older files reads in
     let held = c.in_ok-body.ensures in
     let new : FileScan = record { packets = c.push.new.self; bodies = c.hold_body.new.self } in
     let packet : StoredPacket = record { at = c.args.at; length = c.args.head.length; set = c.args.head.set; kind = c.args.head.kind; body = c.in_ok-body.body } in

@@ -7,4 +7,4 @@ returns-in-Some-clause-leaves g c = Hands-none _ _ _
 
 pub returns-in-None-clause-leaves : goal.returns-in-None-clause-leaves
 returns-in-None-clause-leaves g c =
-    ReadsAtMost-from _ _ _ _ _ _ c.fill.ensures.ok c.fill.ensures.fault (λ files reads. omega arith)
+    ReadsAtMost-from _ _ _ _ _ _ c.fill.ensures.leaves (λ files reads. omega arith)

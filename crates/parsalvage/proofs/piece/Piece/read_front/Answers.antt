@@ -11,7 +11,7 @@ use Rattle.parsalvage.proofs.piece.Piece.read_front.Goals as goal
 pub returns-clause-front : goal.returns-clause-front
 returns-clause-front g c = λ files reads.
     let file : List ℕ = file_of files c.args.self.now.file in
-    let long = length-file_of _ files c.args.self.now.file (c.in_ok-read.ensures.leaves.older files reads) in
+    let long = length-file_of _ files c.args.self.now.file (c.in_ok-read.ensures.leaves.0.older files reads) in
     let full : length {A = ℕ} (take c.min-count.result (0 ∷ 0 ∷ 0 ∷ 0 ∷ [])) ≡ c.min-count.result = length-take-le _ _ (omega arith) in
     front_of-read file c.args.from c.args.size c.min-count.result c.read.new.buf (omega (arith, long, c.requires.within))
     c.min-count.ensures (rw full at (c.in_ok-read.ensures.bytes files reads))

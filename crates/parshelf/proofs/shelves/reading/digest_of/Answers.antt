@@ -14,14 +14,5 @@ digest_of_part-requires-clause-within g c = grind (arith, common_steps) steps 10
 pub digest_of_part-requires-clause-buffer : goal.digest_of_part-requires-clause-buffer
 digest_of_part-requires-clause-buffer g c = grind (arith, common_steps) steps 400000
 
-pub returns-clause-ok : goal.returns-clause-ok
-returns-clause-ok g c = grind (arith, common_steps) steps 400000
-
-pub returns-clause-fault : goal.returns-clause-fault
-returns-clause-fault g c = grind (arith, common_steps) steps 400000
-
-pub returns-clause-failed : goal.returns-clause-failed
-returns-clause-failed g c = grind (arith, common_steps) steps 400000
-
-pub returns-clause-ended : goal.returns-clause-ended
-returns-clause-ended g c = grind (arith, common_steps) steps 400000
+pub returns-clause-leaves : goal.returns-clause-leaves
+returns-clause-leaves g c = grind (arith, common_steps) steps 400000

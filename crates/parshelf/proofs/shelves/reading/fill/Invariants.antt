@@ -1,13 +1,14 @@
 use Rattle.std.proofs.Common.{ℕ, List, length, take, ◌-◌, ◌≡◌, ◌≤◌}
 use Rattle.parshelf.specs.Shelf.{ReadsAs, bytes_at}
-use Rattle.parshelf.specs.Reads.{HandsOver}
+use Rattle.parshelf.specs.Reads.{ReadsOnly, HandsOver}
 use Rattle.parshelf.proofs.shelves.reading.fill.Given as goal
 
 -- the front of the buffer is filled, and this much was handed over
 abbrev pub invariant-loop-done : goal.invariant-loop-done
 invariant-loop-done g l = record {
   within : l.done ≤ length l.buf;
-  reads : HandsOver (g.H.Shelf.state l.fn.shelf) (g.H.Shelf.state l.shelf) l.file l.done;
+  reads : ReadsOnly (g.H.Shelf.state l.fn.shelf) (g.H.Shelf.state l.shelf);
+  hands : HandsOver (g.H.Shelf.state l.fn.shelf) (g.H.Shelf.state l.shelf) l.file l.done;
   bytes : (files : List (List ℕ)) → ReadsAs (g.H.Shelf.state l.shelf) files
       → take l.done l.buf ≡ bytes_at files l.file l.offset l.done;
 }
