@@ -1,4 +1,5 @@
--- The number of little-endian bytes, as it is read.
+-- Reading little-endian bytes as a number: the standard library's `little_number` gives the
+-- number of `le_value`.
 use Rattle.std.proofs.Common.{◌≡◌, ℕ, zero, suc, ◌+◌, ◌-◌, ◌*◌, ◌<◌, ◌≤◌, ◌∙◌, List, length, length-drop, take, drop, ap, refl, arith, slice_index}
 use Rattle.std.specs.List.{slice_range}
 use Rattle.std.proofs.Math.Seq.{drop-cons}
@@ -14,11 +15,11 @@ little_from-le_value i (suc n) xs h =
     let rec : little_from (suc i) n xs ≡ le_value (take n (drop (suc i) xs)) = little_from-le_value (suc i) n xs (omega arith) in
     rw (drop-cons xs i 0 here) (ap (λ (v : ℕ). slice_index xs i + 256 * v) rec)
 
--- n bytes of which all are read
+-- a list of n bytes, all of which are read
 pub little_number-le_value : (n : ℕ) (xs : List ℕ) → length xs ≡ n → little_number n xs ≡ le_value xs
 little_number-le_value n xs h = little_from-le_value 0 n xs (omega arith) ∙ ap le_value (take_all n xs (omega arith))
 
--- a field of n bytes
+-- a field of n bytes within other bytes
 pub little_number-slice_range : (n : ℕ) (bytes : List ℕ) (at : ℕ) → at + n ≤ length bytes
     → little_number n (slice_range bytes at (at + n)) ≡ le_value (slice_range bytes at (at + n))
 little_number-slice_range n bytes at h =

@@ -1,4 +1,4 @@
--- The order of IDs is that of their little-endian numbers.
+-- IDs have the same order as their little-endian numbers.
 use Rattle.std.proofs.Common.{◌≡◌, ℕ, ◌+◌, ◌*◌, ◌<◌, ◌∙◌, List, [], ◌∷◌, ◌++◌, length, reverse, suc, zero, ap, refl, sym, arith, Ordering, Less, Equal, Greater}
 use Rattle.std.specs.Ordering.{nat_cmp, ordering_then}
 use Rattle.std.specs.Cmp.Lexicographic.{slice_cmp}
@@ -22,7 +22,8 @@ then-equal Less = refl
 then-equal Equal = refl
 then-equal Greater = refl
 
--- one more element behind two lists of one length
+-- two lists of one length, with one more element at the end of each: it decides only
+-- if the lists are equal
 slice_cmp-snoc : (xs ys : List ℕ) (x y : ℕ) → length xs ≡ length ys
     → slice_cmp nat_cmp (xs ++ x ∷ []) (ys ++ y ∷ []) ≡ ordering_then (slice_cmp nat_cmp xs ys) (nat_cmp x y)
 slice_cmp-snoc [] [] x y h = then-equal (nat_cmp x y)
@@ -33,7 +34,8 @@ slice_cmp-snoc (a ∷ xs) (b ∷ ys) x y h =
     ap (λ r. ordering_then (nat_cmp a b) r) (slice_cmp-snoc xs ys x y same)
     ∙ sym (then-assoc (nat_cmp a b) (slice_cmp nat_cmp xs ys) (nat_cmp x y))
 
--- the higher digits decide, and then the lowest
+-- two numbers compare by their higher digits first (v and w), and then by the lowest digit
+-- (x and y), in base 256
 digits_cmp : (x y v w : ℕ) → x < 256 → y < 256 → ordering_then (nat_cmp v w) (nat_cmp x y) ≡ nat_cmp (x + 256 * v) (y + 256 * w)
 digits_cmp x y v w hx hy = grind (arith, nat_tests)
 
@@ -51,7 +53,7 @@ reversed_cmp (x ∷ xs) (y ∷ ys) h p q =
     ∙ (slice_cmp-snoc (reverse xs) (reverse ys) x y turned
     ∙ (ap (λ r. ordering_then r (nat_cmp x y)) (reversed_cmp xs ys same p.1 q.1) ∙ digits_cmp x y (le_value xs) (le_value ys) p.0 q.0)))
 
--- one more byte behind the others
+-- one more byte at the end of a list counts 256 to the power of the list's length
 value_snoc : (xs : List ℕ) (y : ℕ) → le_value (xs ++ y ∷ []) ≡ le_value xs + y * 256 ^ length xs
 unfolding le_value
 value_snoc [] y = grind (arith)
@@ -66,7 +68,7 @@ worth_value : (i b : ℕ) → byte_worth i b ≡ b * 256 ^ i
 worth_value zero b = omega arith
 worth_value (suc i) b = refl
 
--- what the sum of the bytes by their places is
+-- the bytes up to number n, each times its power of 256, add up to the number that these bytes make
 sum_value : (n : ℕ) (xs : List ℕ) → n < length xs
     → sum_through (λ i. byte_worth i (slice_index xs i)) n ≡ le_value (take (suc n) xs)
 unfolding le_value
@@ -79,7 +81,7 @@ sum_value (suc n) xs h =
     ap (λ m. m + byte_worth (suc n) (slice_index xs (suc n))) (sum_value n xs before)
     ∙ sym (ap le_value longer ∙ (value_snoc (take (suc n) xs) (slice_index xs (suc n)) ∙ ap (λ k. le_value (take (suc n) xs) + slice_index xs (suc n) * 256 ^ k) size))
 
--- sixteen bytes read as a number
+-- the standard library's reading of sixteen bytes as a number
 read_value : (xs : List ℕ) → length xs ≡ 16 → from_le_bytes w128 xs ≡ le_value xs
 read_value xs h =
     let within : 15 < length xs = omega arith in
@@ -89,7 +91,8 @@ bytes_at : (xs : List ℕ) → ((i : ℕ) → slice_index xs i < 256) → AreByt
 bytes_at [] fits = tt
 bytes_at (x ∷ xs) fits = (fits 0, bytes_at xs (λ i. fits (suc i)))
 
--- the numbers of two IDs are in the order of their bytes from the last one on
+-- two IDs compare as numbers as their bytes compare from the last one on: what
+-- `cmp_as_numbers` computes
 pub read_cmp : (xs ys : List ℕ) → length xs ≡ length ys → length xs ≡ 16
     → ((i : ℕ) → slice_index xs i < 256) × ((i : ℕ) → slice_index ys i < 256)
     → nat_cmp (from_le_bytes w128 xs) (from_le_bytes w128 ys) ≡ slice_cmp nat_cmp (reverse xs) (reverse ys)

@@ -1,4 +1,4 @@
--- A text that is written byte by byte.
+-- Texts that are written byte by byte: hexadecimal digits and shown names.
 use Rattle.std.proofs.Common.{◌≡◌, ℕ, ◌+◌, ◌<◌, ◌∙◌, List, [], ◌∷◌, ◌++◌, length, take, get_or, ap, refl, sym, append-nil}
 use Rattle.std.specs.List.{flat_map}
 use Rattle.std.proofs.lemmas.Grind.{flat_map-append}
@@ -6,13 +6,13 @@ use Rattle.std.proofs.lemmas.List.{take_more}
 use Rattle.hex.specs.Hex.{encode_with, encode_lower}
 use Rattle.parfield.specs.Shown.{hex_digits}
 
--- the digits of a hash are those of its bytes
+-- the hexadecimal digits of a list of bytes are the digits of each byte, one after another
 pub encode_lower-flat_map : (xs : List ℕ) → flat_map hex_digits xs ≡ encode_lower xs
 unfolding encode_with
 encode_lower-flat_map [] = refl
 encode_lower-flat_map (x ∷ xs) = ap (λ (ys : List ℕ). hex_digits x ++ ys) (encode_lower-flat_map xs)
 
--- one more byte is written
+-- after one more byte is written, the text of the first i + 1 bytes is there
 pub flat_map-take_more : (f : ℕ → List ℕ) (xs : List ℕ) (i : ℕ) → i < length xs
     → flat_map f (take i xs) ++ f (get_or xs i 0) ≡ flat_map f (take (i + 1) xs)
 flat_map-take_more f xs i h =

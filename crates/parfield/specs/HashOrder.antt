@@ -1,4 +1,4 @@
--- The order of IDs: as little-endian numbers, so that the last byte weighs most.
+-- The order of IDs: they compare as little-endian numbers, so the last byte weighs most.
 use Rattle.std.specs.Prelude.{◌≡◌, ◌<◌, ℕ, List, [], ◌∷◌, length, reverse}
 use Rattle.std.proofs.Common.{sym, ap, ◌∙◌}
 use Rattle.std.specs.Bool.{Decides}
@@ -13,16 +13,16 @@ use Rattle.std.proofs.lemmas.List.{reverse-reverse}
 use Rattle.std.proofs.lemmas.Map.Text.{is_eq-slice_cmp}
 use Rattle.std.proofs.lemmas.Slice.Eq.{bytes_eq-Decides}
 
--- the order of two IDs, compared from their last bytes on
+-- the order of two IDs: their bytes are compared from the last one on
 abbrev pub id_cmp : Hash16 → Hash16 → Ordering
 id_cmp a b = slice_cmp nat_cmp (reverse a.0) (reverse b.0)
 
--- each number is a byte
+-- each number is below 256
 abbrev pub AreBytes : List ℕ → Type 0
 AreBytes [] = Unit {0}
 AreBytes (x ∷ xs) = (x < 256) × AreBytes xs
 
--- two IDs are in the order of their numbers
+-- any two IDs compare as their little-endian numbers do
 abbrev pub IdsFollowNumbers : Type 0
 IdsFollowNumbers = (a b : Hash16) → length a.0 ≡ length b.0 → AreBytes a.0 → AreBytes b.0 → id_cmp a b ≡ nat_cmp (le_value a.0) (le_value b.0)
 
@@ -33,6 +33,7 @@ reversed_Decides xs ys =
       λ e. there.1 (ap reverse e),
     )
 
+-- two lists of bytes are equal exactly if they are when they are compared from the last byte on
 pub bytes_eq-reversed : (xs ys : List ℕ) → bytes_eq xs ys ≡ is_eq (slice_cmp nat_cmp (reverse xs) (reverse ys))
 bytes_eq-reversed xs ys =
     same_from_decides (bytes_eq xs ys) (bytes_eq (reverse xs) (reverse ys)) (bytes_eq-Decides xs ys) (reversed_Decides xs ys)

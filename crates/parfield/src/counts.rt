@@ -1,5 +1,5 @@
-//! What only contracts see: `per_file` has a number for each file, `tally` one number, `transcript` a
-//! list of bytes, and `readings` what reads gave.
+//! Data that only contracts see: `per_file` has a number for each file, `tally` one number,
+//! `transcript` a list of bytes, and `readings` a list of reads and what they returned.
 
 mod per_file;
 mod readings;

@@ -18,7 +18,7 @@ pub struct Hash16(pub [u8; 16]);
 impl Hash16 {
     ghost use Rattle.parfield.specs.Hash16.{hex_hash_of};
 
-    /// The hash that 32 hexadecimal digits of either case are; `None` for any other text.
+    /// Reads a hash from 32 hexadecimal digits of either case; `None` for any other text.
     pub fn read(text: &[u8]) -> Option<Hash16>
         ensures { result ≡ hex_hash_of text.now }
     {
@@ -38,13 +38,14 @@ impl Ord for Hash16 {
 
     ghost matches_eq = { λ a b. bytes_eq-reversed a.0 b.0 };
 
-    /// The order of the sixteen bytes as a little-endian number: the last byte weighs most.
+    /// Compares the sixteen bytes as little-endian numbers: the last byte weighs most.
     fn cmp(&self, other: &Hash16) -> Ordering {
         cmp_as_numbers(self.0, other.0)
     }
 }
 
-// By value: behind a reference the bound of a byte isn't at hand.
+// Compares two hashes as little-endian numbers. They come by value: of bytes that are only
+// borrowed, the proof doesn't know that they are below 256.
 fn cmp_as_numbers(a: [u8; 16], b: [u8; 16]) -> Ordering
     ensures { result ≡ slice_cmp nat_cmp (reverse a) (reverse b) }
 {

@@ -6,36 +6,36 @@ use crate::kind::Kind;
 pub struct Header {
     /// The length of the whole packet in bytes, its header included.
     pub length: u64,
-    /// The MD5 of the packet from place 32 to its end.
+    /// The MD5 of the packet's bytes from offset 32 to its end.
     pub hash: Hash16,
     /// The recovery set ID.
     pub set: Hash16,
-    /// What the packet is for.
+    /// The kind of the packet: what it is for.
     pub kind: Kind,
 }
 
-/// Why bytes begin with no packet header; the first that applies.
+/// Why bytes don't begin with a packet header: the first reason that applies.
 #[derive(Clone, Copy, Debug, PartialEq, Eq)]
 pub enum HeaderFault {
     /// There are fewer than 64 bytes.
     Short,
     /// They do not begin with the magic sequence.
     NoMagic,
-    /// The length is below 64 or no multiple of 4.
+    /// The length is below 64 or not a multiple of 4.
     BadLength,
 }
 
-/// A packet as it stands in bytes.
+/// A packet in the bytes that it was found in.
 #[derive(Clone, Copy, Debug, PartialEq, Eq)]
 pub struct Packet<'a> {
-    /// Its offset in the bytes.
+    /// The packet's offset in the bytes.
     pub at: usize,
     /// The length of the whole packet in bytes, its header included.
     pub length: u64,
     /// The recovery set ID.
     pub set: Hash16,
-    /// What the packet is for.
+    /// The kind of the packet: what it is for.
     pub kind: Kind,
-    /// What stands behind the header, as a part of the bytes.
+    /// The packet body: the part of the bytes after the header.
     pub body: &'a [u8],
 }

@@ -19,7 +19,7 @@ impl fmt::Display for HexByte {
     }
 }
 
-// The hexadecimal digit of a value below 16, in lower case.
+// Returns the hexadecimal digit of a value below 16, in lower case.
 fn hex_digit(value: u8) -> char
     requires { value < 16 }
     ensures value { result ≡ slice_index lower_digits value }

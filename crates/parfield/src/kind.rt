@@ -1,6 +1,6 @@
 ghost use Rattle.std.specs.Prelude.{◌≡◌};
 
-/// What a packet is for, by the type field of its header.
+/// The kind of a packet: what it is for, according to the type field of its header.
 #[derive(Clone, Copy, Debug, PartialEq, Eq)]
 pub enum Kind {
     /// Names the recovery set and its files.
@@ -13,14 +13,14 @@ pub enum Kind {
     RecvSlic,
     /// Names the client that made the set.
     Creator,
-    /// A type field that is none of the five; `of_type` makes it of no other.
+    /// Any other type field. `of_type` never makes one of the five types an `Other`.
     Other([u8; 16]),
 }
 
 impl Kind {
     ghost use Rattle.parfield.specs.Kind.{kind_of};
 
-    /// The kind that a type field names.
+    /// Returns the kind that a type field names.
     pub fn of_type(field: [u8; 16]) -> Kind
         ensures { result ≡ kind_of field }
     {

@@ -1,6 +1,6 @@
 ghost use Rattle.parfield.specs.HashOrder.{IdsFollowNumbers};
 
-/// The law that IDs are ordered as little-endian numbers. Does nothing.
+/// States the law that IDs are ordered as little-endian numbers. Does nothing.
 pub fn ids_follow_numbers()
     ensures { IdsFollowNumbers }
 {}

@@ -1,10 +1,11 @@
-//! Fields of PAR2 files: hashes, packet headers, one packet in bytes, names as they are shown; and
-//! what only contracts see.
+//! Fields of PAR2 files: hashes, packet headers, one packet in bytes, and names as they are shown;
+//! and data that only contracts see.
 //!
-//! `hash16` and `kind` have the types of a header's fields, `headers` those of headers and packets, and
-//! `packet` finds a header or a packet at the front of bytes. `shown` shows names, by `hex_byte`;
-//! `sequence` and `text` are lists and texts that contracts see by what they hold. `counts` has counts
-//! and readings that take no bytes at run time, and `laws` the law of the order of IDs.
+//! `hash16` and `kind` have the types of a header's fields, and `headers` the types of headers and
+//! packets. `packet` finds a header or a packet at the front of bytes. `shown` writes names as one
+//! line of ASCII, using `hex_byte`. `sequence` and `text` are a `Vec` and a `String` that contracts
+//! see by their contents. `counts` has counts and lists of reads that take no bytes at run time,
+//! and `laws` the law of the order of IDs.
 #![tactic(auto)]
 
 mod counts;

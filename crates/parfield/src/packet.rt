@@ -7,10 +7,10 @@ use crate::kind::Kind;
 use byteorder::{ByteOrder, LittleEndian};
 use md5::{Digest, Md5};
 
-/// What each packet begins with.
+/// The eight bytes that each packet begins with.
 pub const MAGIC: [u8; 8] = *b"PAR2\0PKT";
 
-/// The header that the bytes begin with.
+/// Reads the header that the bytes begin with, or returns the first reason why there is none.
 pub fn header(bytes: &[u8]) -> Result<Header, HeaderFault>
     ensures found { is_ok result ≡ has_header bytes.now }
     ensures fields { IfOk result (λ head. head ≡ header_of bytes.now) }
@@ -34,7 +34,8 @@ pub fn header(bytes: &[u8]) -> Result<Header, HeaderFault>
     })
 }
 
-/// The packet at this offset, or `None` where none stands there.
+/// Returns the packet that begins at this offset, or `None` if none does: if there is no header,
+/// the packet isn't all there, or its MD5 is wrong.
 pub fn packet_at(bytes: &[u8], at: usize) -> Option<Packet<'_>>
     ensures found { is_some result ≡ begins_packet (drop at bytes.now) }
     ensures packet { IfSome result (λ packet.
@@ -47,7 +48,8 @@ pub fn packet_at(bytes: &[u8], at: usize) -> Option<Packet<'_>>
     }
 }
 
-// The packet that the bytes begin with, once its header was read.
+// Returns the packet that the bytes begin with, after its header was read; `None` if the packet
+// isn't all there or its MD5 is wrong.
 fn packet_of_header(bytes: &[u8], at: usize, head: Header) -> Option<Packet<'_>>
     requires header { IsTrue (has_header bytes.now) }
     requires fields { head ≡ header_of bytes.now }
@@ -70,7 +72,7 @@ fn packet_of_header(bytes: &[u8], at: usize, head: Header) -> Option<Packet<'_>>
     })
 }
 
-// The length field of a header.
+// Reads the length field of a header.
 fn length_of(bytes: &[u8]) -> u64
     requires { 64 ≤ length bytes.now }
     ensures { result ≡ length_field bytes.now }
@@ -78,7 +80,7 @@ fn length_of(bytes: &[u8]) -> u64
     LittleEndian::read_u64(&bytes[8..16])
 }
 
-/// The bytes of a field that begins at this offset.
+/// Copies the bytes of a field that begins at this offset.
 pub fn field_at<const N: usize>(bytes: &[u8], at: usize) -> [u8; N]
     requires { at + N ≤ length bytes.now }
     ensures { result ≡ slice_range bytes.now at (at + N) }

@@ -5,8 +5,8 @@ use crate::hex_byte::HexByte;
 use std::alloc::{AllocError, Global};
 use std::fmt;
 
-/// Bytes that are written as a line of ASCII: a backslash twice, every byte outside 20 to 7E
-/// (hexadecimal) as `\x` and two digits.
+/// Bytes that are written as a line of ASCII: a backslash is written twice, and every byte outside
+/// 20 to 7E (hexadecimal) as `\x` and two digits.
 #[derive(Clone, Copy, Debug, PartialEq, Eq)]
 pub struct Shown<'a>(pub &'a [u8]);
 
@@ -23,7 +23,7 @@ impl fmt::Display for Shown<'_> {
     }
 }
 
-// One byte of a shown text.
+// One byte of a shown text, written as `Shown` says.
 #[derive(Clone, Copy)]
 struct ShownByte(u8);
 
@@ -46,7 +46,7 @@ impl fmt::Display for ShownByte {
     }
 }
 
-/// A name or a text as it is shown.
+/// Writes a name or another text as it is shown, into new memory; fails if memory is refused.
 pub fn show_name(alloc: Global, name: &[u8]) -> Result<Vec<u8>, AllocError>
     ensures { IfOk result (λ text. text.items ≡ shown name.now) }
 {

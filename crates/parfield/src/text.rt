@@ -18,14 +18,14 @@ impl Model for Text {
 }
 
 impl Text {
-    /// The text of a `String`; nothing is copied.
+    /// Makes a text of a `String`; nothing is copied.
     pub fn from_string(text: String) -> Text
         ensures { result ≡ string_bytes text }
     {
         Text { text }
     }
 
-    /// The text.
+    /// Lends the text.
     pub fn as_str(&self) -> &str
         ensures { result.now ≡ self.now }
     {

@@ -1,4 +1,4 @@
--- A search that stands at a cursor.
+-- A finder, which is an open search: its state, and what is true of it between two calls.
 use Rattle.std.specs.Prelude.{◌≡◌, ◌≤◌, ◌<◌, ◌+◌, ℕ, List, Option, Result, IsTrue}
 use Rattle.parshelf.specs.Shelf.{ShelfState, ReadsAs, Older}
 use Rattle.parshelf.specs.declared.shelves.reading.ReadFault.{ReadFault}
@@ -20,40 +20,40 @@ use Rattle.parfind.specs.Places.{place_start}
 use Rattle.parfind.specs.Points.{SearchState}
 use Rattle.parfind.specs.Steps.{scan_of}
 
--- the window is that of the cursor's place, or is being filled for it
+-- the track's window is at the cursor's place, or is being filled for it
 pub record StandsAt (t : Track) (c : Cursor) : Type 0 where
   pub file_is : t.file ≡ c.file
   pub offset_is : t.window_offset ≡ c.offset
 
--- a finder, as contracts see it
+-- the state of a finder, as contracts see it
 pub record FinderState : Type 0 where
-  -- where it stands
+  -- the cursor of the search
   pub cursor : Cursor
-  -- where it was opened
+  -- the cursor at which it was opened
   pub opening : Cursor
-  -- up to where files were read
+  -- the place up to which files were read
   pub fetched : Place
-  -- how many digests it took of its window
+  -- how many digests (MD5s) it took of its window
   pub digests : ℕ
-  -- how it looks for short slices
+  -- how it compares short slices
   pub mode : Mode
-  -- its window, where that goes along a file, and the digests that are kept of it
+  -- its window, the window's way along a file, and the digests that are kept of the window
   pub window : WindowState
   pub track : Track
   pub kept : List (Option Hash16)
 
--- how far a finder is, and how far its shelf was read
+-- the state of a search: its shelf, its cursor, and the place up to which files were read
 abbrev pub search_of : ShelfState → FinderState → SearchState
 search_of shelf finder = record { shelf = shelf; fetched = finder.fetched; cursor = finder.cursor }
 
--- these slices, as a finder looks for them
+-- these slices, compared in the mode of a finder
 abbrev pub sought_for : SliceSet → FinderState → Sought
 sought_for set finder = sought_of set finder.mode
 
--- the finder searches for these slices in these files: its window is made for them and goes along a
--- file, not past the cursor, and at it where a slice fits into what is left of that file; it was
--- hashed no more often than there are marks before it in any files that the shelf reads as so far, and
--- for what is kept
+-- the finder searches for these slices in the files of this shelf: its window is made for them and
+-- goes along a file, not past the cursor, and is at the cursor if a slice fits into what is left of
+-- that file. In any files that are consistent with the reads so far, the digests that were taken
+-- are at most the marks from its opening to before the window's place, and those that are kept
 pub record BelongsTo (finder : FinderState) (set : SliceSet) (shelf : ShelfState) : Type 0 where
   pub made : IsWindowFor (sought_for set finder) finder.window
   pub keeps : Keeps (sought_for set finder) finder.window finder.kept
@@ -72,9 +72,9 @@ pub record BelongsTo (finder : FinderState) (set : SliceSet) (shelf : ShelfState
       ≤ marked_between (scan_of (sought_for set finder) files) finder.opening
       (cursor_of_track finder.track) + kept_count finder.kept
 
--- what a call leaves of a finder and its shelf, whatever it answers: it only reads, or a fault is
--- one of the file where the finder is left; it reads on from where it was, stays opened where and
--- in the mode in which it was, and forgets no digest
+-- what a call changes in a finder and its shelf, whatever it returns: the shelf changes only by
+-- reads, and an error is one of the file at the new cursor; the finder reads on from the place up
+-- to which it had read, keeps its opening and its mode, and its count of digests doesn't decrease
 pub record GoesAlong {A : Type 0}
     (before after : ShelfState) (old new : FinderState) (answer : Result A ReadFault) : Type 0 where
   pub shelf : ReadsFile new.cursor.file before after answer
@@ -83,7 +83,7 @@ pub record GoesAlong {A : Type 0}
   pub mode_is : new.mode ≡ old.mode
   pub no_fewer : old.digests ≤ new.digests
 
--- a finder still belongs to its shelf once others have read on in it
+-- a finder still belongs to its shelf after others have read more of it
 abbrev pub BelongsLater : Type 0
 BelongsLater =
     (f : FinderState) (set : SliceSet) (old new : ShelfState) → BelongsTo f set old

@@ -3,13 +3,13 @@ use Rattle.std.specs.Prelude.{◌+◌, ◌==◌, ◌||◌, ◌&&◌, nat_lt, not
 use Rattle.parfind.specs.declared.cursors.cursor.Cursor.{Cursor}
 use Rattle.parfind.specs.declared.cursors.sighting.Sighting.{Sighting}
 
--- a is before b
+-- whether cursor a is before cursor b
 abbrev pub is_before : Cursor → Cursor → Bool
 is_before a b =
     nat_lt a.file b.file || (a.file == b.file
     && (nat_lt a.offset b.offset || (a.offset == b.offset && nat_lt a.slice b.slice)))
 
--- b is not before a
+-- whether cursor b is not before cursor a
 abbrev pub is_from : Cursor → Cursor → Bool
 is_from a b = not (is_before b a)
 

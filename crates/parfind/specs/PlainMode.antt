@@ -1,4 +1,4 @@
--- What the two modes come to: in the plain one a slice is looked for by the whole window.
+-- The two modes compared: the plain mode compares the whole window for each slice.
 use Rattle.std.specs.Prelude.{◌≡◌, ℕ, ◌+◌, ◌-◌, ◌&&◌, nat_lt, nat_le, Bool, List, length, map, filter, drop, replicate}
 use Rattle.parset.specs.declared.recovery_set.SetSlice.{SetSlice}
 use Rattle.parwindow.specs.Crc32.{crc_of}
@@ -12,7 +12,8 @@ use Rattle.parfind.specs.Places.{places_of, places_between}
 use Rattle.parfind.specs.Sightings.{Scan, content_of, is_seen}
 use Rattle.parfind.specs.Sought.{sought_of}
 
--- in the plain mode a slice is seen where the window has both its sums
+-- in the plain mode, a slice is seen if the whole window has both its checksums, and it fits into
+-- the file there
 abbrev pub PlainSees : Type 0
 PlainSees =
     (size : ℕ) (file : List ℕ) (offset : ℕ) (slice : SetSlice)
@@ -24,7 +25,8 @@ PlainSees =
 abbrev pub plain_scan : SliceSet → List (List ℕ) → Scan
 plain_scan set contents = record { sought = sought_of set Plain; contents = contents }
 
--- its marks are places whose windows have the CRC-32 of a slice
+-- in the plain mode, the number of marks is the number of places whose window has the CRC-32 of a
+-- slice
 abbrev pub PlainMarks : Type 0
 PlainMarks =
     (set : SliceSet) (contents : List (List ℕ)) (c d : Cursor)
@@ -33,8 +35,8 @@ PlainMarks =
     ≡ length (filter (λ p. set_has_crc set (crc_of (window_of scan p)))
     (places_between (map length contents) c d))
 
--- what a survey misses are places whose windows have the CRC-32 of a slice that fits and isn't
--- found
+-- in the plain mode, a survey's `missing_count` is the number of places whose window has the CRC-32
+-- of a slice that fits there and isn't found
 abbrev pub PlainMisses : Type 0
 PlainMisses =
     (set : SliceSet) (contents : List (List ℕ)) (found : List Bool)
@@ -43,7 +45,8 @@ PlainMisses =
     ≡ length (filter (λ p. set_has_missing set found (crc_of (window_of scan p))
     (length (content_of scan p.file) - p.offset)) (places_of (map length contents)))
 
--- where zeros follow what a slice has of its file in the window, both modes see it, or none does
+-- if only zeros follow a slice's unpadded length in the window, both modes see the slice there, or
+-- neither does
 abbrev pub ModesAgree : Type 0
 ModesAgree =
     (size : ℕ) (file : List ℕ) (offset : ℕ) (slice : SetSlice)

@@ -1,4 +1,4 @@
--- A list of calls of a search, and what they answer.
+-- A script of calls of a search, and the answers of the calls.
 use Rattle.std.specs.Prelude.{◌≡◌, ℕ, ◌+◌, ◌<◌, List, [], ◌∷◌, Some, None, Ok, Err, IsTrue, map, sum}
 use Rattle.std.specs.List.{flat_map}
 use Rattle.parshelf.specs.Shelf.{IsShelf, failure_count}
@@ -13,19 +13,21 @@ use Rattle.parfind.specs.declared.drives.calls.Call.TheVariants as call
 use Rattle.parfind.specs.declared.drives.calls.Answer.{Answer}
 use Rattle.parfind.specs.declared.drives.calls.Answer.TheVariants as answer
 
--- a call with a budget has one above 0
+-- if a call has a budget, it is above 0
 abbrev pub HasBudget : Call → Type 0
 HasBudget (call.Step n) = 0 < n
 HasBudget call.Next = Unit {0}
 HasBudget call.Reopen = Unit {0}
 
--- the calls that are still made after an answer: none after a reopening that was refused
+-- the calls that are still made after an answer: none after a reopening for which memory was
+-- refused
 abbrev pub left_after : Answer → List Call → List Call
 left_after (answer.Step r) calls = calls
 left_after answer.Reopened calls = calls
 left_after answer.NoMemory calls = []
 
--- a call of a search in these files, its answer, and what it leaves
+-- a call of a search in these files and its answer; `old` and `new` are the shelf and the cursor
+-- before and after it. A reopening changes neither
 abbrev pub CallGives : Scan → SearchPoint → Call → Answer → SearchPoint → Type 0
 CallGives scan old (call.Step n) (answer.Step r) new = StepGives scan (Some n) old r new
 CallGives scan old call.Next (answer.Step r) new = StepGives scan None old r new
@@ -33,8 +35,9 @@ CallGives scan old call.Reopen answer.Reopened new = new ≡ old
 CallGives scan old call.Reopen answer.NoMemory new = new ≡ old
 CallGives scan old _ _ new = ⊥
 
--- these calls give these answers, all of the same files, each from where the one before it left the
--- shelf and the cursor; both lists end together, or at a reopening that was refused
+-- these calls have these answers, all in the same files: each call begins with the shelf and the
+-- cursor after the call before it. Both lists end together, or at a reopening for which memory was
+-- refused
 abbrev pub CallsGive : Scan → SearchPoint → List Call → List Answer → SearchPoint → Type 0
 CallsGive scan old [] [] new = new ≡ old
 CallsGive scan old (call ∷ calls) (a ∷ answers) new =
@@ -42,7 +45,7 @@ CallsGive scan old (call ∷ calls) (a ∷ answers) new =
     × (CallGives scan old call a mid × CallsGive scan mid (left_after a calls) answers new)
 CallsGive scan old _ _ new = ⊥
 
--- an answer that a call may have
+-- whether a call may have this answer
 abbrev pub MayAnswer : Call → Answer → Type 0
 MayAnswer (call.Step n) (answer.Step r) = Unit {0}
 MayAnswer call.Next (answer.Step r) = Unit {0}
@@ -50,7 +53,8 @@ MayAnswer call.Reopen answer.Reopened = Unit {0}
 MayAnswer call.Reopen answer.NoMemory = Unit {0}
 MayAnswer _ _ = ⊥
 
--- one answer to each call, in order; none to those after a reopening that was refused
+-- there is one answer to each call, in order; the calls after a reopening that was refused have
+-- none
 abbrev pub AnswersEach : List Call → List Answer → Type 0
 AnswersEach [] [] = Unit {0}
 AnswersEach (call ∷ calls) (a ∷ answers) =
@@ -67,7 +71,7 @@ answer_hit answer.NoMemory = []
 abbrev pub hits_of : List Answer → List Sighting
 hits_of answers = flat_map answer_hit answers
 
--- how many failed reads an answer tells of
+-- how many failed reads an answer reports
 abbrev pub told_failures : Answer → ℕ
 told_failures (answer.Step (Ok step)) = 0
 told_failures (answer.Step (Err Failed)) = 1
@@ -75,14 +79,14 @@ told_failures (answer.Step (Err Ended)) = 0
 told_failures answer.Reopened = 0
 told_failures answer.NoMemory = 0
 
--- calls go on, and hand out exactly the sightings that they pass
+-- a script of calls doesn't go back, and returns exactly the sightings that it passes
 abbrev pub CallsHandOut : Type 0
 CallsHandOut =
     (scan : Scan) (old new : SearchPoint) (calls : List Call) (answers : List Answer)
     → CallsGive scan old calls answers new → IsTrue (is_from old.cursor new.cursor)
     × (sightings_between scan old.cursor new.cursor ≡ hits_of answers)
 
--- in calls with these answers as many reads failed as the answers tell of
+-- during a script of calls, the number of reads that failed is the one that its answers report
 abbrev pub CallsTellFailures : Type 0
 CallsTellFailures =
     (scan : Scan) (old new : SearchPoint) (calls : List Call) (answers : List Answer)

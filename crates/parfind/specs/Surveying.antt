@@ -1,4 +1,4 @@
--- A survey on its way: what it has found, read and hashed once it is at a cursor.
+-- A survey on its way: what it has found, read and hashed when it is at a cursor.
 use Rattle.std.specs.Prelude.{◌≡◌, ℕ, ◌+◌, ◌≤◌, ◌||◌, ◌⊎◌, Bool, true, List, length, map, Result, OnOk}
 use Rattle.std.specs.List.{sum_by}
 use Rattle.parshelf.specs.Shelf.{ShelfState, ReadsAs}
@@ -20,26 +20,29 @@ use Rattle.parfind.specs.Steps.{scan_of}
 use Rattle.parfind.specs.Surveys.{is_sighted_before, AreAllSettled, AllSightedBy}
 use Rattle.parwindow.specs.Missing.{found_at, missing_set}
 
--- where a survey is: its shelf and its window, what is found, and how the window goes along a file
+-- the state of a survey: its shelf and its window, a flag for each slice that says whether it is
+-- found, and the window's way along a file
 pub record SurveyState : Type 0 where
   pub shelf : ShelfState
   pub window : WindowState
   pub found : List Bool
   pub track : Track
 
+-- a survey with this shelf, window, flags and track
 abbrev pub survey_at : ShelfState → WindowState → List Bool → Track → SurveyState
 survey_at shelf window found track =
     record { shelf = shelf; window = window; found = found; track = track }
 
--- how many compared lengths of windows from one cursor to another have the CRC-32 of a slice that fits
--- there and isn't found
+-- the number of compared lengths, over all windows from one cursor to another, at which the window
+-- has the CRC-32 of a slice that fits there and isn't found
 abbrev pub missing_between : Scan → List Bool → Cursor → Cursor → ℕ
 missing_between scan found c d =
     sum_by (missing_at scan found) (places_between (map length scan.contents) c d)
 
--- from the beginning of all files it has come to a cursor; finds, stops and digests are those of any
--- files that the shelf reads as so far. How far it has read ahead, at which place it stops and how often
--- it has hashed is said only of a strict survey, which expects no slice anywhere
+-- the survey has come from the beginning of all files to cursor c. The slices that it finds, the
+-- place at which it stops and the digests that it takes are those in any files that are consistent
+-- with the reads so far. How far it reads ahead, at which place it stops and how many digests it
+-- takes is said only of a strict survey, which expects no slice anywhere
 pub record Surveyed (short : ShortState) (sought : Sought) (old now : SurveyState) (c : Cursor) : Type 0 where
   pub found : (files : List (List ℕ)) → ReadsAs now.shelf files → (n : ℕ)
       → found_at now.found n ≡ (found_at old.found n || is_sighted_before (scan_of sought files) c n)
@@ -55,8 +58,8 @@ pub record Surveyed (short : ShortState) (sought : Sought) (old now : SurveyStat
       ≤ old.window.digests + missing_between (scan_of sought files) old.found origin c
   pub capacity : now.window.capacity ≡ old.window.capacity
 
--- it ends at a cursor: each slice is settled there, or all files are before it, or a file could
--- not be read; a strict one reads nothing if each slice is settled at the beginning
+-- the survey ends at a cursor: each slice is settled there, or the cursor is after all files, or a
+-- file could not be read. A strict survey reads nothing if each slice is settled at the beginning
 pub record SurveyEnds
     (short : ShortState) (sought : Sought) (old new : SurveyState) (result : Result Unit ReadFault) : Type 0 where
   pub cursor : Cursor

@@ -1,7 +1,7 @@
--- Whether slices are expected ahead.
+-- Whether slices are expected at later offsets of a file.
 use Rattle.std.specs.Prelude.{Bool, nat_lt}
 use Rattle.parfind.specs.declared.surveys.expected.Expected.{Expected}
 
--- some slice is expected
+-- whether at least one slice is expected
 abbrev pub is_waiting : Expected → Bool
 is_waiting expected = nat_lt 0 expected.count

@@ -1,6 +1,6 @@
-//! Where a search stands (`cursor`), what it sees (`sighting`), and the text of a cursor
-//! (`cursor_text`). `laws` are those of the order and of the texts of cursors, and of
-//! sightings.
+//! Cursors and sightings: `cursor` is a point in a search, `sighting` a slice that it saw, and
+//! `cursor_text` the text of a cursor. `laws` are the theorems about the order of cursors, their
+//! texts, and sightings.
 
 mod cursor;
 mod cursor_text;

@@ -1,5 +1,6 @@
-//! A list of calls of a search, made in order through pauses, faults and reopenings: `calls` are
-//! the calls and their answers, `driver` makes them, and `laws` say what they hand out.
+//! A script of calls of a search, made in order through pauses, errors and reopenings: `calls` are
+//! the calls and their answers, `driver` makes them, and `laws` say which sightings and failed
+//! reads they report.
 
 mod calls;
 mod driver;

@@ -1,14 +1,16 @@
-//! The search for a set's slices at every place of the scanned files.
+//! The search for a set's slices at every place of the scanned files. A place is a file and an
+//! offset in it.
 //!
-//! From below: `cursors` says where a search stands and what it sees, and has the texts of cursors;
-//! `tracks` brings a window along a file. `searches` hands out sighting after sighting from a
-//! cursor on, and `surveys` finds the slices that have one; both go by a track. `drives` makes a
-//! list of calls of a search.
+//! From below: `cursors` has cursors, the sightings of a search, and the texts of cursors; `tracks`
+//! moves a window along a file. `searches` returns sighting after sighting from a cursor on, and
+//! `surveys` finds the slices that have one; both use a track. `drives` makes a script of calls of
+//! a search.
 //!
-//! A search may be given up and opened again at its cursor, and then reads its window anew. A
-//! survey begins at the first file, and ends once each slice is found. Neither is handed more bytes of
-//! a file than the file has. A search takes no memory once it has its window. A survey with a window
-//! of its own may take more for a smaller index, and if that is refused, it goes on with the given one.
+//! A search may be closed and opened again at its cursor; it then reads its window again. A survey
+//! begins at the first file, and ends when each slice with known checksums is found. Neither reads
+//! more bytes of a file than the file has, except that `survey` reads a file at most twice in
+//! `Mode::Tails`. A search takes no memory after it has its window. A survey with a window of its
+//! own may take more for a smaller index, and if that is refused, it goes on with the given one.
 #![tactic(auto)]
 
 mod cursors;

@@ -1,7 +1,7 @@
-//! The search, sighting by sighting: `places` names the place that comes next, `start_fault` why a
-//! search can't be started, `finder` is the search, and `laws` say what its steps hand out, what
-//! all of them are handed since an opening, that others may read in between, and what its two modes
-//! come to.
+//! The search, sighting by sighting: `places` gives the next place, `start_fault` says why a search
+//! can't be started, and `finder` is the search. `laws` say which sightings its steps return, how
+//! much all of them read since an opening, that others may read in between, and how its two modes
+//! differ.
 
 mod finder;
 mod laws;

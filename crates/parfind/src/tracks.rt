@@ -1,13 +1,13 @@
-//! The way of a window along a scanned file, with the bytes read ahead of it, and which slice its
-//! content is. The search and the survey both go by it.
+//! The way of a window along a scanned file, with the bytes read ahead of it, and the slices that
+//! are seen in it. Searches and surveys both use it.
 //!
-//! From below: `track` makes a track, reads ahead along a file and brings the window from place to
-//! place over what was read. `mode` says how short slices are looked for, and `sought` which slices
-//! are. One body serves both modes: what is compared of a window are some lengths of it, all of
-//! them or the whole window alone, and `sought` tells what each is of. `digests` tells which slice
-//! is seen in a full window, and keeps the digests that were taken of it.
+//! From below: `track` reads ahead along a file, and moves the window from place to place over the
+//! bytes that were read. `mode` says how short slices are compared, and `sought` which slices are
+//! looked for. The same code serves both modes: a window is compared at some lengths, in the plain
+//! mode only at its whole length, and `sought` gives the checksums at each of them. `digests` finds
+//! the slice that is seen in a full window, and keeps the MD5s that were taken of it.
 //!
-//! The window and the shelf are lent to each call. No call takes memory.
+//! Each call borrows the window and the shelf. No call takes memory.
 
 mod digests;
 mod mode;

@@ -1,4 +1,4 @@
--- each verb's command is one of which clap's definitions speak
+-- The command line of each verb is one of the simple commands that clap's definitions are about.
 use Rattle.std.proofs.Common.{◌≡◌, true, refl}
 use Rattle.clap.specs.Faults.{is_simple_and_free}
 use Rattle.clap.specs.Simple.{is_simple}

@@ -1,4 +1,5 @@
--- the texts that are limits in canonical decimal: they begin with a digit from 1 to 9, and parse
+-- Texts that are limits in canonical decimal: they begin with a digit from 1 to 9,
+-- and they can be parsed.
 use Rattle.std.proofs.Common.{◌≡◌, ◌<◌, ◌≤◌, ◌^◌, ◌∙◌, ℕ, zero, suc, Bool, true, false, List, [], ◌∷◌, Option, Some, None, Result, Ok, Err, IfSome, length, get_or, if◌then◌else◌, arith, refl, ap, sym, subst}
 use Rattle.std.specs.Bool.{Decides}
 use Rattle.std.specs.Fmt.{decimal}
@@ -21,7 +22,7 @@ not_true false h = refl
 writes_limit-Decides : (text : List ℕ) (n : ℕ) → Decides (writes_limit text n) ((decimal n ≡ text) × ((0 < n) × (n < 2 ^ 64)))
 writes_limit-Decides text n = Decides-and _ _ (bytes_eq-Decides (decimal n) text) (Decides-and _ _ (Decides-ltb 0 n) (Decides-ltb n (2 ^ 64)))
 
--- a limit begins with a digit from 1 to 9
+-- a text that is a limit begins with a digit from 1 to 9
 first_in_range : (text : List ℕ) (n : ℕ) → decimal n ≡ text → 0 < n → n < 2 ^ 64 → IsInRange 49 57 (get_or text 0 0)
 first_in_range text n e positive small =
     let above : 48 < get_or (decimal n) 0 0 = first_decimal n positive small in
@@ -59,7 +60,8 @@ by_value text (Err fault) first h =
     h (numeral.1, numeral.0, is.1.1)) in
     rw no_limit refl
 
--- where a digit from 1 to 9 stands first, the limit is what `parse` reads
+-- if a text begins with a digit from 1 to 9, `parse` reads a number from it exactly if the text
+-- names a limit, which is that number
 pub parsed-limit_of : {E : Type 0} (text : List ℕ) (r : Result ℕ E) → ParsesUnsigned 64 10 text r → IsInRange 49 57 (get_or text 0 0)
     → result_ok r ≡ limit_of text
 parsed-limit_of text r h first = by_value text r first.0 (parse_plain own 64 text r h (λ e. omega arith))
@@ -68,7 +70,7 @@ if_some : (b : Bool) (n : ℕ) → (b ≡ true → 0 < n) → IfSome (if b then 
 if_some true n h = h refl
 if_some false n h = tt
 
--- a limit is not 0
+-- no text is the limit 0
 pub limit_of-positive : (text : List ℕ) (o : Option ℕ) → o ≡ limit_of text → IfSome o (λ limit. 0 < limit)
 unfolding limit_of
 limit_of-positive text o e =

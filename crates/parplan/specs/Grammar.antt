@@ -1,4 +1,4 @@
--- The four command lines, as commands of `clap`.
+-- The four command lines, as commands of `clap`, the library that reads arguments.
 use Rattle.std.specs.Prelude.{codes, Some, true}
 use Rattle.clap.specs.Simple.{App, new_app, new_rule, on_top, with_rule}
 use Rattle.clap.specs.Walk.{Rule, Text}
@@ -6,32 +6,32 @@ use Rattle.clap.specs.declared.builder.action.ArgAction.TheVariants.{Set, SetTru
 use Rattle.parplan.specs.declared.words.grammar.Verb.{Verb}
 use Rattle.parplan.specs.declared.words.grammar.Verb.TheVariants as verb
 
--- an option `--name` with a value
+-- an option `--name` that has a value
 abbrev pub option_rule : Text → Rule
 option_rule name = record (new_rule name) { long = Some name; action = Some Set }
 
--- `-B DIR` or `--base DIR` (66 is `B`)
+-- the option `-B DIR` or `--base DIR` (66 is `B`)
 abbrev pub base_rule : Rule
 base_rule = record (option_rule (codes "base")) { short = Some 66 }
 
--- FILES, one or more
+-- the argument FILES: one file or more
 abbrev pub files_rule : Rule
 files_rule = record (new_rule (codes "files")) { required = true; action = Some Append }
 
--- `-q`, which may be repeated (113 is `q`)
+-- the flag `-q`, which may be repeated (113 is `q`)
 abbrev pub quiet_rule : Rule
 quiet_rule = record (new_rule (codes "quiet")) { short = Some 113; action = Some Count }
 
--- `--tails`, which stands once at most
+-- the flag `--tails`, which may be given once
 abbrev pub tails_rule : Rule
 tails_rule =
     record (new_rule (codes "tails")) { long = Some (codes "tails"); action = Some SetTrue }
 
--- a command line without arguments, which knows no `--help`
+-- a command line without arguments; `--help` isn't one of its options
 abbrev pub empty_grammar : App
 empty_grammar = on_top (λ s. record s { disable_help_flag = true }) (new_app (codes "parv"))
 
--- what all four take
+-- the options and arguments that all four commands have
 abbrev pub shared_grammar : App
 shared_grammar =
     with_rule (with_rule (with_rule empty_grammar (option_rule (codes "set"))) base_rule) files_rule

@@ -1,4 +1,4 @@
--- The plan of the words of a command line.
+-- The plan of the arguments of a command line.
 use Rattle.std.specs.Prelude.{◌≡◌, ◌⊎◌, ℕ, ◌==◌, List, [], ◌∷◌, length, map, filter, Option, Some, None, Result, Ok, Err, MatchResult, if◌then◌else◌, nat_lt, ⊤, codes}
 use Rattle.std.specs.Str.{bytes_eq}
 use Rattle.clap.specs.Walk.{Row, all_of}
@@ -13,7 +13,7 @@ use Rattle.parplan.specs.declared.command.PlanFault.TheVariants.{Usage, Value, N
 use Rattle.parplan.specs.declared.words.grammar.Verb.{Verb}
 use Rattle.parplan.specs.declared.words.grammar.Verb.TheVariants as verb
 
--- the verb that a word names
+-- the verb that an argument names
 abbrev pub verb_of : List ℕ → Result Verb PlanFault
 verb_of word =
     if bytes_eq word (codes "packets") then Ok verb.Packets
@@ -22,27 +22,27 @@ verb_of word =
     else if bytes_eq word (codes "verify") then Ok verb.Verify
     else Err Usage
 
--- the verb that the first word names
+-- the verb that the first argument names
 abbrev pub first_verb_of : List (List ℕ) → Result Verb PlanFault
 first_verb_of [] = Err Usage
 first_verb_of (word ∷ words) = verb_of word
 
--- some files, no more than may be opened
+-- the files that were given: at least one, and no more than may be opened
 abbrev pub some_files_of : Option (List (List ℕ)) → Result (List (List ℕ)) PlanFault
 some_files_of None = Err NoPacketFile
 some_files_of (Some files) = if nat_lt open_file_limit (length files) then Err Value else Ok files
 
--- FILES
+-- the files that the argument FILES names
 abbrev pub file_names_of : List Row → Result (List (List ℕ)) PlanFault
 file_names_of rows = some_files_of (all_of (codes "files") rows)
 
--- the packet files, of which there is one at least
+-- the packet files among these files, of which there must be at least one
 abbrev pub packet_files_of : List (List ℕ) → Result (List (List ℕ)) PlanFault
 packet_files_of files =
     if length (filter is_packet_file files) == 0 then Err NoPacketFile
     else Ok (filter is_packet_file files)
 
--- the plan of what the words give a verb
+-- the plan of a verb and of the matches in its arguments
 abbrev pub plan_of_rows : Verb → List Row → Result Plan PlanFault
 plan_of_rows verb rows = do
   command ← command_of verb rows
@@ -57,24 +57,25 @@ plan_of_rows verb rows = do
     scanned = map (scanned_as (base_prefix base)) (filter is_scanned_file files);
   })
 
--- the plan of the words after the program's name
+-- the plan of the arguments, or the first error in them
 abbrev pub plan_of : List (List ℕ) → Result Plan PlanFault
 plan_of words = do
   verb ← first_verb_of words
   rows ← verb_rows_of verb words
   plan_of_rows verb rows
 
--- the answer is this plan or this fault, or want of memory
+-- the result is this plan or this error, or it is that memory was refused
 abbrev pub AnswersPlan : Result Plan PlanFault → Result Plan PlanFault → Type 0
 AnswersPlan planned result =
     MatchResult result (λ plan. planned ≡ Ok plan)
     (λ fault. (fault ≡ Memory) ⊎ (planned ≡ Err fault))
 
--- the first word is a verb's, and clap's definition takes the words
+-- the first argument names a verb, and clap's definition finds no error in the arguments
 abbrev pub IsTaken : List (List ℕ) → Type 0
 IsTaken words = (verb : Verb) × (first_verb_of words ≡ Ok verb) × (faults_given verb words ≡ [])
 
--- the answer tells whether the words are taken, unless memory is wanting
+-- the result says whether the arguments are taken: they aren't if it is wrong usage, and they are
+-- if it is anything else, except that memory was refused
 abbrev pub TellsTaken : List (List ℕ) → Result Plan PlanFault → Type 0
 TellsTaken words (Ok plan) = IsTaken words
 TellsTaken words (Err Usage) = ¬ (IsTaken words)

@@ -1,7 +1,7 @@
 ghost use Rattle.std.specs.Prelude.{◌≡◌, ◌≤◌, ◌↔◌, drop, IsTrue};
 ghost use Rattle.parshelf.specs.Disk.{open_file_limit};
 
-/// The words behind the program's name, which is the first of its arguments.
+/// Returns the words after the program's name, which is the first of its arguments.
 pub fn words_after_program(args: &[String]) -> &[String]
     ensures { result.now ≡ drop 1 args.now }
 {
@@ -11,7 +11,7 @@ pub fn words_after_program(args: &[String]) -> &[String]
     }
 }
 
-// How many files may be given.
+// The most files that a command line may name.
 const MOST_FILES: usize = 65_535;
 
 /// Whether a command line may give so many files.

@@ -9,23 +9,23 @@ use std::alloc::AllocError;
 use std::convert::AsStr;
 use thiserror::Error;
 
-/// What the program is asked for.
+/// The command that the program runs, with its options.
 #[derive(Clone, Copy, Debug, PartialEq, Eq)]
 pub enum Command {
     /// Lists the packets of the packet files.
     Packets,
     /// Shows the recovery set that the packets describe.
     Set,
-    /// Lists where slices of the set are seen in the scanned files: from a cursor on, which comes
-    /// with all that its text tells, and as many as the limit allows, which is not 0. With `tails` a
-    /// slice shorter than the others is seen whatever bytes come behind it.
+    /// Lists the matches in the scanned files: from the cursor on, if there is one (given by the
+    /// parts of its text), and at most `limit` of them, which is not 0. If `tails` is set, of a
+    /// slice shorter than the others only its own bytes are compared, whatever bytes follow.
     Find {
         limit: Option<u64>,
         cursor: Option<CursorText>,
         tails: bool,
     },
-    /// Tells what of the set is there; with `quiet` 1 only its last two lines, with more nothing.
-    /// `tails` is as in `Find`.
+    /// Reports which files and slices of the set are there. If `quiet` is 1, only the last two
+    /// lines are printed, and if it is more, nothing is. `tails` is as in `Find`.
     Verify {
         quiet: u8,
         tails: bool,
@@ -42,12 +42,12 @@ pub fn reads_scanned(command: Command) -> bool
     }
 }
 
-/// What the program is to do, by the words of its command line.
+/// The plan of a command line: what its arguments ask the program to do.
 #[derive(Debug, Drop)]
 pub struct Plan {
-    /// What is asked for.
+    /// The command, with its options.
     pub command: Command,
-    /// The one set that is asked for.
+    /// The ID of the only set that is looked at, if one is chosen.
     pub set: Option<Hash16>,
     /// The packet files in order.
     pub packets: Sequence<Text>,
@@ -55,16 +55,16 @@ pub struct Plan {
     pub scanned: Sequence<Scanned>,
 }
 
-/// A file to be scanned.
+/// A scanned file: its path, and the name that it is compared by.
 #[derive(Debug, Drop)]
 pub struct Scanned {
-    /// The word that names it.
+    /// The path: the argument that names the file.
     pub path: Text,
-    /// The name that is compared with those of the set.
+    /// The name that is compared with the names of the files of the set.
     pub name: Text,
 }
 
-/// As a text it is its path, so that files to be scanned are opened as they are.
+/// As a text, a scanned file is its path, so it is opened at the path that the argument gives.
 impl AsStr for Scanned {
     ghost text = { λ file. file.path };
 
@@ -73,7 +73,7 @@ impl AsStr for Scanned {
     }
 }
 
-/// In the mark of a list of files it has the name, whatever path leads to it.
+/// In the file-list fingerprint, a scanned file has its name, whatever its path is.
 impl Named for Scanned {
     ghost name = { λ file. file.name };
 
@@ -82,7 +82,7 @@ impl Named for Scanned {
     }
 }
 
-/// The files that are scanned; none, where the command scans no file.
+/// Lends the files that the command scans; none if it reads only packet files.
 pub fn files_to_scan(plan: &Plan) -> &[Scanned]
     ensures files { result.now ≡ files_to_scan_of plan.now }
     ensures few { length result.now ≤ length plan.now.scanned }
@@ -94,9 +94,10 @@ pub fn files_to_scan(plan: &Plan) -> &[Scanned]
     }
 }
 
-/// Why words are no plan, in the order in which it is tested; want of memory may come before any.
+/// Why arguments are not a plan, in the order in which it is tested. `Memory` may
+/// come before any other.
 ///
-/// - `Usage`: the words are none that a command takes.
+/// - `Usage`: the arguments are none that a command takes.
 /// - `Value`: a value is not of the stated form, or there are too many files.
 /// - `NoPacketFile`: no packet file is among the files.
 /// - `Memory`: memory was refused.

@@ -1,7 +1,9 @@
-//! What the program is asked for: the types of plans, and the plan of the words of a command line.
+//! The types of plans, and the plan of the arguments of a command line: what the
+//! program is asked for.
 //!
-//! `command` has the types of plans and the files that a plan scans, `arguments` which words are a
-//! command line's and how many files it may name. `words` makes the plan of words.
+//! `command` has the types of plans and the files that a plan scans. `arguments` says which words
+//! of a command line come after the program's name, and how many files they may name. `words` makes
+//! the plan of these words.
 #![tactic(auto)]
 
 mod arguments;

@@ -1,7 +1,8 @@
-//! The plan of the words of a command line.
+//! The plan of the arguments of a command line.
 //!
-//! From below: `grammar` has the four command lines, `matches` what `clap` makes of words, `limit`,
-//! `options` and `files` read what it found, and `planning` puts all together.
+//! The lowest modules come first: `grammar` has the four command lines, and `matches` asks
+//! `clap` what it finds in arguments. `limit`, `options` and `files` read these matches, and
+//! `planning` makes the plan.
 
 mod files;
 mod grammar;

@@ -16,7 +16,7 @@ IsBuffered_all s text = record {
   blocks = λ _. refl;
 }
 
--- a block was written, and nothing waits
+-- after a text of at least a block was written whole, no byte waits
 pub IsBuffered_written : (a b : SinkState) (text : List ℕ) → b ≡ appended a text → block ≤ length text → IsBuffered a b text []
 IsBuffered_written a b text after long = record {
   written = text;
@@ -31,13 +31,14 @@ WrotePrefix_all s text = record {
   buffered = IsBuffered_all s text;
 }
 
--- the next part was appended to what waits
+-- if the next part is only appended to the bytes that wait, the rest of the text follows them
 pub IsBuffered_pushed : (a b : SinkState) (text waiting part rest next : List ℕ) → IsBuffered a b text (waiting ++ (part ++ rest)) → next ≡ waiting ++ part
     → IsBuffered a b text (next ++ rest)
 IsBuffered_pushed a b text waiting part rest next before is =
     subst (λ (ys : List ℕ). IsBuffered a b text ys) (sym (append_assoc waiting part rest) ∙ ap (λ (ys : List ℕ). ys ++ rest) (sym is)) before
 
--- what waited with the next part was taken on, and the rest of the text waits after it
+-- if the bytes that waited and the next part were given to the sink as far as possible, the rest of
+-- the text follows the bytes that wait now
 pub IsBuffered_more : (a b c : SinkState) (text waiting part rest next : List ℕ) → IsBuffered a b text (waiting ++ (part ++ rest)) → IsBuffered b c (waiting ++ part) next
     → IsBuffered a c text (next ++ rest)
 IsBuffered_more a b c text waiting part rest next before taken = record {
@@ -53,7 +54,8 @@ IsBuffered_more a b c text waiting part rest next before taken = record {
       ap (λ (ys : List ℕ). ys ++ taken.written) none ∙ nothing;
 }
 
--- the sink failed in what waited with the next part
+-- if the sink failed in the bytes that waited and the next part, it failed after a beginning of the
+-- whole text
 pub IsBuffered_refused : (a b c : SinkState) (text waiting part rest : List ℕ) → IsBuffered a b text (waiting ++ (part ++ rest)) → FailsAfterPrefix b c (waiting ++ part)
     → FailsAfterPrefix a c text
 IsBuffered_refused a b c text waiting part rest before refuses = record {
@@ -65,12 +67,12 @@ IsBuffered_refused a b c text waiting part rest before refuses = record {
   after = refuses.after ∙ ap refused (appended_twice a b (appended b refuses.front) before.written refuses.front before.after refl);
 }
 
--- all that waited was written
+-- after all bytes that waited were written, the whole text is
 pub IsBuffered_ends : (a b c : SinkState) (text waiting : List ℕ) → IsBuffered a b text waiting → c ≡ appended b waiting → c ≡ appended a text
 IsBuffered_ends a b c text waiting before taken =
     appended_twice a b c before.written waiting before.after taken ∙ ap (appended a) (sym before.whole)
 
--- what was written is a beginning of the text
+-- the bytes that were written are a beginning of the text
 pub WrotePrefix_front : (a b : SinkState) (text : List ℕ) → WrotePrefix a b text → WritesPrefix a b text
 WrotePrefix_front a b text begins = record {
   front = begins.buffered.written;
@@ -79,7 +81,7 @@ WrotePrefix_front a b text begins = record {
   after = begins.buffered.after;
 }
 
--- fewer bytes than a block are none
+-- if fewer bytes than a block were written, none were
 pub WrotePrefix_silent : (a b : SinkState) (text : List ℕ) → WrotePrefix a b text → length b.bytes < length a.bytes + block → b ≡ a
 WrotePrefix_silent a b text begins few =
     let sum : length (a.bytes ++ begins.buffered.written) ≡ length a.bytes + length begins.buffered.written = length-append a.bytes begins.buffered.written in

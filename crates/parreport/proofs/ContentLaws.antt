@@ -1,4 +1,5 @@
--- How much is handed over while those files are read whole, one after another, that are asked for.
+-- How many bytes are read while the files that may be files of the set are read whole, one after
+-- another.
 use Rattle.std.proofs.Common.{◌≡◌, ◌≢◌, ◌<◌, ◌≤◌, ◌+◌, ℕ, List, [], ◌∷◌, ◌++◌, Option, None, Some, true, false, cond, length, map, take, slice_index, ap, sym, arith, ◌∙◌, inl, inr}
 use Rattle.std.proofs.lemmas.Bool.{cases_lt}
 use Rattle.std.proofs.lemmas.List.{take_more, take_all, map-append}
@@ -18,7 +19,7 @@ use Rattle.parshelf.proofs.ReadLaws.{HandsAtMost_wider}
 use Rattle.parreport.proofs.CostLaws.{HandsUntil, until_more, until_all}
 use Rattle.parreport.proofs.SalvageLaws.{files_sized}
 
--- of a file whose length some file of the set has, all bytes are asked for
+-- if some file of the set has a file's length, all of its bytes are read for its MD5
 pub asked_whole : (files : List SetFile) (n : ℕ) → has_length files n ≡ true → checked_length_of files n ≡ n
 asked_whole files n there = ap (λ b. cond b n 0) there
 
@@ -40,9 +41,9 @@ ReadsCandidates-more files old now new file reads before one =
     until_all (λ k. checked_length_of files (slice_index old.lengths k)) old new (file + 1)
     (HandsBefore-suc files old now new file reads before one)
 
--- ---- what the files are checked by
+-- ---- the checks of files, by length and MD5
 
--- a file that is read whole is checked by its length and its MD5
+-- the check of a file that is read whole gives its length and its MD5
 pub checked_some : (files : List SetFile) (s : ShelfState) (scanned : List (List ℕ)) (file n : ℕ) (whole : Hash16) → ReadsAs s scanned
     → n ≡ slice_index s.lengths file → has_length files n ≡ true → whole.0 ≡ md5 (file_of scanned file)
     → Some (record { length = n; whole = whole }) ≡ checked_of files (file_of scanned file)
@@ -53,7 +54,7 @@ checked_some files s scanned file n whole reads is asked hashed =
     ∙ (ap (λ bytes. let one : LengthAndMd5 = record { length = length (file_of scanned file); whole = record { 0 = bytes } } in Some one) hashed
     ∙ ap (λ b. cond b (Some (length_and_md5 (file_of scanned file))) None) (sym there))
 
--- another one by nothing
+-- the check of any other file gives nothing
 pub checked_none : (files : List SetFile) (s : ShelfState) (scanned : List (List ℕ)) (file n : ℕ) → ReadsAs s scanned
     → n ≡ slice_index s.lengths file → has_length files n ≡ false → None ≡ checked_of files (file_of scanned file)
 checked_none files s scanned file n reads is other =
@@ -61,7 +62,7 @@ checked_none files s scanned file n reads is other =
     let absent : has_length files (length (file_of scanned file)) ≡ false = ap (has_length files) (sym sized) ∙ other in
     ap (λ b. cond b (Some (length_and_md5 (file_of scanned file))) None) (sym absent)
 
--- what the files before this one are checked by, and what this one is
+-- the checks of the files before this one, and then that of this one
 pub checked-more : (files : List SetFile) (old now new : ShelfState) (file : ℕ) (before : List (Option LengthAndMd5)) (one : Option LengthAndMd5)
     → file < length old.lengths → ReadsOnly old now → ReadsOnly now new
     → ((scanned : List (List ℕ)) → ReadsAs now scanned → before ≡ map (checked_of files) (take file scanned))

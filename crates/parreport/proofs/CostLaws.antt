@@ -1,4 +1,4 @@
--- How many bytes of each file are handed over, by one call after another.
+-- How many bytes of each file are read, by one call after another.
 use Rattle.std.proofs.Common.{◌≡◌, ◌≢◌, ◌<◌, ◌≤◌, ◌+◌, ◌∙◌, ℕ, Bool, List, [], ◌∷◌, true, false, slice_index, length, ap, refl, sym, arith, if◌then◌else◌, inl, inr}
 use Rattle.std.proofs.lemmas.Bool.{cases_lt, false_from_ne_true}
 use Rattle.parshelf.specs.Shelf.{ShelfState, ReadsAs, file_of}
@@ -23,7 +23,7 @@ use Rattle.parreport.specs.Costs.{HandsWithinSalvage, searched_length_of, verifi
 
 -- ---- one file after another
 
--- of each file before this one at most its limit, and nothing of the others
+-- of each file before this one, at most its limit was read, and nothing of the others
 pub record HandsUntil (limit : ℕ → ℕ) (old new : ShelfState) (file : ℕ) : Type 0 where
   pub read : (k : ℕ) → k < file → slice_index new.handed k ≤ slice_index old.handed k + limit k
   pub unread : (k : ℕ) → file ≤ k → slice_index new.handed k ≡ slice_index old.handed k
@@ -52,7 +52,8 @@ until_more limit old now new file before one = record {
       HandsAtMost_others now new file (limit file) one k other ∙ before.unread k far;
 }
 
--- the salvages of the files before this one, whichever files these are
+-- the salvages of the files before this one have read no more than they may, in any files that are
+-- consistent with the reads
 abbrev pub SalvagesUntil : ShelfState → ShelfState → ℕ → Type 0
 SalvagesUntil old new file =
     (files : List (List ℕ)) → ReadsAs new files → HandsUntil (λ k. salvage_limit (file_of files k)) old new file
@@ -75,11 +76,11 @@ salvages_all old new file before files reads = until_all (λ k. salvage_limit (f
 pub lengths_same : (s t : ShelfState) → ReadsOnly s t → t.lengths ≡ s.lengths
 lengths_same s t reads = ap (λ (v : ShelfState). v.lengths) reads.counts
 
--- one call of it after others
+-- one call of a search after others
 pub reads_on : (s t u : ShelfState) (p q r : Place) → t.lengths ≡ s.lengths → ReadsUpTo s t p q → ReadsUpTo t u q r → ReadsUpTo s u p r
 reads_on s t u p q r same first next = hands_more s.lengths s.handed t.handed u.handed p q r first (rw same at next)
 
--- all of them
+-- all calls of a search
 pub reads_room : (at : Cursor) (s t : ShelfState) (p q : Place) → p ≡ place_at at → t.lengths ≡ s.lengths → ReadsUpTo s t p q
     → HandsPerFile (room_of s.lengths at) s t
 reads_room at s t p q start same reads =
@@ -95,26 +96,27 @@ reads_room at s t p q start same reads =
       refl,
     )).room
 
--- one more call, the last
+-- all calls of a search and one more, the last
 pub reads_room_on : (at : Cursor) (s t u : ShelfState) (p q r : Place) → p ≡ place_at at → t.lengths ≡ s.lengths → u.lengths ≡ t.lengths
     → ReadsUpTo s t p q → ReadsUpTo t u q r → HandsPerFile (room_of s.lengths at) s u
 reads_room_on at s t u p q r start same next_same first next =
     reads_room at s u p r start (next_same ∙ same) (reads_on s t u p q r same first next)
 
--- ---- what files show of a set
+-- ---- a search for the slices of a set
 
 once_if : (fits : Bool) (n before after : ℕ) → after ≤ before + n → (fits ≡ false → after ≤ before) → after ≤ before + (if fits then n else 0)
 once_if true n before after once none = once
 once_if false n before after once none = omega (arith, none refl)
 
--- a file into which no slice fits is one into which no slice that isn't found fits, so that nothing is lost by a clause that speaks of these
+-- a file into which no slice fits is one into which no slice fits that isn't found, so a clause
+-- about the latter also covers the former
 skips_more : (set : SliceSet) (found : List Bool) (old new : ShelfState) → SkipsUnfit (missing_set set found) old new → SkipsUnfit set old new
 skips_more set found old new skips f none =
     let left : ℕ = slice_index old.lengths f in
     skips f (false_from_ne_true _ (λ fits.
     let both : true ≡ false = sym (any_missing (has_fit_of left) (λ slice. refl) set.slices found fits) ∙ none in cc))
 
--- a search for those of its slices that have no mark
+-- a search for the slices of the set that aren't found yet
 pub searched_once : (mode : Mode) (set : SetView) (index : SliceSet) (found : List Bool) (s t : ShelfState) → index ≡ slice_set_of set.size set.slices
     → HandsInMode mode s t → SkipsUnfit (missing_set index found) s t
     → HandsPerFile (λ file. searched_length_of set mode (slice_index s.lengths file)) s t
@@ -125,7 +127,7 @@ searched_once mode set index found s t is hands skips file =
     once_if (set_has_fit (slice_set_of set.size set.slices) n) (surveyed_length mode n) (slice_index s.handed file) (slice_index t.handed file)
     (hands file) (rw is at none)
 
--- before it, files were checked
+-- before it, files were only read for their MD5s
 pub only_checked : (mode : Mode) (set : SetView) (s t : ShelfState) → ReadsCandidates set.files s t
     → HandsPerFile (λ file. verified_length_of set mode (slice_index s.lengths file)) s t
 only_checked mode set s t checked file = omega (arith, checked file)

@@ -1,4 +1,4 @@
--- Two lists side by side, step by step, and what is counted or put in at an ID.
+-- Two lists side by side, element after element; and counts and sets at an ID.
 use Rattle.std.proofs.Common.{◌≡◌, ℕ, ◌+◌, ◌<◌, ◌≤◌, ◌∙◌, ◌&&◌, ◌||◌, Bool, true, false, List, ◌∷◌, Option, Some, length, drop, get_or, ap, sym, refl, cond, unwrap_or, if◌then◌else◌, arith}
 use Rattle.std.specs.List.{sum_by, zip}
 use Rattle.std.specs.Str.{bytes_eq}
@@ -15,7 +15,7 @@ pub zip-drop_more : {A B : Type 0} (xs : List A) (ys : List B) (i : ℕ) (d : A)
 zip-drop_more xs ys i d e here there =
     ap (λ zs. zip zs (drop i ys)) (drop_more xs i d here) ∙ ap (zip (get_or xs i d ∷ drop (i + 1) xs)) (drop_more ys i e there)
 
--- the count of one more slice
+-- the count over the slices that are left: the next slice's, and the count over those after it
 pub found_count_of-drop_more : (slices : List SetSlice) (found : List Bool) (i : ℕ) (d : SetSlice) (e : Bool) (id : Hash16)
     → i < length slices → i < length found
     → found_count_of (drop i slices) (drop i found) id
@@ -37,7 +37,7 @@ at_most_one true = omega arith
 at_most_one false = omega arith
 
 -- ---- an ID
--- an ID that is put in is there beside those that were
+-- after an ID was put in, it is there besides those that were
 pub added : (same there whole : Bool) → whole ≡ true → cond same true there ≡ (there || (same && whole))
 added true true whole e = refl
 added true false whole e = sym e
@@ -50,7 +50,7 @@ one_more true true m o e h = ap (λ n. n + 1) (h refl)
 one_more true false m o e h = cc
 one_more false found m o e h = omega arith
 
--- the count at an ID is one more, and every other is as it was
+-- the count at an ID is one more, and every other one is as it was
 pub counted : (count_of : Hash16 → Option ℕ) (id q : Hash16) (found : Bool) → found ≡ true
     → unwrap_or (cond (bytes_eq id.0 q.0) (Some (unwrap_or (count_of id) 0 + 1)) (count_of q)) 0
     ≡ unwrap_or (count_of q) 0 + (if bytes_eq id.0 q.0 && found then 1 else 0)

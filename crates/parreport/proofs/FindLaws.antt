@@ -1,4 +1,4 @@
--- The lines of the sightings that a search has handed out so far.
+-- The lines of the sightings that a search has returned so far.
 use Rattle.std.proofs.Common.{◌≡◌, ◌≢◌, ℕ, ◌+◌, ◌-◌, ◌≤◌, List, [], ◌∷◌, ◌++◌, length, All, Option, None, Some, slice_get, refl, sym, ap, ◌∙◌, subst, arith, append_assoc, append-nil, length-append, IsTrue, true, Result, Err}
 use Rattle.std.specs.List.{flat_map}
 use Rattle.std.proofs.lemmas.Grind.{flat_map-append}
@@ -29,7 +29,8 @@ use Rattle.parreport.proofs.LimitLaws.{CountsDown, limited-parts, limited-one, l
 use Rattle.parreport.proofs.LineLaws.{RefusesFront_later}
 use Rattle.parshelf.specs.SinkState.{SinkState, appended, WritesPrefix, FailsAfterPrefix}
 
--- the sightings handed out, up to the cursor where the search stands now, with so many lines left
+-- the lines of all sightings up to the cursor of the search were written, and `left` lines of the
+-- limit are left
 pub record HandsOut (s : Search) (left : Option ℕ) (now : Cursor) (old new : SinkState) : Type 0 where
   pub handed : List Sighting
   pub whole : seen_from s s.at ≡ handed ++ seen_from s now
@@ -118,7 +119,8 @@ module _ (s : Search) where
           RefusesFront_later old mid new (flat_map line h.handed) end_line [] (find_text s) h.after
           (text_ends ∙ ap (λ (ys : List ℕ). flat_map line h.handed ++ ys) (sym (append-nil end_line))) refuses
 
-    -- a search that goes on over no sighting leaves the lines of all that are before
+    -- if a search goes on and passes no sighting, the lines of all sightings before its cursor are
+    -- written
     pub keeps_lines : left ≢ Some 0 → (d : Cursor) → IsTrue (is_from now d) → sightings_between (set_scan_of s.set s.mode s.contents) now d ≡ []
         → WritesLinesBefore s d.file old mid
     keeps_lines some d onward none =
@@ -155,7 +157,7 @@ module _ (s : Search) where
         RefusesFront_later old mid new (flat_map line h.handed) (line_of_cursor s now) [] (find_text s) h.after
         (text_stops ∙ ap (λ (ys : List ℕ). flat_map line h.handed ++ ys) (sym (append-nil (line_of_cursor s now)))) refuses
 
--- the answer to a step, as one of the search for a set
+-- the result of a step with the index of a set is one of the search for the slices of that set
 pub gives_of_set : (set : SetView) (mode own : Mode) (index : SliceSet) (files : List (List ℕ)) (old new : SearchPoint) (answer : Result Step ReadFault)
     → index ≡ slice_set_of set.size set.slices → own ≡ mode
     → StepGives (scan_of (sought_of index own) files) None old answer new
@@ -164,7 +166,7 @@ gives_of_set set mode own index files old new answer is same gives =
     subst (λ (slices : SliceSet). StepGives (scan_of (sought_of slices mode) files) None old answer new) is
     (subst (λ (m : Mode). StepGives (scan_of (sought_of index m) files) None old answer new) same gives)
 
--- a failed read leaves the lines of all sightings in files before the one where the search stands then
+-- after a failed read, the lines of all sightings in files before the cursor's file are written
 pub keeps_after_fault : (s : Search) (shelf after : ShelfState) (left : Option ℕ) (now d : Cursor) (old mid : SinkState) (why : ReadFault)
     → HandsOut s left now old mid → left ≢ Some 0
     → StepGives (set_scan_of s.set s.mode s.contents) None (search_at shelf now) (Err why) (search_at after d)

@@ -16,7 +16,7 @@ use Rattle.parreport.specs.declared.faults.RunFault.{RunFault}
 use Rattle.parreport.specs.declared.faults.RunFault.TheVariants as fault
 use Rattle.parreport.specs.declared.status.Status.{Status}
 
--- nothing was read
+-- if nothing was read, the shelf was only read
 pub ReadsOnly-same : (s t : ShelfState) → t ≡ s → ReadsOnly s t
 ReadsOnly-same s t same = subst (ReadsOnly s) (sym same) (ReadsOnly-refl s)
 
@@ -80,7 +80,7 @@ FaultTells-survey A sought old new (survey_fault.Read file why) few tells leaves
 FaultTells-survey A sought old new survey_fault.Memory few tells leaves = ReadsOnly-same old.shelf new.shelf (ap (λ (p : SurveyPoint). p.shelf) leaves)
 FaultTells-survey A sought old new survey_fault.TooManyTails few tells leaves = absurd (tells few)
 
--- ---- a run changes no length and no fixed file, and reads on
+-- ---- a run changes no length and no fixed file, and only adds reads
 
 packets_told_later : {A : Type 0} (answer : Result A RunFault) (old new : ShelfState) → TellsPackets answer old new → Later old new
 packets_told_later (Ok done) old new reads = later_only old new reads

@@ -1,4 +1,4 @@
--- Lengths in an ordered set, and what is asked of files by them.
+-- Lengths in an ordered set, and the checks of files by their lengths.
 use Rattle.std.proofs.Common.{◌≡◌, ℕ, ◌<◌, ◌==◌, ◌&&◌, ◌||◌, Bool, true, false, List, None, Some, length, get_or, sym, refl, cond, nat_lt, nat_cmp, arith, inl, inr}
 use Rattle.std.proofs.lemmas.Bool.{eq-eqb, eqb-true, ltb-true}
 use Rattle.std.specs.Str.{bytes_eq}
@@ -21,7 +21,7 @@ below_itself : (a b : ℕ) → a ≡ b → nat_lt a b ≡ true → ⊥
 below_itself a b same less =
     let below : a < b = ltb-true a b less in omega (arith, same)
 
--- what is there once a number was put in
+-- a number is in the set, after another one was put in, if it is that one or was in before
 pub there_after : (a b : ℕ) (rest : Bool) → cond (is_eq (nat_cmp a b)) true rest ≡ ((a == b) || rest)
 there_after a b rest =
     by_tests (nat_lt a b) (a == b) rest (λ less. elim (eqb_tells a b) [
@@ -29,7 +29,7 @@ there_after a b rest =
       | inr other ↦ other.0
     ])
 
--- ---- what is asked
+-- ---- the checks of files
 none_shown : (same rest : Bool) → (same ≡ true → false ≡ true) → false ≡ (same && rest)
 none_shown true rest h = cc (h refl)
 none_shown false rest h = refl
@@ -39,7 +39,7 @@ shown_if : (file : SetFile) (content : LengthAndMd5) (asked : Bool) → ((conten
 shown_if file content true h = refl
 shown_if file content false h = none_shown (content.length == file.length) (bytes_eq content.whole.0 file.whole.0) h
 
--- what is asked of bytes shows the content of a file of the set exactly where they have it
+-- the check of bytes shows the content of a file of the set exactly if they have it
 pub shown_asked : (files : List SetFile) (k : ℕ) (d : SetFile) → k < length files → (bytes : List ℕ)
     → shows_content_of (get_or files k d) (checked_of files bytes) ≡ has_content_of (get_or files k d) (length_and_md5 bytes)
 shown_asked files k d within bytes =

@@ -1,4 +1,4 @@
--- How many lines are asked for, how many are left of them, and the last line.
+-- The limit of `find`: how many lines are asked for, how many of them are left, and the last line.
 use Rattle.std.proofs.Common.{◌≡◌, ◌≢◌, ℕ, ◌+◌, ◌-◌, ◌<◌, List, [], ◌∷◌, ◌++◌, length, take, Option, None, Some, slice_get, get_or, zero, suc, refl, sym, ap, ◌∙◌, subst, arith, append-nil}
 use Rattle.std.proofs.Math.Seq.{take-append-add}
 use Rattle.std.proofs.lemmas.Option.{slice_get_past, slice_get-get_or}
@@ -9,7 +9,7 @@ use Rattle.parfind.specs.declared.cursors.sighting.Sighting.{Sighting}
 use Rattle.parreport.specs.FindText.{limited, last_line, line_after, limit_left}
 use Rattle.parreport.specs.Lines.{end_line}
 
--- so many lines were written of a limit, and so many are left
+-- n lines were written, and the rest of the limit is left
 abbrev pub CountsDown : Option ℕ → Option ℕ → ℕ → Type 0
 CountsDown None None n = Unit {0}
 CountsDown None (Some left) n = ⊥
@@ -21,7 +21,7 @@ slice_get-front [] ys n within = absurd (omega arith)
 slice_get-front (x ∷ xs) ys zero within = refl
 slice_get-front (x ∷ xs) ys (suc n) within = slice_get-front xs ys n (omega arith)
 
--- what is written of the handed ones and of the others
+-- the sightings that are written are those returned so far, and then the others up to the limit
 pub limited-parts : (limit left : Option ℕ) (xs ys : List Sighting) → CountsDown limit left (length xs)
     → limited limit (xs ++ ys) ≡ xs ++ limited left ys
 limited-parts None None xs ys h = refl
@@ -59,7 +59,7 @@ pub counted_none : (limit : Option ℕ) → CountsDown limit limit 0
 counted_none None = tt
 counted_none (Some n) = omega arith
 
--- with nothing left after the handed ones, the last line is `end`
+-- if no sighting is left and the limit isn't reached, the last line is `end`
 pub last_line-end : (line : Cursor → List ℕ) (limit left : Option ℕ) (xs : List Sighting) → CountsDown limit left (length xs) → left ≢ Some 0
     → last_line line limit (xs ++ []) ≡ end_line
 last_line-end line None left xs h some = refl
@@ -68,7 +68,7 @@ last_line-end line (Some limit) (Some zero) xs h some = absurd (some refl)
 last_line-end line (Some limit) (Some (suc left)) xs h some =
     rw (append-nil xs, slice_get_past xs (limit - 1) (omega arith)) refl
 
--- with as many handed as the limit allows, it is that of the cursor after them
+-- if the limit is reached, the last line has the cursor after the last sighting
 pub last_line-cursor : (line : Cursor → List ℕ) (limit : Option ℕ) (xs ys : List Sighting) (now : Cursor) → CountsDown limit (Some 0) (length xs)
     → limit ≢ Some 0 → ((x : Sighting) → slice_get xs (length xs - 1) ≡ Some x → now ≡ cursor_after x)
     → last_line line limit (xs ++ ys) ≡ line now

@@ -13,7 +13,7 @@ use Rattle.parreport.specs.declared.status.Status.{Status}
 use Rattle.parreport.specs.declared.faults.RunFault.{RunFault}
 use Rattle.parreport.specs.declared.faults.RunFault.TheVariants as fault
 
--- a part broke that follows what was taken on before
+-- if writing stopped in a part, it stopped in the whole text
 pub StopsIn_later : (why : RunFault) (a b c : SinkState) (text waiting part rest : List ℕ) → IsBuffered a b text (waiting ++ (part ++ rest))
     → StopsIn why b c (waiting ++ part) → StopsIn why a c text
 StopsIn_later fault.Write a b c text waiting part rest before breaks = IsBuffered_refused a b c text waiting part rest before breaks
@@ -27,7 +27,7 @@ StopsIn_later fault.OtherSet a b c text waiting part rest before breaks = absurd
 StopsIn_later fault.OtherList a b c text waiting part rest before breaks = absurd breaks
 StopsIn_later fault.TooManyTails a b c text waiting part rest before breaks = absurd breaks
 
--- a list that broke is answered so
+-- the answer of a list in which writing stopped is that error
 pub breaks_answer : (why : RunFault) (a c : SinkState) (text : List ℕ) (answer : Result Status RunFault) → StopsIn why a c text
     → Answers (record { text = text; answer = answer }) (Err why) a c
 breaks_answer fault.Write a c text answer breaks = breaks
@@ -38,7 +38,7 @@ breaks_answer fault.OtherSet a c text answer breaks = absurd breaks
 breaks_answer fault.OtherList a c text answer breaks = absurd breaks
 breaks_answer fault.TooManyTails a c text answer breaks = absurd breaks
 
--- what a list that broke leaves of a verification: nothing where less than a block was written
+-- if writing stopped in the text of `verify` before a block of it, nothing was written
 pub breaks_silent : (why : RunFault) (quiet : ℕ) (tails : Bool) (a c : SinkState) (text : List ℕ) → StopsIn why a c text
     → may_follow_text (command.Verify quiet tails) (written a c) why ≡ false → c ≡ a
 breaks_silent fault.Write quiet tails a c text breaks silent = absurd (cc)
@@ -50,7 +50,7 @@ breaks_silent fault.OtherSet quiet tails a c text breaks silent = absurd breaks
 breaks_silent fault.OtherList quiet tails a c text breaks silent = absurd breaks
 breaks_silent fault.TooManyTails quiet tails a c text breaks silent = absurd breaks
 
--- all that waited was written, or the sink failed in it
+-- at the end, the bytes that waited were written, or the sink failed in them
 pub listed_ends : (result : Result Status RunFault) (answer : Result Status RunFault) (a b c : SinkState) (text waiting : List ℕ) → IsBuffered a b text waiting
     → Answers (record { text = waiting; answer = answer }) result b c → IfErr result (λ why. why ≡ fault.Write)
     → Answers (record { text = text; answer = answer }) result a c

@@ -1,4 +1,4 @@
--- What scanned files are found by, once one more was put in.
+-- The lookups of scanned files, after one more file was put in.
 use Rattle.std.proofs.Common.{◌≡◌, ℕ, ◌+◌, ◌<◌, ◌≤◌, ◌==◌, ◌&&◌, ◌||◌, ◌++◌, ◌∙◌, nat_lt, not, Bool, true, false, List, [], ◌∷◌, Option, Some, None, length, take, get_or, ap, sym, refl, cond, unwrap_or, min, position, length-append, arith}
 use Rattle.std.specs.BTreeMap as tree
 use Rattle.std.specs.BTreeSet as sorted
@@ -30,7 +30,7 @@ use Rattle.parreport.specs.States.{has_content_of, shows_content_of, shows_both,
 use Rattle.parreport.specs.declared.states.contents.LengthAndMd5.{LengthAndMd5}
 use Rattle.parreport.specs.declared.states.lookups.Lookups.{Lookups}
 
--- ---- what the keys are compared by
+-- ---- the order of the keys
 both_equal : (a b : Ordering) → is_eq (ordering_then a b) ≡ (is_eq a && is_eq b)
 both_equal Less b = refl
 both_equal Equal b = refl
@@ -67,7 +67,7 @@ with_one true false = refl
 with_one false true = refl
 with_one false false = refl
 
--- one more name
+-- a name was put in
 pub name_added : (names now : BTreeSet (Bor (List ℕ))) (name : Bor (List ℕ))
     → sorted.Updates (λ x y. slice_cmp nat_cmp x.now y.now) names now name true
     → (file : SetFile) → has_name_of now file ≡ (has_name_of names file || is_name_of file name.now)
@@ -76,7 +76,7 @@ name_added names now name put file =
     ∙ (with_one (is_eq (slice_cmp nat_cmp name.now file.name)) (has_name_of names file)
     ∙ ap (λ b. has_name_of names file || b) (is_eq-slice_cmp name.now file.name))
 
--- one more content with a name
+-- a content with a name was put in
 pub both_added : (both now : BTreeSet (LengthAndMd5 × Bor (List ℕ))) (content : LengthAndMd5) (name : Bor (List ℕ))
     → sorted.Updates (λ x y. ordering_then (content_cmp x.0 y.0) (slice_cmp nat_cmp x.1.now y.1.now)) both now (content, name) true
     → (file : SetFile) → has_both_of now file ≡ (has_both_of both file || (has_content_of file content && is_name_of file name.now))
@@ -102,7 +102,7 @@ first_if : (same : Bool) (there old : Option ℕ) (number : ℕ) → (same ≡ t
 first_if true there old number h = ap (λ o. Some (unwrap_or o number)) (h refl) ∙ kept_first old number
 first_if false there old number h = kept_other old
 
--- one more number at a content, which keeps the one that it has
+-- a number was put in for a content, which keeps the number that it has
 pub first_added : (firsts now : BTreeMap LengthAndMd5 ℕ) (content : LengthAndMd5) (number kept : ℕ)
     → tree.Updates content_cmp firsts now content (Some kept) → kept ≡ unwrap_or (tree.get content_cmp firsts content) number
     → (file : SetFile) → first_at now file ≡ option_or (first_at firsts file) (cond (has_content_of file content) (Some number) None)
@@ -129,7 +129,7 @@ position-push p xs x =
     (length-append xs (x ∷ []))
     ∙ pushed first n (p x) (prefix_len-le-length (λ y. not (p y)) xs))
 
--- the first number that passes among one more
+-- the number of the first element that passes a test, after one more element
 pub position-more : {A : Type 0} (p : A → Bool) (xs : List A) (n : ℕ) (d : A) → n < length xs
     → position p (take (n + 1) xs) ≡ option_or (position p (take n xs)) (cond (p (get_or xs n d)) (Some n) None)
 position-more p xs n d here =
@@ -137,7 +137,7 @@ position-more p xs n d here =
     ∙ (position-push p (take n xs) (get_or xs n d)
     ∙ ap (λ m. option_or (position p (take n xs)) (cond (p (get_or xs n d)) (Some m) None)) (length-take-le n xs (omega arith)))
 
--- whether a pair passes among one more
+-- whether some pair passes a test, after one more pair
 pub list_any-zip_more : {A B : Type 0} (p : A × B → Bool) (xs : List A) (ys : List B) (n : ℕ) (x : A) (y : B) → n < length xs → n < length ys
     → x ≡ get_or xs n x → y ≡ get_or ys n y
     → list_any p (take (n + 1) (zip xs ys)) ≡ (list_any p (take n (zip xs ys)) || p (x, y))

@@ -1,5 +1,5 @@
--- What is left of a run's text where scanned files were not all read, or not searched at all; and the
--- mark of their list.
+-- The text of a run if scanned files could not all be read, or not searched at all; and the mark of
+-- their list.
 use Rattle.std.proofs.Common.{◌≡◌, ◌∙◌, ℕ, Bool, List, [], Ok, Err, true, false, ap, refl, subst, sym, append-nil, length, inl, inr}
 use Rattle.std.proofs.lemmas.Bool.{cases_lt, lt-ltb, le-ltb}
 use Rattle.parreport.specs.Outcomes.{Answers, FaultTells, TellsScanned}
@@ -44,7 +44,7 @@ answers_before_text report fault.OtherSet old new s none = absurd none
 answers_before_text report fault.OtherList old new s none = absurd none
 answers_before_text report fault.TooManyTails old new s none = absurd none
 
--- ---- how many short lengths there are to look for
+-- ---- the number of short-slice lengths
 pub few_are_few : (sought : Sought) → HasFewTails sought → has_too_many_tails sought ≡ false
 few_are_few sought few = le-ltb tail_limit (length (shorter_lengths sought.mode sought.set)) few
 
@@ -57,25 +57,25 @@ many_are_many sought many = elim (cases_lt tail_limit (length (shorter_lengths s
 pub report_of_few : (sought : Sought) (report : Report) → HasFewTails sought → report_after sought report ≡ report
 report_of_few sought report few = rw (few_are_few sought few) refl
 
--- of a text with its status it is no cause then
+-- if there are at most 256, the answer of a text with a status is no cause
 pub few_no_cause : (sought : Sought) (text : List ℕ) (status : Status) → HasFewTails sought
     → ¬ IsCause (report_after sought (record { text = text; answer = Ok status }))
 few_no_cause sought text status few cause =
     let report : Report = record { text = text; answer = Ok status } in
     let both : false ≡ true = subst IsCause (report_of_few sought report few) cause in cc
 
--- where there are too many, that is the answer, and nothing is written
+-- if there are too many, that is the answer, and nothing is written
 pub too_many_answer : (sought : Sought) (report : Report) (s : SinkState) → has_too_many_tails sought ≡ true
     → Answers (report_after sought report) (Err fault.TooManyTails) s s
 too_many_answer sought report s many = (rw many refl, refl)
 
--- the same where a search could not be started
+-- the same if a search could not be started
 answers_unstarted : (A : Type 0) (sought : Sought) (report : Report) (why : StartFault) (s : SinkState) → TellsTails {A = A} sought (Err why)
     → Answers (report_after sought report) (Err (start_fault_of why)) s s
 answers_unstarted A sought report start_fault.TooManyTails s tells = too_many_answer sought report s (many_are_many sought tells)
 answers_unstarted A sought report start_fault.Memory s tells = front_nil (report_after sought report).text s
 
--- ---- the same of the slices of a set, as an index has them
+-- ---- the same for the slices of a set, as an index has them
 module _ (set : SetView) (mode own : Mode) (index : SliceSet) (is : index ≡ slice_set_of set.size set.slices) (same : own ≡ mode) where
   sought_is : sought_of index own ≡ set_sought_of set mode
   sought_is = ap (λ (slices : SliceSet). sought_of slices own) is ∙ ap (sought_of (slice_set_of set.size set.slices)) same
@@ -91,12 +91,12 @@ module _ (set : SetView) (mode own : Mode) (index : SliceSet) (is : index ≡ sl
   unstarted_text A report why s tells =
       answers_unstarted A (set_sought_of set mode) report why s (subst (λ (sought : Sought). TellsTails {A = A} sought (Err why)) sought_is tells)
 
--- where a search could not be started, nothing is read either
+-- if a search could not be started, nothing is read, either
 pub unstarted_scanned : (why : StartFault) (s : ShelfState) → TellsScanned (Err (start_fault_of why)) s s
 unstarted_scanned start_fault.TooManyTails s = refl
 unstarted_scanned start_fault.Memory s = ReadsOnly-refl s
 
--- ---- the mark of the files that are scanned
+-- ---- the mark of the list of scanned files
 
 pub list_same : (list : Hash16) (names : List (List ℕ)) (lengths wanted : List ℕ)
     → list.0 ≡ mark_of_list names lengths → lengths ≡ wanted → list ≡ list_of names wanted

@@ -1,4 +1,4 @@
--- The packets of one file after another.
+-- The packets of files, one after another.
 use Rattle.std.proofs.Common.{◌≡◌, ◌<◌, ◌+◌, ◌∙◌, ℕ, List, [], ◌∷◌, ◌++◌, length, take, ap, sym, arith, append_assoc, append-nil}
 use Rattle.std.proofs.lemmas.List.{length-map, take_more, take_all, length-take-le}
 use Rattle.parshelf.specs.Shelf.{ShelfState, ReadsAs, file_of}
@@ -6,7 +6,7 @@ use Rattle.parshelf.specs.Reads.{ReadsOnly}
 use Rattle.parsalvage.specs.Kept.{kept_of_file, kept_from, kept_of_files}
 use Rattle.parsalvage.specs.declared.kept.Kept.{Kept}
 
--- one more file
+-- the packets of a list of files and one more
 pub kept_from-append : (first : ℕ) (files : List (List ℕ)) (bytes : List ℕ)
     → kept_from first (files ++ bytes ∷ []) ≡ kept_from first files ++ kept_of_file (first + length files) bytes
 kept_from-append first [] bytes =
@@ -17,11 +17,12 @@ kept_from-append first (file ∷ files) bytes =
     ∙ (ap (λ n. kept_of_file first file ++ (kept_from (first + 1) files ++ kept_of_file n bytes)) same
     ∙ sym (append_assoc (kept_of_file first file) (kept_from (first + 1) files) (kept_of_file (first + length (file ∷ files)) bytes)))
 
--- there is a file for each length
+-- there is a file for each length, in any files that are consistent with the reads
 pub files_sized : (s : ShelfState) (files : List (List ℕ)) → ReadsAs s files → length files ≡ length s.lengths
 files_sized s files reads = sym (length-map files length) ∙ ap length reads.lengths
 
--- the packets of the files before this one, and those of this one, as they were read after those
+-- the packets of the files before this one, followed by those of this one, are those of the files
+-- up to it
 pub kept_of_files-more : (s now new : ShelfState) (file : ℕ) (kept more : List Kept) → file < length s.lengths → ReadsOnly s now → ReadsOnly now new
     → ((files : List (List ℕ)) → ReadsAs now files → kept ≡ kept_of_files (take file files))
     → ((files : List (List ℕ)) → ReadsAs new files → more ≡ kept_of_file file (file_of files file))

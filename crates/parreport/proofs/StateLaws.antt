@@ -1,4 +1,5 @@
--- What the scanned files show, by their names, lengths and MD5s, and by the marks of a survey.
+-- The findings in the scanned files, given their names, lengths and MD5s, and the flags of a
+-- survey.
 use Rattle.std.proofs.Common.{◌≡◌, ℕ, ◌+◌, ◌<◌, ◌∙◌, ◌&&◌, ◌||◌, not, Bool, false, List, [], ◌∷◌, ◌++◌, Option, None, length, map, drop, take, get_or, position, ap, sym, refl, cond, append-nil, arith, nat_lt, Some}
 use Rattle.std.specs.BTreeSet.{BTreeSet, contains}
 use Rattle.std.specs.List.{list_any, zip, enumerate_from, prefix_len}
@@ -41,7 +42,7 @@ map-name (file ∷ files) [] e = absurd (omega arith)
 map-name (file ∷ files) (content ∷ contents) e = ap (λ xs. file.name ∷ xs) (map-name files contents (omega arith))
 
 -- ---- the state of a file
--- what is asked of bytes shows the file's content exactly where they have it
+-- the check of bytes shows the content of this file of the set exactly if they have it
 abbrev Shows : List SetFile → SetFile → Type 0
 Shows own file = (bytes : List ℕ) → shows_content_of file (checked_of own bytes) ≡ has_content_of file (length_and_md5 bytes)
 
@@ -87,12 +88,13 @@ checked_state_of-state_of own files contents e file shows =
     let first = position_same own file files contents shows e in
     let named = named_same file files contents e in cc
 
--- maps by functions that agree are the same
+-- maps of functions that agree on each element are the same
 pub map-same : {A B : Type 0} (f g : A → B) → ((x : A) → f x ≡ g x) → (xs : List A) → map f xs ≡ map g xs
 map-same f g same [] = refl
 map-same f g same (x ∷ xs) = ap (λ y. y ∷ map f xs) (same x) ∙ ap (λ ys. g x ∷ ys) (map-same f g same xs)
 
--- the states of the files of the set
+-- the states of all files of the set, given the checks of the contents, are those in the scanned
+-- files
 states_same : (files : List Scanned) (contents : List (List ℕ)) (own : List SetFile) → length contents ≡ length files
     → map (checked_state_of files (map (checked_of own) contents)) own ≡ map (state_of (named_files files contents)) own
 states_same files contents own sized =
@@ -104,7 +106,7 @@ states_same files contents own sized =
     get_or-map by own k d Missing here
     ∙ (checked_state_of-state_of own files contents sized (get_or own k d) (shown_asked own k d here) ∙ sym (get_or-map of own k d Missing here)))
 
--- the states by the contents that were read
+-- the same for the checks that were read
 pub states_read : (files : List Scanned) (contents : List (List ℕ)) (read : List (Option LengthAndMd5)) (asked own : List SetFile) (states : List State)
     → length contents ≡ length files → states ≡ map (checked_state_of files read) asked → read ≡ map (checked_of own) contents → asked ≡ own
     → states ≡ map (state_of (named_files files contents)) own
@@ -112,8 +114,8 @@ states_read files contents read asked own states sized by_read whole same =
     by_read ∙ (ap (λ cs. map (checked_state_of files cs) asked) whole
     ∙ (ap (map (checked_state_of files (map (checked_of own) contents))) same ∙ states_same files contents own sized))
 
--- ---- the marks of a survey
--- a slice that is taken as it was written back
+-- ---- the flags of a survey
+-- flags that were written back at the beginning of a list of the same length are the whole list
 pub take-all_back : (n : ℕ) (now was : List Bool) → length now ≡ length was → n ≡ length was → take n (now ++ drop (length now) was) ≡ now
 take-all_back n now was same all =
     let none : drop (length now) was ≡ [] = drop_all (length now) was (omega arith) in

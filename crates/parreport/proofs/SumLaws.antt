@@ -1,4 +1,5 @@
--- The slices of whole files are marked before a search, and it finds no slice without sums.
+-- The slices of whole files are noted as found before a search, and it finds no slice without
+-- checksums.
 use Rattle.std.proofs.Common.{◌≡◌, ℕ, ◌<◌, ◌∙◌, ◌||◌, not, Bool, false, List, [], Option, None, Some, length, map, get_or, ap, sym, refl, arith, slice_get, slice_index, IsTrue, is_none, is_some, zero-add}
 use Rattle.std.specs.Prelude.{All}
 use Rattle.std.specs.BTreeSet.{BTreeSet, contains}
@@ -23,13 +24,13 @@ use Rattle.parreport.specs.States.{NamedFile}
 no_slice : SetSlice
 no_slice = record { id = record { 0 = [] }; number = 0; length = 0; sums = None }
 
--- the marks before the search
+-- the flags before the search
 mark_before : (whole : BTreeSet Hash16) (slices : List SetSlice) (was : List Bool) (k : ℕ) → k < length slices
     → was ≡ map (is_in_whole_file whole) slices → found_at was k ≡ is_in_whole_file whole (get_or slices k no_slice)
 mark_before whole slices was k here before =
     ap (λ marks. found_at marks k) before ∙ get_or-map (is_in_whole_file whole) slices k no_slice false here
 
--- and after it
+-- the flags after the search
 pub found_found : (whole : BTreeSet Hash16) (scan : Scan) (was now : List Bool) → was ≡ map (is_in_whole_file whole) scan.sought.set.slices
     → length now ≡ length scan.sought.set.slices → FindsSighted scan was now
     → now ≡ map (λ slice. contains id_cmp whole slice.1.id || is_sighted scan slice.0) (enumerate_from 0 scan.sought.set.slices)
@@ -50,7 +51,7 @@ none_known : (sums : Option (Hash16 × ℕ)) → not (is_some sums) ≡ is_none 
 none_known None = refl
 none_known (Some known) = refl
 
--- where no search is needed for any slice, each is settled before it
+-- if no slice needs a search, each is settled before it
 pub all_settled : (whole : BTreeSet Hash16) (set : SliceSet) (was : List Bool) → was ≡ map (is_in_whole_file whole) set.slices
     → All (λ slice. IsTrue (needs_no_search whole slice)) set.slices → AreAllSettled set was
 all_settled whole set was before all k within =
@@ -63,7 +64,7 @@ all_settled whole set was before all k within =
     ∙ (ap (λ one. is_in_whole_file whole slice || not (option_map_or has_known_sums one false)) there
     ∙ (ap (λ b. is_in_whole_file whole slice || b) (none_known slice.sums) ∙ all k no_slice here))
 
--- where no slice needs a search, none adds to what was asked for
+-- if no slice needs a search, it reads nothing beyond the checks of files
 pub unsearched : (set : SetView) (scanned : List NamedFile) (whole : BTreeSet Hash16) (old mid new : ShelfState)
     → ReadsCandidates set.files old mid → (All (λ slice. IsTrue (needs_no_search whole slice)) set.slices → new ≡ mid)
     → ((id : Hash16) → contains id_cmp whole id ≡ is_in_intact_file set scanned id)

@@ -11,7 +11,7 @@ use Rattle.parreport.proofs.BlockLaws.{IsBuffered_all, IsBuffered_more, WrotePre
 use Rattle.parreport.proofs.ListingLaws.{StopsIn_later}
 
 module _ {W : Type 0} (state : W → SinkState) where
-  -- the text was written but for this rest of it
+  -- the text was given to the writer except for this rest of it
   pub record WritesBut (old new : BlockWriter W) (text rest : List ℕ) : Type 0 where
     pub same_sink : new.sink.ghost_name ≡ old.sink.ghost_name
     pub buffered : IsBuffered (state old.sink.now) (state new.sink.now) (string_bytes old.buffer ++ text) (string_bytes new.buffer ++ rest)
@@ -49,7 +49,8 @@ module _ {W : Type 0} (state : W → SinkState) where
   before_last : (old mid : BlockWriter W) (text last : List ℕ) → WritesBut old mid text last → WritesBut old mid text (last ++ [])
   before_last old mid text last before = subst (λ (ys : List ℕ). WritesBut old mid text ys) (sym (append-nil last)) before
 
-  -- the last part, however it ends
+  -- after the last part, the clause about the whole text holds, whether that part was written or
+  -- not
   pub writes_last : {A : Type 0} (old mid new : BlockWriter W) (text last : List ℕ) (result : Result A RunFault) → WritesBut old mid text last
       → Writes state mid new last result → Writes state old new text result
   writes_last old mid new text last (Ok x) before next =
@@ -57,7 +58,7 @@ module _ {W : Type 0} (state : W → SinkState) where
   writes_last old mid new text last (Err why) before next =
       stops_part old mid new text last [] (before_last old mid text last before) why next
 
-  -- memory was wanted before any of the text was written
+  -- memory was refused before any of the text was written
   pub stops_before : {A : Type 0} (old new : BlockWriter W) (text : List ℕ) → new.sink.ghost_name ≡ old.sink.ghost_name
       → state new.sink.now ≡ state old.sink.now → Writes {A = A} state old new text (Err Memory)
   stops_before old new text same still = record {
@@ -67,7 +68,7 @@ module _ {W : Type 0} (state : W → SinkState) where
         (WrotePrefix_all (state old.sink.now) (string_bytes old.buffer ++ text));
   }
 
-  -- the line of the first one was written, and those of the others are left
+  -- the line of the first element was written, and those of the others are left
   module _ {X : Type 0} (line : X → List ℕ) (left : List X) (x : X) (others : List X) (first : left ≡ x ∷ others)
       (old mid new : BlockWriter W) (text : List ℕ) (before : WritesBut old mid text (flat_map line left)) where
     with_first : WritesBut old mid text (line x ++ flat_map line others)

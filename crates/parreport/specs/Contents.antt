@@ -5,7 +5,8 @@ use Rattle.parshelf.specs.Shelf.{ShelfState}
 use Rattle.parshelf.specs.Reads.{HandsPerFile}
 use Rattle.parreport.specs.States.{has_length}
 
--- how many bytes a file of this length is checked by: none, where no file of the set has it
+-- how many bytes of a file of this length are read for its MD5: all if some file of the set has
+-- this length, else none
 abbrev pub checked_length_of : List SetFile → ℕ → ℕ
 checked_length_of files n = if has_length files n then n else 0
 

@@ -1,4 +1,4 @@
--- The faults of a run.
+-- The errors of a run, and how other errors become one of them.
 use Rattle.std.specs.Prelude.{◌≡◌, ℕ, Result, Ok, Err, ⊤, true, false}
 use Rattle.parfind.specs.declared.cursors.cursor_text.Foreign.{Foreign}
 use Rattle.parfind.specs.declared.cursors.cursor_text.Foreign.TheVariants as foreign
@@ -14,7 +14,7 @@ use Rattle.parreport.specs.declared.faults.RunFault.TheVariants as fault
 use Rattle.parreport.specs.declared.status.Status.{Status}
 use Rattle.parreport.specs.declared.status.Status.TheVariants.{Listed}
 
--- the fault that a cause why there is no set is answered as
+-- the error of a run for a reason why there is no set
 abbrev pub set_fault_of : SetFault → RunFault
 set_fault_of set_fault.NoMain = fault.Set cause.NoMain
 set_fault_of (set_fault.NoDesc id) = fault.Set (cause.NoDesc id)
@@ -22,46 +22,46 @@ set_fault_of (set_fault.NameTwice id) = fault.Set (cause.NameTwice id)
 set_fault_of set_fault.TooManySlices = fault.Set cause.TooManySlices
 set_fault_of set_fault.Memory = fault.Memory
 
--- the fault that it is for a run that scanned files were not all read
+-- the error of a run if a survey of the scanned files fails
 abbrev pub scanned_fault_of : SurveyFault → RunFault
 scanned_fault_of (survey_fault.Read file why) = fault.Read false file why
 scanned_fault_of survey_fault.Memory = fault.Memory
 scanned_fault_of survey_fault.TooManyTails = fault.TooManyTails
 
--- the fault that it is for a run that a search can't be started
+-- the error of a run if a search can't be started
 abbrev pub start_fault_of : StartFault → RunFault
 start_fault_of start_fault.TooManyTails = fault.TooManyTails
 start_fault_of start_fault.Memory = fault.Memory
 
--- the fault that it is for a run that a cursor is none of its set and its files
+-- the error of a run if its cursor isn't one of its set and its files
 abbrev pub foreign_fault_of : Foreign → RunFault
 foreign_fault_of foreign.OtherSet = fault.OtherSet
 foreign_fault_of foreign.OtherList = fault.OtherList
 
--- it is one of reading packet files
+-- the error is one that reading packet files may have
 abbrev pub IsPacketFault : RunFault → Type 0
 IsPacketFault (fault.Read packet file why) = packet ≡ true
 IsPacketFault fault.Memory = ⊤
 IsPacketFault _ = ⊥
 
--- it is one of a search: of reading scanned files, or of writing
+-- the error is one that a search may have: of reading scanned files, of writing, or of memory
 abbrev pub IsSearchFault : RunFault → Type 0
 IsSearchFault (fault.Read packet file why) = packet ≡ false
 IsSearchFault fault.Write = ⊤
 IsSearchFault fault.Memory = ⊤
 IsSearchFault _ = ⊥
 
--- it is one of a search, or too many short lengths were to be looked for
+-- the error is one that a search may have, or too many short-slice lengths would be compared
 abbrev pub IsFindFault : RunFault → Type 0
 IsFindFault fault.TooManyTails = ⊤
 IsFindFault other = IsSearchFault other
 
--- where a scanned file could not be read, this holds of its number
+-- if the error is that a scanned file could not be read, this is true of its number
 abbrev pub OnScannedFault : (ℕ → Type 0) → RunFault → Type 0
 OnScannedFault Holds (fault.Read false file why) = Holds file
 OnScannedFault Holds _ = ⊤
 
--- the answer of a run that lists
+-- the result of a command that lists, as a status
 abbrev pub listing_of : Result (Unit {0}) RunFault → Result Status RunFault
 listing_of (Ok done) = Ok Listed
 listing_of (Err why) = Err why

@@ -1,4 +1,5 @@
--- The lines that are written; each ends with a line feed, and its fields are parted by one blank.
+-- The lines that are written. Each ends with a line feed, and its fields are separated by one
+-- space.
 use Rattle.std.specs.Prelude.{ℕ, ◌++◌, Bool, List, length, codes, if◌then◌else◌}
 use Rattle.std.specs.Fmt.{decimal}
 use Rattle.parfield.specs.Hex.{encode_lower}
@@ -15,7 +16,7 @@ use Rattle.parset.specs.declared.recovery_set.SetSlice.{SetSlice}
 use Rattle.parfind.specs.CursorText.{cursor_text}
 use Rattle.parfind.specs.declared.cursors.cursor_text.CursorText.{CursorText}
 
--- the word of a kind
+-- the word for the kind of a packet
 abbrev pub kind_word : Kind → List ℕ
 kind_word Main = codes "main"
 kind_word FileDesc = codes "filedesc"
@@ -40,7 +41,7 @@ set_line set =
     codes "set " ++ (encode_lower set.id.0 ++ (codes " size " ++ (decimal set.size
     ++ (codes " slices " ++ (decimal (length set.slices) ++ codes "\n")))))
 
--- the word for whether sums are known
+-- the word for whether checksums are known
 abbrev pub yes_or_no : Bool → List ℕ
 yes_or_no known = if known then codes "yes" else codes "no"
 
@@ -63,7 +64,7 @@ have_line n = codes "have " ++ (decimal n ++ codes "\n")
 unfoldable pub creator_line : List ℕ → List ℕ
 creator_line text = codes "creator " ++ (shown text ++ codes "\n")
 
--- `aside <packet file> <offset> <reason>`, in a file of this name
+-- `aside <packet file> <offset> <reason>`, of a rejected packet in a file of this name
 unfoldable pub aside_line : List ℕ → SetAside → List ℕ
 aside_line name put_aside =
     codes "aside " ++ (shown name ++ (codes " " ++ (decimal put_aside.at ++ (codes " "

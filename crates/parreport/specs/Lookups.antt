@@ -1,5 +1,5 @@
--- What scanned files are found by, for each file of a recovery set: their lengths with MD5s, and
--- their names.
+-- The maps and sets in which scanned files are looked up for each file of a recovery set: by their
+-- lengths and MD5s, and by their names.
 use Rattle.std.specs.Prelude.{ℕ, Bool, List, Option, if◌then◌else◌}
 use Rattle.std.specs.BTreeMap as tree
 use Rattle.std.specs.BTreeSet as sorted
@@ -25,25 +25,25 @@ content_cmp = then_cmp (on (λ one. one.length) nat_cmp) (on (λ one. one.whole)
 abbrev pub length_and_md5_of : SetFile → LengthAndMd5
 length_and_md5_of file = record { length = file.length; whole = file.whole }
 
--- how the name of a file of the set stands to a name
+-- the order between the name of a file of the set and another name
 abbrev pub file_name_cmp : SetFile → Bor (List ℕ) → Ordering
 file_name_cmp file name = slice_cmp nat_cmp file.name name.now
 
--- the number that stands at the length and the MD5 of a file of the set
+-- the number that a map has for the length and the MD5 of a file of the set
 abbrev pub first_at : BTreeMap LengthAndMd5 ℕ → SetFile → Option ℕ
 first_at firsts file = tree.get content_cmp firsts (length_and_md5_of file)
 
--- the name of a file of the set is there
+-- whether a set of names has the name of a file of the set
 abbrev pub has_name_of : BTreeSet (Bor (List ℕ)) → SetFile → Bool
 has_name_of names file = sorted.contains_by (file_name_cmp file) names
 
--- the length, the MD5 and the name of a file of the set are there as one
+-- whether a set has the length, the MD5 and the name of a file of the set in one entry
 abbrev pub has_both_of : BTreeSet (LengthAndMd5 × Bor (List ℕ)) → SetFile → Bool
 has_both_of both file =
     sorted.contains_by (λ one. ordering_then
     (content_cmp (length_and_md5_of file) one.0) (file_name_cmp file one.1)) both
 
--- the state of a file of the set, by what is looked up
+-- the state of a file of the set that the lookups give
 abbrev pub looked_up_state_of : Lookups → SetFile → State
 looked_up_state_of lookups file =
     if has_both_of lookups.both file then Complete

@@ -1,4 +1,4 @@
--- How the program ends once it tried to open the files of a plan.
+-- The end of the program after it tried to open the files of a plan.
 use Rattle.std.specs.Prelude.{◌≡◌, ℕ, List, [], Option, Result, IfErr, false, unwrap_or}
 use Rattle.parshelf.specs.Shelf.{ShelfState}
 use Rattle.parplan.specs.Commands.{reads_scanned}
@@ -25,14 +25,15 @@ pub record RunState : Type 0 where
   pub scanned : ShelfState
   pub out : SinkState
 
--- the answer, and what it leaves of the output, are those of the plan over these files
+-- the answer of a run, and the text that it has written, are those of the plan over these files
 pub record AnswersOver (plan : Plan) (files : RunFiles) (answer : Result Status RunFault)
     (old new : SinkState) : Type 0 where
   pub text : Answers (report_of plan files) answer old new
   pub lines : IfErr answer (OnScannedFault (λ file. ReadFaultLeaves plan files file old new))
 
--- a run of the plan, of whose end `tells` holds, went from these files and this output to those after
--- it; the text and the answer are those of any files that could have given what was read
+-- a run of the plan; `old` and `new` are its files and its output before it and after it. Its end
+-- passes the test `tells`, and its text and its answer are those of any files that are consistent
+-- with the reads
 pub record TellsRun (plan : Plan) (old new : RunState) (tells : End × Option (List ℕ) → Type 0)
     : Type 0 where
   pub answer : Result Status RunFault

@@ -1,4 +1,5 @@
--- What a run writes and answers, over whole files, where nothing comes between.
+-- The report of a run: the text that it writes and its answer, given the whole contents of its
+-- files, if no read, write or allocation fails.
 use Rattle.std.specs.Prelude.{ℕ, List, [], map, length, Option, None, Some, Result, Ok, Err, IsErr, if◌then◌else◌}
 use Rattle.parfield.specs.declared.hash16.Hash16.{Hash16}
 use Rattle.parfind.specs.CursorText.{cursor_for}
@@ -30,20 +31,20 @@ use Rattle.parreport.specs.declared.faults.RunFault.TheVariants as fault
 use Rattle.parreport.specs.declared.status.Status.{Status}
 use Rattle.parreport.specs.declared.status.Status.TheVariants.{Listed}
 
--- a text, and the answer where nothing comes between
+-- a text, and the answer after it
 pub record Report : Type 0 where
   pub text : List ℕ
   pub answer : Result Status RunFault
 
--- the report is a cause, and has no text
+-- the report's answer is an error; then it has no text
 abbrev pub IsCause : Report → Type 0
 IsCause report = IsErr report.answer
 
--- a text that lists
+-- the report of a text that only lists
 abbrev pub listed : List ℕ → Report
 listed text = record { text = text; answer = Ok Listed }
 
--- the report over the recovery set, or of the cause why there is none
+-- the report over the recovery set, or the error if there is none
 abbrev pub report_with_set : Result SetView SetFault → (SetView → Report) → Report
 report_with_set (Ok set) report = report set
 report_with_set (Err why) report = record { text = []; answer = Err (set_fault_of why) }
@@ -56,18 +57,18 @@ packets_report plan packets = listed (packets_text plan.packets plan.set packets
 abbrev pub set_report : Plan → SetView → Report
 set_report plan set = listed (set_text plan.packets set)
 
--- where a search for a set of this ID begins in a list of files with this mark: at the first cursor,
--- or at one of this set and this list
+-- the cursor at which a search for a set of this ID begins, in a list of files with this mark: the
+-- first of all if none is given; else the given one, if it is of this set and this list
 abbrev pub start_of : Hash16 → Hash16 → Option CursorText → Result Cursor Foreign
 start_of set list None = Ok origin
 start_of set list (Some t) = cursor_for set list t
 
--- where `find` begins in these contents
+-- the cursor at which `find` begins in scanned files of these contents
 abbrev pub find_start_of : Plan → Query → List (List ℕ) → SetView → Result Cursor Foreign
 find_start_of plan query scanned set =
     start_of set.id (list_of (names_of plan.scanned) (map length scanned)) query.cursor
 
--- the report after a search, unless it would have to look for too many short lengths
+-- the report after a search, or the error if too many short-slice lengths would be compared
 abbrev pub report_after : Sought → Report → Report
 report_after sought report =
     if has_too_many_tails sought then record { text = []; answer = Err fault.TooManyTails }
@@ -77,7 +78,8 @@ report_after sought report =
 abbrev pub search_report : Search → Report
 search_report s = report_after (set_sought_of s.set s.mode) (listed (find_text s))
 
--- the report of `find` from a cursor on, if it is of the set and the list of files
+-- the report of `find` from its cursor on, or the error if that isn't of the set and the list of
+-- files
 abbrev pub report_from : Result Cursor Foreign → (Cursor → Report) → Report
 report_from (Err why) report = record { text = []; answer = Err (foreign_fault_of why) }
 report_from (Ok at) report = report at
@@ -110,6 +112,6 @@ kept_report command.Packets plan packets scanned = packets_report plan packets
 kept_report asked plan packets scanned =
     report_with_set (set_of packets plan.set) (command_report asked plan scanned)
 
--- the report of a plan over what its packet files and its scanned files hold
+-- the report of a plan, given the contents of its packet files and its scanned files
 abbrev pub report_of : Plan → RunFiles → Report
 report_of plan files = kept_report plan.command plan (kept_of_files files.packets) files.scanned

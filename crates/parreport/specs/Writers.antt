@@ -1,11 +1,13 @@
--- What becomes of a text that is given to a writer of blocks.
+-- A text that is given to a writer of blocks.
 use Rattle.std.specs.Prelude.{◌≡◌, ℕ, List, ◌++◌, Result, OnOk, IfErr, string_bytes}
 use Rattle.parshelf.specs.SinkState.{SinkState}
 use Rattle.parreport.specs.Blocks.{IsBuffered, StopsIn}
 use Rattle.parreport.specs.declared.text.block_writer.BlockWriter.{BlockWriter}
 use Rattle.parreport.specs.declared.faults.RunFault.{RunFault}
 
--- the text follows what waited in the writer, and is on its way to the same sink, or stopped there
+-- the writer keeps its sink. Without an error, the text follows the bytes that waited in the
+-- writer, and all of them are written or wait; after an error, they stopped at the sink or for lack
+-- of memory
 pub record Writes {W A : Type 0} (state : W → SinkState) (old new : BlockWriter W) (text : List ℕ)
     (result : Result A RunFault) : Type 0 where
   pub same_sink : new.sink.ghost_name ≡ old.sink.ghost_name

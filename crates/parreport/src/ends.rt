@@ -8,22 +8,22 @@ use parfield::Text;
 use parplan::{Plan, PlanFault, Scanned, files_to_scan};
 use parshelf::OpenFault;
 
-/// How the program ends.
+/// The ends of the program.
 #[derive(Clone, Copy, Debug, PartialEq, Eq)]
 pub enum End {
-    /// The run found this.
+    /// The run ended without an error, with this status.
     Status(Status),
-    /// The words are no plan.
+    /// The arguments are no plan.
     Plan(PlanFault),
-    /// A file that the words name can't be opened.
+    /// A file on the command line can't be opened.
     CannotOpen,
     /// Memory was refused before the run, or while files were opened.
     Memory,
-    /// The run wrote no whole text.
+    /// The run failed before its whole text was written.
     Run(RunFault),
 }
 
-/// The end of a run, and the argument that it is about.
+/// Returns the end of a run, and the argument that it is about.
 pub fn run_end(plan: &Plan, answer: Result<Status, RunFault>) -> (End, Option<&Text>)
     ensures { (result.0, option_map (λ file. file.now) result.1) ≡ run_end_of plan.now answer }
 {
@@ -33,7 +33,8 @@ pub fn run_end(plan: &Plan, answer: Result<Status, RunFault>) -> (End, Option<&T
     }
 }
 
-/// The end where the packet files can't all be opened, and the argument that it is about.
+/// Returns the end of a run whose packet files can't all be opened, and the argument that it is
+/// about.
 pub(crate) fn unopened_packets(plan: &Plan, why: OpenFault) -> (End, Option<&Text>)
     ensures { (result.0, option_map (λ file. file.now) result.1)
         ≡ open_end_of plan.now.packets why }
@@ -44,7 +45,8 @@ pub(crate) fn unopened_packets(plan: &Plan, why: OpenFault) -> (End, Option<&Tex
     }
 }
 
-/// The end where the scanned files can't all be opened, and the argument that it is about.
+/// Returns the end of a run whose scanned files can't all be opened, and the argument that it is
+/// about.
 pub(crate) fn unopened_scanned(plan: &Plan, why: OpenFault) -> (End, Option<&Text>)
     ensures { (result.0, option_map (λ file. file.now) result.1)
         ≡ open_end_of (scanned_paths_of plan.now) why }
@@ -55,7 +57,7 @@ pub(crate) fn unopened_scanned(plan: &Plan, why: OpenFault) -> (End, Option<&Tex
     }
 }
 
-// The argument that a fault of a run is about.
+// Returns the argument that a fault of a run is about, if it is about one.
 fn argument_of(plan: &Plan, fault: RunFault) -> Option<&Text>
     ensures { option_map (λ file. file.now) result ≡ argument_of plan.now fault }
 {
@@ -68,7 +70,7 @@ fn argument_of(plan: &Plan, fault: RunFault) -> Option<&Text>
     path_at(plan.scanned.as_slice(), file as usize)
 }
 
-// The path of one of these files.
+// Returns the path of one of these files, by its number.
 fn path_at(files: &[Scanned], file: usize) -> Option<&Text>
     ensures { option_map (λ path. path.now) result
         ≡ slice_get (map (λ file. file.path) files.now) file }

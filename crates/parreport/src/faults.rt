@@ -9,7 +9,7 @@ use parshelf::{Failed, ReadFault};
 use std::alloc::AllocError;
 use thiserror::Error;
 
-/// Why packets give no recovery set, in the order in which it is tested.
+/// Why packets give no recovery set, in the order in which the reasons are tested.
 #[derive(Clone, Copy, Debug, PartialEq, Eq)]
 pub enum Cause {
     /// There is no usable Main packet, or none of the set that is asked for.
@@ -22,17 +22,18 @@ pub enum Cause {
     TooManySlices,
 }
 
-/// Why a run wrote no whole text.
+/// Why a run did not write its whole text.
 ///
 /// - `Set`: the packets give no recovery set.
-/// - `Read`: the packet file of this number, if `packet`, or else the scanned file could not be read.
-/// - `Write`: the output failed, or took nothing.
+/// - `Read`: a file could not be read: the packet file of this number, if `packet`, or else the
+///   scanned file.
+/// - `Write`: the output failed, or took no byte.
 /// - `Memory`: memory was refused.
-/// - `OtherSet`: the cursor is one in a search for the slices of another set; nothing was written.
-/// - `OtherList`: the cursor is one of another list of files, by a name, a length or the order; no
-///   scanned file was read, and nothing was written.
-/// - `TooManyTails`: more than 256 short lengths of slices would have to be looked for; no scanned
-///   file was read, and nothing was written.
+/// - `OtherSet`: the cursor is one of a search for the slices of another set; nothing was written.
+/// - `OtherList`: the cursor is one of another list of files, which differs in a name, a length or
+///   the order; no scanned file was read, and nothing was written.
+/// - `TooManyTails`: more than 256 short-slice lengths would be compared; no scanned file was read,
+///   and nothing was written.
 #[derive(Clone, Copy, Debug, PartialEq, Eq, Error)]
 pub enum RunFault {
     #[error("no usable set")]
@@ -63,7 +64,7 @@ impl From<AllocError> for RunFault {
     }
 }
 
-// A sink that failed.
+// The sink failed.
 impl From<Failed> for RunFault {
     ghost from_gives = { λ _ e. e ≡ run_fault.Write };
 
@@ -86,7 +87,7 @@ impl From<SetFault> for RunFault {
     }
 }
 
-// The scanned files were not all read.
+// A survey of the scanned files failed.
 impl From<SurveyFault> for RunFault {
     ghost from_gives = { λ why e. e ≡ scanned_fault_of why };
 
@@ -103,7 +104,7 @@ impl From<SurveyFault> for RunFault {
     }
 }
 
-// The cursor is none of the set and the scanned files.
+// The cursor isn't one of the set and the scanned files.
 impl From<Foreign> for RunFault {
     ghost from_gives = { λ why e. e ≡ foreign_fault_of why };
 
@@ -115,7 +116,7 @@ impl From<Foreign> for RunFault {
     }
 }
 
-// The search in the scanned files was not started.
+// A search in the scanned files could not be started.
 impl From<StartFault> for RunFault {
     ghost from_gives = { λ why e. e ≡ start_fault_of why };
 

@@ -1,5 +1,5 @@
 //! The report that a plan asks for, and how a run ends. Plans, sinks and their failures are passed
-//! on, so that one `use` reaches a whole run but for its shelves.
+//! on, so that one `use` is enough for a whole run except its shelves (its files).
 //!
 //! From below: `faults` has the faults of a run and how each fault below becomes one, `status` what
 //! a run found, and `modes` how short slices are looked for. `states` says what the scanned files

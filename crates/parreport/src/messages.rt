@@ -9,8 +9,8 @@ use parfield::Shown;
 use parplan::PlanFault;
 use std::alloc::{AllocError, Global};
 
-/// The exit status, and the line for standard error, which is empty where nothing went wrong.
-/// `argument` is the file that a failure to open or to read is about.
+/// Returns the exit status of an end, and its line for standard error, which is empty if nothing
+/// went wrong. `argument` is the file that could not be opened or read.
 pub fn ending(alloc: Global, end: &End, argument: &str) -> Result<(u8, Vec<u8>), AllocError>
     ensures status { IfOk result (λ answer. answer.0 ≡ exit_status_of end.now) }
     ensures line { IfOk result (λ answer. answer.1.items
@@ -34,7 +34,7 @@ fn exit_status(end: &End) -> u8
     }
 }
 
-// The line of an end.
+// Returns the line of an end.
 fn line(alloc: Global, end: &End, argument: &str) -> Result<String, AllocError>
     ensures { IfOk result (λ line. string_bytes line
         ≡ error_line_of (message_of end.now argument.now)) }
@@ -60,14 +60,14 @@ fn line(alloc: Global, end: &End, argument: &str) -> Result<String, AllocError>
     }
 }
 
-// The line of a message.
+// Returns the line of a message.
 fn plain(alloc: Global, message: &str) -> Result<String, AllocError>
     ensures { IfOk result (λ line. string_bytes line ≡ error_line_of (Some message.now)) }
 {
     format!(in alloc; "parv: {message}\n")
 }
 
-// The line of a message that ends with the name of a file.
+// Returns the line of a message that ends with the name of a file.
 fn of_file(alloc: Global, what: &str, name: Shown<'_>) -> Result<String, AllocError>
     ensures { IfOk result (λ line. string_bytes line
         ≡ error_line_of (Some (what.now ++ shown name.entry.0.now))) }
@@ -76,7 +76,7 @@ fn of_file(alloc: Global, what: &str, name: Shown<'_>) -> Result<String, AllocEr
     Ok(plain(alloc, message.as_str())?)
 }
 
-// The line of a cause why there is no set.
+// Returns the line of a reason why there is no set.
 fn no_set(alloc: Global, cause: Cause) -> Result<String, AllocError>
     ensures { IfOk result (λ line. string_bytes line
         ≡ error_line_of (Some (codes "no usable set: " ++ cause_text cause))) }
@@ -86,7 +86,7 @@ fn no_set(alloc: Global, cause: Cause) -> Result<String, AllocError>
     Ok(plain(alloc, message.as_str())?)
 }
 
-// The text of a cause.
+// Returns the text of a reason.
 fn why(alloc: Global, cause: Cause) -> Result<String, AllocError>
     ensures { IfOk result (λ text. string_bytes text ≡ cause_text cause) }
 {

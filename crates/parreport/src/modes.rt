@@ -3,7 +3,7 @@ ghost use Rattle.parreport.specs.SetSearch.{mode_of};
 
 use parfind::Mode;
 
-/// The mode that a command asks for, which has `--tails` or not.
+/// Returns the mode of a command, with `--tails` or without.
 pub(crate) fn mode_of(tails: bool) -> Mode
     ensures { result ≡ mode_of tails }
 {

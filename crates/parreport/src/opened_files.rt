@@ -11,8 +11,8 @@ use parplan::Plan;
 use parshelf::{OpenFault, Shelf, Sink};
 use std::alloc::{AllocError, Global};
 
-/// Writes what the plan asks for of the files, if all could be opened, and gives the exit status
-/// and the line for standard error.
+/// Writes the text that the plan asks for over its files, if all could be opened, and returns the
+/// exit status and the line for standard error.
 pub fn run_opened<P: Shelf, Q: Shelf, W: Sink>(
     alloc: Global,
     plan: &Plan,
@@ -26,7 +26,7 @@ pub fn run_opened<P: Shelf, Q: Shelf, W: Sink>(
         → length (Q.state files).lengths ≡ length plan.now.scanned) }
     requires limit { LimitIsNotZero plan.now.command }
 
-    // Where all files are opened, they are run over, and the end of that run is told.
+    // If all files are opened, the plan is run over them, and the end of this run is reported.
     ensures ran { IfOk (opened_of plan.now packets.old scanned.old) (λ files.
         IsOkAnd (opened_of plan.now packets.new scanned.new) (λ after.
         TellsRun plan.now
@@ -34,7 +34,7 @@ pub fn run_opened<P: Shelf, Q: Shelf, W: Sink>(
         (record { packets = P.state after.0; scanned = Q.state after.1; out = W.state out.new })
         (λ end. IfOk result (λ told. TellsEnd end told.0 told.1.items)))) }
 
-    // Where some are not, that is told, and nothing is read or written.
+    // If some are not, that is reported, and nothing is read or written.
     ensures unopened { IfErr (opened_of plan.now packets.old scanned.old) (λ end.
         IfOk result (λ told. TellsEnd end told.0 told.1.items)) }
     ensures nothing_written { IfErr (opened_of plan.now packets.old scanned.old) (λ _.
@@ -57,7 +57,7 @@ pub fn run_opened<P: Shelf, Q: Shelf, W: Sink>(
     }
 }
 
-// Runs the plan over its files, and gives the exit status and the line of the end.
+// Runs the plan over its files, and returns the exit status and the line of the end.
 fn run_and_tell<P: Shelf, Q: Shelf, W: Sink>(
     alloc: Global,
     plan: &Plan,
@@ -87,7 +87,7 @@ fn run_and_tell<P: Shelf, Q: Shelf, W: Sink>(
     tell(alloc, end, argument)
 }
 
-// The exit status and the line of an end, about this argument.
+// Returns the exit status and the line of an end, about this argument.
 fn tell(alloc: Global, end: End, argument: Option<&Text>) -> Result<(u8, Vec<u8>), AllocError>
     ensures { IfOk result (λ told.
         TellsEnd (end, option_map (λ file. file.now) argument.entry) told.0 told.1.items) }

@@ -18,8 +18,8 @@ use parset::{RecoverySet, build};
 use parshelf::{Shelf, Sink};
 use std::alloc::Global;
 
-/// Writes what the plan asks for of its packet files and its scanned files. On a fault a beginning
-/// of that text was written.
+/// Writes the text that the plan asks for over its packet files and its scanned files. After an
+/// error, a beginning of that text is written.
 pub fn run<P: Shelf, Q: Shelf, W: Sink>(
     alloc: Global,
     plan: &Plan,
@@ -32,7 +32,7 @@ pub fn run<P: Shelf, Q: Shelf, W: Sink>(
         → length (Q.state scanned.old).lengths ≡ length plan.now.scanned }
     requires limit { LimitIsNotZero plan.now.command }
 
-    // The text and the status are those of any files of which that was read.
+    // The text and the status are those of any files that are consistent with the reads.
     ensures text { (files : RunFiles)
         → AreReadAs plan.now.command (P.state packets.new) (Q.state scanned.new) files
         → Answers (report_of plan.now files) result (W.state out.old) (W.state out.new) }
@@ -41,7 +41,7 @@ pub fn run<P: Shelf, Q: Shelf, W: Sink>(
         → IfErr result (OnScannedFault (λ file.
         ReadFaultLeaves plan.now files file (W.state out.old) (W.state out.new))) }
 
-    // Whatever was read: the answer tells what failed, and nothing else did.
+    // Whatever the reads returned: the result says what failed, and nothing else did.
     ensures nothing_written { IfErr result (λ fault. may_follow_text plan.now.command
         (written (W.state out.old) (W.state out.new)) fault ≡ false
         → W.state out.new ≡ W.state out.old) }
@@ -63,14 +63,14 @@ pub fn run<P: Shelf, Q: Shelf, W: Sink>(
     run_over_set(alloc, plan, &set, scanned, out)
 }
 
-// The recovery set that a plan asks for, of the packets.
+// Makes the recovery set that a plan asks for from the packets.
 fn asked_set(alloc: Global, plan: &Plan, kept: &[Kept]) -> Result<RecoverySet, RunFault>
     ensures { MakesSet (set_of kept.now plan.now.set) result }
 {
     Ok(build(alloc, kept, plan.set)?)
 }
 
-// What the plan asks for of a set.
+// Writes the text that the plan asks for over a set.
 fn run_over_set<Q: Shelf, W: Sink>(
     alloc: Global,
     plan: &Plan,

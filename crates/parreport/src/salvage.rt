@@ -10,8 +10,8 @@ use parsalvage::{Kept, SalvageFault, salvage_file};
 use parshelf::Shelf;
 use std::alloc::Global;
 
-/// The packets of all packet files, by file and offset.
-// Inlined, its arrays would stay on the stack beside those that scanned files are read into.
+/// Collects the packets of all packet files, by file and then by offset.
+// If it were inlined, its arrays would stay on the stack beside those for scanned files.
 #[inline(never)]
 pub fn salvage_files<H: Shelf>(alloc: Global, shelf: &mut H) -> Result<Vec<Kept>, RunFault>
     ensures kept { (files : List (List ℕ)) → ReadsAs (H.state shelf.new) files

@@ -1,8 +1,8 @@
-//! What scanned files show of a recovery set.
+//! The findings on a recovery set in the scanned files.
 //!
 //! From below: `contents` has lengths and MD5s of the scanned files that may be files of the set,
-//! `lookups` finds scanned files by content and by name, `state` says how they stand to each file,
-//! `found` which files are intact and which slices are found, and `findings` all of it together.
+//! `lookups` finds scanned files by content and by name, `state` is the state of each file, `found`
+//! says which files are intact and which slices are found, and `findings` is all of it together.
 
 mod contents;
 mod findings;

@@ -1,12 +1,12 @@
-/// What a run found.
+/// The result of a run without an error.
 #[derive(Clone, Copy, Debug, PartialEq, Eq)]
 pub enum Status {
-    /// The list, the set or the sightings were written.
+    /// `packets`, `set` or `find` has written its text.
     Listed,
     /// Every file of the set is complete.
     Complete,
-    /// No more slices are needed than there are recovery slices.
+    /// A file isn't complete, but no more slices are needed than there are recovery slices.
     Possible,
-    /// More are needed.
+    /// A file isn't complete, and more slices are needed than there are recovery slices.
     Impossible,
 }

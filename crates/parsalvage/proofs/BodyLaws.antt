@@ -1,14 +1,14 @@
--- A run of a file that stands at the end of what is held.
+-- A run: bytes of a file without a gap, which are the last bytes of a store.
 use Rattle.std.proofs.Common.{◌≡◌, ◌≤◌, ◌+◌, ◌-◌, ◌∙◌, ℕ, List, ◌++◌, length, take, drop, ap, sym, arith}
 use Rattle.std.proofs.Math.Seq.{take-add}
 use Rattle.std.proofs.lemmas.List.{drop-drop, drop-take, take-take, drop-append-le, drop_all, take-append-drop}
 
--- the run from `start` up to `end` of the file stands at the end of what is held
+-- the bytes of the file from `start` up to `end` are the last bytes that the store holds
 abbrev RunAt : List ℕ → List ℕ → ℕ → ℕ → Type 0
 RunAt file held start end =
     drop (length held - (end - start)) held ≡ take (end - start) (drop start file)
 
--- a run of no bytes
+-- a run of no bytes is at the end of any store
 pub run_none : (file held : List ℕ) (at : ℕ) → RunAt file held at at
 run_none file held at =
     let zero : at - at ≡ 0 = omega arith in
@@ -16,7 +16,7 @@ run_none file held at =
     ap (λ (n : ℕ). drop (length held - n) held) zero
     ∙ (ap (λ (n : ℕ). drop n held) all ∙ (drop_all (length held) held (omega arith) ∙ sym (ap (λ (n : ℕ). take n (drop at file)) zero)))
 
--- the bytes behind the run are put behind what is held
+-- if the file's bytes after a run are appended to the store, they make the run longer
 pub run_more : (file held new : List ℕ) (start end last : ℕ) → RunAt file held start end → start ≤ end → end ≤ start + length held
     → end ≤ last → take (length held) new ≡ held → drop (length held) new ≡ take (last - end) (drop end file)
     → length new ≡ length held + (last - end)
@@ -39,7 +39,7 @@ run_more file held new start end last run low fits more keeps adds size =
     ∙ (sym (take-add (end - start) (last - end) (drop start file))
     ∙ ap (λ (n : ℕ). take n (drop start file)) count)))))
 
--- a part of the run
+-- the bytes of a part of the run, found in the store by counting from its end
 pub run_part : (file held : List ℕ) (start end from size : ℕ) → RunAt file held start end → end ≤ start + length held
     → start ≤ from → from + size ≤ end
     → take size (drop (length held - (end - from)) held) ≡ take size (drop from file)

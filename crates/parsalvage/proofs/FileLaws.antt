@@ -1,4 +1,4 @@
--- A search of a file, one piece after another.
+-- The search of a file, one chunk after another.
 use Rattle.std.proofs.Common.{◌≡◌, ◌<◌, ◌≤◌, ◌+◌, ◌-◌, ◌∙◌, ℕ, List, [], length, take, drop, map, slice_index, ap, refl, sym, subst, arith, length-drop}
 use Rattle.std.proofs.Math.Seq.{paste}
 use Rattle.std.proofs.lemmas.List.{drop-take, take-take, drop-drop, length-take-le}
@@ -21,7 +21,8 @@ use Rattle.parsalvage.proofs.BodyLaws.{run_none}
 use Rattle.parsalvage.specs.Kept.{kept_packet}
 use borrow.Rule.Slice.PartMut.{put_mid, same_len_mid}
 
--- how far a search of a file has come: of the piece that begins at `base` so many bytes are held
+-- how far the search of a file has come: the window has the first `held` bytes of the chunk that
+-- begins at offset `base`
 pub record Progress : Type 0 where
   pub shelf : ShelfState
   pub base : ℕ
@@ -29,7 +30,8 @@ pub record Progress : Type 0 where
   pub window : List ℕ
   pub found : FileScan
 
--- the places below `base` were searched, and the front of the piece that begins there was read
+-- all offsets below `base` were searched, and the first bytes of the chunk that
+-- begins there were read
 pub record FileSearched (s : ShelfState) (file : ℕ) (now : Progress) : Type 0 where
   pub room : now.held ≤ length now.window
   pub hands : Handed s now.shelf file (λ bytes. (now.base + now.held) + limit_between bytes 0 now.base)
@@ -59,7 +61,8 @@ FileSearched-start s file window found no_packets no_bytes start_is end_is = rec
   front = λ files reads. refl;
 }
 
--- the next piece: what is held of it, and then what was read into the rest of the window
+-- the next chunk: the bytes of it that the window had, followed by those that were read into
+-- the rest of the window
 module _ (s : ShelfState) (file : ℕ) (now : Progress) (so_far : FileSearched s file now)
     (size : ℕ) (part : List ℕ) (more : now.held ≤ size) (room : size ≤ length now.window)
     (filled : length part ≡ length (take (size - now.held) (drop now.held now.window))) where
@@ -93,7 +96,7 @@ module _ (s : ShelfState) (file : ℕ) (now : Progress) (so_far : FileSearched s
         ∙ (joined ∙ ap (λ (n : ℕ). take n (drop now.base bytes)) all);
   }
 
--- a piece stands in the window
+-- the window has a whole chunk
 module _ (s : ShelfState) (file : ℕ) (now : Progress) (so_far : FileSearched s file now) (some : 7 ≤ now.held) where
   whole : length (take now.held now.window) ≡ now.held
   whole = length-take-le now.held now.window so_far.room
@@ -102,7 +105,8 @@ module _ (s : ShelfState) (file : ℕ) (now : Progress) (so_far : FileSearched s
   piece_is files reads =
       so_far.front files reads ∙ ap (λ (n : ℕ). take n (drop now.base (file_of files file))) (sym whole)
 
-  -- how far the piece is searched
+  -- the offset up to which the chunk is searched: packets that begin in its last seven bytes are
+  -- left to the next chunk
   end_is : now.base + (length (take now.held now.window) - 7) ≡ now.base + (now.held - 7)
   end_is = omega (arith, whole)
 
@@ -154,7 +158,8 @@ module _ (s : ShelfState) (file : ℕ) (now : Progress) (so_far : FileSearched s
       let all = limit_between-split bytes 0 (now.base + (now.held - 7)) (length bytes) (omega arith) (omega (arith, within, long)) in
       omega (arith, some, limits bytes, all, within, long))
 
--- the read of a piece failed
+-- if the read of a chunk failed, the search fails with that fault, within its
+-- limit on the bytes read
 pub FileSearched-unread : (s : ShelfState) (file : ℕ) (now : Progress) (u : ShelfState) (n : ℕ) (fault : ReadFault) → FileSearched s file now
     → (now.base + now.held) + n ≤ slice_index s.lengths file
     → FaultsIn now.shelf u file fault × HandsAtMost now.shelf u file n → FaultsAfter s u file salvage_limit fault
@@ -166,7 +171,7 @@ FileSearched-unread s file now u n fault so_far within fails =
     let all = limit_between-split (file_of files file) 0 now.base (length (file_of files file)) (omega arith) (omega (arith, within, long)) in
     omega (arith, within, long, all))
 
--- fewer bytes are left than a header has
+-- if fewer bytes are left than a header has, the file is searched to its end
 module _ (s : ShelfState) (file : ℕ) (now : Progress) (so_far : FileSearched s file now)
     (low : now.base + now.held ≤ slice_index s.lengths file) (last : slice_index s.lengths file < now.base + 64) where
   pub hands_whole : Handed s now.shelf file salvage_limit

@@ -1,4 +1,4 @@
--- All packets of a file, once it was searched to its end.
+-- All packets of a file, after it was searched to its end.
 use Rattle.std.proofs.Common.{◌≡◌, ◌≤◌, ◌+◌, ◌-◌, ◌∙◌, ℕ, List, [], length, map, filter, ap, sym, subst, refl, arith, All}
 use Rattle.std.specs.List.{range_with_len}
 use Rattle.std.specs.List.Sorted.{IsStrictlyIncreasing}
@@ -30,7 +30,7 @@ found_none file size bytes found all long none =
     nothing_mapped (kept_packet_from file found.bodies.bytes.items) found.packets.items
     (found_all file size bytes found all long ∙ ap (map (kept_packet file)) none)
 
--- what was found is kept at its offsets, inside the file
+-- the packets that were found are kept with their offsets, which are increasing and inside the file
 pub found_inside : (file size : ℕ) (found : FileScan) (kept : List Kept) → LiesIn size size found
     → kept ≡ map (kept_packet_from file found.bodies.bytes.items) found.packets.items → LieInFile file size kept
 found_inside file size found kept lies is =

@@ -1,4 +1,4 @@
--- A header that is read apart from what follows it.
+-- A header that is read by itself, without the bytes that follow it.
 use Rattle.std.proofs.Common.{◌≡◌, ◌<◌, ◌≤◌, ◌+◌, ◌-◌, ◌&&◌, ◌==◌, ◌%◌, ◌∙◌, ℕ, Bool, true, false, List, length, take, drop, ap, sym, arith, nat_le, ⊎_elim}
 use Rattle.std.specs.List.{slice_range}
 use Rattle.std.specs.Str.{bytes_eq}
@@ -11,7 +11,7 @@ use Rattle.parfield.specs.Kind.{kind_of}
 use Rattle.parfield.specs.declared.headers.Header.{Header}
 use Rattle.parsalvage.specs.MagicPlaces.{begins_framed}
 
--- a part of the front is the same part of the whole
+-- a range that lies in the first n bytes is the same in all bytes
 pub slice_range-take : (n i j : ℕ) (xs : List ℕ) → i ≤ n → j ≤ n → slice_range (take n xs) i j ≡ slice_range xs i j
 slice_range-take n i j xs begins ends =
     let split : n ≡ i + (n - i) = omega arith in
@@ -55,7 +55,7 @@ module _ (rest : List ℕ) (long : 64 ≤ length rest) where
       ∙ (ap (λ (xs : List ℕ). header_from (slice_range rest 8 16) (slice_range rest 16 32) xs (slice_range (take 64 rest) 48 64)) set
       ∙ ap (λ (xs : List ℕ). header_from (slice_range rest 8 16) (slice_range rest 16 32) (slice_range rest 32 48) xs) kind))
 
--- the front was read, and is this
+-- the first 64 bytes were read, and here they are called `front`
 module _ (rest front : List ℕ) (read : front ≡ take 64 rest) (long : 64 ≤ length rest) where
   header_same : has_header front ≡ has_header rest
   header_same = ap has_header read ∙ has_header-front rest long
@@ -82,7 +82,8 @@ module _ (rest front : List ℕ) (read : front ≡ take 64 rest) (long : 64 ≤ 
       let fits = leb-true _ _ parts.1 in absurd (omega (arith, fits, length_same head is)))
       (λ no. no) (cases_Bool (begins_framed rest)))
 
--- where all but the hash is there, the hash decides
+-- if the bytes have a header and are long enough, they begin with a packet exactly
+-- if the hash is right
 pub packet_framed : (rest : List ℕ) → true ≡ begins_framed rest
     → begins_packet rest ≡ bytes_eq (md5 (slice_range rest 32 (length_field rest))) (slice_range rest 16 32)
 packet_framed rest framed =
@@ -91,7 +92,7 @@ packet_framed rest framed =
     ap (λ (b : Bool). b && (nat_le (length_field rest) (length rest) && tail)) parts.0
     ∙ ap (λ (b : Bool). b && tail) parts.1
 
--- the hash of the packet that begins here, read from its 32nd byte on
+-- the same with a hash that was computed from the packet's bytes from offset 32 to its end
 pub packet_hashed : (rest : List ℕ) (hash : List ℕ) (same : Bool) → true ≡ begins_framed rest
     → hash ≡ md5 (slice_range rest 32 (length_field rest)) → same ≡ bytes_eq hash (slice_range rest 16 32)
     → same ≡ begins_packet rest

@@ -63,7 +63,7 @@ FaultsAfter-more s t u file m n limit fault a b fits = (
   both_handed s t u file m n limit b.0.older a.1 b.1 fits,
 )
 
--- fewer bytes are within a greater bound
+-- a call that stays within a bound stays within a greater one
 
 pub Hands-wider : (s t : ShelfState) (file : ℕ) (n limit : List ℕ → ℕ) → Handed s t file n → FitsWithin s file n limit → Handed s t file limit
 Hands-wider s t file n limit h fits = Hands-more s s t file (λ _. 0) n limit (Hands-none s file (λ _. 0)) h (λ files reads. omega (arith, fits files reads))
@@ -94,14 +94,14 @@ pub StopsAfter-wider : (s t : ShelfState) (file : ℕ) (n limit : List ℕ → �
 StopsAfter-wider s t file n limit fault h fits =
     StopsAfter-more s s t file (λ _. 0) n limit fault (Hands-none s file (λ _. 0)) h (λ files reads. omega (arith, fits files reads))
 
--- a part of a file was asked for
+-- a call that reads a part of n bytes stays within any bound that is at least n
 pub ReadsAtMost-from : {A : Type 0} (s t : ShelfState) (file n : ℕ) (limit : List ℕ → ℕ) (result : Result A ReadFault)
     → ReadsPart file n s t result → FitsWithin t file (λ _. n) limit
     → ReadsAtMost limit file s t result
 ReadsAtMost-from s t file n limit (Ok done) part fits = Hands-from s t file n limit part fits
 ReadsAtMost-from s t file n limit (Err why) part fits = FaultsAfter-within s t file n limit why part fits
 
--- a call that comes after others
+-- a call that comes after others stays within the sum of the bounds
 pub SalvagesAtMost-more : {A : Type 0} (s t u : ShelfState) (file : ℕ) (m n limit : List ℕ → ℕ) (result : Result A SalvageFault)
     → Handed s t file m → SalvagesAtMost n file t u result → FitsWithin t file (λ bytes. m bytes + n bytes) limit
     → SalvagesAtMost limit file s u result

@@ -1,4 +1,5 @@
--- How much may be read for the places of the magic, one stretch of a file after another.
+-- How many bytes may be read for the offsets at which the magic is, one stretch of
+-- a file after another.
 use Rattle.std.proofs.Common.{◌≡◌, ◌≤◌, ◌+◌, ◌*◌, ◌∙◌, ℕ, Bool, true, cond, List, [], ◌∷◌, ◌++◌, drop, filter, sum_by, ap, refl, arith}
 use Rattle.std.proofs.lemmas.Bool.{cond-true}
 use Rattle.std.proofs.lemmas.List.{length-append}
@@ -27,7 +28,7 @@ sum_by_one : (f : ℕ → ℕ) (b : Bool) (x : ℕ) → sum_by f (cond b (x ∷ 
 sum_by_one f true x = let one = sum_by-cons f x [] in omega (arith, one)
 sum_by_one f Bool.false x = refl
 
--- one place at which the magic stands
+-- the bound for one offset at which the magic is
 pub limit_between-one : (bytes : List ℕ) (at : ℕ) → is_magic_at bytes at ≡ true
     → limit_between bytes at (at + 1) ≡ 64 + 2 * framed_size (drop at bytes)
 unfolding limit_between

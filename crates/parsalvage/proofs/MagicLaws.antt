@@ -1,4 +1,5 @@
--- Two occurrences of the magic never overlap, so a search without overlaps finds each.
+-- Two occurrences of the magic never overlap, so a search that doesn't look for
+-- overlaps finds each.
 use Rattle.std.proofs.Common.{◌≡◌, ◌<◌, ◌≤◌, ◌+◌, ◌∙◌, ℕ, zero, suc, Bool, IsTrue, true, false, cond, List, [], ◌∷◌, length, drop, map, filter, ap, refl, sym, arith, slice_index, ⊎_elim, length-drop, subst, ◌-◌, nat_le, add-one}
 use Rattle.std.specs.List.{range_with_len}
 use Rattle.std.proofs.lemmas.Bool.{cases_Bool, cond-true, cond-false, false≢true, and_parts, and_from, leb-true, le-leb}
@@ -10,7 +11,7 @@ use Rattle.parfield.specs.Packet.{magic_bytes, has_header}
 use Rattle.parsalvage.specs.MagicPlaces.{is_magic_at, magic_places_between}
 use Rattle.parsalvage.specs.Packets.{is_packet_at, packet_found_at, packets_of}
 
--- where two occurrences overlap, the magic repeats itself
+-- if two occurrences overlapped, the magic would repeat itself, which it doesn't
 repeats : (bytes : List ℕ) (i k j : ℕ) → OccursAt bytes magic_bytes i → OccursAt bytes magic_bytes (i + k)
     → k + j < 8 → slice_index magic_bytes (k + j) ≡ slice_index magic_bytes j
 repeats bytes i k j first second within =
@@ -46,7 +47,8 @@ cond_same : {X : Type 0} (b : Bool) (x y u v : X) → (b ≡ true → x ≡ u) �
 cond_same true x y u v at_true at_false = at_true refl
 cond_same false x y u v at_true at_false = at_false refl
 
--- after `skip` places without an occurrence, the matches that don't overlap are all occurrences
+-- if the first `skip` offsets have no occurrence, the matches that don't
+-- overlap are all occurrences
 pub matches_from-all : (bytes : List ℕ) (skip i n : ℕ)
     → ((k : ℕ) → i ≤ k → k < i + skip → ¬ OccursAt bytes magic_bytes k)
     → matches_from bytes magic_bytes skip i n ≡ filter (occurs_at bytes magic_bytes) (range_with_len i n)
@@ -73,7 +75,7 @@ matches-all bytes =
     let count : length bytes + 1 - 0 ≡ length bytes + 1 = omega arith in
     ap (matches_from bytes magic_bytes 0 0) count ∙ matches_from-all bytes 0 0 (length bytes + 1) (λ k low high. omega arith)
 
--- a stronger test after a weaker one
+-- filtering by a weaker test first and then by a stronger one is filtering by the stronger one
 pub filter_narrowed : {X : Type 0} (strong weak : X → Bool) → ((x : X) → strong x ≡ true → weak x ≡ true)
     → (xs : List X) → filter strong (filter weak xs) ≡ filter strong xs
 filter_narrowed strong weak implies [] = refl
@@ -87,7 +89,7 @@ filter_narrowed strong weak implies (x ∷ xs) =
     ap (filter strong) (cond-false (weak x) _ _ no) ∙ (rest ∙ sym (cond-false (strong x) _ _ fails)))
     (cases_Bool (weak x))
 
--- a last place that does not pass
+-- if the last offset doesn't pass the test, it may be left out
 pub filter_range_last : (p : ℕ → Bool) (a n : ℕ) → p (a + n) ≡ false
     → filter p (range_with_len a (suc n)) ≡ filter p (range_with_len a n)
 filter_range_last p a zero fails =
@@ -110,7 +112,7 @@ matches-places bytes =
     ∙ (filter_range_last (is_magic_at bytes) 0 (length bytes) (no_magic_at_end bytes)
     ∙ ap (λ n. filter (is_magic_at bytes) (range_with_len 0 n)) count))
 
--- a packet begins with the magic
+-- each packet begins with the magic
 pub packet_has_magic : (bytes : List ℕ) (at : ℕ) → is_packet_at bytes at ≡ true → occurs_at bytes magic_bytes at ≡ true
 packet_has_magic bytes at is =
     let header = (and_parts (has_header (drop at bytes)) _ is).0 in
@@ -126,7 +128,7 @@ no_packet_at_end bytes =
     absurd (omega (arith, occurs.fits)))
     (λ no. no) (cases_Bool (is_packet_at bytes (0 + length bytes)))
 
--- the packets at the places that a search without overlaps finds are all packets
+-- the packets at the offsets that such a search finds are all packets
 pub packets_at_matches : (bytes : List ℕ)
     → map (packet_found_at bytes) (filter (is_packet_at bytes) (matches bytes magic_bytes 0)) ≡ packets_of bytes
 unfolding packets_of

@@ -21,7 +21,7 @@ part_of_piece file bytes base from size piece low fits =
     ∙ (ap (take size) (drop-drop (from - base) base file)
     ∙ ap (λ (n : ℕ). take size (drop n file)) place))))
 
--- the front of a part, and the rest of the part behind it
+-- the front of a part, followed by the bytes of the file after that front, is the whole part
 pub front_then_rest : (file front : List ℕ) (from size : ℕ) → front ≡ take (length front) (drop from file) → length front ≤ size
     → front ++ take (size - length front) (drop (from + length front) file) ≡ take size (drop from file)
 front_then_rest file front from size is few =

@@ -1,16 +1,16 @@
--- Numbers in a row, and those of them that pass a test.
+-- Consecutive numbers, and the ones among them that pass a test.
 use Rattle.std.proofs.Common.{◌≡◌, ◌<◌, ◌≤◌, ◌+◌, ◌-◌, ◌∙◌, ℕ, zero, suc, Bool, true, false, cond, List, [], ◌∷◌, ◌++◌, filter, map, ap, refl, sym, arith, ⊎_elim}
 use Rattle.std.specs.List.{range_with_len}
 use Rattle.std.proofs.Common.{inl, inr, ◌⊎◌}
 use Rattle.std.proofs.lemmas.Bool.{cases_eq, cases_Bool, cond-true, cond-false}
 use Rattle.std.proofs.lemmas.List.Elements.{filter-append}
 
--- where nothing is mapped there is nothing
+-- if a mapped list is empty, the list is empty
 pub nothing_mapped : {X Y : Type 0} (f : X → Y) (xs : List X) → map f xs ≡ [] → xs ≡ []
 nothing_mapped f [] e = refl
 nothing_mapped f (x ∷ xs) e = cc
 
--- numbers in a row, in two parts
+-- consecutive numbers, split in two parts
 pub range_with_len-split : (a m n : ℕ) → range_with_len a (m + n) ≡ range_with_len a m ++ range_with_len (a + m) n
 range_with_len-split a zero n =
     let e : 0 + n ≡ n = omega arith in
@@ -22,7 +22,7 @@ range_with_len-split a (suc m) n =
     ap (range_with_len a) e
     ∙ ap (λ (xs : List ℕ). a ∷ xs) (range_with_len-split (a + 1) m n ∙ ap (λ k. range_with_len (a + 1) m ++ range_with_len k n) f)
 
--- those up to c that pass, in two parts
+-- the numbers from a up to c that pass are those from a up to b and those from b up to c
 pub filter_between : (p : ℕ → Bool) (a b c : ℕ) → a ≤ b → b ≤ c
     → filter p (range_with_len a (c - a)) ≡ filter p (range_with_len a (b - a)) ++ filter p (range_with_len b (c - b))
 filter_between p a b c low high =
@@ -32,7 +32,7 @@ filter_between p a b c low high =
     ∙ (ap (filter p) (range_with_len-split a (b - a) (c - b) ∙ ap (λ (k : ℕ). range_with_len a (b - a) ++ range_with_len k (c - b)) mid)
     ∙ filter-append p (range_with_len a (b - a)) (range_with_len b (c - b)))
 
--- none passes
+-- if no number passes, the filtered list is empty
 pub filter_none : (p : ℕ → Bool) (a n : ℕ) → ((k : ℕ) → a ≤ k → k < a + n → p k ≡ false) → filter p (range_with_len a n) ≡ []
 filter_none p a zero none = refl
 filter_none p a (suc n) none =
@@ -42,14 +42,15 @@ filter_none p a (suc n) none =
 pub filter_none_between : (p : ℕ → Bool) (a b : ℕ) → ((k : ℕ) → a ≤ k → k < b → p k ≡ false) → filter p (range_with_len a (b - a)) ≡ []
 filter_none_between p a b none = filter_none p a (b - a) (λ k low high. none k low (omega arith))
 
--- one number, which passes or not
+-- a range of one number, which passes the test or doesn't
 pub filter_one : (p : ℕ → Bool) (a : ℕ) → filter p (range_with_len a ((a + 1) - a)) ≡ cond (p a) (a ∷ []) []
 filter_one p a = let one : (a + 1) - a ≡ suc 0 = omega arith in ap (λ (n : ℕ). filter p (range_with_len a n)) one
 
 first_or_later : (a k : ℕ) → a ≤ k → (k ≡ a) ⊎ (a + 1 ≤ k)
 first_or_later a k low = ⊎_elim (λ same. inl same) (λ other. inr (omega (arith, other))) (cases_eq k a)
 
--- x is the first of the numbers from a on that passes, and these are the later ones
+-- x is the first number from a on that passes, and `later` has those after it
+-- that pass, up to a + n
 pub record PassesFirst (p : ℕ → Bool) (a n x : ℕ) (later : List ℕ) : Type 0 where
   pub low : a ≤ x
   pub high : x < a + n
@@ -90,7 +91,7 @@ passes_first p a (suc n) x later e =
     (λ no. passes_later p a n x later no (passes_first p (a + 1) n x later (sym (cond-false (p a) _ _ no) ∙ e)))
     (cases_Bool (p a))
 
--- nothing passes
+-- if the filtered list is empty, no number passes
 pub passes_none : (p : ℕ → Bool) (a n : ℕ) → filter p (range_with_len a n) ≡ [] → (k : ℕ) → a ≤ k → k < a + n → p k ≡ false
 passes_none p a zero e k low high = absurd (omega arith)
 passes_none p a (suc n) e k low high =

@@ -1,4 +1,4 @@
--- One packet more, or one place without one.
+-- The packets found so far, after one packet more, or after an offset without a packet.
 use Rattle.std.proofs.Common.{◌≡◌, ◌<◌, ◌≤◌, ◌+◌, ◌-◌, ◌∙◌, ℕ, true, false, cond, List, [], ◌∷◌, ◌++◌, length, take, drop, map, filter, All, ap, sym, subst, arith, ⊎_elim, length-drop, refl, append-nil}
 use Rattle.std.specs.List.{range_with_len}
 use Rattle.std.specs.List.Sorted.{IsStrictlyIncreasing}
@@ -20,7 +20,7 @@ use Rattle.parsalvage.specs.declared.stored.StoredPacket.{StoredPacket}
 use Rattle.parsalvage.specs.declared.file_scan.FileScan.{FileScan}
 use Rattle.parsalvage.proofs.RangeLaws.{filter_between, filter_none_between, filter_one}
 
--- a number above all rises behind them
+-- increasing numbers stay increasing if a number above all of them is appended
 pub rising_more : (xs : List ℕ) (a : ℕ) → IsStrictlyIncreasing xs → All (λ x. x < a) xs → IsStrictlyIncreasing (xs ++ a ∷ [])
 rising_more xs a rises below k within =
     let long = length_push xs a in
@@ -37,7 +37,7 @@ fits_longer : (m n : ℕ) (held : StoredBody) → m ≤ n → FitsStore m held �
 fits_longer m n (Whole place size) longer fits = omega arith
 fits_longer m n (Front first len) longer fits = tt
 
--- a packet behind those that were found
+-- the packets stay in order and inside the file if the packet at offset `at` is appended
 pub LiesIn-more : (size at : ℕ) (old new : FileScan) (packet : StoredPacket) → LiesIn size at old
     → IsStore size new.bodies → new.bodies.start ≤ at + 64 → FitsStore (length new.bodies.bytes.items) packet.body
     → take (length old.bodies.bytes.items) new.bodies.bytes.items ≡ old.bodies.bytes.items
@@ -62,7 +62,7 @@ LiesIn-more size at old new packet lies store begins fits keeps more here within
       within = subst (All (λ (n : StoredPacket). n.at + n.length ≤ size)) (sym more) (All-push (λ (n : StoredPacket). n.at + n.length ≤ size) old.packets.items packet lies.within within);
     }
 
--- a place without a packet
+-- the packets are also below a later offset
 pub LiesIn-later : (size at next : ℕ) (found : FileScan) → LiesIn size at found → at ≤ next → LiesIn size next found
 LiesIn-later size at next found lies behind = record {
   store = lies.store;
@@ -92,7 +92,7 @@ packets_between-packet bytes at is =
     packets_between-next bytes at
     ∙ ap (λ (xs : List ℕ). packets_between bytes 0 at ++ map (packet_found_at bytes) xs) (cond-true (is_packet_at bytes at) (at ∷ []) [] is)
 
--- nothing begins from `at` up to `next`
+-- if no packet begins from `at` up to `next`, the packets below `next` are those below `at`
 pub packets_between-none : (bytes : List ℕ) (at next : ℕ) → at ≤ next → ((k : ℕ) → at ≤ k → k < next → is_packet_at bytes k ≡ false)
     → packets_between bytes 0 next ≡ packets_between bytes 0 at
 unfolding packets_between
@@ -109,7 +109,7 @@ FoundBelow-none file at next bytes found so_far behind none = record {
   packets = so_far.packets ∙ ap (map (kept_packet file)) (sym (packets_between-none bytes at next behind none));
 }
 
--- what lay in the old store lies at the same place of the new one
+-- a body that was kept in the old store is at the same place of the longer one
 kept_body_from-longer : (old new : List ℕ) (held : StoredBody) → take (length old) new ≡ old → FitsStore (length old) held → kept_body_from new held ≡ kept_body_from old held
 kept_body_from-longer old new (Whole place size) keeps fits =
     let split : length old ≡ place + (length old - place) = omega arith in
@@ -128,7 +128,7 @@ kept_packets-longer file old new (packet ∷ packets) keeps fit =
     ap (λ (k : Kept). k ∷ map (kept_packet_from file new) packets) here
     ∙ ap (λ (ks : List Kept). kept_packet_from file old packet ∷ ks) (kept_packets-longer file old new packets keeps (All-tail (λ (n : StoredPacket). FitsStore (length old) n.body) packet packets fit))
 
--- the packet that begins here, stored
+-- the stored packet is the packet at this offset, as it is kept
 pub stored_packet : (file at : ℕ) (bytes store : List ℕ) (head : Header) (packet : StoredPacket) → head ≡ header_of (drop at bytes)
     → packet.at ≡ at → packet.length ≡ head.length → packet.set ≡ head.set → packet.kind ≡ head.kind
     → kept_body_from store packet.body ≡ kept_body head.kind (take (head.length - 64) (drop (at + 64) bytes))
@@ -162,7 +162,7 @@ FoundBelow-packet file at bytes old new packet so_far is run keeps fit more same
           ∙ ap (map (kept_packet file)) (sym (packets_between-packet bytes at is))))));
     }
 
--- no packet is shorter than its header
+-- no packet begins in the last 63 bytes, since each has a header of 64
 pub no_packet_late : (bytes : List ℕ) (at : ℕ) → length bytes < at + 64 → is_packet_at bytes at ≡ false
 no_packet_late bytes at late =
     ⊎_elim (λ yes.

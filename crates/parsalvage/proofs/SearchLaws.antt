@@ -1,4 +1,4 @@
--- A search of a piece of a file, as far as it has come.
+-- The search of a chunk of a file, one offset of the magic after another.
 use Rattle.std.proofs.Common.{◌≡◌, ◌≢◌, ◌≤◌, ◌+◌, ◌*◌, ◌-◌, ◌∙◌, ℕ, true, false, List, [], ◌∷◌, length, slice_index, take, drop, filter, ap, sym, subst, arith, IsTrue, ⊎_elim, length-drop}
 use Rattle.std.specs.List.{range_with_len}
 use Rattle.std.proofs.lemmas.Bool.{cases_Bool, cases_lt, false≢true}
@@ -19,7 +19,7 @@ use Rattle.parsalvage.proofs.MagicLaws.{matches-all, packet_has_magic}
 use Rattle.parsalvage.proofs.ScanLaws.{LiesIn-later, FoundBelow-none, no_packet_late}
 use Rattle.parsalvage.proofs.RangeLaws.{nothing_mapped, PassesFirst, passes_first, passes_none}
 
--- a packet that is somewhere is among all
+-- if there is a packet at an offset, the list of packets isn't empty
 pub some_packet : (bytes : List ℕ) (at : ℕ) → IsTrue (is_packet_at bytes at) → packets_of bytes ≢ []
 unfolding packets_of
 some_packet bytes at is none =
@@ -30,7 +30,7 @@ some_packet bytes at is none =
     (λ late. false≢true (sym (no_packet_late bytes at (omega (arith, late))) ∙ is))
     (cases_lt at (length bytes))
 
--- the piece has the magic where the file has it
+-- the magic is in the chunk exactly at the offsets at which the file has it
 module _ (bytes : List ℕ) (base : ℕ) (window : List ℕ) (piece : IsPiece bytes base window) where
   inside : length window ≤ length bytes - base
   inside = omega (arith, ap length piece, length-take (length window) (drop base bytes), length-drop base bytes)
@@ -60,13 +60,14 @@ module _ (bytes : List ℕ) (base : ℕ) (window : List ℕ) (piece : IsPiece by
       absurd (false≢true (sym none ∙ occurs_at-true window magic_bytes (k - base) (OccursAt-from_part window magic_bytes (k - base) fits there))))
       (λ not. not) (cases_Bool (is_packet_at bytes k))
 
--- how far a search of a piece has come: the places that are left of those at which the magic stands
+-- how far the search of a chunk has come: the offsets of the magic that are left, and the
+-- packets found so far
 pub record Left : Type 0 where
   pub shelf : ShelfState
   pub places : List ℕ
   pub found : FileScan
 
--- the places of the piece before `next` were searched
+-- the offsets of the chunk before `next` were searched
 pub record SearchedTo (s : ShelfState) (file base : ℕ) (window : List ℕ) (left : Left) : Type 0 where
   pub next : ℕ
   pub low : base ≤ next
@@ -92,7 +93,7 @@ SearchedTo-start s file base window found lies packets = record {
   hands = Hands-none s file _;
 }
 
--- the first place that is left
+-- the search of the first offset that is left
 module _ (s t : ShelfState) (file base : ℕ) (window : List ℕ) (place : ℕ) (later : List ℕ) (found : FileScan)
     (piece : (files : List (List ℕ)) → ReadsAs s files → IsPiece (file_of files file) base window)
     (so_far : SearchedTo s file base window (record { shelf = t; places = place ∷ later; found = found })) where
@@ -163,7 +164,7 @@ module _ (s t : ShelfState) (file base : ℕ) (window : List ℕ) (place : ℕ) 
       let all = limit_between-split (file_of files file) base ((base + place) + 1) (base + (length window - 7)) (omega arith) (omega (arith, place_fits)) in
       omega (arith, cost files reads, all))
 
--- no place is left
+-- no offset is left, so the chunk is searched
 module _ (s t : ShelfState) (file base : ℕ) (window : List ℕ) (found : FileScan)
     (piece : (files : List (List ℕ)) → ReadsAs s files → IsPiece (file_of files file) base window)
     (all : SearchedTo s file base window (record { shelf = t; places = []; found = found })) where

@@ -1,4 +1,5 @@
--- What is known of a place once its header was read, and then its hash.
+-- The facts that are known at an offset after its header was read, and then after
+-- its hash was computed.
 use Rattle.std.proofs.Common.{nat_le, ◌≡◌, ◌≤◌, ◌+◌, ◌-◌, ◌∙◌, ℕ, Bool, true, false, List, length, take, drop, ap, sym, arith, ⊎_elim}
 use Rattle.std.specs.List.{slice_range}
 use Rattle.std.specs.Str.{bytes_eq}
@@ -34,7 +35,7 @@ module _ (s t : ShelfState) (file at : ℕ) (head : Header)
       → FaultsAfter s u file (λ bytes. 64 + framed_size (drop at bytes)) fault
   validated_fault u fault hashing = FaultsAfter-more s t u file _ _ _ fault read hashing cost
 
-  -- of what is hashed, the bytes before this end aren't read
+  -- the bytes that are hashed but lie before `end` are in the chunk, so they aren't read
   rest_cost : (end : ℕ) → 64 ≤ head.length
       → FitsWithin t file (λ _. 64 + (at + 32 + (head.length - 32) - end)) (λ bytes. 64 + (at + framed_size (drop at bytes) - end))
   rest_cost end long files reads =
@@ -61,7 +62,7 @@ module _ (s t : ShelfState) (file at : ℕ) (head : Header)
       packet_hashed (drop at bytes) hash same (framed files reads) (hashed ∙ ap md5 part)
       (test ∙ ap (λ (h : Header). bytes_eq hash h.hash.0) (fields files reads))
 
--- a packet has all that it is framed by
+-- a packet has a header, and the bytes are long enough for it
 packet_is_framed : (rest : List ℕ) → begins_packet rest ≡ true → begins_framed rest ≡ true
 packet_is_framed rest is =
     let parts = and_parts (has_header rest) _ is in

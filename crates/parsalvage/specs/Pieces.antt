@@ -3,7 +3,7 @@ use Rattle.std.specs.Prelude.{◌≡◌, ◌<◌, ℕ, List, length, take, drop}
 use Rattle.parshelf.specs.Shelf.{ShelfState, ReadsAs, file_of}
 use Rattle.parsalvage.specs.declared.piece.Piece.{Piece}
 
--- these bytes stand in the file from this offset on
+-- the file has these bytes from offset `base` on
 abbrev pub IsPiece : List ℕ → ℕ → List ℕ → Type 0
 IsPiece file base bytes = bytes ≡ take (length bytes) (drop base file)
 

@@ -13,8 +13,9 @@ use crate::stored::StoredBody;
 use parfield::Header;
 use parshelf::Shelf;
 
-/// Bodies of a file. Those that overlap make a run, in which each byte stands once; the last run,
-/// from `start` up to `end` of the file, stands at the end of the bytes.
+/// The store of a file's packet bodies. Bodies that overlap make a run, which is a part of the file
+/// without a gap; a run has each byte once. The last run is the file from offset `start` up to
+/// `end`, and its bytes are the last of `bytes`.
 #[derive(Drop)]
 pub struct BodyStore {
     pub bytes: Vec<u8>,

@@ -1,7 +1,7 @@
 ghost use Rattle.parsalvage.specs.MagicPlaces.{MagicsNeverOverlap, EachMagicIsFound};
 
-/// The law that two occurrences of the magic never overlap, and so a search without overlaps finds
-/// each. Does nothing.
+/// States the law that two occurrences of the magic never overlap, so a search that doesn't look
+/// for overlaps finds each. Does nothing.
 pub fn magic_law()
     ensures apart { MagicsNeverOverlap }
     ensures found { EachMagicIsFound }

@@ -6,7 +6,7 @@ use std::fmt;
 use std::marker::Model;
 use std::rc::RcSlice;
 
-/// A part of bytes that several parts share. Contracts see it as the list of its bytes.
+/// A part of bytes, which several parts may share. Contracts see it as the list of its bytes.
 #[derive(Drop)]
 pub struct Part {
     store: RcSlice<u8>,
@@ -26,7 +26,7 @@ impl Model for Part {
 }
 
 impl Part {
-    /// A part of bytes; nothing is copied.
+    /// Makes a part of these bytes; nothing is copied.
     pub fn new(store: &RcSlice<u8>, place: usize, size: usize) -> Result<Part, AllocError>
         requires { place + size ≤ length (rc_slice_items store.now) }
         ensures { IfOk result (λ part. part ≡ take size (drop place (rc_slice_items store.now))) }
@@ -38,7 +38,7 @@ impl Part {
         })
     }
 
-    /// All of these bytes; nothing is copied.
+    /// Makes a part that has all of these bytes; nothing is copied.
     pub fn from_vec(bytes: Vec<u8>) -> Result<Part, AllocError>
         ensures { IfOk result (λ part. part ≡ bytes.items) }
     {
@@ -50,21 +50,21 @@ impl Part {
         })
     }
 
-    /// The bytes, in order.
+    /// Lends the bytes, in order.
     pub fn as_slice(&self) -> &[u8]
         ensures { result.now ≡ self.now }
     {
         &self.store.as_slice()[self.place..self.place + self.size]
     }
 
-    /// How many bytes there are.
+    /// Returns the number of bytes.
     pub fn len(&self) -> usize
         ensures { result ≡ length self.now }
     {
         self.size
     }
 
-    /// Whether there are none.
+    /// Whether there are no bytes.
     pub fn is_empty(&self) -> bool
         ensures { result ≡ (length self.now == 0) }
     {

@@ -6,19 +6,19 @@ ghost use Rattle.parsalvage.specs.Pieces.{IsPiece, IsPieceOf};
 
 use parshelf::{ReadFault, Shelf, fill};
 
-/// A piece of a file that was read already.
+/// A chunk of a file that was read already.
 #[derive(Clone, Copy)]
 pub struct Piece<'a> {
     /// The number of the file.
     pub file: u32,
     /// The offset of its first byte in the file.
     pub base: u64,
-    /// Its bytes.
+    /// The chunk's bytes.
     pub bytes: &'a [u8],
 }
 
 impl<'a> Piece<'a> {
-    /// A part of the file, where all of it stands in the piece.
+    /// Returns a part of the file, if all of it is in the chunk.
     pub fn part(&self, from: u64, size: u64) -> Option<&'a [u8]>
         ensures size { IfSome result (λ part. length part.now ≡ size) }
         ensures bytes { (file : List ℕ) → IsPiece file self.now.base self.now.bytes.now
@@ -33,7 +33,7 @@ impl<'a> Piece<'a> {
         Some(front)
     }
 
-    /// As much of a part's front as stands in the piece.
+    /// Returns the front of a part of the file, as far as it is in the chunk.
     pub fn front_of_part(&self, from: u64, size: u64) -> &'a [u8]
         ensures size { length result.now ≤ size }
         ensures bytes { (file : List ℕ) → IsPiece file self.now.base self.now.bytes.now

@@ -18,7 +18,7 @@ use std::alloc::Global;
 // How many bytes of a file are searched at a time.
 const PIECE: usize = 65_536;
 
-// Stores the packets that begin in a piece of a file, but for its last seven places.
+// Stores the packets that begin in a chunk of a file, except in its last seven bytes.
 fn search_piece<H: Shelf>(
     shelf: &mut H,
     piece: &Piece<'_>,
@@ -45,15 +45,15 @@ fn search_piece<H: Shelf>(
     ensures empty { (files : List (List ℕ)) → ReadsAs (H.state shelf.new) files
         → packets_of (file_of files piece.now.file) ≡ [] → result ≢ Err SalvageFault.Memory }
 {
-    // Two occurrences of the magic never overlap.
+    // No packet is missed: two occurrences of the magic never overlap.
     for place in memmem::find_iter(piece.bytes, &MAGIC) {
         found.scan_at(shelf, piece, piece.base + place as u64, buffer)?;
     }
     Ok(())
 }
 
-/// The packets of a file, by offset, and their bodies. What is read of it apart from the search
-/// goes through `buffer`, or to the bodies.
+/// Finds the packets of a file, by offset, with their bodies. Bytes that are read for another
+/// reason than the search go through `buffer`, or into the store of the bodies.
 pub fn search_file<H: Shelf>(
     alloc: Global,
     shelf: &mut H,

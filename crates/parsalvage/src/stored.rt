@@ -9,16 +9,16 @@ pub struct StoredPacket {
     pub length: u64,
     /// The recovery set ID.
     pub set: Hash16,
-    /// What the packet is for.
+    /// The kind of the packet.
     pub kind: Kind,
-    /// What is held of its body.
+    /// The part of its body that is held.
     pub body: StoredBody,
 }
 
-/// What is held of a packet's body.
+/// The part of a packet's body that is held.
 #[derive(Clone, Copy)]
 pub enum StoredBody {
-    /// All of it, at this place of the bytes that are held.
+    /// The whole body, at this place of the bytes that are held.
     Whole { place: usize, size: usize },
     /// Its first four bytes, filled with zeros if it is shorter, and its length in bytes.
     Front { first: [u8; 4], len: u64 },

@@ -11,8 +11,8 @@ use md5::{Digest, Md5};
 use parfield::{Hash16, Header, header};
 use parshelf::{ReadFault, Shelf, hash_part};
 
-/// The header at this offset of a file, if a packet begins there. What doesn't stand in the piece
-/// is hashed through `buffer`.
+/// Reads the header at this offset of a file, if a packet begins there. Bytes that aren't in the
+/// chunk are hashed through `buffer`.
 pub fn validate<H: Shelf>(
     shelf: &mut H,
     piece: &Piece<'_>,
@@ -47,7 +47,8 @@ pub fn validate<H: Shelf>(
     }
 }
 
-// The header at this offset of a file, if one is there and the file is long enough for its packet.
+// Reads the header at this offset of a file, if there is one and the file is long
+// enough for its packet.
 fn header_at<H: Shelf>(
     shelf: &mut H,
     piece: &Piece<'_>,
@@ -80,7 +81,7 @@ fn header_at<H: Shelf>(
     })
 }
 
-// The MD5 of a part of a file. What stands in the piece isn't read again.
+// Computes the MD5 of a part of a file. Bytes that are in the chunk aren't read again.
 fn hash_at<H: Shelf>(
     shelf: &mut H,
     piece: &Piece<'_>,

@@ -1,4 +1,4 @@
--- The first of its kind, one packet more at a time.
+-- The first thing that is found in packets, as a loop looks at one packet more at a time.
 use Rattle.std.proofs.Common.{◌≡◌, ℕ, ◌+◌, ◌<◌, ◌∙◌, ◌&&◌, ◌==◌, Bool, true, false, cond, List, [], ◌∷◌, ◌++◌, length, get_or, map, take, drop, Option, Some, None, is_some, ap, refl, sym, if◌then◌else◌}
 use Rattle.std.proofs.lemmas.List.{append-nil, drop_more, take_more, map-append}
 use Rattle.std.proofs.lemmas.List.Elements.{filter_map-append}
@@ -12,7 +12,7 @@ use Rattle.parset.specs.Choosing.{first_found, only_if}
 use Rattle.parset.specs.declared.bodies.checksums.Ifsc.{Ifsc}
 use Rattle.parset.proofs.IdLaws.{same_id}
 
--- ---- one element of a list of references
+-- ---- an element of a list of references
 pub drop_at : {X : Type 0} (xs : List X) (i : ℕ) (x : X) → i < length xs → x ≡ get_or xs i x → drop i xs ≡ x ∷ drop (i + 1) xs
 drop_at xs i x below item = drop_more xs i x below ∙ ap (λ z. z ∷ drop (i + 1) xs) (sym item)
 
@@ -26,7 +26,7 @@ map_take_at g ys i y below item =
     ap (map g) (take_more ys i y below) ∙ map-append g (take i ys) (get_or ys i y ∷ [])
     ∙ ap (λ z. map g (take i ys) ++ g z ∷ []) (sym item)
 
--- ---- the first that is found
+-- ---- the first thing that is found
 pub option_or-None : {T : Type 0} (o : Option T) → option_or o None ≡ o
 option_or-None None = refl
 option_or-None (Some t) = refl
@@ -59,7 +59,7 @@ pub first_found_same : {X Y T : Type 0} (f : X → Option T) (g : Y → X) (ys :
 first_found_same f g ys i y before below item so_far none =
     first_found_more f g ys i y before before below item so_far (sym (option_or-None before) ∙ ap (option_or before) none)
 
--- ---- what is put in under its ID where nothing is
+-- ---- an entry that is put into a map only if its ID has none yet
 None-from_is_some : {T : Type 0} (o : Option T) → is_some o ≡ false → o ≡ None
 None-from_is_some None e = refl
 None-from_is_some (Some t) e = cc
@@ -75,7 +75,7 @@ put_where_none old id q t absent =
     put_by (old q) t (is_eq (id_cmp id q)) (bytes_eq id.0 q.0) (sym (bytes_eq-reversed id.0 q.0))
     (λ same. ap old (sym (same_id id q same)) ∙ None-from_is_some (old id) absent)
 
--- ---- sums of a file whose count is known
+-- ---- checksums of a file whose number of slices is known
 is_some_cond : (b : Bool) (n : ℕ) → b ≡ is_some (if b then Some n else None)
 is_some_cond true n = refl
 is_some_cond false n = refl
@@ -96,7 +96,7 @@ counted counts sums q count passes known e =
     counted_by (Some sums) passes (bytes_eq sums.id.0 q.0) (counts sums.id) (length sums.sums) count
     (λ same. ap counts (same_id sums.id q same) ∙ known) e
 
--- ---- the packets that are put aside
+-- ---- the rejected packets
 pub filter_map_more : {X Y T : Type 0} (f : X → Option T) (g : Y → X) (ys : List Y) (i : ℕ) (y : Y) (before : List T)
     → i < length ys → y ≡ get_or ys i y → before ≡ filter_map f (map g (take i ys))
     → before ++ cons_option (f (g y)) [] ≡ filter_map f (map g (take (i + 1) ys))

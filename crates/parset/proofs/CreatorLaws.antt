@@ -18,7 +18,7 @@ use Rattle.parset.specs.declared.bodies.aside.Aside.TheVariants.{OverLimit}
 use Rattle.parset.proofs.LimitLaws.{passed_is}
 use Rattle.parset.proofs.MainLaws.{first_is, line_of}
 
--- what was found passes
+-- a thing that was found passes the test
 passes_by : {T : Type 0} (p : T → Bool) (x t : T) (b : Bool) → p x ≡ b → cond b (Some x) None ≡ Some t → p t ≡ true
 passes_by p x t true h e = let is : x ≡ t = cc in cc
 passes_by p x t false h e = absurd (cc)

@@ -1,4 +1,4 @@
--- The descriptions of files one after another, and their names.
+-- The descriptions of files, one after another, and the names of the files.
 use Rattle.std.proofs.Common.{◌≡◌, ℕ, ◌+◌, ◌<◌, ◌≤◌, ◌∙◌, ap, sym, refl, Bool, true, false, List, [], ◌∷◌, ◌++◌, length, drop, get_or, append_assoc, map, Some, None, Ok, Err, Result, Option, cond, nat_lt, suc, ⊎_elim}
 use Rattle.std.specs.Option.{ok_or, option_or}
 use Rattle.std.proofs.lemmas.Bool.{cases_Bool}
@@ -21,11 +21,11 @@ use Rattle.parset.specs.declared.bodies.description.Desc.{Desc}
 use Rattle.parset.specs.declared.recovery_set.SetFault.{SetFault}
 use Rattle.parset.specs.declared.recovery_set.SetFault.TheVariants.{NameTwice, NoDesc, TooManySlices}
 
--- the others, with these files before them
+-- the result for other files, with these files put in front
 abbrev pub appended : List Desc → Result (List Desc) SetFault → Result (List Desc) SetFault
 appended files others = others >>= λ more. Ok (files ++ more)
 
--- one more file before the others
+-- a file in front of the others may as well be counted among the files before
 regrouped : (files : List Desc) (file : Desc) (others : Result (List Desc) SetFault)
     → appended files (others >>= λ more. Ok (file ∷ more)) ≡ appended (files ++ file ∷ []) others
 regrouped files file (Ok more) = ap Ok (sym (append_assoc files (file ∷ []) more))
@@ -57,7 +57,7 @@ described_all own ids i files h =
     ap (λ xs. appended files (descriptions_of own xs)) (drop_all i ids h) ∙ ap Ok (append-nil files)
 
 -- ---- what is described first
--- the first that passes does pass
+-- a thing that was found first by a test passes that test
 or_passes : {T : Type 0} (p : T → Bool) (o rest : Option T) (t : T) → option_or (only_if p o) rest ≡ Some t
     → (rest ≡ Some t → p t ≡ true) → p t ≡ true
 or_passes p None rest t e k = k e
@@ -82,7 +82,7 @@ described_itself : (own : List Kept) (id : Hash16) (file : Desc) → file_descri
 described_itself own id file e =
     ap (λ i. file_description_of i own) (described_id own id file e) ∙ e
 
--- the descriptions of an ID and others
+-- an ID and the IDs after it all have a description: the first file and the files after it
 record Step (o : Option Desc) (r : Result (List Desc) SetFault) (files : List Desc) : Type 0 where
   file : Desc
   more : List Desc
@@ -107,7 +107,7 @@ all_described own (id ∷ ids) files e =
     let s = step_of id (file_description_of id own) (descriptions_of own ids) files e in
     All-same P files (s.file ∷ s.more) s.all (All-cons P s.file s.more (described_itself own id s.file s.found) (all_described own ids s.more s.others))
 
--- as many as there are IDs
+-- the number of descriptions is the number of IDs
 pub length-described : (own : List Kept) (ids : List Hash16) (files : List Desc) → descriptions_of own ids ≡ Ok files → length files ≡ length ids
 unfolding descriptions_of
 length-described own [] files e = let none : files ≡ [] = cc in ap length none
@@ -115,7 +115,7 @@ length-described own (id ∷ ids) files e =
     let s = step_of id (file_description_of id own) (descriptions_of own ids) files e in
     ap length s.all ∙ ap suc (length-described own ids s.more s.others)
 
--- in the order of the IDs
+-- the descriptions have the IDs in the same order
 pub ids_described : (own : List Kept) (ids : List Hash16) (files : List Desc) → descriptions_of own ids ≡ Ok files → map (λ file. file.id) files ≡ ids
 unfolding descriptions_of
 ids_described own [] files e = let none : files ≡ [] = cc in ap (map (λ file. file.id)) none
@@ -125,7 +125,7 @@ ids_described own (id ∷ ids) files e =
     ∙ (ap (λ i. i ∷ map (λ file. file.id) s.more) (described_id own id s.file s.found)
     ∙ ap (λ is. id ∷ is) (ids_described own ids s.more s.others))
 
--- ---- checks give the files that they were given
+-- ---- the checks return the files that they were given
 names_same : (found : Option SetFault) (files named : List Desc) → answer_of found files ≡ Ok named → named ≡ files
 names_same None files named e = cc
 names_same (Some fault) files named e = absurd (cc)

@@ -1,4 +1,4 @@
--- The exponents that are seen, as flags.
+-- The exponents that usable packets have, as a list of flags.
 use Rattle.std.proofs.Common.{subst, ◌≡◌, ℕ, ◌+◌, ◌<◌, ◌≤◌, ◌∙◌, ◌||◌, ◌==◌, ⊎_elim, Bool, true, false, List, [], ◌∷◌, length, get_or, set, map, take, Some, None, not, ◌-◌, is_some, nat_lt, count_by, ap, refl, sym, get_or-set_other, if◌then◌else◌, arith}
 use Rattle.std.specs.List.{list_any, range_with_len}
 use Rattle.std.proofs.lemmas.Bool.{cases_eq, eq-eqb, ltb-false, ne_eqb, or_right}
@@ -20,7 +20,7 @@ use Rattle.parset.specs.Reasons.{first_reason, slice_reason}
 use Rattle.parset.specs.declared.bodies.aside.Aside.TheVariants.{OverLimit, WrongLength}
 use Rattle.parset.proofs.ChoosingLaws.{map_take_at}
 
--- ---- an exponent is below the limit
+-- ---- the exponent of a usable packet is below the limit
 usable_below : (wrong over : Bool) (n e : ℕ) → nat_lt exponent_limit n ≡ over
     → usable_fields (first_reason ((wrong, WrongLength) ∷ (over, OverLimit) ∷ [])) n ≡ Some e → e < exponent_limit + 1
 usable_below true over n e test h = cc
@@ -36,7 +36,7 @@ usable_exponent_below size _ _ e h = cc
 pub exponent_below : (size : ℕ) (k : Kept) (e : ℕ) → Some e ≡ usable_exponent size k.kind k.body → e < exponent_limit + 1
 exponent_below size k e h = usable_exponent_below size k.kind k.body e (sym h)
 
--- ---- one packet more
+-- ---- one packet more is read
 any_more : {X Y : Type 0} (p : X → Bool) (g : Y → X) (ys : List Y) (i : ℕ) (y : Y) → i < length ys → y ≡ get_or ys i y
     → list_any p (map g (take (i + 1) ys)) ≡ (list_any p (map g (take i ys)) || p (g y))
 any_more p g ys i y below item =
@@ -72,7 +72,7 @@ seen_same size g ys i y q before below item none so_far =
     ∙ ap (λ o. list_any (has_exponent size q) (map g (take i ys)) || is_some (only_if (λ x. x == q) o)) none
     ∙ sym (any_more (has_exponent size q) g ys i y below item)
 
--- ---- how many flags are set
+-- ---- the number of flags that are set
 pub count_by-map : {X : Type 0} (p : X → Bool) (xs : List X) → count_by (λ b. b) (map p xs) ≡ count_by p xs
 count_by-map p [] = refl
 count_by-map p (x ∷ xs) =

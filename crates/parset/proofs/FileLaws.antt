@@ -1,4 +1,4 @@
--- Files with their sums, one after another.
+-- Files with the checksums of their slices, one file after another.
 use Rattle.std.proofs.Common.{◌≡◌, ℕ, ◌+◌, ◌<◌, ◌∙◌, ap, sym, List, [], ◌∷◌, ◌++◌, length, take, get_or, map, refl, Some, cond, Bool, Option, arith, subst, ⊎_elim}
 use Rattle.std.proofs.lemmas.Bool.{cases_Bool}
 use Rattle.std.proofs.lemmas.Cmp.{tied_itself}
@@ -23,7 +23,7 @@ use Rattle.parset.specs.declared.recovery_set.SetAside.{SetAside}
 use Rattle.parset.specs.declared.recovery_set.SetFile.{SetFile}
 use Rattle.parset.specs.declared.recovery_set.SetSlice.{SetSlice}
 
--- a file with the sums that a map has at its ID
+-- a file with the checksums that a map has at its ID
 abbrev pub viewed : BTreeMap Hash16 Ifsc → Desc → FileView
 viewed found file = file_view file (get id_cmp found file.id)
 
@@ -45,7 +45,7 @@ flat_map_views_more f found files i file h is =
     ap (flat_map f) (views_more found files i file h is) ∙ sym (flat_map_more f [] (file_views found (take i files)) (viewed found file))
 
 -- ---- counts of slices by ID
--- one more count, of a file whose ID may be there already
+-- the counts stay right when one more file is added, even if its ID is in the map already
 count_kept : (size : ℕ) (counts new : BTreeMap Hash16 ℕ) (file : Desc)
     → ((id : Hash16) → get id_cmp new id ≡ cond (is_eq (id_cmp file.id id)) (Some (slice_count size file.length)) (get id_cmp counts id))
     → (lengths : Hash16 → ℕ) → file.length ≡ lengths file.id
@@ -72,7 +72,7 @@ counts_more size counts new files i file h is new-is old = λ lengths same.
     let here : P file = new-is file.id ∙ ap (λ o. cond (is_eq o) (Some (slice_count size file.length)) (get id_cmp counts file.id)) (tied_itself id_cmp_total file.id) in
     All-more P files i file h kept (subst P is here)
 
--- ---- sums of files
+-- ---- checksums of files
 pub views_are : (size : ℕ) (own : List Kept) (counts : BTreeMap Hash16 ℕ) (found : BTreeMap Hash16 Ifsc) (files : List Desc)
     → ((id : Hash16) (count : ℕ) → get id_cmp counts id ≡ Some count → get id_cmp found id ≡ file_sums_of id count own)
     → All (λ file. get id_cmp counts file.id ≡ Some (slice_count size file.length)) files
@@ -83,7 +83,7 @@ views_are size own counts found (x ∷ xs) sums all =
     ap (λ o. file_view x o ∷ file_views found xs) (sums x.id (slice_count size x.length) (All-head P x xs all))
     ∙ ap (λ vs. file_view_from size own x ∷ vs) (views_are size own counts found xs sums (All-tail P x xs all))
 
--- the length that the packets tell of a file
+-- the length that the packets give for a file
 abbrev pub told_length : List Kept → Hash16 → ℕ
 told_length own id = option_map_or (λ d. d.length) (file_description_of id own) 0
 
@@ -93,7 +93,7 @@ all_told own files all =
     All-weaker (λ file. file_description_of file.id own ≡ Some file) (λ file. file.length ≡ told_length own file.id)
     (λ file e. sym (ap (λ o. option_map_or (λ (d : Desc). d.length) o 0) e)) files all
 
--- the parts of a recovery set
+-- a set whose parts are these is the set that `set_of_files` defines
 pub set_of_files_is : (id : Hash16) (main : Main) (own : List Kept) (views : List FileView)
     → (files : List SetFile) (slices : List SetSlice) (others have : ℕ) (creator : Option (List ℕ)) (aside : List SetAside)
     → files ≡ map set_file_of views → slices ≡ flat_map (slices_of_file main.size) views → others ≡ length main.others

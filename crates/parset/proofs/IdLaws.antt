@@ -1,4 +1,4 @@
--- A list of IDs has one order: two lists in order with the same IDs are the same.
+-- IDs can be sorted in one way only: two sorted lists of the same IDs are equal.
 use Rattle.std.proofs.Common.{◌≡◌, ℕ, ◌+◌, ◌<◌, ◌∙◌, ⊎_elim, ap, sym, subst, refl, true, false, cond, List, [], ◌∷◌, length, get_or, Ordering, Less, Equal, Greater, arith, reverse, bytes_eq, suc}
 use Rattle.std.specs.List.{All, sum_by}
 use Rattle.std.specs.List.Sorted.{IsPermutation, IsSorted}
@@ -17,7 +17,7 @@ use Rattle.parset.specs.RecoverySet.{ids_in_order, insertion_of}
 pub id_cmp_total : IsTotalOrder id_cmp
 id_cmp_total = on_total (λ (id : Hash16). reverse id.0) nat_list_cmp_total
 
--- ---- answers of the order
+-- ---- results of the order
 gt_reversed : (o : Ordering) → is_gt (ordering_reverse o) ≡ is_lt o
 gt_reversed Less = refl
 gt_reversed Equal = refl
@@ -44,7 +44,7 @@ same_id x y e =
 pub same_from_eq : (x y : Hash16) → is_eq (id_cmp x y) ≡ true → x ≡ y
 same_from_eq x y e = same_id x y (bytes_eq-reversed x.0 y.0 ∙ e)
 
--- ---- lists in order
+-- ---- sorted lists
 abbrev pub IsAtMost : Hash16 → Hash16 → Type 0
 IsAtMost x y = is_gt (id_cmp x y) ≡ false
 
@@ -98,7 +98,7 @@ unfolding ids_in_order
 ordered [] = tt
 ordered (id ∷ ids) = put_orders id (ids_in_order ids) (ordered ids)
 
--- ---- how often an ID is there
+-- ---- how often an ID is in a list
 abbrev one_if_same : Hash16 → Hash16 → ℕ
 one_if_same z x = cond (is_eq (id_cmp z x)) 1 0
 
@@ -108,7 +108,7 @@ tally z xs = sum_by (one_if_same z) xs
 itself : (x : Hash16) → one_if_same x x ≡ 1
 itself x = ap (λ o. cond (is_eq o) 1 0) (tied_itself id_cmp_total x)
 
--- what holds of all IDs holds of one that is there
+-- a fact that holds for all IDs of a list holds for one that is in it
 found : (P : Hash16 → Type 0) (z : Hash16) (xs : List Hash16) → All P xs → 0 < tally z xs → P z
 found P z [] h there = absurd (omega arith)
 found P z (x ∷ xs) h there =

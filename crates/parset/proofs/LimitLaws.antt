@@ -70,7 +70,7 @@ description_limits : (k : Kind) (b : KeptBody) (file : Desc) → usable_descript
 description_limits kind.FileDesc (Whole body) file e = usable_limits body (description_reason body) file refl e
 description_limits _ _ file e = absurd (cc)
 
--- what passes is what was found
+-- a thing that passes a test is the thing that was found
 passed : {T : Type 0} (b : Bool) (x t : T) → cond b (Some x) None ≡ Some t → Some x ≡ Some t
 passed true x t e = e
 passed false x t e = absurd (cc)

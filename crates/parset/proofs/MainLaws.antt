@@ -22,7 +22,7 @@ use Rattle.parset.specs.declared.bodies.aside.Aside.{Aside}
 use Rattle.parset.specs.declared.bodies.main_packet.Main.{Main}
 use Rattle.parset.proofs.RisingLaws.{front_has_no_repeat}
 
--- no line applies where there is no reason
+-- if there is no reason, the first line doesn't apply, and no later line does
 pub line_of : (b : Bool) (why : Aside) (rest : Option Aside) → cond b (Some why) rest ≡ None → (b ≡ false) × (rest ≡ None)
 line_of true why rest e = absurd (cc)
 line_of false why rest e = (refl, e)
@@ -57,7 +57,7 @@ body_bounds body set e =
     ((has_repeat (file_ids_of body), IdTwice) ∷ (not (bytes_eq (md5 body) set.0), SetId) ∷ []) e in
     size_bounds (slice_size_field body) (length (file_ids_of body)) both.0 both.1
 
--- how many IDs two parts have
+-- two parts of a list of IDs have no more IDs than the list
 parts : {X : Type 0} (n : ℕ) (xs : List X) → length (take n xs) + length (drop n xs) ≤ length xs
 parts n xs = omega (arith, length-take n xs, length-drop n xs)
 
@@ -91,7 +91,7 @@ chosen_bounds k true None id main is e = absurd (cc)
 chosen_bounds k true (Some fields) id main is e =
     let pair : (k.set, fields) ≡ (id, main) = cc in let same : fields ≡ main = ap (λ (p : Hash16 × Main). p.1) pair in subst IsWithinLimits same (main_bounds k.kind k.body k.set fields is)
 
--- what the first that is found is, or is not there
+-- the first thing that is found comes from the first packet or from a later one
 pub first_is : {T : Type 0} (o rest : Option T) (t : T) → option_or o rest ≡ Some t → (o ≡ Some t) ⊎ (rest ≡ Some t)
 first_is None rest t e = inr e
 first_is (Some x) rest t e = inl e

@@ -61,7 +61,7 @@ files_differ size described named files n s =
     let same : files ≡ described = slices_checked_same size named files s ∙ names_checked_same described named n in
     subst (λ all. IsDistinct bytes_eq (names_of all)) (sym same) (names_differ described named n)
 
--- files show their names
+-- the set shows the names of the described files, in the same order
 pub shown_names : (found : BTreeMap Hash16 Ifsc) (files : List Desc) → map (λ f. f.name) (map set_file_of (file_views found files)) ≡ names_of files
 shown_names found [] = refl
 shown_names found (file ∷ files) = ap (λ all. file.name ∷ all) (shown_names found files)

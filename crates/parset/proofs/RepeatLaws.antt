@@ -1,4 +1,4 @@
--- A list of IDs has one twice exactly where the sorted list does not rise strictly.
+-- An ID is listed twice exactly if the sorted list isn't strictly increasing.
 use Rattle.std.proofs.Common.{◌≡◌, ℕ, ◌+◌, ◌<◌, ◌∙◌, ⊎_elim, subst, Bool, true, false, not, List, [], ◌∷◌, length, get_or, map, sym, ap, refl, bytes_eq, nat_cmp, Ordering, Less, Equal, Greater, arith}
 use Rattle.std.specs.Cmp.Lexicographic.{slice_cmp}
 use Rattle.std.specs.List.{AllAdjacentBelow, AllByRecursion, IsAllAdjacentAnswer, IsDistinct, list_any}
@@ -17,7 +17,7 @@ use Rattle.parset.specs.Reasons.{has_repeat}
 abbrev pub order : List ℕ → List ℕ → Ordering
 order = slice_cmp nat_cmp
 
--- ---- no ID stands twice exactly where the arrays are distinct
+-- ---- no ID is listed twice exactly if the arrays are distinct
 none_like : (x : List ℕ) (ys : List (List ℕ)) → AllByRecursion (λ y. bytes_eq x y ≡ false) ys
     → list_any (λ (y : Hash16). bytes_eq x y.0) (map hash_of ys) ≡ false
 none_like x [] h = refl
@@ -40,7 +40,7 @@ distinct_from_no_repeat [] h = tt
 distinct_from_no_repeat (x ∷ xs) h =
     let both = or_parts _ _ h in (all_unlike x xs both.0, distinct_from_no_repeat xs both.1)
 
--- ---- arrays in order
+-- ---- sorted arrays
 Less-from_is_lt : (o : Ordering) → true ≡ is_lt o → o ≡ Less
 Less-from_is_lt Less e = refl
 Less-from_is_lt Equal e = absurd (false≢true (sym e))
@@ -59,7 +59,7 @@ distinct_from_rising ys h =
 distinct_in_other_order : (xs ys : List (List ℕ)) → IsPermutation xs ys → IsDistinct bytes_eq xs → IsDistinct bytes_eq ys
 distinct_in_other_order = IsDistinct-IsPermutation bytes_eq nat_list_eq_equiv.symm
 
--- two neighbours that do not rise are the same
+-- two neighbours in a sorted list are equal if they don't increase
 same_neighbours : (ys : List (List ℕ)) (k : ℕ) → IsSorted order ys → k + 1 < length ys
     → false ≡ is_lt (order (get_or ys k []) (get_or ys (k + 1) [])) → bytes_eq (get_or ys k []) (get_or ys (k + 1) []) ≡ true
 same_neighbours ys k up below e =

@@ -1,4 +1,4 @@
--- The IDs of a recovery set rise strictly.
+-- The IDs of a recovery set are strictly increasing.
 use Rattle.std.proofs.Common.{◌≡◌, ℕ, ◌∙◌, ap, sym, refl, Bool, false, List, [], ◌∷◌, map, Ordering, Less, Equal, Greater, bytes_eq, take, zero, suc}
 use Rattle.std.specs.BTreeMap.{BTreeMap}
 use Rattle.std.specs.List.{AllByRecursion, IsDistinct, list_any}
@@ -17,7 +17,7 @@ use Rattle.parset.specs.declared.bodies.checksums.Ifsc.{Ifsc}
 use Rattle.parset.specs.declared.bodies.description.Desc.{Desc}
 use Rattle.parset.proofs.IdLaws.{InOrder, IsAtMost, order_moves, ordered}
 
--- ---- the first IDs of IDs without a repeat
+-- ---- the first IDs of a list without repeats
 front_passes_none : {X : Type 0} (p : X → Bool) (n : ℕ) (xs : List X) → list_any p xs ≡ false → list_any p (take n xs) ≡ false
 front_passes_none p zero xs e = refl
 front_passes_none p (suc n) [] e = refl
@@ -32,7 +32,7 @@ front_has_no_repeat (suc n) (x ∷ xs) e =
     let both = or_parts (list_any (λ y. bytes_eq x.0 y.0) xs) (has_repeat xs) e in
     or_from _ _ (front_passes_none (λ y. bytes_eq x.0 y.0) n xs both.0) (front_has_no_repeat n xs both.1)
 
--- ---- IDs in order without a repeat
+-- ---- sorted IDs without repeats
 abbrev is_same : Hash16 → Hash16 → Bool
 is_same x y = bytes_eq x.0 y.0
 
@@ -67,7 +67,7 @@ rising_ids ids e =
     rising (ids_in_order ids) (ordered ids)
     (IsDistinct-IsPermutation is_same (λ x y. nat_list_eq_equiv.symm x.0 y.0) ids (ids_in_order ids) (order_moves ids) (distinct_ids ids e))
 
--- ---- files show their IDs
+-- ---- the set shows the IDs of the described files
 pub shown_ids : (found : BTreeMap Hash16 Ifsc) (files : List Desc)
     → map (λ f. f.id) (map set_file_of (file_views found files)) ≡ map (λ file. file.id) files
 shown_ids found [] = refl

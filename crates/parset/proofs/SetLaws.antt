@@ -1,4 +1,4 @@
--- A recovery set step by step: the first fault is the answer, and an answer goes on.
+-- A recovery set step by step: the first fault is the result, and else the next step follows.
 use Rattle.std.proofs.Common.{◌≡◌, ◌≤◌, ◌∙◌, ℕ, Bool, true, false, Err, List, Ok, Option, Result, Some, None, ap, arith, cond, length, map, nat_lt, refl, subst, sym}
 use Rattle.std.specs.List.Sorted.{IsStrictlySortedBy}
 use Rattle.std.specs.Option.{ok_or}
@@ -22,7 +22,8 @@ use Rattle.parset.proofs.RisingLaws.{rising_ids}
 use Rattle.parset.proofs.ChainLaws.{answer_goes_on, fault_returned}
 use Rattle.parset.proofs.DescribingLaws.{all_described, ids_described, length-described, names_checked_same, slices_checked_same}
 
--- the set that goes on after its files, after their names, and after their descriptions
+-- the steps that follow after the files are counted, after their names are checked, and
+-- after they are described
 abbrev after_files : Hash16 → Main → List Kept → List Desc → Result SetView SetFault
 after_files id main own files = Ok (set_of_files id main own (map (file_view_from main.size own) files))
 
@@ -32,7 +33,7 @@ after_names id main own named = slices_checked main.size named >>= after_files i
 abbrev after_descriptions : Hash16 → Main → List Kept → List Desc → Result SetView SetFault
 after_descriptions id main own described = names_checked described >>= after_names id main own
 
--- what `?` returns of a fault
+-- the result is the fault that `?` returned
 abbrev pub Returns : Result SetView SetFault → SetFault → Type 0
 Returns r e = (y : SetFault) × (r ≡ Err y) × (y ≡ e)
 
@@ -92,7 +93,7 @@ few_by : (many : Bool) (limit total : ℕ) (files few : List Desc) → nat_lt li
 few_by true limit total files few test e = absurd (cc)
 few_by false limit total files few test e = grind (arith, nat_tests)
 
--- files that were tested have few slices
+-- files that passed the test have no more slices than the limit
 few_slices_of : (size : ℕ) (files few : List Desc) → slices_checked size files ≡ Ok few → slice_total size few ≤ slice_limit
 few_slices_of size files few e =
     subst (λ all. slice_total size all ≤ slice_limit) (sym (slices_checked_same size files few e))
@@ -114,7 +115,7 @@ files_found main own files limits f =
           (rising_ids main.recovery limits.once);
     }
 
--- ---- with the Main packet
+-- ---- the step that finds the Main packet
 pub no_main : (choice : Option Hash16) (packets : List Kept) → first_main_of choice packets ≡ None → set_of packets choice ≡ Err NoMain
 unfolding set_of
 no_main choice packets none =

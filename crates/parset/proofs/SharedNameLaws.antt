@@ -1,4 +1,4 @@
--- The first file whose name a file before it has: by places, and one file after another.
+-- The first file that has the same name as a file before it: by its index, and as a loop finds it.
 use Rattle.std.proofs.Common.{◌≡◌, ℕ, ◌+◌, ◌<◌, ◌≤◌, ◌∙◌, ap, sym, refl, Bool, true, false, List, [], ◌∷◌, ◌++◌, length, take, drop, get_or, append_assoc, Some, None, Option, cond, ◌||◌, nat_cmp, if◌then◌else◌}
 use Rattle.std.proofs.Math.Seq.{take-append_seam}
 use Rattle.std.proofs.lemmas.List.{drop_more, drop_all, length-append, take_more}
@@ -13,7 +13,8 @@ use Rattle.parset.specs.Choosing.{first_found, only_if}
 use Rattle.parset.specs.SharedNames.{has_name, repeated_at, repeated_name}
 use Rattle.parset.specs.declared.bodies.description.Desc.{Desc}
 
--- the first file whose name one of the files before has, those before being given too
+-- the first of these files that has the same name as a file before it, including
+-- the files in `before`
 abbrev pub repeated_from : List Desc → List Desc → Option Desc
 repeated_from before [] = None
 repeated_from before (file ∷ files) =
@@ -73,7 +74,7 @@ either_way true false = refl
 either_way false true = refl
 either_way false false = refl
 
--- one more name among those before
+-- after one more file, the set of names has a name exactly if one of the first i + 1 files has it
 pub name_more : (files : List Desc) (i : ℕ) (file : Desc) → i < length files → file ≡ get_or files i file
     → (name : List ℕ) (before after : Bool) → before ≡ list_any (has_name name) (take i files)
     → after ≡ cond (is_eq (slice_cmp nat_cmp file.name name)) true before

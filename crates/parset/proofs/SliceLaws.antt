@@ -1,4 +1,4 @@
--- The slices of files: how many there are, how long each is, and its number.
+-- The slices of files: their number, the length of each, and their numbering.
 use Rattle.std.proofs.Common.{◌≡◌, ℕ, ◌+◌, ◌-◌, ◌*◌, ◌<◌, ◌≤◌, ◌∙◌, List, [], ◌∷◌, ◌++◌, arith, length, length-append, map, min, refl, ap, subst, sym, zero-add}
 use Rattle.std.specs.BTreeMap.{BTreeMap}
 use Rattle.std.specs.List.{All, flat_map, range_with_len}
@@ -36,11 +36,11 @@ length-slices size found (file ∷ files) =
       sum_by-cons (λ (f : Desc). slice_count size f.length) file files,
     )
 
--- ---- how long a slice is
+-- ---- the length of a slice
 abbrev pub HasLength : ℕ → SetSlice → Type 0
 HasLength size slice = (0 < slice.length) × (slice.length ≤ size)
 
--- a slice that is counted begins within the file
+-- each slice begins inside its file
 begins_within : (size n j : ℕ) → 0 < size → j < slice_count size n → j * size < n
 begins_within size n j h k = grind (arith, div-add-mod' (n + (size - 1)) size, mul-le-mul_right)
 
@@ -60,7 +60,7 @@ slices_within size h found (file ∷ files) =
     All-append (HasLength size) (slices_of_file size (viewed found file)) (flat_map (slices_of_file size) (file_views found files))
     (slices_of_file_within size h (viewed found file)) (slices_within size h found files)
 
--- ---- slices are numbered file by file
+-- ---- the slices are numbered file by file
 abbrev number_of : SetSlice → Hash16 × ℕ
 number_of s = (s.id, s.number)
 

@@ -9,35 +9,35 @@ use Rattle.parset.specs.declared.bodies.main_packet.Main.{Main}
 use Rattle.parset.specs.declared.bodies.description.Desc.{Desc}
 use Rattle.parset.specs.declared.bodies.checksums.Ifsc.{Ifsc}
 
--- the pieces of this many bytes that stand one after another; a shorter rest is left out
+-- bytes cut into pieces of one width, in order; a rest that is shorter is left out
 abbrev pub pieces_of : ℕ → List ℕ → List (List ℕ)
 pieces_of width bytes = first_chunks width (length bytes / width) bytes
 
--- the sixteen bytes as a hash
+-- sixteen bytes as a hash
 abbrev pub hash_of : List ℕ → Hash16
 hash_of bytes = record { 0 = bytes }
 
--- the bytes without the zero bytes at their end
+-- bytes without the zero bytes at their end
 unfoldable pub without_end_zeros : List ℕ → List ℕ
 without_end_zeros bytes = take (length bytes - suffix_len (λ b. b == 0) bytes) bytes
 
--- Main: the slice size
+-- the slice size that a Main body names, in its bytes 0 to 7
 unfoldable pub slice_size_field : List ℕ → ℕ
 slice_size_field body = le_value (slice_range body 0 8)
 
--- Main: how many files the recovery set has
+-- how many files the recovery set has, in bytes 8 to 11 of a Main body
 unfoldable pub file_count_field : List ℕ → ℕ
 file_count_field body = le_value (slice_range body 8 12)
 
--- Main: all file IDs, those of the recovery set first
+-- all file IDs of a Main body; the files of the recovery set come first
 unfoldable pub file_ids_of : List ℕ → List Hash16
 file_ids_of body = map hash_of (pieces_of 16 (drop 12 body))
 
--- Main: the file IDs of the recovery set
+-- the file IDs of the recovery set, in a Main body
 abbrev pub recovery_ids_of : List ℕ → List Hash16
 recovery_ids_of body = take (file_count_field body) (file_ids_of body)
 
--- Main: the file IDs of the non-recovery files
+-- the file IDs of the non-recovery files, in a Main body
 abbrev pub other_ids_of : List ℕ → List Hash16
 other_ids_of body = drop (file_count_field body) (file_ids_of body)
 
@@ -49,11 +49,11 @@ main_of body = record {
   others = other_ids_of body;
 }
 
--- File Description: the length of the file
+-- the length of the file that a File Description body describes, in its bytes 48 to 55
 unfoldable pub file_length_field : List ℕ → ℕ
 file_length_field body = le_value (slice_range body 48 56)
 
--- File Description: the name, which zero bytes fill up
+-- the name of the file in a File Description body: it begins at byte 56, and zero bytes fill it up
 unfoldable pub name_of : List ℕ → List ℕ
 name_of body = without_end_zeros (drop 56 body)
 
@@ -67,11 +67,11 @@ description_of body = record {
   name = name_of body;
 }
 
--- the MD5 and the CRC-32 of a slice, in twenty bytes
+-- the checksums of a slice in twenty bytes: its MD5 and its CRC-32
 abbrev pub pair_of : List ℕ → Hash16 × ℕ
 pair_of bytes = (hash_of (slice_range bytes 0 16), le_value (slice_range bytes 16 20))
 
--- Input File Slice Checksum: the pairs in the order of the slices
+-- the checksums in an Input File Slice Checksum body, from byte 16 on, in the order of the slices
 unfoldable pub pairs_of : List ℕ → List (Hash16 × ℕ)
 pairs_of body = map pair_of (pieces_of 20 (drop 16 body))
 
@@ -82,10 +82,10 @@ checksums_of body = record {
   sums = pairs_of body;
 }
 
--- Recovery Slice: the exponent, in the first four bytes
+-- the exponent of a Recovery Slice body, which is the number in its first four bytes
 unfoldable pub exponent_of : List ℕ → ℕ
 exponent_of first = le_value first
 
--- Creator: the text, which zero bytes fill up
+-- the text of a Creator body, which zero bytes fill up
 unfoldable pub creator_text_of : List ℕ → List ℕ
 creator_text_of body = without_end_zeros body

@@ -1,5 +1,5 @@
--- Why a packet body is not usable: the limits of this implementation, and what PAR2 2.0 says of
--- each body.
+-- Why a packet body is not usable: the limits of this implementation, and the rules of PAR2 2.0
+-- for each kind of body.
 use Rattle.std.specs.Prelude.{ℕ, ◌-◌, ◌%◌, ◌==◌, ◌||◌, not, nat_lt, nat_le, Bool, false}
 use Rattle.std.specs.Prelude.{Option, Some, None, List, [], ◌∷◌, ◌++◌, length, if◌then◌else◌}
 use Rattle.std.specs.List.{list_any}
@@ -15,7 +15,7 @@ use Rattle.parset.specs.declared.bodies.aside.Aside.{Aside}
 use Rattle.parset.specs.declared.bodies.aside.Aside.TheVariants.{WrongLength, SliceSize}
 use Rattle.parset.specs.declared.bodies.aside.Aside.TheVariants.{IdTwice, SetId, Name, OverLimit}
 
--- the number of a reason; 6 is none
+-- the number by which a reason is printed; no reason has number 6
 abbrev pub reason_number : Aside → ℕ
 reason_number WrongLength = 1
 reason_number SliceSize = 2
@@ -24,37 +24,37 @@ reason_number SetId = 4
 reason_number Name = 5
 reason_number OverLimit = 7
 
--- the reason of the first line that applies
+-- the reason of the first line whose condition is true, or None if no line applies
 abbrev pub first_reason : List (Bool × Aside) → Option Aside
 first_reason [] = None
 first_reason (line ∷ lines) = if line.0 then Some line.1 else first_reason lines
 
--- a body of more bytes than are kept
+-- the body has more bytes than are kept
 abbrev pub is_over_limit : List ℕ → Bool
 is_over_limit body = nat_lt body_limit (length body)
 
--- the bytes are too few for the fields and the IDs, or do not end with an ID
+-- the body is too short for its fields or its IDs, or ends within an ID
 abbrev pub has_wrong_main_length : List ℕ → Bool
 has_wrong_main_length body =
     nat_lt (length body) 12 || (not ((length body - 12) % 16 == 0)
     || nat_lt (length (file_ids_of body)) (file_count_field body))
 
--- the slice size is 0 or no multiple of 4
+-- the slice size is 0 or not a multiple of 4
 abbrev pub has_wrong_size : List ℕ → Bool
 has_wrong_size body = slice_size_field body == 0 || not (slice_size_field body % 4 == 0)
 
--- the slices are too large, or the IDs too many
+-- the slice size or the number of IDs is above its limit
 abbrev pub is_large_main : List ℕ → Bool
 is_large_main body =
     nat_lt slice_size_limit (slice_size_field body)
     || nat_lt file_limit (length (file_ids_of body))
 
--- some ID stands again after itself
+-- an ID is listed twice
 unfoldable pub has_repeat : List Hash16 → Bool
 has_repeat [] = false
 has_repeat (x ∷ xs) = list_any (λ y. bytes_eq x.0 y.0) xs || has_repeat xs
 
--- the reasons that the lengths and numbers of a Main body give
+-- the conditions on a Main body that can be tested without memory, in order, each with its reason
 abbrev pub early_main_lines : List ℕ → List (Bool × Aside)
 early_main_lines body =
     (is_over_limit body, OverLimit)
@@ -63,18 +63,18 @@ early_main_lines body =
     ∷ (is_large_main body, OverLimit)
     ∷ []
 
--- the first of them, an early one, which takes no memory
+-- the first of these reasons that applies: an early one
 unfoldable pub early_main_reason : List ℕ → Option Aside
 early_main_reason body = first_reason (early_main_lines body)
 
--- why a Main body of this recovery set ID is not usable
+-- why a Main body is not usable in a packet that has this recovery set ID
 unfoldable pub main_reason : List ℕ → Hash16 → Option Aside
 main_reason body set = first_reason (early_main_lines body ++ (
     (has_repeat (file_ids_of body), IdTwice)
     ∷ (not (bytes_eq (md5 body) set.0), SetId)
     ∷ []))
 
--- the name is empty, has more bytes than a name may have, or has a zero byte inside
+-- the name is empty, is longer than a name may be, or has a zero byte inside
 unfoldable pub is_wrong_name : List ℕ → Bool
 is_wrong_name name =
     length name == 0 || (nat_lt name_limit (length name) || list_any (λ b. b == 0) name)
@@ -96,7 +96,8 @@ checksums_reason body = first_reason (
     ∷ (nat_lt slice_limit (length (pairs_of body)), OverLimit)
     ∷ [])
 
--- why a Recovery Slice body is not usable, by its first four bytes, its length and the slice size
+-- why a Recovery Slice body is not usable, according to its first four bytes, its
+-- length and the slice size
 unfoldable pub slice_reason : List ℕ → ℕ → ℕ → Option Aside
 slice_reason first len size = first_reason (
     (nat_lt len 4 || not (len - 4 == size), WrongLength)

@@ -1,5 +1,5 @@
--- The recovery set of kept packets (PAR2 2.0: Main, File Description and Input File Slice Checksum
--- packet).
+-- The recovery set that kept packets describe (PAR2 2.0: Main, File Description and Input File
+-- Slice Checksum packet).
 use Rattle.std.specs.Prelude.{option_map, ℕ, List, [], ◌∷◌, length, Option}
 use Rattle.std.specs.Prelude.{if◌then◌else◌, ◌≡◌, ◌+◌, ◌≤◌, map, Result, Ok, Err, ⊤, nat_lt}
 use Rattle.std.specs.List.{IsDistinct, flat_map}
@@ -26,17 +26,18 @@ use Rattle.parset.specs.declared.recovery_set.SetFault.TheVariants.{TooManySlice
 use Rattle.parset.specs.declared.recovery_set.SetFile.{SetFile}
 use Rattle.parset.specs.declared.recovery_set.SetSlice.{SetSlice}
 
--- an ID put where it belongs among IDs in order
+-- sorted IDs with one more ID, put in its place
 unfoldable pub insertion_of : Hash16 → List Hash16 → List Hash16
 insertion_of id [] = id ∷ []
 insertion_of id (x ∷ xs) = if is_lt (id_cmp x id) then x ∷ insertion_of id xs else id ∷ x ∷ xs
 
--- the IDs in their order
+-- the IDs, sorted
 unfoldable pub ids_in_order : List Hash16 → List Hash16
 ids_in_order [] = []
 ids_in_order (id ∷ ids) = insertion_of id (ids_in_order ids)
 
--- the descriptions of the files, or the first ID that has none
+-- the descriptions of the files that have these IDs, in order, or the first ID
+-- that has no description
 unfoldable pub descriptions_of : List Kept → List Hash16 → Result (List Desc) SetFault
 descriptions_of packets [] = Ok []
 descriptions_of packets (id ∷ ids) = do
@@ -55,17 +56,17 @@ pub record SetView : Type 0 where
   pub creator : Option (List ℕ)
   pub aside : List SetAside
 
--- no two files have one name
+-- the files, if no two have the same name; else the first ID whose name an earlier file has
 abbrev pub names_checked : List Desc → Result (List Desc) SetFault
 names_checked files =
     answer_of (option_map (λ file. NameTwice file.id) (repeated_name files)) files
 
--- the files, where they have no more slices than a recovery set may have
+-- the files, if they have no more slices than a recovery set may have
 abbrev pub slices_checked : ℕ → List Desc → Result (List Desc) SetFault
 slices_checked size files =
     if nat_lt slice_limit (slice_total size files) then Err TooManySlices else Ok files
 
--- the files of a set of this Main packet, as the packets of the set describe them
+-- these are the files of the set of this Main packet, as the packets of the set describe them
 pub record AreSetFiles (main : Main) (packets : List Kept) (files : List Desc) : Type 0 where
   pub few : length files + length main.others ≤ file_limit
   pub few_slices : slice_total main.size files ≤ slice_limit
@@ -73,7 +74,8 @@ pub record AreSetFiles (main : Main) (packets : List Kept) (files : List Desc) :
   pub names : IsDistinct bytes_eq (map (λ file. file.name) files)
   pub rising : IsStrictlySortedBy id_cmp (map (λ file. file.id) files)
 
--- the set of these files and of the packets of the set
+-- the recovery set that has this ID, this Main packet and these files; the other parts come from
+-- the packets of the set
 abbrev pub set_of_files : Hash16 → Main → List Kept → List FileView → SetView
 set_of_files id main packets files = record {
   id = id;
@@ -86,7 +88,8 @@ set_of_files id main packets files = record {
   aside = asides_of main.size packets;
 }
 
--- the set of this Main packet among the packets of the set
+-- the recovery set of this Main packet, according to the packets of the set, or the first
+-- reason why there is none
 unfoldable pub set_of_main : Hash16 → Main → List Kept → Result SetView SetFault
 set_of_main id main packets = do
   described ← descriptions_of packets (ids_in_order main.recovery)
@@ -94,13 +97,14 @@ set_of_main id main packets = do
   files ← slices_checked main.size named
   Ok (set_of_files id main packets (map (file_view_from main.size packets) files))
 
--- the recovery set of packets, or the first cause why there is none
+-- the recovery set of these packets (of the chosen ID, if one is chosen), or the first
+-- reason why there is none
 unfoldable pub set_of : List Kept → Option Hash16 → Result SetView SetFault
 set_of packets choice = do
   main ← ok_or (first_main_of choice packets) NoMain
   set_of_main main.0 main.1 (set_packets_of main.0 packets)
 
--- the answer is this set or this cause, or want of memory
+-- the result is what was made: this set or this reason; or it is that memory was refused
 abbrev pub AnswersSet : {T : Type 0} → Result T SetFault → Result T SetFault → Type 0
 AnswersSet made (Err Memory) = ⊤
 AnswersSet made answer = made ≡ answer

@@ -1,4 +1,4 @@
--- The files of a recovery set with their slices.
+-- The slices of the files of a recovery set.
 use Rattle.std.specs.Prelude.{ℕ, List, Option, Some, is_some, ◌≡◌, ◌-◌, ◌*◌, map, sum_by, min}
 use Rattle.std.specs.Prelude.{slice_get}
 use Rattle.std.specs.BTreeMap.{BTreeMap, get}
@@ -14,34 +14,35 @@ use Rattle.parset.specs.declared.bodies.description.Desc.{Desc}
 use Rattle.parset.specs.declared.recovery_set.SetFile.{SetFile}
 use Rattle.parset.specs.declared.recovery_set.SetSlice.{SetSlice}
 
--- how many slices of this size so many bytes have
+-- how many slices of this size a file of n bytes has; the last may be shorter
 abbrev pub slice_count : ℕ → ℕ → ℕ
 slice_count size n = div_ceil n size
 
--- how many slices the files have
+-- how many slices the files have together
 abbrev pub slice_total : ℕ → List Desc → ℕ
 slice_total size files = sum_by (λ file. slice_count size file.length) files
 
--- a map has how many slices each file has at its ID, where files of one ID have one length
+-- the map has the number of slices of each file at its ID. This is said only of files whose length
+-- follows from their ID, since the map has one number for each ID
 abbrev pub HasCounts : ℕ → BTreeMap Hash16 ℕ → List Desc → Type 0
 HasCounts size counts files =
     (lengths : Hash16 → ℕ) → All (λ file. file.length ≡ lengths file.id) files
     → All (λ file. get id_cmp counts file.id ≡ Some (slice_count size file.length)) files
 
--- a file with the sums of its slices, where they are known
+-- a file with the checksums of its slices, if they are known
 pub record FileView : Type 0 where
   pub file : Desc
   pub sums : Option Ifsc
 
--- a file with these sums
+-- a file with these checksums
 abbrev pub file_view : Desc → Option Ifsc → FileView
 file_view file sums = record { file = file; sums = sums }
 
--- files with the sums that a map has at their IDs
+-- each file with the checksums that the map has at its ID
 abbrev pub file_views : BTreeMap Hash16 Ifsc → List Desc → List FileView
 file_views found files = map (λ file. file_view file (get id_cmp found file.id)) files
 
--- a file with the sums that packets give it
+-- a file with the checksums of the first IFSC packet that has as many as the file has slices
 abbrev pub file_view_from : ℕ → List Kept → Desc → FileView
 file_view_from size packets file =
     file_view file (file_sums_of file.id (slice_count size file.length) packets)
@@ -56,7 +57,7 @@ set_file_of v = record {
   known = is_some v.sums;
 }
 
--- slice number j of a file
+-- slice number j of a file, counted from 0
 abbrev pub slice_of : ℕ → FileView → ℕ → SetSlice
 slice_of size v j = record {
   id = v.file.id;
@@ -73,7 +74,7 @@ slices_of_file size v = map (slice_of size v) (range_with_len 0 (slice_count siz
 abbrev pub numbers_of_file : ℕ → SetFile → List (Hash16 × ℕ)
 numbers_of_file size f = map (λ j. (f.id, j)) (range_with_len 0 (slice_count size f.length))
 
--- slices have the IDs and the numbers that the slices of these files have, file by file
+-- the slices have the IDs and the numbers of the slices of these files, in order
 unfoldable pub AreNumbered : ℕ → List SetFile → List SetSlice → Type 0
 AreNumbered size files slices =
     map (λ s. (s.id, s.number)) slices ≡ flat_map (numbers_of_file size) files

@@ -1,9 +1,10 @@
 //! Bodies of PAR2 packets: the fields of each, or the first reason why it is not usable.
 //!
-//! From below: `aside` has the reasons, and `body_bytes` tests the length of a body, reads numbers
-//! and hashes from it, copies bytes and trims zero bytes at their end. Above them stands a module
-//! for each kind of body, with its reader and the reason that comes first: `main_packet`,
-//! `description`, `checksums`, `recovery_slice` and `creator`.
+//! The lowest modules come first: `aside` has the reasons, and `body_bytes` tests the length
+//! of a body, reads numbers and hashes from it, copies bytes and trims zero bytes at their
+//! end. Above them there is a module for each kind of body, with its reader and the reasons in
+//! the order in which they are tested: `main_packet`, `description`, `checksums`,
+//! `recovery_slice` and `creator`.
 
 mod aside;
 mod body_bytes;

@@ -16,8 +16,8 @@ use parsalvage::Kept;
 use std::alloc::{AllocError, Global};
 use std::collections::BTreeMap;
 
-/// The recovery set of the first usable Main packet, or of the first one of the chosen set; or the
-/// first cause why there is none. Every "first" is by the order of the packets handed in.
+/// Makes the recovery set of the first usable Main packet, or of the first one of the chosen set;
+/// or returns the first reason why there is none. Every "first" is in the order of `packets`.
 pub fn build(
     alloc: Global,
     packets: &[Kept],
@@ -34,7 +34,7 @@ pub fn build(
     }
 }
 
-// The set of this Main packet among the packets of the set.
+// Makes the set of this Main packet. `own` are the packets of the set.
 fn set_of_main(
     alloc: Global,
     id: Hash16,
@@ -51,7 +51,7 @@ fn set_of_main(
     Ok(set_of_files(alloc, id, main, own, files.as_slice())?)
 }
 
-// The set of these files.
+// Makes the set that has these files.
 fn set_of_files(
     alloc: Global,
     id: Hash16,
@@ -77,7 +77,7 @@ fn set_of_files(
     })
 }
 
-// The sums of the files, by ID.
+// Finds the checksums of each file, by file ID.
 fn sums_of(
     alloc: Global,
     size: u64,

@@ -20,10 +20,11 @@ use parsalvage::Kept;
 use std::alloc::{AllocError, Global};
 use std::collections::BTreeMap;
 
-// How many exponents there can be.
+// How many exponents are allowed: 0 to the largest one.
 const EXPONENTS: usize = EXPONENT_LIMIT as usize + 1;
 
-/// The first usable Main packet that is asked for, with its set ID.
+/// Returns the first usable Main packet of the chosen set (of any set if none is
+/// chosen), with its set ID.
 pub fn first_main(
     alloc: Global,
     packets: &[Kept],
@@ -39,7 +40,7 @@ pub fn first_main(
     Ok(None)
 }
 
-/// The packets of the set of this ID.
+/// Returns the packets that have this recovery set ID, in order.
 pub fn set_packets<'a>(
     alloc: Global,
     packets: &'a [Kept],
@@ -51,7 +52,7 @@ pub fn set_packets<'a>(
     packets.iter().filter(|kept| kept.set == set).collect(alloc)
 }
 
-/// The first usable description of each file ID.
+/// Returns the first usable description of each file ID.
 pub fn descriptions(alloc: Global, own: &[&Kept]) -> Result<BTreeMap<Hash16, Desc>, AllocError>
     ensures { IfOk result (λ found. (id : Hash16) → get id_cmp found id
         ≡ file_description_of id (map (λ k. k.now) own.now)) }
@@ -65,7 +66,8 @@ pub fn descriptions(alloc: Global, own: &[&Kept]) -> Result<BTreeMap<Hash16, Des
     Ok(found)
 }
 
-/// The first sums of each file that are as many as its slices, for the files that have a count.
+/// Returns, for each file, the first checksums whose number is the number of its slices, by file
+/// ID. `counts` has the number of slices of each file; files that it lacks are left out.
 pub fn checksums(
     alloc: Global,
     own: &[&Kept],
@@ -86,7 +88,7 @@ pub fn checksums(
     Ok(found)
 }
 
-/// How many exponents the usable RecvSlic packets have.
+/// Counts the distinct exponents that the usable RecvSlic packets have.
 pub fn exponent_count(alloc: Global, own: &[&Kept], size: u64) -> Result<u32, AllocError>
     ensures { IfOk result (λ count. count ≡ exponent_count_of size (map (λ k. k.now) own.now)) }
 {
@@ -94,7 +96,7 @@ pub fn exponent_count(alloc: Global, own: &[&Kept], size: u64) -> Result<u32, Al
     Ok(set_flags(seen.as_slice()) as u32)
 }
 
-/// The first text of a Creator packet that is not empty.
+/// Returns the first text of a usable Creator packet that isn't empty.
 pub fn creator(alloc: Global, own: &[&Kept]) -> Result<Option<Sequence<u8>>, AllocError>
     ensures { IfOk result (λ text. text ≡ first_creator_of (map (λ k. k.now) own.now)) }
 {
@@ -106,7 +108,7 @@ pub fn creator(alloc: Global, own: &[&Kept]) -> Result<Option<Sequence<u8>>, All
     Ok(None)
 }
 
-/// The packets whose bodies are not usable.
+/// Returns the packets whose bodies are not usable, with the reasons, in order.
 pub fn asides(alloc: Global, own: &[&Kept], size: u64) -> Result<Sequence<SetAside>, AllocError>
     ensures { IfOk result (λ asides. asides ≡ asides_of size (map (λ k. k.now) own.now)) }
 {
@@ -119,7 +121,8 @@ pub fn asides(alloc: Global, own: &[&Kept], size: u64) -> Result<Sequence<SetAsi
     Ok(Sequence::from_vec(asides))
 }
 
-// The set ID and the fields of a usable Main packet, where it is asked for.
+// Reads the set ID and the fields of a packet if it is a usable Main packet of the chosen set (of
+// any set if none is chosen).
 fn read_chosen_main(
     alloc: Global,
     kept: &Kept,
@@ -136,7 +139,7 @@ fn read_chosen_main(
     }
 }
 
-// Puts in what is first under its ID.
+// Puts the fields into the map, if it has nothing under their ID yet.
 fn put_first<T: Drop>(
     found: &mut BTreeMap<Hash16, T>,
     id: Hash16,
@@ -151,7 +154,7 @@ fn put_first<T: Drop>(
     Ok(())
 }
 
-// Whether the sums are as many as the slices of their file.
+// Whether the number of checksums is the number of their file's slices; not if that isn't known.
 fn is_counted(sums: &Ifsc, counts: &BTreeMap<Hash16, u64>) -> bool
     ensures { result ≡ is_some (only_if (λ count. length sums.now.sums == count)
         (get id_cmp counts.now sums.now.id)) }
@@ -162,7 +165,7 @@ fn is_counted(sums: &Ifsc, counts: &BTreeMap<Hash16, u64>) -> bool
     }
 }
 
-// Which exponents the usable RecvSlic packets have, of all that there can be.
+// Returns a flag for each allowed exponent: whether a usable RecvSlic packet has it.
 fn seen_exponents(alloc: Global, own: &[&Kept], size: u64) -> Result<Vec<bool>, AllocError>
     ensures { IfOk result (λ seen. seen.items
         ≡ map (λ e. list_any (has_exponent size e) (map (λ k. k.now) own.now)) all_exponents) }
@@ -176,7 +179,7 @@ fn seen_exponents(alloc: Global, own: &[&Kept], size: u64) -> Result<Vec<bool>, 
     Ok(seen)
 }
 
-// How many flags are set.
+// Counts the flags that are set.
 fn set_flags(flags: &[bool]) -> usize
     ensures { result ≡ count_by (λ flag. flag) flags.now }
 {

@@ -10,7 +10,8 @@ use parsalvage::Kept;
 use std::alloc::{AllocError, Global};
 use std::collections::BTreeSet;
 
-/// The descriptions of the files of these IDs.
+/// Returns the descriptions of the files that have these IDs, in order, or the
+/// first ID that has none.
 pub fn described(alloc: Global, own: &[&Kept], ids: &[Hash16]) -> Result<Sequence<Desc>, SetFault>
     ensures { AnswersSet (descriptions_of (map (λ k. k.now) own.now) ids.now) result }
 {
@@ -25,7 +26,7 @@ pub fn described(alloc: Global, own: &[&Kept], ids: &[Hash16]) -> Result<Sequenc
     Ok(Sequence::from_vec(files))
 }
 
-// Adds the same fields in memory of their own.
+// Appends a copy of a description.
 fn push_description(alloc: Global, file: &Desc, files: &mut Vec<Desc>) -> Result<(), AllocError>
     ensures { IfOk result (λ _. files.new.items ≡ files.old.items ++ file.now ∷ []) }
 {
@@ -33,7 +34,7 @@ fn push_description(alloc: Global, file: &Desc, files: &mut Vec<Desc>) -> Result
     Ok(())
 }
 
-// The same fields in memory of their own.
+// Copies a description into new memory.
 fn description_copy(alloc: Global, file: &Desc) -> Result<Desc, AllocError>
     ensures { IfOk result (λ copy. copy ≡ file.now) }
 {
@@ -46,7 +47,8 @@ fn description_copy(alloc: Global, file: &Desc) -> Result<Desc, AllocError>
     })
 }
 
-/// The files, where no two have one name.
+/// Returns the files if no two have the same name, else the first ID whose name
+/// an earlier file has.
 pub fn names_checked(alloc: Global, files: Sequence<Desc>) -> Result<Sequence<Desc>, SetFault>
     ensures { AnswersSet (names_checked files) result }
 {
@@ -56,7 +58,7 @@ pub fn names_checked(alloc: Global, files: Sequence<Desc>) -> Result<Sequence<De
     }
 }
 
-// The ID of the first file whose name a file before has.
+// Finds the ID of the first file that has the same name as a file before it.
 fn repeated_name(alloc: Global, files: &[Desc]) -> Result<Option<Hash16>, AllocError>
     ensures { IfOk result (λ found. found
         ≡ option_map (λ file. file.id) (repeated_name files.now)) }

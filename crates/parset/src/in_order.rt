@@ -4,7 +4,7 @@ ghost use Rattle.parset.specs.RecoverySet.{ids_in_order};
 use parfield::Hash16;
 use std::alloc::{AllocError, Global};
 
-/// The IDs in their order.
+/// Returns a sorted copy of the IDs.
 pub fn in_order(alloc: Global, ids: &[Hash16]) -> Result<Vec<Hash16>, AllocError>
     ensures { IfOk result (λ sorted. sorted.items ≡ ids_in_order ids.now) }
 {

@@ -1,10 +1,11 @@
 //! The recovery set that kept packets describe.
 //!
-//! From below: `bodies` has a reader for each kind of packet body, and `recovery_set` the set with
-//! its readers. `reading` reads a kept packet by its kind, `choosing` takes of each thing the first
-//! packet that is usable, and `in_order` puts file IDs into their order. `describing` finds the
-//! description of each file and tests that no name stands twice, `slicing` has the files and the
-//! slices of the set and the limit on these, and `building` puts the set together.
+//! The lowest modules come first: `bodies` has a reader for each kind of packet body, and
+//! `recovery_set` the set and the functions that read its parts. `reading` reads a kept packet
+//! according to its kind, `choosing` takes each thing from the first usable packet that has it, and
+//! `in_order` sorts file IDs. `describing` finds the description of each file and tests that no two
+//! have the same name, `slicing` has the files and the slices of the set and tests the limit on
+//! their number, and `building` puts the set together.
 #![tactic(auto)]
 
 mod bodies;

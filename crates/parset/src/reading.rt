@@ -16,7 +16,7 @@ use parfield::{Hash16, Kind, Sequence};
 use parsalvage::{Kept, KeptBody};
 use std::alloc::{AllocError, Global};
 
-/// The fields of a usable Main packet.
+/// Reads the fields of a usable Main packet; `None` for any other packet.
 pub fn read_main(alloc: Global, kept: &Kept) -> Result<Option<Main>, AllocError>
     ensures { IfOk result (λ found. found ≡ usable_main kept.now.kind kept.now.body kept.now.set) }
 {
@@ -30,7 +30,7 @@ pub fn read_main(alloc: Global, kept: &Kept) -> Result<Option<Main>, AllocError>
     }
 }
 
-/// The fields of a usable FileDesc packet.
+/// Reads the fields of a usable FileDesc packet; `None` for any other packet.
 pub fn read_description(alloc: Global, kept: &Kept) -> Result<Option<Desc>, AllocError>
     ensures found { IfOk result (λ found. found ≡ usable_description kept.now.kind kept.now.body) }
     ensures memory { IfErr result (λ _.
@@ -42,7 +42,7 @@ pub fn read_description(alloc: Global, kept: &Kept) -> Result<Option<Desc>, Allo
     }
 }
 
-/// The fields of a usable IFSC packet.
+/// Reads the fields of a usable IFSC packet; `None` for any other packet.
 pub fn read_checksums(alloc: Global, kept: &Kept) -> Result<Option<Ifsc>, AllocError>
     ensures found { IfOk result (λ found. found ≡ usable_checksums kept.now.kind kept.now.body) }
     ensures memory { IfErr result (λ _.
@@ -54,7 +54,7 @@ pub fn read_checksums(alloc: Global, kept: &Kept) -> Result<Option<Ifsc>, AllocE
     }
 }
 
-/// The text of a usable Creator packet, where it is not empty.
+/// Reads the text of a usable Creator packet; `None` if it is empty, and for any other packet.
 pub fn read_creator(alloc: Global, kept: &Kept) -> Result<Option<Sequence<u8>>, AllocError>
     ensures text { IfOk result (λ text. text ≡ creator_of kept.now) }
     ensures memory { IfErr result (λ _.
@@ -69,7 +69,8 @@ pub fn read_creator(alloc: Global, kept: &Kept) -> Result<Option<Sequence<u8>>, 
     }
 }
 
-/// The exponent of a RecvSlic packet that is usable in a set of this slice size.
+/// Reads the exponent of a RecvSlic packet that is usable with this slice size; `None`
+/// for any other packet.
 pub fn read_exponent(kept: &Kept, size: u64) -> Option<u32>
     ensures { result ≡ usable_exponent size kept.now.kind kept.now.body }
 {
@@ -79,7 +80,8 @@ pub fn read_exponent(kept: &Kept, size: u64) -> Option<u32>
     }
 }
 
-/// The packet with the reason why it is put aside, in a set of this slice size.
+/// Returns the packet's file and offset and the reason, if the packet is rejected in a
+/// set of this slice size.
 pub fn read_aside(alloc: Global, kept: &Kept, size: u64) -> Result<Option<SetAside>, AllocError>
     ensures aside { IfOk result (λ found. found ≡ aside_of size kept.now) }
     ensures memory { IfErr result (λ _. kept.now.kind ≡ kind.Main) }
@@ -92,7 +94,7 @@ pub fn read_aside(alloc: Global, kept: &Kept, size: u64) -> Result<Option<SetAsi
     }))
 }
 
-// Why the body is not usable in a set of this slice size.
+// Returns the reason why the body is not usable in a set of this slice size, or `None` if it is.
 fn reason_of(alloc: Global, kept: &Kept, size: u64) -> Result<Option<Aside>, AllocError>
     ensures reason { IfOk result (λ found. found
         ≡ reason_of size kept.now.kind kept.now.body kept.now.set) }
@@ -109,7 +111,7 @@ fn reason_of(alloc: Global, kept: &Kept, size: u64) -> Result<Option<Aside>, All
     }
 }
 
-// The fields, where there is no reason against them.
+// Returns the fields that a body reader read, or `None` if the body is not usable.
 fn usable_fields<T: Drop>(answer: Result<T, BodyFault>) -> Result<Option<T>, AllocError>
     ensures found { (early reason : Option Aside) (fields : T)
         → AnswersBodyAfter early reason fields answer

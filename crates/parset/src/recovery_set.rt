@@ -23,43 +23,46 @@ pub struct SetFile {
     pub length: u64,
     /// The MD5 of the whole file.
     pub whole: Hash16,
-    /// Whether the sums of its slices are known.
+    /// Whether the checksums of its slices are known.
     pub known: bool,
 }
 
 /// A slice of a file of a recovery set.
 #[derive(Clone, Copy, Debug, PartialEq, Eq)]
 pub struct SetSlice {
-    /// The ID of its file.
+    /// The ID of the slice's file.
     pub id: Hash16,
-    /// Its number within the file, from 0.
+    /// The slice's number within the file, from 0.
     pub number: u32,
-    /// How many bytes of the file it has: the slice size, or what is left for the last one.
+    /// How many bytes of the file the slice has: the slice size, or for the
+    /// last slice what is left.
     pub length: u64,
-    /// The MD5 and the CRC-32 of the slice, filled with zeros to the slice size, where known.
+    /// The MD5 and the CRC-32 of the slice, filled up with zeros to the slice
+    /// size, if they are known.
     pub sums: Option<(Hash16, u32)>,
 }
 
 /// A packet of the set whose body is not usable.
 #[derive(Clone, Copy, Debug, PartialEq, Eq)]
 pub struct SetAside {
-    /// The number of the packet file.
+    /// The number of the packet file, in the order of the packet files, from 0.
     pub file: u32,
-    /// The offset in the file.
+    /// The offset of the packet in that file.
     pub at: u64,
-    /// Why it is not usable.
+    /// The first reason why its body is not usable.
     pub reason: Aside,
 }
 
-/// Why packets give no recovery set, in the order in which it is tested; want of memory may come
-/// before any.
+/// Why packets describe no recovery set, in the order in which it is tested. `Memory` may
+/// come before any other.
 #[derive(Clone, Copy, Debug, PartialEq, Eq)]
 pub enum SetFault {
-    /// There is no usable Main packet, or none of the set that is asked for.
+    /// There is no usable Main packet, or none of the chosen set.
     NoMain,
-    /// The least recovery ID that has no usable FileDesc packet.
+    /// A file of the set has no usable FileDesc packet. Of several such file IDs this is the least.
     NoDesc(Hash16),
-    /// The least recovery ID whose name a smaller recovery ID has.
+    /// Two files of the set have the same name. This is the least file ID whose
+    /// name a smaller ID has.
     NameTwice(Hash16),
     /// The files have more than 32,768 slices together.
     TooManySlices,
@@ -77,7 +80,7 @@ impl From<AllocError> for SetFault {
     }
 }
 
-/// A recovery set, as its packets describe it.
+/// A recovery set that packets describe.
 #[derive(Drop)]
 pub struct RecoverySet {
     pub(crate) id: Hash16,
@@ -133,14 +136,14 @@ impl Model for RecoverySet {
 }
 
 impl RecoverySet {
-    /// The recovery set ID.
+    /// Returns the recovery set ID.
     pub fn id(&self) -> Hash16
         ensures { result ≡ self.now.id }
     {
         self.id
     }
 
-    /// The slice size in bytes.
+    /// Returns the slice size in bytes.
     pub fn size(&self) -> u64
         ensures field { result ≡ self.now.size }
         ensures bounds { (4 ≤ result) × (result ≤ slice_size_limit) }
@@ -149,7 +152,7 @@ impl RecoverySet {
         self.size
     }
 
-    /// The files of the recovery set, by ID.
+    /// Lends the files of the recovery set, sorted by ID.
     pub fn files(&self) -> &[SetFile]
         ensures field { result.now ≡ self.now.files }
         ensures few { length result.now ≤ file_limit }
@@ -160,7 +163,7 @@ impl RecoverySet {
         self.files.as_slice()
     }
 
-    /// The slices of all files, by file ID and number.
+    /// Lends the slices of all files, sorted by file ID and number.
     #[tactic(auto, unfolding(crate::specs::Slices::AreNumbered))]
     pub fn slices(&self) -> &[SetSlice]
         ensures field { result.now ≡ self.now.slices }
@@ -172,7 +175,7 @@ impl RecoverySet {
         self.slices.as_slice()
     }
 
-    /// How many non-recovery files there are.
+    /// Returns the number of non-recovery files.
     pub fn others(&self) -> u32
         ensures field { result ≡ self.now.others }
         ensures few { result ≤ file_limit }
@@ -181,7 +184,7 @@ impl RecoverySet {
         self.others
     }
 
-    /// How many distinct exponents the usable recovery slices have.
+    /// Returns the number of distinct exponents that the usable recovery slices have.
     pub fn have(&self) -> u32
         ensures field { result ≡ self.now.have }
         ensures few { result ≤ exponent_limit + 1 }
@@ -189,7 +192,7 @@ impl RecoverySet {
         self.have
     }
 
-    /// The text of the client that made the set, where there is one.
+    /// Lends the text of the client that made the set, if there is one.
     pub fn creator(&self) -> Option<&[u8]>
         ensures field { option_map (λ text. text.now) result ≡ self.now.creator }
         ensures limits { IfSome result (λ text. HasTextLimits text.now) }
@@ -200,7 +203,8 @@ impl RecoverySet {
         }
     }
 
-    /// The packets of the set whose bodies are not usable, in the order of the packets handed in.
+    /// Lends the packets of the set whose bodies are not usable, in the order of the packets that
+    /// the set was made of.
     pub fn aside(&self) -> &[SetAside]
         ensures { result.now ≡ self.now.aside }
     {

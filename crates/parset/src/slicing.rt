@@ -13,7 +13,7 @@ use parfield::{Hash16, Sequence};
 use std::alloc::{AllocError, Global};
 use std::collections::BTreeMap;
 
-/// How many slices of this size so many bytes have.
+/// Returns how many slices of this size a file of this length has, both in bytes.
 pub fn slice_count(size: u64, length: u64) -> u64
     requires { 0 < size }
     ensures { result ≡ slice_count size length }
@@ -21,7 +21,7 @@ pub fn slice_count(size: u64, length: u64) -> u64
     length.div_ceil(size)
 }
 
-/// The files, where they have no more slices than a recovery set may have.
+/// Returns the files if they have no more slices than a recovery set may have.
 pub fn slices_checked(size: u64, files: Sequence<Desc>) -> Result<Sequence<Desc>, SetFault>
     requires { 0 < size }
     ensures { AnswersSet (slices_checked size files) result }
@@ -48,7 +48,7 @@ fn exceeds_slice_limit(size: u64, files: &[Desc]) -> bool
     false
 }
 
-/// How many slices each file has, by its ID.
+/// Makes a map from each file's ID to its number of slices.
 pub fn slice_counts(
     alloc: Global,
     size: u64,
@@ -64,7 +64,8 @@ pub fn slice_counts(
     Ok(counts)
 }
 
-/// The files as a recovery set shows them.
+/// Returns the files as a recovery set shows them. `sums` has the checksums that
+/// are known, by file ID.
 pub fn set_files(
     alloc: Global,
     files: &[Desc],
@@ -79,7 +80,7 @@ pub fn set_files(
     Ok(shown)
 }
 
-// A file as a recovery set shows it.
+// Returns a file as a recovery set shows it. `known` is whether its checksums are known.
 fn set_file(alloc: Global, file: &Desc, known: bool) -> Result<SetFile, AllocError>
     ensures { IfOk result (λ shown. (sums : Option Ifsc) → known ≡ is_some sums
         → shown ≡ set_file_of (file_view file.now sums)) }
@@ -93,7 +94,7 @@ fn set_file(alloc: Global, file: &Desc, known: bool) -> Result<SetFile, AllocErr
     })
 }
 
-/// The slices of all files.
+/// Returns the slices of all files, in order. `sums` has the checksums that are known, by file ID.
 pub fn set_slices(
     alloc: Global,
     size: u64,
@@ -112,7 +113,7 @@ pub fn set_slices(
     Ok(slices)
 }
 
-// Adds the slices of a file.
+// Appends the slices of a file, in order.
 fn add_slices(
     size: u64,
     file: &Desc,
@@ -130,7 +131,7 @@ fn add_slices(
     Ok(())
 }
 
-// A slice of a file.
+// Makes slice `number` of a file.
 fn set_slice(size: u64, file: &Desc, sums: Option<&Ifsc>, number: u32) -> SetSlice
     requires { number < slice_count size file.now.length }
     ensures { result

@@ -9,7 +9,8 @@ take_next [] n x at = absurd (none-some x at)
 take_next (y ∷ ys) zero x at = ap (λ (z : List ℕ). z ∷ []) (same_Some y x at)
 take_next (y ∷ ys) (suc n) x at = ap (λ (zs : List (List ℕ)). y ∷ zs) (take_next ys n x at)
 
--- with one more, they are those of one place more
+-- if the files opened so far are at the first n paths, then after one more they
+-- are at the first n + 1
 pub opened_next : {A : Type 0} (path_of : A → List ℕ) (files : List A) (file : A) (paths : List (List ℕ)) (n : ℕ)
     → map path_of files ≡ take n paths → slice_get paths n ≡ Some (path_of file)
     → map path_of (files ++ file ∷ []) ≡ take (n + 1) paths

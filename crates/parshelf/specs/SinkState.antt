@@ -1,9 +1,9 @@
--- What contracts know of a sink.
+-- A sink, which takes the text that is written, as contracts see it.
 use Rattle.std.specs.Prelude.{◌≡◌, ℕ, ◌+◌, List, [], ◌++◌}
 
--- a sink as contracts see it
+-- the state of a sink
 pub record SinkState : Type 0 where
-  -- all that was written to it
+  -- all bytes that were written to it
   pub bytes : List ℕ
   -- how often it failed, or took nothing of a part that was not empty
   pub failures : ℕ

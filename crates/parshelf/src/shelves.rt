@@ -1,5 +1,6 @@
-//! Files that are read by offset: `shelf` has the trait, `memory` and `disk` the two that there are,
-//! `reading` what is read of any of them, and `names` the mark of a list of files.
+//! Read-only files: `shelf` has the trait, and `memory` and `disk` have its two
+//! implementations. `reading` reads whole parts of any of them, and `names` computes the
+//! fingerprint of a list of files.
 
 mod disk;
 mod memory;

@@ -1,5 +1,5 @@
-//! What a text is written to: `sink` has the trait, `memory` and `writer` the two that there are, and
-//! `writing` how a text is written to any of them.
+//! Sinks, which text is written to: `sink` has the trait, `memory` and `writer` have its two
+//! implementations, and `writing` writes a whole text to any of them.
 
 mod memory;
 mod sink;

@@ -1,4 +1,4 @@
--- What a run over the program's own files leaves of them and of its output.
+-- The state of the program's files and of its output after a run.
 use Rattle.std.proofs.Common.{◌≡◌, ◌∙◌, ℕ, List, [], Option, length, subst, sym, ap, refl}
 use Rattle.std.proofs.lemmas.Option.{slice_get-get_or}
 use Rattle.std.specs.Prelude.{Result, Ok, Err, IfOk, IfErr, IsOkAnd, MatchResult}
@@ -17,7 +17,7 @@ use Rattle.parreport.proofs.LeaveLaws.{packets_later, scanned_later}
 use Rattle.parv.specs.declared.program.Run.{Run}
 use Rattle.parv.specs.Performed.{Outcome, NamesFile, AreOpenedAt, AreUnread, TellsOutcome, TellsUnopened, RunsPlan, left_state_of, unread_state_of}
 
--- what opening files at these paths gives
+-- the result of opening the files at these paths
 abbrev pub Opens : List (List ℕ) → Result DiskShelf OpenFault → Type 0
 Opens paths (Ok s) = AreOpenedAt paths s × AreUnread s
 Opens paths (Err why) = NamesPath (length paths) why
@@ -27,7 +27,7 @@ pub opens : (paths : List (List ℕ)) (n : ℕ) (files : Result DiskShelf OpenFa
 opens paths n (Ok s) counted at unread named = (at, unread)
 opens paths n (Err why) counted at unread named = subst (λ (k : ℕ). NamesPath k why) counted named
 
--- where the packet files are opened, the others are tried, else they are not
+-- if the packet files are opened, the scanned files are tried, and else they are not
 pub opens_same : (paths : List (List ℕ)) (packets scanned other : Result DiskShelf OpenFault) → scanned ≡ other → Opens paths other
     → IfOk packets (λ _. Opens paths scanned)
 opens_same paths (Ok s) scanned other same opened = subst (Opens paths) (sym same) opened
@@ -44,7 +44,7 @@ pub first_unopened : (packets scanned : Result DiskShelf OpenFault) (why : OpenF
     → IfErr packets (λ cause. scanned ≡ Err cause)
 first_unopened packets scanned why is same = rw is same
 
--- the end where a file is not opened names it
+-- if a file isn't opened, the end of the run names it, unless memory was refused
 open_end_names : (paths : List (List ℕ)) (why : OpenFault) → NamesPath (length paths) why → NamesFile (open_end_of paths why)
 open_end_names paths (CannotOpen index) within = rw (slice_get-get_or paths index [] within) refl
 open_end_names paths Memory named = tt
@@ -53,7 +53,8 @@ module _ (plan : Plan) (came : Outcome) where
   abbrev pub Tells : End × Option (List ℕ) → Type 0
   Tells = TellsOutcome came
 
-  -- before it was read on, a shelf was one of which nothing was read
+  -- files whose paths and lengths are the same after the run were, before it, files of
+  -- which nothing was read
   unread : (files left : DiskShelf) → AreUnread files → (disk_state_of left).paths ≡ (disk_state_of files).paths
       → (disk_state_of left).lengths ≡ (disk_state_of files).lengths
       → disk_state_of files ≡ unread_of (disk_state_of left).paths (disk_state_of left).lengths
@@ -61,7 +62,7 @@ module _ (plan : Plan) (came : Outcome) where
       new ∙ ap (λ at. unread_of at (disk_state_of files).lengths) (sym paths)
       ∙ ap (unread_of (disk_state_of left).paths) (sym lengths)
 
-  -- files that are opened, and run over
+  -- files that are all opened: the plan is run over them
   runs : (files left : DiskShelf × DiskShelf) → Opens plan.packets (Ok files.0) → Opens (scanned_paths_of plan) (Ok files.1)
       → TellsRun plan (left_state_of files came.before) (left_state_of left came.after) Tells → RunsPlan plan left came
   runs files left packets scanned run =
@@ -82,7 +83,7 @@ module _ (plan : Plan) (came : Outcome) where
   Done run = DoneAs run (opened_of plan run.packets run.scanned)
 
   module _ (run : Run) where
-    -- files that are not opened
+    -- files that are not all opened: this is reported
     tells_unopened : (paths : List (List ℕ)) (why : OpenFault) → NamesPath (length paths) why → IfOk run.packets AreUnread
         → came.after ≡ came.before → Tells (open_end_of paths why) → TellsUnopened (open_end_of paths why) run came
     tells_unopened paths why named unread same tells = record {
@@ -126,7 +127,7 @@ module _ (plan : Plan) (came : Outcome) where
         → Done run
     performed packets scanned = done packets run.packets scanned run.scanned refl refl
 
-  -- no other file is opened where the packet files are not
+  -- if the packet files aren't opened, no other file is opened
   pub unopened_too : (packets packets_left scanned scanned_left : Result DiskShelf OpenFault) → IfErr packets (λ why. scanned ≡ Err why)
       → IfOk (opened_of plan packets scanned) (λ files. IsOkAnd (opened_of plan packets_left scanned_left) (λ left.
       TellsRun plan (left_state_of files came.before) (left_state_of left came.after) Tells))
@@ -137,7 +138,7 @@ module _ (plan : Plan) (came : Outcome) where
   unopened_too (Ok p) packets_left (Err cause) scanned_left first ran same also = rw same tt
   unopened_too (Err why) packets_left scanned scanned_left first ran same also = rw same (also ∙ first)
 
-  -- the files that are there are still those at the plan's paths
+  -- the files that are open after the run are those at the plan's paths
   pub still_opened : (packets packets_left scanned scanned_left : Result DiskShelf OpenFault) → Opens plan.packets packets
       → IfOk packets (λ _. Opens (scanned_paths_of plan) scanned) → IfErr packets (λ why. scanned ≡ Err why)
       → IfOk (opened_of plan packets scanned) (λ files. IsOkAnd (opened_of plan packets_left scanned_left) (λ left.

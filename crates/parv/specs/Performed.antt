@@ -1,4 +1,5 @@
--- What the program does with the words behind its name.
+-- How the program performs the words after its name: which files it opens and reads,
+-- and what it reports.
 use Rattle.std.specs.Prelude.{◌≡◌, ℕ, List, Option, None, IsSome, Ok, Err, IfOk, IfErr, MatchOption, MatchResult, ⊤}
 use Rattle.parshelf.specs.Disk.{disk_state_of, unread_of}
 use Rattle.parshelf.specs.SinkState.{SinkState}
@@ -14,7 +15,7 @@ use Rattle.parreport.specs.declared.ends.End.TheVariants as end
 use Rattle.parv.specs.declared.program.Performed.{Performed}
 use Rattle.parv.specs.declared.program.Run.{Run}
 
--- files and output, as a run leaves them
+-- the state that a run ends in: its packet files, its scanned files and its output
 abbrev pub left_state_of : DiskShelf × DiskShelf → SinkState → RunState
 left_state_of files out = record {
   packets = disk_state_of files.0;
@@ -22,7 +23,8 @@ left_state_of files out = record {
   out = out;
 }
 
--- files of the same paths and lengths, of which nothing was read, and this output
+-- the state before a run: files of the same paths and lengths, of which nothing was
+-- read, and this output
 abbrev pub unread_state_of : DiskShelf × DiskShelf → SinkState → RunState
 unread_state_of files out = record {
   packets = unread_of (disk_state_of files.0).paths (disk_state_of files.0).lengths;
@@ -30,23 +32,23 @@ unread_state_of files out = record {
   out = out;
 }
 
--- what came of words, and an output before it and after
+-- the result of a command line, with the state of its output before and after
 pub record Outcome : Type 0 where
   pub performed : Performed
   pub before : SinkState
   pub after : SinkState
 
--- if memory for a line wasn't refused, the status and the line are those of this end, about this
--- argument
+-- if memory for the line wasn't refused, the exit status and the line report this end of a run. The
+-- end may have an argument, which is the path of a file
 abbrev pub TellsOutcome : Outcome → End × Option (List ℕ) → Type 0
 TellsOutcome came end = IfOk came.performed.told (λ told. TellsEnd end told.0 told.1.items)
 
--- the plan was run over these files, and the end of that run is told
+-- the plan was run over these files, and the end of that run is reported
 abbrev pub RunsPlan : Plan → DiskShelf × DiskShelf → Outcome → Type 0
 RunsPlan plan files came =
     TellsRun plan (unread_state_of files came.before) (left_state_of files came.after) (TellsOutcome came)
 
--- where a file can't be opened, its path is told
+-- if the end is that a file can't be opened, its path is reported
 abbrev pub NamesFile : End × Option (List ℕ) → Type 0
 NamesFile (end.CannotOpen, path) = IsSome path
 NamesFile _ = ⊤
@@ -56,21 +58,21 @@ abbrev pub AreUnread : DiskShelf → Type 0
 AreUnread files =
     disk_state_of files ≡ unread_of (disk_state_of files).paths (disk_state_of files).lengths
 
--- a file was not opened, or memory was wanted for it: that is told, with the path of the file, and
--- nothing is read or written
+-- a file was not opened, or memory for it was refused: this is reported, with the path of the file,
+-- and nothing is read or written
 pub record TellsUnopened (why : End × Option (List ℕ)) (run : Run) (came : Outcome) : Type 0 where
   pub told : TellsOutcome came why
   pub named : NamesFile why
   pub nothing_read : IfOk run.packets AreUnread
   pub nothing_written : came.after ≡ came.before
 
--- these are files that were opened at these paths, one at each, in their order
+-- these files were opened at these paths, one at each, in their order
 abbrev pub AreOpenedAt : List (List ℕ) → DiskShelf → Type 0
 AreOpenedAt paths files = (disk_state_of files).paths ≡ paths
 
--- the words have a plan, which was run over its files, if they were all opened; where the packet files
--- were not, no other shelf is given. Whatever came, the files that are there are those at the plan's
--- paths
+-- the words have a plan, which was run over its files, if they were all opened. If the packet
+-- files weren't, there are no scanned files either. In any case the files that are open are
+-- those at the plan's paths
 pub record PerformsPlan (words : List (List ℕ)) (run : Run) (came : Outcome) : Type 0 where
   pub plan : Plan
   pub planned : plan_of words ≡ Ok plan
@@ -81,19 +83,19 @@ pub record PerformsPlan (words : List (List ℕ)) (run : Run) (came : Outcome) :
       (λ files. RunsPlan plan files came)
       (λ why. TellsUnopened why run came)
 
--- the words have no plan by this fault, and that is told
+-- the words have no plan because of this error, and it is reported
 pub record TellsFault (words : List (List ℕ)) (status : ℕ) (line : List ℕ) : Type 0 where
   pub fault : PlanFault
   pub refused : plan_of words ≡ Err fault
   pub told : TellsEnd (end.Plan fault, None) status line
 
--- there is no run: the words have no plan, and that is told, unless memory was refused; and nothing is
--- written
+-- there is no run: the words have no plan, which is reported unless memory was refused,
+-- and nothing is written
 pub record RefusesWords (words : List (List ℕ)) (came : Outcome) : Type 0 where
   pub told : IfOk came.performed.told (λ told. TellsFault words told.0 told.1.items)
   pub nothing_written : came.after ≡ came.before
 
--- what came of words: their plan was run, or they are refused
+-- the result of these words: their plan was run, or they are refused
 abbrev pub Performs : List (List ℕ) → Outcome → Type 0
 Performs words came =
     MatchOption came.performed.run (RefusesWords words came) (λ files. PerformsPlan words files came)

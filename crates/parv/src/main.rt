@@ -7,7 +7,7 @@ use crate::program::perform;
 use std::io::Write;
 use std::process::ExitCode;
 
-// Does what the command line asks for, and ends with its exit status.
+// Runs the command line, and ends with its exit status.
 fn main(rt: HostRuntime) -> ExitCode {
     match perform(&rt) {
         Ok((status, line)) => {

@@ -8,25 +8,26 @@ use std::alloc::AllocError;
 use std::fs::{File, Files};
 use std::{env, io};
 
-/// What came of words.
+/// The result of a command line.
 #[derive(Drop)]
 pub struct Performed {
     /// The exit status and the line for standard error, unless memory for them was refused.
     pub told: Result<(u8, Vec<u8>), AllocError>,
-    /// The files that their plan was run over, if they have a plan.
+    /// The files that the plan was run over, if there is a plan.
     pub run: Option<Run>,
 }
 
-/// The files that a plan was run over, or why they were not opened.
+/// The files that a plan was run over, or the reason why they were not opened.
 #[derive(Drop)]
 pub struct Run {
     /// The packet files.
     pub packets: Result<DiskShelf, OpenFault>,
-    /// The files that are scanned; where the packet files were not opened, the same cause.
+    /// The scanned files; if the packet files were not opened, the same reason.
     pub scanned: Result<DiskShelf, OpenFault>,
 }
 
-/// Does what the command line asks for, and gives the exit status and the line for standard error.
+/// Runs the command line, and returns the exit status and the line for standard error. It fails if
+/// memory for these is refused.
 pub fn perform(rt: &HostRuntime) -> Result<(u8, Vec<u8>), AllocError> {
     let args = match env::args(rt) {
         Ok(args) => args,
@@ -39,7 +40,7 @@ pub fn perform(rt: &HostRuntime) -> Result<(u8, Vec<u8>), AllocError> {
     performed.told
 }
 
-// Does what the words after the program's name ask for. By its bounds `rt` gives files and memory,
+// Runs the words after the program's name. The bounds of `R` allow it files and memory,
 // and no standard output.
 fn perform_words<R: AllocGlobal + Files<File = File>, W: Sink>(
     rt: &R,
@@ -62,7 +63,7 @@ fn perform_words<R: AllocGlobal + Files<File = File>, W: Sink>(
         }
     };
     let mut packets = DiskShelf::open(rt, alloc, plan.packets.as_slice());
-    // Where the packet files can't all be opened, no other file is.
+    // If the packet files can't all be opened, no other file is opened.
     let mut scanned = match &packets {
         Ok(_) => DiskShelf::open(rt, alloc, files_to_scan(&plan)),
         Err(why) => Err(*why),

@@ -1,4 +1,4 @@
--- Lists of any items.
+-- Lists of items of any type.
 use Rattle.std.proofs.Common.{◌≡◌, ℕ, ◌+◌, ◌-◌, ◌<◌, ◌≤◌, zero, suc, Bool, true, false, cond, nat_lt, List, [], ◌∷◌, ◌++◌, ◌&&◌, length, take, drop, get_or, refl, sym, ap, ◌∙◌, arith, zero-add, inl, inr, length-drop, length-take, get_or-drop}
 use Rattle.std.specs.Prelude.{All, Contains}
 use Rattle.std.specs.Cmp.{IsStrictWeakOrder}
@@ -11,24 +11,24 @@ use Rattle.std.proofs.lemmas.List.Sums.{count_by-le-length, length-filter, sum_b
 use Rattle.std.proofs.lemmas.List.Elements.{All-filter, filter_agree}
 use Rattle.std.proofs.lemmas.List.Sorted.{sorted_far}
 
--- `&items[k..]`
+-- the items from index k on, as the code writes it: `&items[k..]`
 pub rest_is : {A : Type 0} (xs : List A) (k : ℕ) → take (length xs - k) (drop k xs) ≡ drop k xs
 rest_is xs k = take_all (length xs - k) (drop k xs) (omega (arith, length-drop k xs))
 
--- one item more that fails a test
+-- if no item before index i passes a test and item i doesn't, none of the first i + 1 passes
 pub none_more : {A : Type 0} (p : A → Bool) (xs : List A) (i : ℕ) (d : A) → i < length xs
     → list_any p (take i xs) ≡ false
     → p (get_or xs i d) ≡ false → list_any p (take (i + 1) xs) ≡ false
 none_more p xs i d within none shut = list_any_more p xs i d within ∙ (rw (none, shut) refl)
 
--- the first of more
+-- the first m of the first n items are the first m items
 pub take_fewer : {A : Type 0} (m n : ℕ) (xs : List A) → m ≤ n → take m (take n xs) ≡ take m xs
 take_fewer zero n xs few = refl
 take_fewer (suc m) zero xs few = absurd (omega arith)
 take_fewer (suc m) (suc n) [] few = refl
 take_fewer (suc m) (suc n) (x ∷ xs) few = ap (λ l. x ∷ l) (take_fewer m n xs (omega arith))
 
--- the items that pass a test are side by side if those of a part pass and no others do
+-- if only the items from index `from` up to from + n pass a test, filtering returns these items
 pub filter_between : {A : Type 0} (p : A → Bool) (xs : List A) (from n : ℕ) → from + n ≤ length xs
     → AllWithin (λ x. p x ≡ false) xs 0 from
     → AllWithin (λ x. p x ≡ true) xs from (from + n)
@@ -56,7 +56,7 @@ filter_between p (x ∷ xs) zero (suc n) few before those after =
     (λ k d low high. those (suc k) d (omega arith) (omega arith))
     (λ k d low high. after (suc k) d (omega arith) (omega arith))))
 
--- a weaker test before another leaves nothing out
+-- filtering by a weaker test first leaves nothing out
 pub filter_twice : {A : Type 0} (p q : A → Bool) → ((x : A) → q x ≡ true → p x ≡ true)
     → (xs : List A) → filter q (filter p xs) ≡ filter q xs
 filter_twice p q weaker [] = refl
@@ -68,7 +68,7 @@ filter_twice p q weaker (x ∷ xs) = elim (cases_Bool (p x)) [
       rw (fails, other) (filter_twice p q weaker xs)
 ]
 
--- an item that passes stays
+-- an item that passes a test is in the filtered list
 pub contains_filter : {A : Type 0} (p : A → Bool) (xs : List A) (x : A) → p x ≡ true → (k : ℕ)
     → k < length xs
     → get_or xs k x ≡ x → Contains (filter p xs) x
@@ -83,11 +83,11 @@ contains_filter p (y ∷ ys) x passes (suc k) within is =
       | inr gone ↦ rw gone there
     ]
 
--- no more pass than there are
+-- no more items pass a test than there are
 pub few_pass : {A : Type 0} (p : A → Bool) (xs : List A) → length (filter p xs) ≤ length xs
 few_pass p xs = rw length-filter (count_by-le-length p xs)
 
--- some item passes exactly where a filter leaves some
+-- some item passes a test exactly if the filtered list isn't empty
 pub some_left : {A : Type 0} (p : A → Bool) (xs : List A)
     → nat_lt 0 (length (filter p xs)) ≡ list_any p xs
 some_left p [] = refl
@@ -96,7 +96,7 @@ some_left p (x ∷ xs) = elim (cases_Bool (p x)) [
   | inr fails ↦ rw fails (some_left p xs)
 ]
 
--- one number more
+-- consecutive numbers, and one number more at their end
 range_more : (first n next : ℕ) → first + n ≡ next
     → range_with_len first (n + 1) ≡ range_with_len first n ++ next ∷ []
 range_more first zero next is = let same : first ≡ next = omega arith in ap (λ k. k ∷ []) same
@@ -111,7 +111,8 @@ count_range_more p n =
     ap (count_by p) (range_more 0 n n (omega arith))
     ∙ sum_by_push (λ k. cond (p k) 1 0) (range_with_len 0 n) n
 
--- the numbers after a first one are those before them and one
+-- counting from first + 1 on gives the number of those from `first` on whose
+-- successors pass the test
 pub count_range_rest : (p : ℕ → Bool) (first n : ℕ)
     → count_by p (range_with_len (first + 1) n) ≡ count_by (λ k. p (suc k)) (range_with_len first n)
 count_range_rest p first zero = refl
@@ -121,13 +122,13 @@ count_range_rest p first (suc n) =
     ∙ (rw (count_range_rest p (first + 1) n, one) refl)
     ∙ sym (sum_by-cons (λ k. cond (p (suc k)) 1 0) first (range_with_len (first + 1) n))
 
--- two tests that agree count the same
+-- two tests that agree on all items count the same number
 pub count_agree : {A : Type 0} (p q : A → Bool) → ((x : A) → p x ≡ q x) → (xs : List A)
     → count_by p xs ≡ count_by q xs
 count_agree p q same xs =
     sym (length-filter p xs) ∙ ap length (filter_agree p q same xs) ∙ length-filter q xs
 
--- how many of those that pass one test pass another
+-- of the items that pass one test, those that pass another are those that pass both
 pub count_filter : {A : Type 0} (p q both : A → Bool) → ((x : A) → both x ≡ (p x && q x))
     → (xs : List A) → count_by q (filter p xs) ≡ count_by both xs
 count_filter p q both is [] = refl
@@ -144,7 +145,7 @@ count_filter p q both is (x ∷ xs) =
           rw fails (rest ∙ sym (sum_by-cons (λ y. cond (both y) 1 0) x xs ∙ (rw here (zero-add _))))
     ]
 
--- what is left of a sorted list is sorted
+-- the items of a sorted list that pass a test are sorted
 sorted_cons : {A : Type 0} (lt : A → A → Bool) (x : A) (ys : List A)
     → All (λ y. lt y x ≡ false) ys
     → IsSortedBy lt ys → IsSortedBy lt (x ∷ ys)

@@ -1,5 +1,5 @@
--- The slices of a recovery set with their checksums, as an index has them
--- (PAR2 2.0, Input File Slice Checksum packet).
+-- The slices of a recovery set with their checksums, as an index sees them (PAR2 2.0, Input File
+-- Slice Checksum packet).
 use Rattle.std.specs.Prelude.{◌≡◌, ℕ, ◌-◌, ◌<◌, ◌≤◌, ◌%◌, ◌==◌, ◌&&◌, nat_le, Bool, false, List, length, slice_get, is_some, filter, All}
 use Rattle.std.specs.List.{list_any, range_with_len}
 use Rattle.std.specs.Option.{option_map_or}
@@ -10,18 +10,19 @@ use Rattle.parfield.specs.Md5.{md5}
 use Rattle.parwindow.specs.Crc32.{crc_of}
 use Rattle.parset.specs.Limits.{slice_size_limit, slice_limit}
 
--- the slices of a set
+-- the slices of a recovery set
 pub record SliceSet : Type 0 where
-  -- how many bytes a slice has once zeros fill it
+  -- how many bytes a slice has with its padding
   pub slice_size : ℕ
-  -- the slices, by number: how many bytes each has of its file, and its sums, where they are known
+  -- the slices in the order of their numbers: the unpadded length of each, and its
+  -- checksums if they are known
   pub slices : List SetSlice
 
--- the slices of a recovery set of this slice size
+-- the slices of a recovery set that has this slice size
 abbrev pub slice_set_of : ℕ → List SetSlice → SliceSet
 slice_set_of size slices = record { slice_size = size; slices = slices }
 
--- what holds of the slices of an index
+-- the limits that the slices of an index satisfy
 pub record IsSliceSet (set : SliceSet) : Type 0 where
   pub least_size : 4 ≤ set.slice_size
   pub greatest_size : set.slice_size ≤ slice_size_limit
@@ -29,20 +30,20 @@ pub record IsSliceSet (set : SliceSet) : Type 0 where
   pub few : length set.slices ≤ slice_limit
   pub own : All (λ slice. (0 < slice.length) × (slice.length ≤ set.slice_size)) set.slices
 
--- slice n is there, and passes a test
+-- there is a slice n, and it passes a test
 abbrev pub slice_passes : List SetSlice → (SetSlice → Bool) → ℕ → Bool
 slice_passes slices test n = option_map_or test (slice_get slices n) false
 
--- the sums of bytes: their MD5 and their CRC-32
+-- the checksums of bytes: their MD5 and their CRC-32
 abbrev pub sums_of : List ℕ → Hash16 × ℕ
 sums_of bytes = (record { 0 = md5 bytes }, crc_of bytes)
 
--- the sums of a slice are known, and they are these
+-- the checksums of the slice are known, and they are these
 abbrev pub has_sums : Hash16 × ℕ → SetSlice → Bool
 has_sums sums slice =
     option_map_or (λ known. known.1 == sums.1 && bytes_eq known.0.0 sums.0.0) slice.sums false
 
--- the sums of a slice are known, and this is its CRC-32
+-- the checksums of the slice are known, and its CRC-32 is this one
 abbrev pub has_known_crc : ℕ → SetSlice → Bool
 has_known_crc crc slice = option_map_or (λ known. known.1 == crc) slice.sums false
 
@@ -50,27 +51,27 @@ has_known_crc crc slice = option_map_or (λ known. known.1 == crc) slice.sums fa
 abbrev pub set_has_crc : SliceSet → ℕ → Bool
 set_has_crc set crc = list_any (has_known_crc crc) set.slices
 
--- the sums of a slice are known, and at most so many of its bytes are its file's
+-- the checksums of the slice are known, and its unpadded length is at most `left`
 abbrev pub has_fit_of : ℕ → SetSlice → Bool
 has_fit_of left slice = option_map_or (λ known. nat_le slice.length left) slice.sums false
 
--- some slice is such a one
+-- some slice has known checksums and an unpadded length of at most `left`
 abbrev pub set_has_fit : SliceSet → ℕ → Bool
 set_has_fit set left = list_any (has_fit_of left) set.slices
 
--- the sums of a slice are known
+-- the checksums of the slice are known
 abbrev pub has_known_sums : SetSlice → Bool
 has_known_sums slice = is_some slice.sums
 
--- so many bytes of a slice are its file's, and it passes a test
+-- the slice's unpadded length is `own`, and it passes a test
 abbrev pub has_own : ℕ → (SetSlice → Bool) → SetSlice → Bool
 has_own own test slice = slice.length == own && test slice
 
--- some slice with so many bytes of its file has this CRC-32
+-- some slice of this unpadded length has this CRC-32
 abbrev pub set_has_own_crc : SliceSet → ℕ → ℕ → Bool
 set_has_own_crc set crc own = list_any (has_own own (has_known_crc crc)) set.slices
 
--- the own lengths of slices with sums that are below the slice size, rising
+-- the short-slice lengths of a set, in increasing order
 abbrev pub tails_of : SliceSet → List ℕ
 tails_of set =
     filter (λ own. list_any (has_own own has_known_sums) set.slices)

@@ -1,4 +1,4 @@
--- What holds of the fields of an index.
+-- The facts that hold for the fields of an index.
 use Rattle.std.specs.Prelude.{◌≡◌, ℕ, nat_le, false, Option, List}
 use Rattle.std.specs.List.{list_any}
 use Rattle.std.specs.Option.{option_map_or}
@@ -10,16 +10,17 @@ use Rattle.parwindow.specs.LowSets.{HaveLows}
 use Rattle.parwindow.specs.OwnLengths.{AreExactlyOf, AreLengthsOf}
 use Rattle.parwindow.specs.declared.index.Index.TheInside.{Inside}
 
--- the least own length of the slices with sums, where there are some: one of them has at most so
--- many bytes where the least one has
+-- `shortest` is the least unpadded length of the slices with known checksums, if there are any:
+-- whether some slice fits into the bytes left follows from it
 abbrev pub IsShortest : List SetSlice → Option ℕ → Type 0
 IsShortest slices shortest =
     (left : ℕ)
     → option_map_or (λ least. nat_le least left) shortest false ≡ list_any (has_fit_of left) slices
 
--- its slices are those of a set, its filters have the register of each and of each shorter one
--- before its zeros, and its low sets the latter too, and its entries, its lengths, its shortest
--- length and its tails are theirs
+-- the fields of an index agree with its slices: the slices are within their limits; the filters
+-- have the registers of all slices, and the registers that short slices have before their padding,
+-- which the low sets have too; and the entries, the lengths, the shortest length and the
+-- short-slice lengths are right for the slices
 pub record IsIndexed (i : Inside) : Type 0 where
   pub slices : IsSliceSet (slice_set_of i.size i.slices)
   pub has : HasSlices i.slices i.filter

@@ -1,4 +1,4 @@
--- The fields of a window.
+-- The fields of a window, and what contracts see of them.
 use Rattle.std.specs.Prelude.{◌≡◌, ◌+◌, ◌≤◌, All, IfSome, length}
 use Rattle.parwindow.specs.Crc32.{register_of}
 use Rattle.parwindow.specs.Running.{IsRun}
@@ -6,7 +6,7 @@ use Rattle.parwindow.specs.Tails.{tail_lengths_of, IsTail}
 use Rattle.parwindow.specs.Window.{WindowState}
 use Rattle.parwindow.specs.declared.window.Window.TheInside.{Inside}
 
--- what a contract sees of them
+-- the window as contracts see it
 abbrev pub window_view : Inside → WindowState
 window_view w = record {
   content = w.ring.items;
@@ -15,8 +15,8 @@ window_view w = record {
   digests = w.digests.count;
 }
 
--- its register is that of its bytes, its tables and its tails are those of its size, and so is its
--- running register, if there is one
+-- the fields of a window agree: its register is the register of its bytes, and its tables, its
+-- tails and its running register (if there is one) are right for its size and its bytes
 pub record IsRolled (w : Inside) : Type 0 where
   pub within : length w.ring.items ≤ w.ring.capacity
   pub room : w.ring.capacity ≡ w.tables.others + 1

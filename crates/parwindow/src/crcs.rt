@@ -1,11 +1,11 @@
 //! CRC-32: of a list of bytes, and of runs of zeros.
 //!
-//! From below: `table` and `far_table` are what steps of a CRC-32 make of each byte, by number.
-//! `checksum` takes eight bytes at a time by them. `zero_run` is a run of zeros, which is a linear
-//! map of registers, made by squaring; `zero_runs` are such maps of each power of two, by which
-//! zeros are also taken back. `lanes` are vectors of sixteen bytes. `nibbles` are those of
-//! registers, by which `low_bytes` looks up what a run of zeros makes of the low bytes of sixteen
-//! registers.
+//! The lowest modules come first: `table` and `far_table` have the register after some steps, for
+//! each byte. `checksum` uses them to take eight bytes at a time. `zero_run` is a run of zeros: a
+//! linear map of registers, which is made by squaring. `zero_runs` has these maps for each power of
+//! two, and can also take zeros back. `lanes` are vectors of sixteen bytes. `nibbles` has the
+//! nibbles (groups of four bits) of registers, by which `low_bytes` looks up the low bytes of
+//! sixteen registers after a run of zeros.
 
 mod checksum;
 mod far_table;

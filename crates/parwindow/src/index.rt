@@ -19,7 +19,7 @@ use parset::{RecoverySet, SetSlice};
 use std::alloc::{AllocError, Global};
 use std::marker::Model;
 
-/// The slices of a recovery set, by number and by their sums.
+/// The slices of a recovery set, which are looked up by number and by their checksums.
 #[derive(Drop)]
 pub struct Index {
     size: u64,
@@ -57,7 +57,7 @@ impl RegisterSet for Index {
 }
 
 impl Index {
-    /// The slices of a recovery set. No call but this one and `missing` takes memory.
+    /// Makes the index of a recovery set. No other call except `missing` takes memory.
     pub fn new(alloc: Global, set: &RecoverySet) -> Result<Index, AllocError>
         ensures { IfOk result (λ index. index ≡ slice_set_of set.now.size set.now.slices) }
     {
@@ -66,7 +66,7 @@ impl Index {
         Index::of(alloc, set.size(), slices, entries)
     }
 
-    /// All slices by their numbers, but those that are found without their checksums, so that
+    /// Makes an index of the same slices, in which those that are found have no checksums, so that
     /// nothing looks for them. `found` has a flag for each slice, by number.
     pub fn missing(&self, alloc: Global, found: &[bool]) -> Result<Index, AllocError>
         requires { length found.now ≡ length self.now.slices }
@@ -77,7 +77,7 @@ impl Index {
         Index::of(alloc, self.size(), slices, entries)
     }
 
-    // These slices, of this slice size, with their entries.
+    // Makes the index of these slices, with this slice size and these entries.
     fn of(
         alloc: Global,
         size: u64,
@@ -103,7 +103,7 @@ impl Index {
         })
     }
 
-    /// The slice size in bytes.
+    /// Returns the slice size in bytes.
     pub fn size(&self) -> u64
         ensures size { result ≡ self.now.slice_size }
         ensures least { 4 ≤ result }
@@ -114,7 +114,7 @@ impl Index {
         self.size
     }
 
-    /// How many slices there are.
+    /// Returns the number of slices.
     pub fn slices(&self) -> u32
         ensures slices { result ≡ length self.now.slices }
         ensures few { result ≤ slice_limit }
@@ -122,7 +122,7 @@ impl Index {
         self.slices.len() as u32
     }
 
-    /// How many bytes of a slice are its file's.
+    /// Returns the unpadded length of a slice in bytes.
     pub fn own_length(&self, slice: u32) -> u64
         requires { slice < length self.now.slices }
         ensures own { IsSomeAnd (slice_get self.now.slices slice) (λ own. result ≡ own.length) }
@@ -140,21 +140,21 @@ impl Index {
         self.slices.as_slice()[slice as usize].sums.is_some()
     }
 
-    /// Whether some slice with sums has at most so many bytes of its file.
+    /// Whether some slice with known checksums has an unpadded length of at most `left` bytes.
     pub fn fits(&self, left: u64) -> bool
         ensures { result ≡ set_has_fit self.now left }
     {
         self.shortest.is_some_and(|least| least <= left)
     }
 
-    /// How many own lengths below the slice size there are, of slices with sums.
+    /// Returns the number of short-slice lengths.
     pub fn tails(&self) -> u32
         ensures { result ≡ length (tails_of self.now) }
     {
         self.tails.len() as u32
     }
 
-    /// Length `k` of these, from the least on.
+    /// Returns short-slice length number `k`; number 0 is the least.
     pub fn tail(&self, k: u32) -> u64
         requires { k < length (tails_of self.now) }
         ensures { result ≡ slice_index (tails_of self.now) k }
@@ -162,7 +162,7 @@ impl Index {
         self.tail_lengths()[k as usize] as u64
     }
 
-    /// All of these lengths, from the least on.
+    /// Lends all short-slice lengths, the least one first.
     pub fn tail_lengths(&self) -> &[usize]
         ensures all { result.now ≡ tails_of self.now }
         ensures tails { AreTails self.now.slice_size result.now }
@@ -170,7 +170,7 @@ impl Index {
         self.tails.as_slice()
     }
 
-    /// Whether this is one of them.
+    /// Whether `own` is a short-slice length.
     pub(crate) fn has_tail(&self, own: usize) -> bool
         ensures { result ≡ list_any (λ tail. tail == own) (tails_of self.now) }
     {
@@ -184,22 +184,23 @@ impl Index {
         self.filter.may_have(crc ^ 0xFFFF_FFFF) && self.entries.has_crc(crc)
     }
 
-    /// Whether some slice has this CRC-32 and at most so many bytes of its file.
+    /// Whether some slice has this CRC-32 and an unpadded length of at most `left` bytes.
     pub fn has_fit_crc(&self, crc: u32, left: u64) -> bool
         ensures { result ≡ set_has_fit_crc self.now crc left }
     {
         self.has_crc(crc) && self.lengths.has(crc, left)
     }
 
-    /// Whether some slice has this CRC-32 and so many bytes of its file.
+    /// Whether some slice has this CRC-32 and this unpadded length.
     pub fn has_crc_of(&self, crc: u32, own: u64) -> bool
         ensures { result ≡ set_has_own_crc self.now crc own }
     {
         self.has_crc(crc) && self.lengths.has_exactly(crc, own)
     }
 
-    /// Whether some slice that isn't found has this CRC-32 and at most so many bytes of its file.
-    /// `found` has a flag for each slice, by number. Goes over the slices with this CRC-32 once.
+    /// Whether some slice that isn't found has this CRC-32 and an unpadded length of at
+    /// most `left` bytes. `found` has a flag for each slice, by number. Goes over the
+    /// slices with this CRC-32 once.
     pub fn is_missing(&self, crc: u32, left: u64, found: &[bool]) -> bool
         requires { length found.now ≡ length self.now.slices }
         ensures { result ≡ set_has_missing self.now found.now crc left }
@@ -208,7 +209,7 @@ impl Index {
             .is_missing(self.slices.as_slice(), crc, left, found)
     }
 
-    /// Whether `is_missing` holds of the slices with so many bytes of their files alone.
+    /// Whether the same holds for some slice whose unpadded length is `own`.
     pub fn is_missing_of(&self, crc: u32, own: u64, left: u64, found: &[bool]) -> bool
         requires { length found.now ≡ length self.now.slices }
         ensures { result ≡ set_has_own_missing self.now found.now crc own left }
@@ -217,7 +218,7 @@ impl Index {
             .is_missing_of(self.slices.as_slice(), crc, own, left, found)
     }
 
-    /// The first slice from a number on that has this CRC-32.
+    /// Returns the first slice, from number `from` on, that has this CRC-32.
     pub fn next_crc(&self, crc: u32, from: u32) -> Option<u32>
         ensures found { IsLeastFrom (slice_passes self.now.slices (has_known_crc crc)) from result }
         ensures there { IfSome result (λ n. n < length self.now.slices) }
@@ -225,7 +226,7 @@ impl Index {
         self.entries.next_crc(crc, from)
     }
 
-    /// How many slices have this CRC-32.
+    /// Returns the number of slices that have this CRC-32.
     pub fn count_crc(&self, crc: u32) -> u32
         ensures count { result ≡ length (filter (has_known_crc crc) self.now.slices) }
         ensures few { result ≤ slice_limit }
@@ -233,8 +234,8 @@ impl Index {
         self.entries.count_crc(crc) as u32
     }
 
-    /// Whether zeros up to the slice size may make of this register the CRC-32 of a slice that is
-    /// shorter.
+    /// Whether zeros up to the slice size may turn this register into the CRC-32 of a short slice.
+    /// If it returns false, they don't.
     pub(crate) fn may_have_tail(&self, register: u32) -> bool
         ensures { (own : ℕ) → own < self.now.slice_size
             → IsTrue (set_has_own_crc self.now
@@ -243,9 +244,9 @@ impl Index {
         self.tail_filter.may_have(register)
     }
 
-    /// Whether these zeros make of this register the CRC-32 of a slice of this own length. Nearly
-    /// no register for which `may_have_tail` is asked first comes so far, so it stays out of the
-    /// loops.
+    /// Whether these zeros turn this register into the CRC-32 of a slice of this unpadded
+    /// length. It is asked only if `may_have_tail` returned true, which is rare, so it isn't
+    /// inlined into the loops.
     #[inline(never)]
     pub(crate) fn has_tail_register(&self, register: u32, zeros: &ZeroRun, own: usize) -> bool
         ensures { result ≡ set_has_own_crc self.now (zeros_crc zeros.now.len register) own }
@@ -253,8 +254,8 @@ impl Index {
         self.has_crc_of(zeros.apply(register) ^ 0xFFFF_FFFF, own as u64)
     }
 
-    /// The low bytes of the registers of which zeros up to the slice size make the CRC-32 of a
-    /// slice of this own length.
+    /// Lends the set of the low bytes of registers that zeros up to the slice size turn into the
+    /// CRC-32 of a slice of this unpadded length.
     pub(crate) fn low_set(&self, own: usize) -> &LowSet
         requires { own < self.now.slice_size }
         ensures { (register : ℕ) → register < 2 ^ 32 → IsTrue (set_has_own_crc self.now
@@ -263,24 +264,25 @@ impl Index {
         self.lows.of_length(own as u32)
     }
 
-    /// The first slice from a number on that has both sums.
+    /// Returns the first slice, from number `from` on, that has both checksums.
     pub fn next_match(&self, crc: u32, digest: Hash16, from: u32) -> Option<u32>
         ensures found { IsLeastFrom (slice_passes self.now.slices (has_sums (digest, crc)))
             from result }
 
-        // It is the number of a slice, of which there are few.
+        // It is the number of a slice, and there are few slices.
         ensures there { IfSome result (λ n. n < length self.now.slices) }
         ensures few { length self.now.slices ≤ slice_limit }
     {
         self.entries.next_match(crc, digest, from)
     }
 
-    /// The first slice from a number on that has both sums, and so many bytes of its file.
+    /// Returns the first slice, from number `from` on, that has both checksums and
+    /// this unpadded length.
     pub fn next_match_of(&self, crc: u32, digest: Hash16, own: u64, from: u32) -> Option<u32>
         ensures found { IsLeastFrom
             (slice_passes self.now.slices (has_own own (has_sums (digest, crc)))) from result }
 
-        // It is the number of a slice, of which there are few.
+        // It is the number of a slice, and there are few slices.
         ensures there { IfSome result (λ n. n < length self.now.slices) }
         ensures few { length self.now.slices ≤ slice_limit }
     {
@@ -295,7 +297,7 @@ impl Index {
     }
 }
 
-// All slices, but those that are found without their checksums.
+// Copies the slices; those that are found lose their checksums.
 fn each_unless_found(
     alloc: Global,
     slices: &[SetSlice],
@@ -311,7 +313,7 @@ fn each_unless_found(
     Ok(list)
 }
 
-// The slice, without its checksums if it is found.
+// Copies a slice, without its checksums if it is found.
 fn unless_found(slice: &SetSlice, found: bool) -> SetSlice
     ensures { result ≡ unless_found (slice.now, found) }
 {
@@ -325,7 +327,7 @@ fn unless_found(slice: &SetSlice, found: bool) -> SetSlice
     }
 }
 
-// The least own length of the slices with sums.
+// Returns the least unpadded length of the slices with known checksums.
 fn shortest_of(slices: &[SetSlice]) -> Option<u64>
     ensures { IsShortest slices.now result }
 {

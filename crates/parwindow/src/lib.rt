@@ -1,16 +1,16 @@
-//! CRC-32, a window of the last bytes of a stream with its checksums, and the slices that have
-//! given checksums.
+//! CRC-32, a window of the last bytes of a stream with its checksums, and the slices that
+//! have given checksums.
 //!
-//! From below: `crcs` makes the CRC-32 of bytes and of zeros. `rolling` moves the register of a
-//! full window from byte to byte. `slices` has lists of the slices with checksums, and `index`
-//! answers by them which slices have a given CRC-32 or MD5. `tails` are the shorter lengths of a
-//! window. `window` is the ring of the last bytes with all registers, and `laws` says what windows
-//! and CRC-32s keep.
+//! The lowest modules come first: `crcs` computes the CRC-32 of bytes and of zeros. `rolling` moves
+//! the register of a full window from byte to byte. `slices` has lists of the slices with known
+//! checksums, and `index` uses them to find the slices that have a given CRC-32 or MD5. `tails` are
+//! the short-slice lengths of a window, with a register for each. `window` is a ring buffer of the
+//! last bytes with all registers, and `laws` states laws of windows and CRC-32s.
 //!
 //! Four verbs have one meaning each. You *push* a byte into a window: it comes in at the end, and
-//! the first byte of a full window falls out. A register *rolls* when one byte goes and one comes.
-//! Tails *look ahead* along bytes that are not pushed yet. A place is *passed* when no slice has
-//! the checksum of the window there.
+//! if the window is full, the first byte falls out. A register *rolls* when one byte leaves and one
+//! comes. Tails *look ahead* along bytes that are not pushed yet. A position is *passed* if no
+//! slice has the checksum of the window there.
 #![tactic(auto)]
 
 mod crcs;

@@ -1,7 +1,7 @@
 //! The register of a full window, which rolls: as one byte comes, the first one is taken out of it.
 //!
-//! `register_set` is what a roll looks for, `roll` is how far it came, and `roll_tables` has the
-//! tables by which it goes.
+//! `register_set` is a set of registers that a roll looks for, `roll` says how far it came, and
+//! `roll_tables` has the tables that it uses.
 
 mod register_set;
 mod roll;

@@ -1,10 +1,10 @@
-//! The slices of a set that have checksums, in the orders in which an index asks for them.
+//! The slices of a set that have known checksums, in the orders in which an index looks them up.
 //!
-//! `entries` are sorted by both checksums, and a `directory` has the part of this list that can
-//! have a CRC-32. `own_lengths` have each CRC-32 with how many bytes of the slice are its file's.
-//! `short_lengths` are those of these lengths that are below the slice size. `bit_set` and
-//! `bloom_filter` say of nearly every register that it is no slice's, before any of these lists is
-//! asked. `low_sets` say so of sixteen registers at a time, by their low bytes.
+//! `entries` are sorted by both checksums, and a `directory` has the part of this list in which a
+//! CRC-32 can be. `own_lengths` have each CRC-32 with the unpadded length of its slice, and
+//! `short_lengths` are the lengths below the slice size. `bit_set` and `bloom_filter` show for
+//! nearly every register that no slice has it, before any of these lists is looked at. `low_sets`
+//! do the same for sixteen registers at a time, by their low bytes.
 
 mod bit_set;
 mod bloom_filter;

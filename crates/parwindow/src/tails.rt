@@ -1,12 +1,12 @@
-//! The shorter lengths of a window, its *tails*: each has a register of its own, of as many first
-//! bytes of the window, and looks for the slices of this length.
+//! The short-slice lengths of a window, its *tails*: each has a register of that many first bytes
+//! of the window, and looks for the slices of this length.
 //!
-//! `tail` is one of them. `tail_list` are those of a window: one byte is pushed into all of them.
-//! `stream` is a full window with the bytes that come next, and `tail_slices` are the slices of a
-//! tail's length, up to one of which its register rolls along a stream. `running` is one register
-//! for all of several tails, and `places` are those of a stream by it. `ahead` looks along a stream
-//! by all tails, and moves them only if none of them is at a slice. `waiting_tails` are made before
-//! a window looks by them.
+//! `tail` is one of them. `tail_list` has functions for all tails of a window, such as pushing a
+//! byte. `stream` is a full window with the bytes that come next. `tail_slices` rolls a tail's
+//! register along a stream, up to a slice of the tail's length. `running` is one running register
+//! that serves several tails, and `places` has its values along a stream. `ahead` looks along a
+//! stream for all tails, and moves them only if none of them is at a slice. `waiting_tails` are
+//! made before a window looks for short slices.
 
 mod ahead;
 mod places;

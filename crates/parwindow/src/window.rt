@@ -24,10 +24,10 @@ use parfield::{Hash16, Tally};
 use std::alloc::{AllocError, Global};
 use std::marker::Model;
 
-// How many bytes tails look ahead at most in one go.
+// The most bytes that tails look ahead at one time.
 const LONGEST_PIECE: usize = 512;
 
-/// The last bytes of a stream, at most as many as its capacity, and their CRC-32.
+/// The last bytes of a stream, no more than its capacity, and their CRC-32.
 #[derive(Drop)]
 pub struct Window {
     ring: HeapCircularBuffer<u8>,
@@ -54,7 +54,7 @@ impl Model for Window {
 }
 
 impl Window {
-    /// An empty window for `size` bytes, from 1 to 268,435,456.
+    /// Makes an empty window of `size` bytes, from 1 to 268,435,456.
     pub fn new(alloc: Global, size: usize) -> Result<Window, AllocError>
         requires some { 0 < size }
         requires within { size ≤ slice_size_limit }
@@ -63,10 +63,10 @@ impl Window {
         Window::with_tails(alloc, size, &[])
     }
 
-    /// An empty window for `size` bytes, of which the first ones are looked at too, by up to 256
-    /// shorter lengths. No call but this one and `new` takes memory.
+    /// Makes an empty window of `size` bytes that also looks for short slices, of up to 256
+    /// lengths. No other call except `new` takes memory.
     #[tactic(auto, unfolding(crate::specs::Crc32::register_of))]
-    // A call of its own in the program, so that windows can be counted.
+    // Not inlined, so that windows can be counted in the program.
     #[inline(never)]
     pub fn with_tails(alloc: Global, size: usize, tails: &[usize]) -> Result<Window, AllocError>
         requires some { 0 < size }
@@ -87,7 +87,7 @@ impl Window {
         })
     }
 
-    /// Appends a byte. The first byte falls out of a full window, and is the answer.
+    /// Appends a byte. If the window is full, its first byte falls out and is returned.
     pub fn push(&mut self, byte: u8) -> Option<u8>
         ensures content { self.new ≡ record self.old { content = content_after self.old byte } }
         ensures answer { result ≡ fallen_byte self.old }
@@ -99,7 +99,7 @@ impl Window {
         fallen
     }
 
-    /// Appends bytes, for all of which there is room.
+    /// Appends bytes to a window that has space for all of them.
     pub fn extend(&mut self, bytes: &[u8])
         requires { length self.old.content + length bytes.now ≤ self.old.capacity }
         ensures { self.new ≡ record self.old { content = self.old.content ++ bytes.now } }
@@ -113,7 +113,7 @@ impl Window {
         }
     }
 
-    // The same without tails: the ring and the register take all bytes at once.
+    // Does the same without tails: the ring and the register take all bytes at once.
     fn extend_plain(&mut self, bytes: &[u8])
         requires room { length self.old.content + length bytes.now ≤ self.old.capacity }
         requires none { self.old.tails ≡ [] }
@@ -124,9 +124,9 @@ impl Window {
         self.running = None;
     }
 
-    /// Pushes bytes into a full window, of the slice size, until its CRC-32 is that of a slice, or
-    /// that of one of its tails is that of a slice of this own length, or the bytes are used up.
-    /// Returns how many it pushed. If it pushed all, the window may be at such a slice or not.
+    /// Pushes bytes into a full window of the slice size until it is at a slice: the CRC-32 of the
+    /// window or of a tail is the CRC-32 of a slice, for a tail a slice of its length. Returns the
+    /// number of bytes pushed. If these are all, the window may be at a slice or not.
     pub fn push_until(&mut self, index: &Index, bytes: &[u8]) -> usize
         requires full { length self.old.content ≡ self.old.capacity }
         requires sized { self.old.capacity ≡ index.now.slice_size }
@@ -142,7 +142,7 @@ impl Window {
         }
     }
 
-    // The same without tails: the ring is written once, after the loop.
+    // Does the same without tails: the ring is written once, after the loop.
     fn push_plain_until(&mut self, index: &Index, bytes: &[u8]) -> usize
         requires full { length self.old.content ≡ self.old.capacity }
         requires none { self.old.tails ≡ [] }
@@ -160,10 +160,9 @@ impl Window {
         roll.count
     }
 
-    // The same with tails: in chunks, which get longer as long as no slice is met. If one is met in
-    // a chunk, the bytes before it are the next chunk, and then a single byte. After a call that
-    // used up its bytes, the next call goes on at its pace, since many short chunks take longer than
-    // a few long ones. After a stop at a slice, the next call begins with a single byte.
+    // Does the same with tails: first a single byte, then longer and longer pieces, as long
+    // as no slice is met. If one is met in a piece, the bytes before it are the next piece,
+    // and then a single byte.
     fn push_pieces_until(&mut self, index: &Index, bytes: &[u8]) -> usize
         requires full { length self.old.content ≡ self.old.capacity }
         requires sized { self.old.capacity ≡ index.now.slice_size }
@@ -199,9 +198,9 @@ impl Window {
         done
     }
 
-    // Pushes all bytes into a full window, if it is at a slice after none of them. Otherwise
-    // nothing changes, and the answer is fewer: how many places before the first slice were seen to
-    // be passed.
+    // Pushes all bytes into a full window, if it is at a slice after none of them.
+    // Otherwise changes nothing and returns a smaller number: the number of bytes that
+    // are known to be passed.
     fn push_past(&mut self, index: &Index, bytes: &[u8]) -> usize
         requires full { length self.old.content ≡ self.old.capacity }
         requires sized { self.old.capacity ≡ index.now.slice_size }
@@ -210,7 +209,7 @@ impl Window {
         ensures all { result ≡ length bytes.now → PushesPast index.now self.old bytes.now self.new }
         ensures fewer { result < length bytes.now → self.new ≡ self.old }
     {
-        // To look at a single byte takes longer than to push it.
+        // Looking ahead at a single byte takes longer than pushing it.
         if bytes.len() == 1 {
             return 0;
         }
@@ -234,7 +233,7 @@ impl Window {
         passed
     }
 
-    // Pushes a byte into a full window. Whether the window is at a slice then.
+    // Pushes a byte into a full window. Returns whether the window is at a slice then.
     fn push_on(&mut self, index: &Index, byte: u8) -> bool
         requires full { length self.old.content ≡ self.old.capacity }
         requires sized { self.old.capacity ≡ index.now.slice_size }
@@ -244,7 +243,7 @@ impl Window {
         self.push_by_tails(index, byte) || index.has_crc(self.crc())
     }
 
-    // The same. Whether a tail has the CRC-32 of a slice of its length then.
+    // Does the same, but returns whether a tail has the CRC-32 of a slice of its length then.
     fn push_by_tails(&mut self, index: &Index, byte: u8) -> bool
         requires full { length self.old.content ≡ self.old.capacity }
         requires sized { self.old.capacity ≡ index.now.slice_size }
@@ -258,7 +257,7 @@ impl Window {
         has_tail
     }
 
-    /// The CRC-32 of the content, full or not.
+    /// Returns the CRC-32 of the content, full or not.
     #[tactic(auto, unfolding(crate::specs::Crc32::crc_of))]
     pub fn crc(&self) -> u32
         ensures { result ≡ crc_of self.now.content }
@@ -266,7 +265,7 @@ impl Window {
         self.register ^ 0xFFFF_FFFF
     }
 
-    /// The MD5 of the content, full or not.
+    /// Computes the MD5 of the content, full or not.
     pub fn digest(&mut self) -> Hash16
         ensures digest { result.0 ≡ md5 self.old.content }
         ensures counted { self.new ≡ record self.old { digests = self.old.digests + 1 } }
@@ -275,7 +274,8 @@ impl Window {
         self.hash(whole, 0)
     }
 
-    /// The CRC-32 of the first bytes, as many as tail `k` has, and of zeros up to the capacity.
+    /// Returns the CRC-32 of the first bytes, up to tail `k`'s length, and of
+    /// zeros up to the capacity.
     pub fn tail_crc(&self, k: usize) -> u32
         requires tail { k < length self.now.tails }
         requires there { slice_index self.now.tails k ≤ length self.now.content }
@@ -285,7 +285,7 @@ impl Window {
         tail.zeros.apply(tail.register) ^ 0xFFFF_FFFF
     }
 
-    /// The MD5 of the same bytes.
+    /// Computes the MD5 of the same bytes.
     pub fn tail_digest(&mut self, k: usize) -> Hash16
         requires tail { k < length self.old.tails }
         requires there { slice_index self.old.tails k ≤ length self.old.content }
@@ -297,8 +297,7 @@ impl Window {
         self.hash(own, zeros)
     }
 
-    /// The CRC-32 of the first `own` bytes and of zeros up to the capacity, computed from the
-    /// bytes.
+    /// Computes from the bytes the CRC-32 of the first `own` ones and of zeros up to the capacity.
     pub fn front_crc(&self, own: usize) -> u32
         requires { own ≤ self.now.capacity }
         ensures { result ≡ crc_of (tail_content self.now own) }
@@ -309,7 +308,7 @@ impl Window {
         zeros.apply(register) ^ 0xFFFF_FFFF
     }
 
-    /// The MD5 of the same bytes.
+    /// Computes the MD5 of the same bytes.
     pub fn front_digest(&mut self, own: usize) -> Hash16
         requires { own ≤ self.old.capacity }
         ensures digest { result.0 ≡ md5 (tail_content self.old own) }
@@ -319,9 +318,9 @@ impl Window {
         self.hash(own, behind)
     }
 
-    /// The shortest length of a short slice, from this one on, such that the first bytes and zeros
-    /// have the CRC-32 of a slice of this own length. Goes over the content once.
-    // A call of its own in the program, so that it can be counted.
+    /// Returns the least short-slice length, from `from` on, for which the first bytes and zeros
+    /// have the CRC-32 of a slice of that length. Goes over the content once.
+    // Not inlined, so that its calls can be counted in the program.
     #[inline(never)]
     pub fn next_tail(&self, index: &Index, from: usize) -> Option<usize>
         requires { self.now.capacity ≡ index.now.slice_size }
@@ -344,7 +343,7 @@ impl Window {
         None
     }
 
-    // The register after the bytes from one place up to another.
+    // Returns the register after the bytes from index `done` up to `end`.
     fn after_front(&self, register: u32, done: usize, end: usize) -> u32
         ensures { result ≡ fold register_after register (drop done (take end self.now.content)) }
     {
@@ -355,14 +354,14 @@ impl Window {
         after_bytes(middle, &back[in_back..])
     }
 
-    /// The byte at a place.
+    /// Returns the byte at an index, if there is one.
     pub fn get(&self, place: usize) -> Option<u8>
         ensures { result ≡ slice_get self.now.content place }
     {
         self.ring.get(place).copied()
     }
 
-    // The MD5 of the first `count` bytes and of zeros, so many.
+    // Computes the MD5 of the first `count` bytes and of `zeros` zero bytes.
     fn hash(&mut self, count: usize, zeros: usize) -> Hash16
         ensures digest { result.0 ≡ md5 (take count self.old.content ++ replicate zeros 0) }
         ensures counted { self.new ≡ record self.old { digests = self.old.digests + 1 } }
@@ -376,7 +375,7 @@ impl Window {
         Hash16(hasher.finalize())
     }
 
-    // The first `count` bytes, in two parts.
+    // Returns the first `count` bytes, in two parts.
     fn first(&self, count: usize) -> (&[u8], &[u8])
         ensures { result.0.now ++ result.1.now ≡ take count self.now.content }
     {
@@ -386,14 +385,14 @@ impl Window {
         (&front[..in_front], &back[..in_back])
     }
 
-    /// Whether the next byte makes one fall out.
+    /// Whether the window is full, so that the next byte makes one fall out.
     pub fn is_full(&self) -> bool
         ensures { IsTrue result ↔ (length self.now.content ≡ self.now.capacity) }
     {
         self.ring.is_full()
     }
 
-    /// How many bytes the window holds.
+    /// Returns the number of bytes in the window.
     pub fn len(&self) -> usize
         ensures len { result ≡ length self.now.content }
         ensures within { result ≤ self.now.capacity }
@@ -401,14 +400,14 @@ impl Window {
         self.ring.len()
     }
 
-    /// How many bytes it may hold.
+    /// Returns the number of bytes that the window may have.
     pub fn size(&self) -> usize
         ensures { result ≡ self.now.capacity }
     {
         self.ring.capacity()
     }
 
-    /// Looks by these tails from now on, in place of those before. The window has no byte.
+    /// Replaces the tails by which it looks for short slices. The window must be empty.
     pub fn look_by(&mut self, tails: WaitingTails)
         requires empty { self.old.content ≡ [] }
         requires sized { tails.size ≡ self.old.capacity }
@@ -419,7 +418,7 @@ impl Window {
         self.running = running;
     }
 
-    /// Takes all bytes out.
+    /// Removes all bytes.
     #[tactic(auto, unfolding(crate::specs::Crc32::register_of))]
     pub fn clear(&mut self)
         ensures { self.new ≡ record self.old { content = [] } }
@@ -431,7 +430,7 @@ impl Window {
     }
 }
 
-// Whether bytes with this register and zeros have the CRC-32 of a slice of this own length.
+// Whether this register, followed by zeros, gives the CRC-32 of a slice of this unpadded length.
 fn is_tail_of(index: &Index, register: u32, own: usize) -> bool
     requires { own < index.now.slice_size }
     ensures { result ≡ set_has_own_crc index.now
@@ -441,7 +440,7 @@ fn is_tail_of(index: &Index, register: u32, own: usize) -> bool
     index.may_have_tail(register) && index.has_tail_register(register, &ZeroRun::new(zeros), own)
 }
 
-// Zeros go into a hasher, so many.
+// Feeds `count` zero bytes into a hasher.
 fn hash_zeros(hasher: &mut Md5, count: usize)
     ensures { (m : List ℕ) → Holds hasher.old m → Holds hasher.new (m ++ replicate count 0) }
 {

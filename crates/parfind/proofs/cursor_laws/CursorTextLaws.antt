@@ -1,4 +1,5 @@
--- The texts of cursors: how they are split_at_colon, and that they are read as they were written.
+-- The texts of cursors: how they are split at their colons, and that reading a text undoes writing
+-- it.
 use Rattle.std.proofs.Common.{◌≡◌, ℕ, ◌^◌, ◌<◌, false, inl, inr, List, [], ◌∷◌, ◌++◌, length, unwrap_or, Option, Some, None, refl, sym, ap, ◌∙◌, arith}
 use Rattle.std.specs.Fmt.{decimal}
 use Rattle.std.specs.List.{join_with_byte, slice_split}
@@ -33,7 +34,7 @@ bind_none None f h = refl
 same_some : {A : Type 0} (x y : A) → Some x ≡ Some y → x ≡ y
 same_some x y h = ap (λ (o : Option _). unwrap_or o x) h
 
--- three parts of which the last is no number
+-- if the last of three parts is no number, the parts are no cursor
 no_slice : (a b d : List ℕ) → number_of (2 ^ 32) d ≡ None
     → cursor_of_parts (a ∷ b ∷ d ∷ []) ≡ None
 no_slice a b d h =
@@ -47,7 +48,8 @@ no_slice_parts a b d [] h = refl
 no_slice_parts a b d (x ∷ []) h = no_slice a b x (ap (number_of (2 ^ 32)) h.1 ∙ h.0)
 no_slice_parts a b d (x ∷ y ∷ more) h = refl
 
--- the part after the second colon of three numbers has none where it is a number
+-- whether the part after the second colon is split further makes no difference: with a colon in it,
+-- it is no number, and the parts are no cursor
 pub last_part : (a b d : List ℕ)
     → cursor_of_parts (a ∷ b ∷ slice_split is_colon d) ≡ cursor_of_parts (a ∷ b ∷ d ∷ [])
 last_part a b d =
@@ -62,9 +64,9 @@ last_part a b d =
           ∙ sym (no_slice a b d none)
     ]
 
--- ---- what is read is what was written
+-- ---- a text that is read is the one that is written
 
--- the numbers of a cursor fit
+-- the numbers of a cursor fit into 32, 64 and 32 bits
 abbrev Fits : Cursor → Type 0
 Fits c = (c.file < 2 ^ 32) × (c.offset < 2 ^ 64) × (c.slice < 2 ^ 32)
 
@@ -73,7 +75,7 @@ numbers_joined : (a b d : List ℕ) (c : Cursor)
     → join_with_byte 58 (a ∷ b ∷ d ∷ []) ≡ where_text c
 numbers_joined a b d c h = rw (h.0, h.1, h.2) refl
 
--- parts that are read as a cursor are its text
+-- parts that are read as a cursor, joined by colons, are its text
 where_written : (parts : List (List ℕ)) (c : Cursor) → cursor_of_parts parts ≡ Some c
     → Fits c × (join_with_byte 58 parts ≡ where_text c)
 where_written [] c h = cc h
@@ -91,7 +93,7 @@ where_written (a ∷ b ∷ d ∷ []) c h =
     let own_d = decimal-number_of (2 ^ 32) third.0 d (omega arith) third.1 in
     rw (← same) ((own_a.1, own_b.1, own_d.1), numbers_joined a b d at (own_a.0, own_b.0, own_d.0))
 
--- the digits of sixteen bytes and the parts of a cursor are joined by a colon
+-- the digits of sixteen bytes and the parts of a cursor, joined by colons, are their text
 joined_some : (first : List ℕ) (parts : List (List ℕ)) (hash : Hash16) (c : Cursor)
     → (first ≡ encode_lower hash.0) × (cursor_of_parts parts ≡ Some c)
     → join_with_byte 58 (first ∷ parts) ≡ hash_text hash (where_text c)
@@ -162,7 +164,7 @@ parts_written (first ∷ parts) t h =
       | inr other ↦ first_written first parts t (rw other at h)
     ]
 
--- a text is the text of what it tells
+-- if a text is read, it is the text of the result
 cursor_text-cursor_text_of : (text : List ℕ) (t : CursorText) → cursor_text_of text ≡ Some t
     → IsCursorText t × (text ≡ cursor_text t)
 unfolding cursor_text_of
@@ -170,7 +172,7 @@ cursor_text-cursor_text_of text t h =
     let p = parts_written (slice_split is_colon text) t h in
     (p.0, sym (join_with_byte-slice_split 58 text) ∙ p.1)
 
--- ---- what is written is read
+-- ---- a text that is written is read
 
 cursor_of-where_text : (c : Cursor) → Fits c
     → cursor_of_parts (slice_split is_colon (where_text c)) ≡ Some c
@@ -191,7 +193,7 @@ hash_parted hash rest h =
     let lower = no_colon is_lower_digit refl (encode_lower hash.0) (lower-encode_lower hash h) in
     slice_split_at is_colon (encode_lower hash.0) 58 rest lower refl
 
--- the digits of sixteen bytes are not the number of a version
+-- the digits of sixteen bytes are not the `2` of the second version
 no_version : (hash : Hash16) → IsHash hash → bytes_eq (encode_lower hash.0) (codes "2") ≡ false
 no_version hash h =
     elim (cases_Bool (bytes_eq (encode_lower hash.0) (codes "2"))) [

@@ -1,4 +1,5 @@
--- The 32 lower-case digits of an ID: what is read of them, and that it is written in no other way.
+-- The 32 lower-case digits of an ID: reading them gives the ID, and an ID is written in no other
+-- way.
 use Rattle.std.proofs.Common.{◌≡◌, ℕ, zero, suc, ◌+◌, ◌*◌, ◌/◌, ◌%◌, ◌<◌, ◌==◌, ◌&&◌, ◌||◌, Bool, true, not, inl, inr, List, [], ◌∷◌, length, slice_index, Option, Some, None, unwrap_or, Result, Ok, Err, refl, sym, ap, ◌∙◌, arith}
 use Rattle.std.specs.List.{All, list_all}
 use Rattle.std.specs.Result.{result_unwrap_or}
@@ -15,7 +16,7 @@ use Rattle.parfind.specs.CursorText.{parsed_hash, is_lower_digit, IsHash}
 
 -- ---- the table of digits
 
--- a test passes at each number below n
+-- whether a test passes at each number below n
 abbrev all_below : (ℕ → Bool) → ℕ → Bool
 all_below test zero = true
 all_below test (suc n) = test n && all_below test n
@@ -31,11 +32,11 @@ all_below-at test (suc n) k h below =
           rw e parts.0
     ]
 
--- a digit of the table is in lower case
+-- each digit of the table is in lower case
 lower_at : (d : ℕ) → d < 16 → is_lower_digit (slice_index lower_digits d) ≡ true
 lower_at d below = all_below-at (λ k. is_lower_digit (slice_index lower_digits k)) 16 d refl below
 
--- a digit in lower case is the one that the table has for its value
+-- whether a lower-case digit is the one that the table has for its value
 abbrev is_own_digit : ℕ → Bool
 is_own_digit c =
     not (is_lower_digit c)
@@ -70,7 +71,7 @@ digit_ok : (c i : ℕ) (found : Option ℕ) (v : ℕ) → digit_or_error c i fou
 digit_ok c i (Some w) v h = ap Some (ap value_or h)
 digit_ok c i None v h = cc h
 
--- bytes that were read of digits in lower case are written so
+-- bytes that were read from lower-case digits are written with these digits
 encode_with-decoded : (i : ℕ) (s bytes : List ℕ) → decode_pairs i s ≡ Ok bytes
     → list_all is_lower_digit s ≡ true → encode_with lower_digits bytes ≡ s
 unfolding decode_pairs encode_with
@@ -114,7 +115,7 @@ decoded : (r : Result (List ℕ) FromHexError) (id : Hash16) → decoded_hash_of
 decoded (Ok bytes) id h = ap (λ (o : Option Hash16). Ok (unwrap_or o (record { 0 = bytes })).0) h
 decoded (Err fault) id h = cc h
 
--- what is read as an ID is its digits
+-- if a text is read as an ID, it is the ID's digits
 pub encode_lower-parsed_hash : (s : List ℕ) (id : Hash16) → parsed_hash s ≡ Some id
     → (s ≡ encode_lower id.0) × IsHash id
 encode_lower-parsed_hash s id h =
@@ -142,7 +143,7 @@ pub lower-encode_lower : (id : Hash16) → IsHash id
     → list_all is_lower_digit (encode_lower id.0) ≡ true
 lower-encode_lower id h = lower_bytes id.0 (IsBytes-id id.0 h.bytes)
 
--- an ID is read of its digits
+-- reading an ID's digits gives the ID
 pub parsed_hash-encode_lower : (id : Hash16) → IsHash id → parsed_hash (encode_lower id.0) ≡ Some id
 parsed_hash-encode_lower id h =
     let long : length (encode_lower id.0) ≡ 2 * 16 =

@@ -1,4 +1,4 @@
--- Canonical decimal: what is read of it, and that a number is written in no other way.
+-- Canonical decimal: reading it gives its number, and a number is written in no other way.
 use Rattle.std.proofs.Common.{◌≡◌, ℕ, ◌^◌, ◌<◌, ◌≤◌, true, inl, inr, List, [], ◌∷◌, length, get_or, nat_lt, Some, Result, Ok, Err, refl, sym, ap, ◌∙◌, arith, rules}
 use Rattle.std.specs.Char.{is_ascii_digit}
 use Rattle.std.specs.Fmt.{decimal}
@@ -16,7 +16,7 @@ use Rattle.parfind.specs.CursorText.{is_canonical, number_of}
 own : IsNumeralModel (λ ds. list_all is_ascii_digit ds ≡ true) (digits_value 10)
 own = numerals_by_value _ (search rules)
 
--- canonical decimal is digits, and only `0` begins with a zero
+-- canonical decimal is digits, of which there is at least one; and only `0` begins with a zero
 pub record IsCanonical (s : List ℕ) : Type 0 where
   pub digits : list_all is_ascii_digit s ≡ true
   pub some : 0 < length s
@@ -51,7 +51,7 @@ canonical_whole (x ∷ xs) c =
       | inr other ↦ rw (ne_eqb x 48 other) c.digits
     ]
 
--- canonical decimal is text
+-- canonical decimal is text (valid UTF-8)
 pub IsUtf8-canonical : (s : List ℕ) → is_canonical s ≡ true → IsUtf8 s
 IsUtf8-canonical s h =
     IsUtf8-from_ascii s (IsAscii-from_digits s (own.to s (canonical_parts s h).digits))
@@ -68,14 +68,14 @@ number_by limit s (Err e) canonical some told =
       | inr above ↦ rw (canonical, above) refl
     ]
 
--- what is parsed of canonical decimal
+-- parsing canonical decimal gives its number
 pub number_of-parsed : {E : Type 0} (k : ℕ) (s : List ℕ) (r : Result ℕ E)
     → ParsesUnsigned k 10 s r → is_canonical s ≡ true → result_ok r ≡ number_of (2 ^ k) s
 number_of-parsed k s r h canonical =
     let c = canonical_parts s canonical in
     number_by (2 ^ k) s r canonical c.some (parse_digits own k s r h c.digits)
 
--- what is read as a number is its decimal
+-- if a text is read as a number, it is the number's decimal
 pub decimal-number_of : (limit n : ℕ) (s : List ℕ) → limit ≤ 2 ^ 64 → number_of limit s ≡ Some n
     → (s ≡ decimal n) × (n < limit)
 decimal-number_of limit n s fits h =
@@ -104,7 +104,7 @@ canonical_decimal n small = record {
       ];
 }
 
--- a number is read of its decimal
+-- reading the decimal of a number gives the number
 pub number_of-decimal : (limit n : ℕ) → limit ≤ 2 ^ 64 → n < limit
     → number_of limit (decimal n) ≡ Some n
 number_of-decimal limit n fits below =

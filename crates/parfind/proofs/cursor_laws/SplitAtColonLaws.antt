@@ -1,4 +1,4 @@
--- How a text is split_at_colon at its colons, and that a number has none.
+-- How a text is split at its colons, and that a number has none.
 use Rattle.std.proofs.Common.{◌≡◌, ℕ, ◌+◌, ◌-◌, ◌^◌, ◌<◌, ◌≤◌, Bool, true, false, cond, inl, inr, List, [], ◌∷◌, length, take, drop, nat_lt, Some, None, refl, sym, ap, ◌∙◌, arith}
 use Rattle.std.specs.Char.{is_ascii_digit}
 use Rattle.std.specs.Fmt.{decimal}
@@ -17,7 +17,7 @@ some_position n len at h = grind (arith, nat_tests)
 no_position : (n len : ℕ) → cond (nat_lt n len) (Some n) None ≡ None → len ≤ n
 no_position n len h = grind (arith, nat_tests)
 
--- the first colon parts a text
+-- the first colon splits a text into the part before it and the parts after it
 pub slice_split-some : (s : List ℕ) (at : ℕ) → position is_colon s ≡ Some at
     → slice_split is_colon s
     ≡ take at s ∷ slice_split is_colon (take (length s - (at + 1)) (drop (at + 1) s))
@@ -38,13 +38,13 @@ slice_split-whole (x ∷ xs) h =
           rw (other, slice_split-whole xs (omega arith)) refl
     ]
 
--- a text with no colon is one part
+-- a text without a colon is one part
 pub slice_split-none : (s : List ℕ) → position is_colon s ≡ None
     → slice_split is_colon s ≡ s ∷ []
 slice_split-none s h =
     slice_split-whole s (no_position (position_or_len is_colon s) (length s) h)
 
--- what consists of bytes of a kind that no colon is has none
+-- a text whose bytes pass a test has no colon, if a colon doesn't pass the test
 pub no_colon : (test : ℕ → Bool) → test 58 ≡ false → (s : List ℕ) → list_all test s ≡ true
     → All (λ x. is_colon x ≡ false) s
 no_colon test not_colon [] h = All-nil (λ x. is_colon x ≡ false)

@@ -1,4 +1,4 @@
--- What one more answer tells of a shelf.
+-- A script of calls, one answer after another.
 use Rattle.std.proofs.Common.{◌≡◌, ℕ, ◌+◌, List, [], ◌∷◌, ◌++◌, map, sum, refl, ap, ◌∙◌, arith, Result, Ok, Err, ◌<◌, ◌≤◌, length, drop, get_or, sym, subst, append_assoc, append-nil, add-one, IsTrue, Option, Some, None}
 use Rattle.std.proofs.lemmas.List.Sums.{sum_by-cons}
 use Rattle.parfield.specs.Added.{sum-added_at}
@@ -55,7 +55,7 @@ tells_more old s t xs a so_far later failed ended = record {
   older = Older-trans old s t so_far.older later.older;
 }
 
--- an answer that tells of no read, where none was made
+-- an answer that reports no failed read and no early end leaves the counts as they were
 pub tells_same : (old s : ShelfState) (xs : List Answer) (a : Answer) → TellsOf old s xs → told_failures a ≡ 0
     → told_early_ends a ≡ 0 → TellsOf old s (xs ++ a ∷ [])
 tells_same old s xs a so_far failed ended =
@@ -78,7 +78,6 @@ tells_step old s t xs (Err Ended) file shelf so_far faults =
     tells_more old s t xs (answer.Step (Err Ended)) so_far (later_fault s t file Ended faults)
     (omega (arith, ap failure_count same)) (omega (arith, ap early_end_count same, more))
 
--- How calls go on, one after another.
 -- whatever the later calls give, all calls give it after these answers
 abbrev pub GivesBefore : Scan → SearchPoint → List Call → SearchPoint → List Call → List Answer → Type 0
 GivesBefore scan old calls now later answers =
@@ -108,17 +107,17 @@ reads_more : (size : ℕ) (old mid next : SearchState) (states : List SearchStat
 reads_more size old mid next [] same one = (subst (λ (s : SearchState). CallReads size s next) same one, refl)
 reads_more size old mid next (s ∷ others) calls one = (calls.0, reads_more size s mid next others calls.1 one)
 
--- a search that was opened at a cursor
+-- the state of a search that was just opened at a cursor
 abbrev pub opened_at : ShelfState → Cursor → SearchState
 opened_at shelf c = record { shelf = shelf; fetched = place_at c; cursor = c }
 
--- one finder was there all along, and reads what it may
+-- the same finder was open all along, and reads no more than it may
 pub record KeptSoFar (size : ℕ) (old now : ShelfState) (start : Cursor) (finder : FinderState) : Type 0 where
   pub states : List SearchState
   pub read : CallsRead size (opened_at old start) states (search_of now finder)
   pub opening : finder.opening ≡ start
 
--- what the answers so far came to, and where the search stands
+-- the answers so far, and the state of the search after them: true each time before a call is made
 pub record DriveSoFar
     (sought : Sought) (old now : ShelfState) (start : Cursor) (finder : FinderState) (calls later : List Call) (answers : List Answer)
     : Type 0 where
@@ -130,7 +129,7 @@ pub record DriveSoFar
   pub mode_is : finder.mode ≡ sought.mode
   pub kept : ¬ Contains calls call.Reopen → KeptSoFar sought.set.slice_size old now start finder
 
--- the call of a step with this budget
+-- a call is a step with this budget, or without one
 pub record Asks (k : Call) (budget : Option ℕ) : Type 0 where
   pub gives : (scan : Scan) (old new : SearchPoint) (r : Result Step ReadFault) → StepGives scan budget old r new
       → CallGives scan old k (answer.Step r) new
@@ -169,7 +168,7 @@ drive_steps sought old s t start before after calls later k budget r xs ys asks 
       };
 }
 
--- another finder was opened at the cursor
+-- if another finder was opened at the cursor, the invariant still holds
 pub drive_reopens : (sought : Sought) (old s : ShelfState) (start : Cursor) (before after : FinderState) (calls later : List Call)
     (xs ys : List Answer) → Contains calls call.Reopen
     → DriveSoFar sought old s start before calls (call.Reopen ∷ later) xs → after.cursor ≡ before.cursor → after.mode ≡ sought.mode
@@ -185,7 +184,7 @@ drive_reopens sought old s start before after calls later xs ys there so_far cur
   kept = λ none. absurd (none there);
 }
 
--- no other finder could be opened
+-- if memory for another finder was refused, the invariant holds with no later calls
 pub drive_stops : (sought : Sought) (old s : ShelfState) (start : Cursor) (before : FinderState) (calls later : List Call)
     (xs ys : List Answer) → Contains calls call.Reopen
     → DriveSoFar sought old s start before calls (call.Reopen ∷ later) xs
@@ -201,7 +200,7 @@ drive_stops sought old s start before calls later xs ys there so_far items = rec
   kept = λ none. absurd (none there);
 }
 
--- what holds at last
+-- the clauses of `drive`, if it returns answers
 pub record DriveGave
     (sought : Sought) (old new : ShelfState) (start d : Cursor) (calls : List Call) (answers : List Answer) : Type 0 where
   pub answer : (files : List (List ℕ)) → ReadsAs new files
@@ -225,7 +224,7 @@ drive_ends sought old new start d finder calls answers so_far cursor = rw cursor
       reach_adds_up sought.set.slice_size (opened_at old start) (search_of new finder) kept.states refl kept.read;
 })
 
--- the call at an index, and those after it
+-- the calls from index i on are the call there and those after it
 pub next_call : (calls : List Call) (i : ℕ) (k z : Call) → i < length calls → get_or calls i z ≡ k → drop i calls ≡ k ∷ drop (i + 1) calls
 next_call calls i k z h e = rw add-one (drop-cons calls i z h) ∙ ap (λ (x : Call). x ∷ drop (i + 1) calls) e
 

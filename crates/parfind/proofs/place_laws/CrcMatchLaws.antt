@@ -1,4 +1,5 @@
--- How many compared lengths of windows are marked: as a search goes on there are no fewer, and past a place those of the place more.
+-- How marks (places and compared lengths with the CRC-32 of a slice) are counted: their number
+-- doesn't decrease as a search goes on, and past a place it has grown by that place's marks.
 use Rattle.std.proofs.Common.{◌≡◌, ℕ, ◌+◌, ◌<◌, ◌≤◌, Bool, List, [], ◌∷◌, ◌++◌, filter, length, sym, ap, ◌∙◌, arith, inl, inr}
 use Rattle.std.specs.List.{sum_by}
 use Rattle.std.proofs.lemmas.Bool.{cases_Bool}
@@ -15,7 +16,7 @@ use Rattle.parfind.proofs.place_laws.CursorOrderLaws.{From}
 use Rattle.parfind.proofs.search_laws.StepMovesLaws.{places_then_between}
 use Rattle.parfind.proofs.place_laws.PlaceLaws.{only_here, From-past}
 
--- over the elements that pass a test the sum is no greater
+-- a sum over only the elements that pass a test isn't greater than the sum over all
 sum_fewer : {A : Type 0} (f : A → ℕ) (q : A → Bool) (xs : List A) → sum_by f (filter q xs) ≤ sum_by f xs
 sum_fewer f q [] = omega arith
 sum_fewer f q (x ∷ xs) = elim (cases_Bool (q x)) [
@@ -23,7 +24,7 @@ sum_fewer f q (x ∷ xs) = elim (cases_Bool (q x)) [
   | inr h ↦ rw h (omega (arith, sum_fewer f q xs, sum_by-cons f x xs))
 ]
 
--- what is counted at places between two cursors
+-- the sum of a count over the places between two cursors
 module _ (count : Place → ℕ) (lengths : List ℕ) where
   abbrev pub counted_between : Cursor → Cursor → ℕ
   counted_between c d = sum_by count (places_between lengths c d)
@@ -45,7 +46,7 @@ module _ (count : Place → ℕ) (lengths : List ℕ) where
       ap (sum_by count) (only_here lengths d counted there) ∙ sum_by-cons count (place_at d) [] in
       omega (arith, counted_split c d (cursor_past (place_at d)) on (From-past d), one)
 
-  -- between two cursors there is no more than in all
+  -- the sum between two cursors isn't greater than the sum over all places
   pub counted_most : (c d : Cursor) → counted_between c d ≤ sum_by count (places_of lengths)
   counted_most c d =
       omega (

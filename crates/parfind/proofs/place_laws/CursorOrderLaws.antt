@@ -1,23 +1,24 @@
--- The order of cursors, as facts on numbers.
+-- The order of cursors, stated as facts about numbers, with which the provers of arithmetic can
+-- work.
 use Rattle.std.proofs.Common.{◌≡◌, ◌<◌, ◌≤◌, true, false, arith, sym, inl, inr}
 use Rattle.std.proofs.lemmas.Bool.{ltb-true, ltb-false, eqb-true, eqb-false, not-true, not_from_true, not_from_false, and_parts, or_cases, or_parts, and_cases, true_from_ne_false, false_from_ne_true}
 use Rattle.parfind.specs.declared.cursors.cursor.Cursor.{Cursor}
 use Rattle.parfind.specs.declared.cursors.sighting.Sighting.{Sighting}
 use Rattle.parfind.specs.Order.{is_before, is_from, cursor_of, cursor_after}
 
--- a is before b
+-- cursor a is before cursor b
 pub record Before (a b : Cursor) : Type 0 where
   pub by_file : a.file ≤ b.file
   pub by_offset : a.file ≡ b.file → a.offset ≤ b.offset
   pub by_slice : a.file ≡ b.file → a.offset ≡ b.offset → a.slice < b.slice
 
--- b is not before a
+-- cursor b is not before cursor a
 pub record From (a b : Cursor) : Type 0 where
   pub by_file : a.file ≤ b.file
   pub by_offset : a.file ≡ b.file → a.offset ≤ b.offset
   pub by_slice : a.file ≡ b.file → a.offset ≡ b.offset → a.slice ≤ b.slice
 
--- what the tests say
+-- the tests `is_before` and `is_from` say the same as these facts
 
 pub Before-by_test : (a b : Cursor) → is_before a b ≡ true → Before a b
 Before-by_test a b h = elim (or_cases _ _ h) [
@@ -78,7 +79,7 @@ is_from-true a b h = not_from_false _ (is_before-false b a h)
 pub is_from-false : (a b : Cursor) → Before b a → is_from a b ≡ false
 is_from-false a b h = not_from_true _ (is_before-true b a h)
 
--- how the order goes on
+-- the order is reflexive and transitive
 
 pub From-refl : (a : Cursor) → From a a
 From-refl a = record { by_file = omega arith; by_offset = omega arith; by_slice = omega arith }
@@ -92,7 +93,7 @@ Before-From a b c p q = record { by_file = omega arith; by_offset = omega arith;
 pub From-before : (a b : Cursor) → Before a b → From a b
 From-before a b p = record { by_file = omega arith; by_offset = omega arith; by_slice = omega arith }
 
--- the cursor after a sighting is the next one
+-- no cursor lies between a sighting and the cursor after it
 
 pub Before-after : (x : Sighting) → Before (cursor_of x) (cursor_after x)
 Before-after x = record { by_file = omega arith; by_offset = omega arith; by_slice = omega arith }

@@ -1,4 +1,5 @@
--- Lists: what each element meets, which elements there are, and what each two of them meet in their order.
+-- Lists: facts about each element, the elements that a list has, and facts about each two elements
+-- in their order.
 use Rattle.std.proofs.Common.{◌≡◌, ℕ, ◌+◌, ◌<◌, ◌≤◌, Some, slice_get, Bool, true, false, List, [], ◌∷◌, ◌++◌, filter, map, cond, zero, suc, refl, sym, ap, subst, ◌∙◌, arith, ◌⊎◌, inl, inr}
 use Rattle.std.specs.List.{All, AllPairs, Contains, flat_map, range_with_len}
 use Rattle.std.proofs.lemmas.Bool.{cases_Bool, cases_eq}
@@ -6,22 +7,22 @@ use Rattle.std.proofs.lemmas.List.Elements.{All-nil, All-cons}
 use Rattle.std.proofs.lemmas.List.Kept.{AllPairs-cons}
 
 module _ {A : Type 0} where
-  -- each element meets a fact
+  -- a fact is true of each element
   abbrev pub Each : (A → Type 0) → List A → Type 0
   Each P [] = Unit {0}
   Each P (x ∷ xs) = P x × Each P xs
 
-  -- x is an element
+  -- x is an element of the list
   abbrev pub Has : List A → A → Type 0
   Has [] x = ⊥
   Has (y ∷ ys) x = (y ≡ x) ⊎ Has ys x
 
-  -- each element meets a relation with each that follows it
+  -- a relation holds between each element and each later one
   abbrev pub Pairs : (A → A → Type 0) → List A → Type 0
   Pairs R [] = Unit {0}
   Pairs R (x ∷ xs) = Each (R x) xs × Pairs R xs
 
--- each element
+-- facts about each element
 
 module _ {A : Type 0} (P : A → Type 0) where
   pub Each-any : ((x : A) → P x) → (xs : List A) → Each P xs
@@ -76,7 +77,7 @@ Each-range P a zero f = tt
 Each-range P a (suc n) f =
     (f a (omega arith) (omega arith), Each-range P (a + 1) n (λ m low high. f m (omega arith) (omega arith)))
 
--- what passes a test
+-- the elements that pass a test
 
 module _ {A : Type 0} (p : A → Bool) where
   pub Each-passes : (xs : List A) → Each (λ x. p x ≡ true) (filter p xs)
@@ -95,7 +96,7 @@ module _ {A : Type 0} (p : A → Bool) where
   filter_none [] h = refl
   filter_none (x ∷ xs) h = rw h.0 (filter_none xs h.1)
 
-  -- where another test is stronger
+  -- filtering by a weaker test first changes nothing
   pub filter_weaker : (q : A → Bool) → ((x : A) → q x ≡ true → p x ≡ true)
       → (xs : List A) → filter q (filter p xs) ≡ filter q xs
   filter_weaker q f [] = refl
@@ -115,7 +116,7 @@ pub filter_stronger : {A : Type 0} (p q : A → Bool) → ((x : A) → q x ≡ t
 filter_stronger p q f xs =
     filter_all p (filter q xs) (Each-weaker (λ x. q x ≡ true) (λ x. p x ≡ true) f (filter q xs) (Each-passes q xs))
 
--- elements
+-- the elements that a list has
 
 module _ {A : Type 0} where
   pub Has-append_left : (xs ys : List A) (x : A) → Has xs x → Has (xs ++ ys) x
@@ -180,7 +181,7 @@ Has-range a (suc n) m low high = elim (cases_eq a m) [
   | inr ne ↦ inr (Has-range (a + 1) n m (omega arith) (omega arith))
 ]
 
--- each two
+-- relations between each two elements
 
 module _ {A : Type 0} (R : A → A → Type 0) where
   pub Pairs-append : (xs ys : List A) → Pairs R xs → Pairs R ys → Each (λ x. Each (R x) ys) xs → Pairs R (xs ++ ys)
@@ -223,7 +224,8 @@ module _ {A B : Type 0} (R : A → A → Type 0) (S : B → B → Type 0) where
         each_of_blocks f us xs (Each-weaker both others (λ y k. k.1) xs h),
       )
 
-  -- blocks, each of them before the next
+  -- lists that are joined: the relation holds within each of them, and between the elements of an
+  -- earlier and a later one
   pub Pairs-flat_map : (f : A → List B) → ((x : A) → Pairs S (f x))
       → ((x y : A) → R x y → Each (λ u. Each (S u) (f y)) (f x)) → (xs : List A) → Pairs R xs → Pairs S (flat_map f xs)
   Pairs-flat_map f each next [] h = tt

@@ -1,4 +1,4 @@
--- Which places and sightings there are, and the places from one cursor to another.
+-- The places and the sightings that there are, and the places from one cursor to another.
 use Rattle.std.proofs.Common.{◌≡◌, ℕ, ◌<◌, true, List, [], ◌∷◌, length, refl, sym, ◌∙◌, arith, slice_index, IsTrue, inl, inr}
 use Rattle.std.specs.List.{range_with_len}
 use Rattle.std.proofs.lemmas.Bool.{cases_eq}
@@ -19,7 +19,7 @@ use Rattle.parfind.proofs.place_laws.RisingLaws.{part_between, between_and_from,
 use Rattle.parfind.proofs.place_laws.SightingLaws.{Rises-places_of}
 use Rattle.parfind.proofs.place_laws.SeenLaws.{seen_inside}
 
--- which places there are
+-- the places that there are
 
 pub place_at_place : (lengths : List ℕ) (p : Place) → Has (places_of lengths) p → p.offset < slice_index lengths p.file
 unfolding places_of
@@ -42,7 +42,7 @@ Has-places_of lengths f o counted inside =
     (Has-map (λ o'. record { file = f; offset = o' }) (range_with_len 0 (slice_index lengths f)) o
     (Has-range 0 (slice_index lengths f) o (omega arith) (omega arith)))
 
--- which sightings there are
+-- the sightings that there are
 
 pub length-content_of : (scan : Scan) (f : ℕ) → slice_index (lengths_of scan) f ≡ length (content_of scan f)
 length-content_of scan f = get_or-map length scan.contents f []
@@ -76,7 +76,7 @@ Has-sightings_of scan x counted few seen =
     Has-filter (is_sighting scan) (triples_of scan.sought.set (lengths_of scan)) x
     (Has-triples_of scan.sought.set (lengths_of scan) x counted' inside few) seen
 
--- from a cursor to another
+-- the places from one cursor to another
 
 pub From-start : (c d : Cursor) → From c d → From (place_start c) (place_start d)
 From-start c d on = record { by_file = on.by_file; by_offset = on.by_offset; by_slice = λ _ _. omega arith }
@@ -84,11 +84,12 @@ From-start c d on = record { by_file = on.by_file; by_offset = on.by_offset; by_
 pub From-past : (d : Cursor) → From d (cursor_past (place_at d))
 From-past d = record { by_file = omega arith; by_offset = λ _. omega arith; by_slice = λ _ e. absurd (omega arith) }
 
--- what is not before the start of a cursor's offset is not before the cursor, once it has its slice
+-- a place that isn't before the start of a cursor's offset isn't before the cursor, if it gets the
+-- cursor's slice
 pub ahead_of_start : (c : Cursor) (p : Place) → From (place_start c) (cursor_at p) → From c (record { file = p.file; offset = p.offset; slice = c.slice })
 ahead_of_start c p on = record { by_file = on.by_file; by_offset = on.by_offset; by_slice = λ _ _. omega arith }
 
--- no place lies before the next one
+-- no place lies between a cursor and the next place
 pub next_over : (lengths : List ℕ) (c d : Cursor) → IsNextPlace lengths c d → places_between lengths c d ≡ []
 next_over lengths c d next =
     none_between cursor_at (place_start c) (place_start d) (places_of lengths)
@@ -98,7 +99,7 @@ next_over lengths c d next =
     let found : From d at = From-by_test d at (next.least at ahead (place_at_place lengths p has)) in
     record { by_file = found.by_file; by_offset = found.by_offset; by_slice = λ _ _. omega arith })
 
--- of two places in one file the later one has the greater offset
+-- of two cursors in one file with the same slice, the later one has the greater offset
 later_offset : (a b : Cursor) → Before a b → a.file ≡ b.file → b.slice ≡ a.slice → a.offset < b.offset
 later_offset a b before same slices = elim (cases_eq a.offset b.offset) [
   | inl e ↦ let lt = before.by_slice same e in absurd (omega arith)
@@ -108,7 +109,7 @@ later_offset a b before same slices = elim (cases_eq a.offset b.offset) [
 pub Before-past : (p : Place) → Before (cursor_at p) (cursor_past p)
 Before-past p = record { by_file = omega arith; by_offset = λ _. omega arith; by_slice = λ _ e. absurd (omega arith) }
 
--- the cursor after a place is the next one at which a place can be
+-- the cursor just after a place isn't after any later place
 pub From-past_place : (p q : Place) → Before (cursor_at p) (cursor_at q) → From (cursor_past p) (cursor_at q)
 From-past_place p q after = record {
   by_file = after.by_file;
@@ -116,7 +117,7 @@ From-past_place p q after = record {
   by_slice = λ _ _. omega arith;
 }
 
--- a place lies alone between itself and the cursor after it
+-- a place is the only one from its start to the cursor just after it
 pub only_here : (lengths : List ℕ) (d : Cursor) → d.file < length lengths → IsAtPlace lengths d
     → part_between cursor_at (place_start d) (cursor_past (place_at d)) (places_of lengths) ≡ place_at d ∷ []
 only_here lengths d counted there =
@@ -125,7 +126,7 @@ only_here lengths d counted there =
     (Before-past (place_at d)) (λ q after. From-past_place (place_at d) q after)
     (λ q before. before)
 
--- the next place is ahead, and then those after it
+-- the places ahead of a cursor are the next place and those ahead of the cursor just after it
 pub next_ahead : (lengths : List ℕ) (c d : Cursor) → IsNextPlace lengths c d
     → places_ahead lengths c ≡ place_at d ∷ places_ahead lengths (cursor_past (place_at d))
 next_ahead lengths c d next =

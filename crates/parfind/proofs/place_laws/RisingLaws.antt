@@ -11,22 +11,22 @@ module _ {A : Type 0} (key : A → Cursor) where
   abbrev pub Rises : List A → Type 0
   Rises xs = Pairs (λ x y. Before (key x) (key y)) xs
 
-  -- the part that is not before a cursor
+  -- the elements that are not before a cursor
   abbrev pub part_from : Cursor → List A → List A
   part_from a xs = filter (λ x. is_from a (key x)) xs
 
-  -- the part before a cursor
+  -- the elements that are before a cursor
   abbrev pub part_before : Cursor → List A → List A
   part_before b xs = filter (λ x. is_before (key x) b) xs
 
-  -- the part between two cursors
+  -- the elements from one cursor on that are before another
   abbrev pub part_between : Cursor → Cursor → List A → List A
   part_between a b xs = part_before b (part_from a xs)
 
   pub Rises-part_from : (a : Cursor) (xs : List A) → Rises xs → Rises (part_from a xs)
   Rises-part_from a xs h = Pairs-filter (λ x y. Before (key x) (key y)) (λ x. is_from a (key x)) xs h
 
-  -- the part before a cursor, and then the part from it on
+  -- the elements before a cursor, followed by those from it on, are the whole list
   pub before_and_from : (c : Cursor) (xs : List A) → Rises xs → part_before c xs ++ part_from c xs ≡ xs
   before_and_from c [] h = refl
   before_and_from c (x ∷ xs) h = elim (cases_Bool (is_before (key x) c)) [
@@ -63,7 +63,8 @@ module _ {A : Type 0} (key : A → Cursor) where
       ∙ sym (filter-append (λ x. is_before (key x) c) (part_between a b xs) (part_from b xs))
       ∙ ap (λ ys. part_before c ys) (between_and_from a b on xs rises)
 
-  -- after the first from a on come those from b on, where b is the next cursor after it
+  -- the elements after the first one from cursor a on are those from b on, if b is just after that
+  -- first one
   pub from_head : (a b : Cursor) (x : A) (xs ys : List A) → Rises xs → part_from a xs ≡ x ∷ ys
       → From a b → Before (key x) b → ((y : A) → Before (key x) (key y) → From b (key y)) → ys ≡ part_from b xs
   from_head a b x xs ys rises begins on here later =
@@ -86,7 +87,8 @@ module _ {A : Type 0} (key : A → Cursor) where
       rw (is_from-true a (key x) there, is_before-true (key x) b here)
       (ap (λ ys. x ∷ ys) (filter_none (λ y. is_before (key y) b) (part_from a xs) kept))
 
-  -- an element that lies alone between two cursors
+  -- an element that lies between two cursors is the only one there, if each earlier one is before
+  -- the first cursor and each later one not before the second
   pub only_between : (a b : Cursor) (x : A) (xs : List A) → Rises xs → Has xs x → From a (key x) → Before (key x) b
       → ((y : A) → Before (key x) (key y) → From b (key y)) → ((y : A) → Before (key y) (key x) → Before (key y) a)
       → part_between a b xs ≡ x ∷ []
@@ -100,7 +102,7 @@ module _ {A : Type 0} (key : A → Cursor) where
         rw (is_from-false a (key y) front) (only_between a b x ys rises.1 k there here later earlier)
   ]
 
-  -- nothing lies between two cursors
+  -- if no element lies between two cursors, the part between them is empty
   pub none_between : (a b : Cursor) (xs : List A) → ((y : A) → Has xs y → From a (key y) → From b (key y))
       → part_between a b xs ≡ []
   none_between a b [] f = refl
@@ -111,7 +113,7 @@ module _ {A : Type 0} (key : A → Cursor) where
     | inr e ↦ rw e (none_between a b xs (λ y h. f y (inr h)))
   ]
 
-  -- what lies before the cursor just after the element at place m are the first m + 1
+  -- the elements before the cursor just after element number m are the first m + 1 ones
   pub before_nth : (xs : List A) (m : ℕ) (x : A) (b : Cursor) → Rises xs → slice_get xs m ≡ Some x → Before (key x) b
       → ((y : A) → Before (key x) (key y) → From b (key y)) → part_before b xs ≡ take (suc m) xs
   before_nth [] m x b rises at here later = cc

@@ -1,4 +1,4 @@
--- A window, and the slices that are seen in it.
+-- A window of a file, and the slices that are seen in it.
 use Rattle.std.proofs.Common.{IsTrue, subst, ◌≡◌, ℕ, ◌+◌, ◌<◌, ◌≤◌, true, List, length, refl, sym, ◌∙◌, arith, slice_get, Bool, false, nat_le, Option, Some, None}
 use Rattle.std.proofs.lemmas.Bool.{and_parts, and_from, le-leb, leb-true, ltb-true, lt-ltb}
 use Rattle.std.specs.Option.{option_map_or}
@@ -17,12 +17,12 @@ use Rattle.parfind.specs.Sought.{Sought, HasNoComparedCrc, compared_window}
 use Rattle.parfind.proofs.place_laws.FittingLaws.{passing, has_both}
 use Rattle.parfind.specs.Sightings.{is_seen, is_slice_seen}
 
--- a slice that passes a test is there
+-- a slice that passes a test exists
 pub passes_there : (set : SliceSet) (test : SetSlice → Bool) (n : ℕ) → slice_passes set.slices test n ≡ true → n < length set.slices
 passes_there set test n passes =
     let slice = passing test (slice_get set.slices n) passes in slice_get_within set.slices n slice.0 slice.1
 
--- what the test of a sighting says
+-- what follows if slice n is seen at an offset of a file
 module _ (sought : Sought) (file : List ℕ) (offset n : ℕ) (seen : is_slice_seen sought file offset n ≡ true) where
   abbrev test : SetSlice → Bool
   test = is_seen sought.mode sought.set.slice_size file offset
@@ -35,7 +35,7 @@ module _ (sought : Sought) (file : List ℕ) (offset n : ℕ) (seen : is_slice_s
       let slice = passing test (slice_get sought.set.slices n) seen in
       slice_get_within sought.set.slices n slice.0 slice.1
 
-  -- what is compared of the window has the CRC-32 of a slice
+  -- the compared bytes of the window have the CRC-32 of some slice
   pub seen_compared : HasNoComparedCrc sought (window_at sought.set.slice_size file offset) → ⊥
   seen_compared none =
       let slice = passing test (slice_get sought.set.slices n) seen in
@@ -47,7 +47,7 @@ module _ (sought : Sought) (file : List ℕ) (offset n : ℕ) (seen : is_slice_s
       (All-get_or None sought.set.slices n slice.0 seen_there none) in
       here (has_both sums slice.0.sums (and_parts _ _ (and_parts _ _ slice.2).1).1)
 
--- another test that says the same
+-- tests that agree on each value agree on an optional value
 same_test : {A : Type 0} (p q : A → Bool) → ((x : A) → p x ≡ q x) → (found : Option A)
     → option_map_or p found false ≡ option_map_or q found false
 same_test p q same None = refl
@@ -65,7 +65,8 @@ least_same p q same first (Some n) least = record {
 le_sum : (a b left all : ℕ) → b + left ≡ all → nat_le a left ≡ nat_le (b + a) all
 le_sum a b left all sum = grind (arith, nat_tests)
 
--- where the window and what is left of the file are known, the slices that fit are those that are seen
+-- if a window is that of an offset, and the bytes that are left of the file are known, the slices
+-- that match the window and fit are exactly those that are seen at the offset
 module _ (sought : Sought) (file : List ℕ) (offset left : ℕ) (window : List ℕ) (inside : offset < length file)
     (all : offset + left ≡ length file) (is : window ≡ window_at sought.set.slice_size file offset) where
   pub fit_seen : (n : ℕ) → slice_passes sought.set.slices (is_fitting_compared sought.mode window left) n ≡ is_slice_seen sought file offset n
@@ -82,7 +83,7 @@ module _ (sought : Sought) (file : List ℕ) (offset left : ℕ) (window : List 
   first_seen first found least =
       least_same (slice_passes sought.set.slices (is_fitting_compared sought.mode window left)) (is_slice_seen sought file offset) fit_seen first found least
 
--- a slice that fits into less fits into more
+-- a slice that fits into fewer bytes fits into more
 pub fits_on : (set : SliceSet) (crc less more n : ℕ) → less ≤ more → slice_passes set.slices (has_fit_crc_of crc less) n ≡ true
     → slice_passes set.slices (has_fit_crc_of crc more) n ≡ true
 fits_on set crc less more n up fits =

@@ -1,4 +1,4 @@
--- Places and sightings rise, and the laws of sightings.
+-- The order of places and of sightings is strictly rising; and the laws of sightings follow.
 use Rattle.std.proofs.Common.{◌≡◌, ℕ, ◌<◌, true, List, ◌∷◌, map, length, subst, arith, slice_index, IsTrue}
 use Rattle.std.specs.List.{range_with_len}
 use Rattle.parwindow.specs.Index.{SliceSet}
@@ -11,7 +11,7 @@ use Rattle.parfind.proofs.place_laws.CursorOrderLaws.{Before, is_before-true, is
 use Rattle.parfind.proofs.place_laws.ItemLaws.{Each, Each-any, Each-passes, Each-map, Pairs, Pairs-weaker, Pairs-filter, Pairs-map, Pairs-flat_map, Pairs-range, AllPairs-from, filter_all}
 use Rattle.parfind.proofs.place_laws.RisingLaws.{Rises, between_and_between, from_head}
 
--- the places of each file, and those of an earlier one before them
+-- the places of all files rise: those of each file do, and those of an earlier file are before them
 pub Rises-places_of : (lengths : List ℕ) → Rises cursor_at (places_of lengths)
 unfolding places_of
 Rises-places_of lengths =

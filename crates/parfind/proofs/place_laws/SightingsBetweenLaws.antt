@@ -1,4 +1,4 @@
--- What a search sees from one cursor to another.
+-- The sightings from one cursor to another.
 use Rattle.std.proofs.Common.{◌≡◌, ℕ, ◌<◌, true, false, List, [], ◌∷◌, length, refl, sym, ◌∙◌, arith, Some, None, Result, Ok, Err, inl, inr}
 use Rattle.std.proofs.lemmas.Bool.{cases_eq, cases_lt, false_from_ne_true}
 use Rattle.std.proofs.lemmas.List.{length-map}
@@ -23,7 +23,7 @@ use Rattle.parfind.proofs.place_laws.PlaceLaws.{sighting_seen, sighting_at_place
 pub none_seen : (scan : Scan) (c : Cursor) → sightings_between scan c c ≡ []
 none_seen scan c = none_between cursor_of c c (sightings_of scan) (λ _ _ h. h)
 
--- what is seen from a cursor d on, where no sighting lies between c and d
+-- if no sighting lies between cursors c and d, the sightings from c on are those from d on
 module _ (scan : Scan) (c d : Cursor) (on : From c d) (none : sightings_between scan c d ≡ []) where
   pub same_left : sightings_from scan c ≡ sightings_from scan d
   same_left = sym (between_and_from cursor_of c d on (sightings_of scan) (Rises-sightings_of scan)) ∙ (rw none refl)
@@ -38,21 +38,21 @@ module _ (scan : Scan) (c d : Cursor) (on : From c d) (none : sightings_between 
   more_sees (Ok Done) e on' sees = same_left ∙ sees
   more_sees (Err fault) e on' sees = same_between e on' ∙ sees
 
--- to the next place
+-- no sighting lies between a cursor and the next place
 pub next_unseen : (scan : Scan) (c d : Cursor) → IsNextPlace (lengths_of scan) c d → sightings_between scan c d ≡ []
 next_unseen scan c d next =
     none_between cursor_of c d (sightings_of scan)
     (λ y has after. From-by_test d (cursor_of y)
     (next.least (cursor_of y) (is_from-true c (cursor_of y) after) (sighting_at_place scan y has)))
 
--- where no place is left
+-- if no place is left, no sighting is left
 pub end_unseen : (scan : Scan) (c : Cursor) → NoPlaceFrom (lengths_of scan) c → sightings_from scan c ≡ []
 end_unseen scan c none =
     filter_none (λ x. is_from c (cursor_of x)) (sightings_of scan)
     (Each-from_has (λ x. is_from c (cursor_of x) ≡ false) (sightings_of scan)
     (λ x has. false_from_ne_true _ (λ after. none (cursor_of x) after (sighting_at_place scan x has))))
 
--- where no slice is seen at d, a sighting from d on is after the place
+-- if no slice is seen at cursor d, each sighting from d on is after its place
 past_from : (scan : Scan) (d : Cursor) (y : Sighting) → IsLeastFrom (is_slice_seen scan.sought (content_of scan d.file) d.offset) d.slice None
     → is_sighting scan y ≡ true → From d (cursor_of y) → From (cursor_past (place_at d)) (cursor_of y)
 past_from scan d y unseen seen after = elim (cases_eq d.file y.file) [
@@ -67,7 +67,8 @@ past_from scan d y unseen seen after = elim (cases_eq d.file y.file) [
   | inr ne ↦ record { by_file = after.by_file; by_offset = λ e. absurd (ne e); by_slice = λ _ _. omega arith }
 ]
 
--- after a place at which no slice is seen
+-- if no slice is seen at the next place, no sighting lies between a cursor and the end of that
+-- place
 pub past_unseen : (scan : Scan) (c d : Cursor) → IsNextPlace (lengths_of scan) c d
     → IsLeastFrom (is_slice_seen scan.sought (content_of scan d.file) d.offset) d.slice None
     → sightings_between scan c (cursor_past (place_at d)) ≡ []
@@ -77,7 +78,7 @@ past_unseen scan c d next unseen =
     none_between cursor_of d past (sightings_of scan) (λ y has after. past_from scan d y unseen (sighting_seen scan y has) after) in
     same_between scan c d (From-by_test c d next.onward) (next_unseen scan c d next) past (From-past d) ∙ here
 
--- where n is the first slice that is seen at d, no sighting from d on is before it
+-- if n is the first slice that is seen at d, no sighting from d on is before it
 first_at : (scan : Scan) (d : Cursor) (n : ℕ) (y : Sighting) → IsLeastFrom (is_slice_seen scan.sought (content_of scan d.file) d.offset) d.slice (Some n)
     → is_sighting scan y ≡ true → From d (cursor_of y) → From (record { file = d.file; offset = d.offset; slice = n }) (cursor_of y)
 first_at scan d n y first seen after = record {
@@ -89,7 +90,7 @@ first_at scan d n y first seen after = record {
   ];
 }
 
--- the first slice that is seen at the next place is the first sighting
+-- the first slice that is seen at the next place is the next sighting
 pub hit_seen : (scan : Scan) (c d : Cursor) (n : ℕ) → IsNextPlace (lengths_of scan) c d
     → IsLeastFrom (is_slice_seen scan.sought (content_of scan d.file) d.offset) d.slice (Some n)
     → let x : Sighting = record { file = d.file; offset = d.offset; slice = n } in

@@ -1,4 +1,5 @@
--- The places of a file into which no slice fits any more: none has a sighting, and a search passes them as they are.
+-- Places of a file at which no slice fits into what is left: none has a sighting, and a search
+-- passes them without reading.
 use Rattle.std.proofs.Common.{◌≡◌, ◌≢◌, ℕ, zero, suc, min, ◌+◌, ◌-◌, ◌<◌, ◌≤◌, Bool, true, List, [], ◌∷◌, length, refl, sym, ap, ◌∙◌, arith, slice_get, slice_index, nat_le, nat_lt, ◌==◌, ◌&&◌, false, Option, Some, None, Ok, IsTrue, inl, inr}
 use Rattle.std.proofs.lemmas.Bool.{and_parts, cases_Bool, cases_eq, or_left, or_right, leb-true, le-leb}
 use Rattle.std.specs.List.{list_any}
@@ -39,7 +40,7 @@ known_weaker : {A : Type 0} (p q : A → Bool) → ((x : A) → p x ≡ true →
 known_weaker p q weaker None h = h
 known_weaker p q weaker (Some x) h = weaker x h
 
--- what fits into less fits into more
+-- if a slice fits into fewer bytes, one fits into more
 pub fits_more : (set : SliceSet) (less more : ℕ) → less ≤ more → set_has_fit set less ≡ true → set_has_fit set more ≡ true
 fits_more set less more up fits =
     any_weaker (has_fit_of less) (has_fit_of more)
@@ -47,7 +48,7 @@ fits_more set less more up fits =
     (λ known h. let short : slice.length ≤ less = leb-true slice.length less h in le-leb slice.length more (omega arith))
     slice.sums) set.slices fits
 
--- a slice that is seen fits
+-- if a slice is seen at an offset, a slice fits into what is left of the file
 pub seen_fits : (sought : Sought) (file : List ℕ) (offset n : ℕ) → is_slice_seen sought file offset n ≡ true
     → set_has_fit sought.set (length file - offset) ≡ true
 seen_fits sought file offset n seen =
@@ -62,7 +63,7 @@ seen_fits sought file offset n seen =
     (known_weaker (λ known. known.1 == sums.1 && bytes_eq known.0.0 sums.0.0) (λ known. nat_le slice.0.length (length file - offset))
     (λ known h. fits) slice.0.sums parts.1)
 
--- no sighting lies at or after a place where no slice fits, in its file
+-- no sighting lies in a file from a place on at which no slice fits
 pub on_unfit : (scan : Scan) (d : Cursor) (n : ℕ) → ¬ IsTrue (set_has_fit scan.sought.set (length (content_of scan d.file) - d.offset))
     → sightings_between scan d (cursor_on d n) ≡ []
 on_unfit scan d n none =
@@ -79,7 +80,8 @@ on_unfit scan d n none =
 
 module _ (f : FinderState) (set : SliceSet) (s : ShelfState) (belongs : BelongsTo f set s) (d : Cursor)
     (next : IsNextPlace s.lengths f.cursor d) (none : ¬ HasFit set s.lengths d) where
-  -- the window stays, and the cursor goes on
+  -- if a finder's cursor passes such places and its window stays, the finder still belongs to its
+  -- set and shelf
   pub unfit_belongs : (n : ℕ) → BelongsTo (record f { cursor = cursor_on d n }) set s
   unfit_belongs n =
       let on : From f.cursor d = From-by_test f.cursor d next.onward in
@@ -99,7 +101,7 @@ module _ (f : FinderState) (set : SliceSet) (s : ShelfState) (belongs : BelongsT
         counted = belongs.counted;
       }
 
--- n places from the next one on
+-- the cursor passes n places, of which the first is the next one
 module _ (lengths : List ℕ) (c d : Cursor) (next : IsNextPlace lengths c d) (n : ℕ) (some : 0 < n) where
   pub unfit_passes : n ≤ rest_of lengths d → PassesAll lengths n c (cursor_on d n)
   unfit_passes within =
@@ -118,7 +120,7 @@ unfit_sees sought s files reads c d next none n some =
     let on : From d (cursor_on d n) = record { by_file = omega arith; by_offset = λ _. omega arith; by_slice = λ _ e. absurd (omega arith) } in
     next_place_sees s.lengths c d (cursor_on d n) next sought files reads.lengths (Ok Spent) on (on_unfit (scan_of sought files) d n unfit)
 
--- of a budget of places as many as are ahead: some are
+-- a budget that isn't 0 allows to pass at least one of the places that are left
 some_within : (left : Option ℕ) (rest most : ℕ) → left ≢ Some 0 → 0 < rest → 0 < most → 0 < min rest (unwrap_or left most)
 some_within None rest most some ahead big = omega arith
 some_within (Some zero) rest most some ahead big = absurd (some refl)

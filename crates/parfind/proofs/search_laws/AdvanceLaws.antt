@@ -1,4 +1,4 @@
--- How a search comes nearer to its end on any shelf.
+-- A search comes nearer to its end, whatever the reads return.
 use Rattle.std.proofs.Common.{◌≡◌, ℕ, ◌+◌, ◌<◌, ◌≤◌, List, [], ◌∷◌, length, ap, arith, length-append}
 use Rattle.parwindow.specs.Index.{SliceSet}
 use Rattle.parfind.specs.declared.cursors.cursor.Cursor.{Cursor}
@@ -18,7 +18,8 @@ some_from_has : {A : Type 0} (xs : List A) (x : A) → Has xs x → 0 < length x
 some_from_has [] x has = absurd has
 some_from_has (y ∷ xs) x has = omega arith
 
--- what lies from one cursor on, and from a later one on
+-- the elements from one cursor on are those between it and a later cursor, and those from the later
+-- one on
 module _ {A : Type 0} (key : A → Cursor) (c d : Cursor) (on : From c d) (xs : List A) (rises : Rises key xs) where
   parts : length (part_between key c d xs) + length (part_from key d xs) ≡ length (part_from key c xs)
   parts = omega (arith, ap length (between_and_from key c d on xs rises), length-append (part_between key c d xs) (part_from key d xs))
@@ -30,7 +31,7 @@ module _ {A : Type 0} (key : A → Cursor) (c d : Cursor) (on : From c d) (xs : 
       (Has-filter (λ y. is_from c (key y)) xs x has (is_from-true c (key x) from)) (is_before-true (key x) d before) in
       omega (arith, parts, some_from_has (part_between key c d xs) x here)
 
--- further on there are no more steps
+-- a later cursor has no more steps left
 pub no_more : (set : SliceSet) (lengths : List ℕ) (c d : Cursor) → From c d → steps_left set lengths d ≤ steps_left set lengths c
 no_more set lengths c d on =
     omega (
@@ -40,14 +41,14 @@ no_more set lengths c d on =
     )
 
 module _ (set : SliceSet) (lengths : List ℕ) (c d : Cursor) (next : IsNextPlace lengths c d) where
-  -- after the next place
+  -- past the next place, fewer steps are left
   pub fewer_past : steps_left set lengths (cursor_past (place_at d)) < steps_left set lengths c
   fewer_past =
       let past : Cursor = cursor_past (place_at d) in
       let on : From c past = From-trans c d past (From-by_test c d next.onward) (From-past d) in
       omega (arith, parts cursor_of c past on (triples_of set lengths) (Rises-triples_of set lengths), ap length (next_ahead lengths c d next))
 
-  -- after a slice at the next place
+  -- after a slice at the next place, fewer steps are left
   pub fewer_after : (n : ℕ) → d.slice ≤ n → n < length set.slices
       → let x : Sighting = record { file = d.file; offset = d.offset; slice = n } in
       steps_left set lengths (cursor_after x) < steps_left set lengths c

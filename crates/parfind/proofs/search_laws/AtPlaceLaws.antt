@@ -1,4 +1,5 @@
--- What is tried at a place whose window is there: the first slice that is seen, or the way to the next match.
+-- The try of a place at which the window is: it returns the first slice that is seen, or moves on
+-- to the next mark.
 use Rattle.std.proofs.Common.{◌≡◌, ◌≢◌, ℕ, ◌+◌, ◌<◌, ◌≤◌, List, length, replicate, slice_index, refl, sym, ap, ◌∙◌, subst, arith, Option, Some, None, Result, Ok, Err}
 use Rattle.std.specs.Option.{unwrap_or}
 use Rattle.parshelf.specs.Shelf.{ShelfState, ReadsAs, file_of}
@@ -36,7 +37,7 @@ use Rattle.parfind.proofs.search_laws.PassUnfitLaws.{cursor_on, next_here, passe
 use Rattle.parfind.proofs.search_laws.TryPlaceLaws.{Tried}
 use Rattle.parfind.proofs.search_laws.VisitLaws.{visit_hit, visit_stopped, visit_hits, visit_stays}
 
--- a finder at a place, whose window is there
+-- the finder's cursor is at a place, and its full window is there
 pub record IsThere (set : SliceSet) (s : ShelfState) (f : FinderState) : Type 0 where
   pub belongs : BelongsTo f set s
   pub counted : f.cursor.file < length s.lengths
@@ -44,7 +45,7 @@ pub record IsThere (set : SliceSet) (s : ShelfState) (f : FinderState) : Type 0 
   pub stands : StandsAt f.track f.cursor
   pub full : length f.window.content ≡ f.window.capacity
 
--- the first slice is looked for in its window, where so much of the file is left
+-- the first slice was looked for in the window, with `rest` bytes of the file left
 pub record Looked
     (set : SliceSet) (s : ShelfState) (f : FinderState) (rest : ℕ) (found : Option ℕ) (w : WindowState) (kept : List (Option Hash16)) : Type 0 where
   pub rest_is : rest ≡ rest_of s.lengths f.cursor
@@ -89,7 +90,8 @@ module _ (set : SliceSet) (s : ShelfState) (f : FinderState) (at : IsThere set s
   place_there : IsAtPlace s.lengths (cursor_of_track f.track)
   place_there = rw (at.stands.file_is, at.stands.offset_is) at.there
 
-  -- digests are taken, and the cursor stays at the place
+  -- after digests were taken, with the cursor at another slice of the place, the finder still
+  -- belongs
   at_belongs : (slice : ℕ) → BelongsTo (with_window f (record f.cursor { slice = slice }) w f.track kept) set s
   at_belongs slice =
       stays_belongs f set s s at.belongs (later_same s) (record f.cursor { slice = slice }) w f.track kept tied looked.keeps
@@ -118,7 +120,7 @@ module _ (set : SliceSet) (s : ShelfState) (f : FinderState) (at : IsThere set s
       };
     }
 
-  -- then the window slides, or a read fails
+  -- after that the window slides on, or a read fails
   module _ (t : ShelfState) (v : WindowState) (a : Track) (next_tied : IsTied t v a) (window : v ≡ record w { content = v.content })
       (reads : ReadsUpTo s t (fetched_of f.track) (fetched_of a)) where
     slid_reads : ReadsUpTo s t f.fetched (fetched_of a)
@@ -187,14 +189,14 @@ module _ (set : SliceSet) (s : ShelfState) (f : FinderState) (at : IsThere set s
           (omega (arith, same, at.stands.file_is))
           (λ _. passes.offset_is ∙ ap (λ (o : ℕ). o + n) at.stands.offset_is)
 
--- the same of the finder that a call was handed, which it sees from inside
+-- the same for the finder that a call was given, which is equal to the one inside the call
 module _ (set : SliceSet) (s : ShelfState) (f handed : FinderState) (is : f ≡ handed) (there : IsThere set s handed)
     (left : Option ℕ) (some : left ≢ Some 0) (rest : ℕ) (found : Option ℕ) (w : WindowState) (kept : List (Option Hash16))
     (looked : Looked set s f rest found w kept) where
   at : IsThere set s f
   at = subst (IsThere set s) (sym is) there
 
-  -- a finder that a try leaves
+  -- the clauses of a try, for the finder after it
   abbrev pub TryLeaves : ShelfState → Result Visit ReadFault → FinderState → Type 0
   TryLeaves t tried g = BelongsTo g set t × Tried (sought_for set handed) left s t handed g tried
 

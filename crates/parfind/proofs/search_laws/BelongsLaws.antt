@@ -1,4 +1,4 @@
--- A finder whose window goes on belongs to its slices and files as before.
+-- A finder still belongs to its set and shelf after its window or its cursor has moved.
 use Rattle.std.proofs.Common.{◌≡◌, ℕ, ◌+◌, ◌<◌, ◌≤◌, List, length, replicate, refl, sym, ap, ◌∙◌, subst, arith, IsTrue, Option, None, inl, inr}
 use Rattle.std.proofs.lemmas.Bool.{cases_eq}
 use Rattle.parshelf.specs.Shelf.{ShelfState, ReadsAs, Older}
@@ -25,7 +25,7 @@ use Rattle.parfind.proofs.place_laws.CrcMatchLaws.{marked_more, marked_rises}
 use Rattle.parfind.proofs.place_laws.PlaceLaws.{From-past}
 use Rattle.parfind.proofs.place_laws.CursorOrderLaws.{From, From-by_test, From-trans, is_from-true}
 
--- a finder whose window, track and kept digests are others, at another cursor
+-- a finder with another cursor, window, track and list of kept digests
 abbrev pub with_window : FinderState → Cursor → WindowState → Track → List (Option Hash16) → FinderState
 with_window f d w t kept = record f {
   cursor = d;
@@ -36,7 +36,8 @@ with_window f d w t kept = record f {
   kept = kept;
 }
 
--- the digests that were taken are no more than the marks up to a cursor after the place of the window, or before it where none is kept
+-- the digests that were taken are no more than the marks up to a cursor that is after the place of
+-- the window, or, if no digest is kept, not before it
 pub few_until : (f : FinderState) (set : SliceSet) (s : ShelfState) → BelongsTo f set s → (files : List (List ℕ)) → ReadsAs s files → (d : Cursor)
     → From (cursor_of_track f.track) d → (0 < kept_count f.kept → From (cursor_past (place_at (cursor_of_track f.track))) d)
     → f.window.digests ≤ marked_between (scan_of (sought_for set f) files) f.opening d
@@ -58,7 +59,8 @@ few_until f set s belongs files reads d next past =
           omega (arith, belongs.counted files reads, few, more, marked_rises scan f.opening (cursor_past (place_at c)) d over far)
     ]
 
--- the window goes to another place, and no digest is kept
+-- a finder still belongs to its set and files after its window moves to another place, if the MD5s
+-- that it kept of the old window are dropped
 module _ (f : FinderState) (set : SliceSet) (s t : ShelfState) (belongs : BelongsTo f set s) (later : Later s t)
     (d : Cursor) (w : WindowState) (b : Track) (kept : List (Option Hash16)) (tied : IsTied t w b)
     (none : kept ≡ replicate (length (compared_lengths (sought_for set f))) None)
@@ -92,7 +94,7 @@ module _ (f : FinderState) (set : SliceSet) (s t : ShelfState) (belongs : Belong
             omega (arith, few, same, zero_kept);
       }
 
--- the window stays where it is, with the digests that are kept, or more
+-- the finder belongs if its window stays, and all digests that were kept are
 module _ (f : FinderState) (set : SliceSet) (s t : ShelfState) (belongs : BelongsTo f set s) (later : Later s t)
     (d : Cursor) (w : WindowState) (b : Track) (kept : List (Option Hash16)) (tied : IsTied t w b)
     (keeps : Keeps (sought_for set f) w kept)
@@ -127,7 +129,7 @@ module _ (f : FinderState) (set : SliceSet) (s t : ShelfState) (belongs : Belong
             subst (λ (e : Cursor). w.digests ≤ marked_between scan f.opening e + kept_count kept) (sym at) here;
       }
 
--- the cursor goes to a later file
+-- the finder belongs if its cursor goes to a later file
 pub later_belongs : (f : FinderState) (set : SliceSet) (s : ShelfState) → BelongsTo f set s → (d : Cursor) → f.cursor.file < d.file
     → BelongsTo (record f { cursor = d }) set s
 later_belongs f set s belongs d later = record {
@@ -144,12 +146,12 @@ later_belongs f set s belongs d later = record {
   counted = belongs.counted;
 }
 
--- a finder that was opened there, in the same mode
+-- the finder belongs if its opening and its mode are given as those that it has
 pub opened_as : (f : FinderState) (set : SliceSet) (s : ShelfState) → BelongsTo f set s → (opening : Cursor) (mode : Mode)
     → opening ≡ f.opening → mode ≡ f.mode → BelongsTo (record f { opening = opening; mode = mode }) set s
 opened_as f set s belongs opening mode there same = rw (there, same) belongs
 
--- a shelf that was read on
+-- the finder belongs to the shelf after others have read on in it
 
 pub tied_later : (w : WindowState) (t : Track) (old new : ShelfState) → IsTied old w t → new.lengths ≡ old.lengths → Older old new → IsTied new w t
 tied_later w t old new tied lengths older = record {

@@ -1,4 +1,4 @@
--- A finder and its shelf along calls, one after another.
+-- A finder and its shelf over calls, one after another.
 use Rattle.std.proofs.Common.{◌≡◌, ℕ, ◌∙◌, ap, arith, Result, Ok, Err}
 use Rattle.parshelf.specs.Shelf.{ShelfState}
 use Rattle.parshelf.specs.Reads.{ReadsOnly, ReadsFile}
@@ -7,13 +7,14 @@ use Rattle.parshelf.proofs.ReadLaws.{ReadsOnly-refl, ReadsOnly_more, FaultsIn_mo
 use Rattle.parfind.specs.Finders.{FinderState, GoesAlong}
 use Rattle.parfind.proofs.track_laws.FetchedLaws.{hands_none, hands_more}
 
--- what a call leaves, after other calls that only read
+-- if a call comes after calls that only read, its clause about the shelf holds from the first of
+-- them on
 pub reads_before : {A : Type 0} (old mid new : ShelfState) (file : ℕ) (answer : Result A ReadFault) → ReadsOnly old mid
     → ReadsFile file mid new answer → ReadsFile file old new answer
 reads_before old mid new file (Ok x) reads more = ReadsOnly_more old mid new reads more
 reads_before old mid new file (Err fault) reads more = FaultsIn_more old mid new file fault reads more
 
--- nothing was read, and nothing hashed
+-- a call that reads nothing and takes no digest goes along
 pub goes_still : {A : Type 0} (s : ShelfState) (f g : FinderState) (x : A) → g.fetched ≡ f.fetched → g.opening ≡ f.opening
     → g.mode ≡ f.mode → g.digests ≡ f.digests → GoesAlong s s f g (Ok x)
 goes_still s f g x fetched opening mode digests = record {
@@ -24,7 +25,7 @@ goes_still s f g x fetched opening mode digests = record {
   no_fewer = omega (arith, digests);
 }
 
--- one call after another that answered
+-- a call without an error, followed by another one, goes along like one call
 pub goes_more : {A B : Type 0} (s mid t : ShelfState) (f g h : FinderState) (x : A) (answer : Result B ReadFault)
     → GoesAlong s mid f g (Ok x) → GoesAlong mid t g h answer → GoesAlong s t f h answer
 goes_more s mid t f g h x answer first next = record {
@@ -36,7 +37,7 @@ goes_more s mid t f g h x answer first next = record {
   no_fewer = omega (arith, first.no_fewer, next.no_fewer);
 }
 
--- what an answer holds makes no difference
+-- the value of a result without an error makes no difference
 pub goes_as : {A B : Type 0} (s t : ShelfState) (f g : FinderState) (x : A) (y : B) → GoesAlong s t f g (Ok x) → GoesAlong s t f g (Ok y)
 goes_as s t f g x y along = record {
   shelf = along.shelf;

@@ -1,4 +1,5 @@
--- A finder that goes to the next place: its window stays with its file, or begins anew in another.
+-- A finder that goes to the next place: its window stays with its file, or starts empty in another
+-- one.
 use Rattle.std.proofs.Common.{◌≡◌, ◌≢◌, ℕ, ◌<◌, ◌≤◌, ◌^◌, List, [], length, replicate, slice_index, Option, None, refl, sym, ap, ◌∙◌, subst, arith, inl, inr}
 use Rattle.std.proofs.lemmas.Bool.{cases_eq}
 use Rattle.parshelf.specs.Shelf.{ShelfState, IsShelf, file_of}
@@ -21,7 +22,7 @@ use Rattle.parfind.specs.Finders.{FinderState, BelongsTo, StandsAt, sought_for}
 use Rattle.parfind.specs.NextPlace.{HasFit, IsNextPlace}
 use Rattle.parfind.proofs.place_laws.CursorOrderLaws.{From, From-by_test, From-refl, is_from-true}
 
--- a window without bytes goes along any file
+-- an empty window, for which nothing was read, goes along any file
 pub unread_tied : (s : ShelfState) (v w : WindowState) (file offset : ℕ) (t : Track) → offset < 2 ^ 63 → v.capacity ≤ slice_size_limit
     → IsUnread file offset t → w ≡ record v { content = [] } → IsTied s w t
 unread_tied s v w file offset t small few unread empty =
@@ -38,7 +39,7 @@ unread_tied s v w file offset t small few unread empty =
 
 module _ (f : FinderState) (set : SliceSet) (s : ShelfState) (shelf : IsShelf s) (belongs : BelongsTo f set s) (at : Cursor)
     (next : IsNextPlace s.lengths f.cursor at) (fits : HasFit set s.lengths at) where
-  -- in one file the next place is where the cursor stands
+  -- if the next place is in the cursor's file, it is at the cursor's offset
   next_offset_same : f.cursor.file ≡ at.file → f.cursor.offset ≡ at.offset
   next_offset_same same =
       let on : From f.cursor at = From-by_test f.cursor at next.onward in
@@ -48,7 +49,7 @@ module _ (f : FinderState) (set : SliceSet) (s : ShelfState) (shelf : IsShelf s)
       From-by_test at f.cursor (next.least f.cursor (is_from-true f.cursor f.cursor (From-refl f.cursor)) inside) in
       omega (arith, on.by_offset same, back.by_offset (sym same))
 
-  -- where the window is there, it stays with the digests that are kept
+  -- if the window is in the file of the next place, it is at that place, and its digests stay
   pub stands_there : f.track.file ≡ at.file → StandsAt f.track at
   stands_there same =
       let on : From f.cursor at = From-by_test f.cursor at next.onward in
@@ -120,7 +121,7 @@ module _ (f : FinderState) (set : SliceSet) (s : ShelfState) (shelf : IsShelf s)
     pub enter_digests : w.digests ≡ f.window.digests
     enter_digests = ap (λ (x : WindowState). x.digests) enter_window
 
-    -- from any place of the file that is left
+    -- the place of a window that entered another file is after each place of the file that it left
     further : f.track.file ≢ at.file → (c : Cursor) → c.file ≡ f.track.file → From c (cursor_of_track t)
     further other c is =
         let on : From f.cursor at = From-by_test f.cursor at next.onward in
@@ -139,7 +140,7 @@ module _ (f : FinderState) (set : SliceSet) (s : ShelfState) (shelf : IsShelf s)
       | inr other ↦ further other (cursor_of_track f.track) refl
     ]
 
-    -- it is filled, and belongs there
+    -- after the window was filled there, the finder belongs
     pub enter_belongs : (f.track.file ≡ at.file → ¬ (length f.window.content ≡ f.window.capacity)) → (u : ShelfState) → Later s u
         → (kept : List (Option Hash16)) → kept ≡ replicate (length (compared_lengths (sought_for set f))) None
         → (v : WindowState) (a : Track) → IsTied u v a → v ≡ record w { content = v.content } → SameTrack t a

@@ -1,4 +1,4 @@
--- What a call of a search reads and hashes, whatever it answers.
+-- How much a call of a search reads and hashes, whatever it returns.
 use Rattle.std.proofs.Common.{◌≡◌, ℕ, ◌+◌, ◌≤◌, List, sym, ap, ◌∙◌, arith, Result}
 use Rattle.parshelf.specs.Shelf.{ShelfState, ReadsAs}
 use Rattle.parshelf.specs.declared.shelves.reading.ReadFault.{ReadFault}
@@ -14,7 +14,7 @@ use Rattle.parfind.proofs.search_laws.BelongsLaws.{few_until}
 use Rattle.parfind.proofs.track_laws.LaterShelfLaws.{later_read}
 use Rattle.parfind.proofs.place_laws.CursorOrderLaws.{From}
 
--- files are read little further than the cursor
+-- files are read only a little further than the cursor: a window and 4,096 bytes
 near_cursor : (f : FinderState) (set : SliceSet) (s : ShelfState) → BelongsTo f set s → IsNear set.slice_size f.fetched f.cursor
 near_cursor f set s belongs =
     let file : f.fetched.file ≡ f.track.file = ap (λ (p : Place). p.file) belongs.fetched_is in
@@ -25,7 +25,7 @@ near_cursor f set s belongs =
       offset_is = λ same. omega (arith, offset, belongs.not_past (sym file ∙ same), t.not_ahead, t.within, t.buffer_fits, belongs.made.sized);
     }
 
--- what a call reads, whatever it answers
+-- the clause `reads` of a call, whatever it returns
 pub reads_near : {A : Type 0} (set : SliceSet) (s t : ShelfState) (f g : FinderState) (answer : Result A ReadFault)
     → GoesAlong s t f g answer → BelongsTo g set t → CallReads set.slice_size (search_of s f) (search_of t g)
 reads_near set s t f g answer along belongs = record {
@@ -34,7 +34,7 @@ reads_near set s t f g answer along belongs = record {
   near = near_cursor g set t belongs;
 }
 
--- the digests are no more than the marks up to the cursor
+-- the clause `digests` of a call: no more digests were taken than there are marks up to the cursor
 pub few_digests : (f : FinderState) (set : SliceSet) (s : ShelfState) → BelongsTo f set s → (files : List (List ℕ)) → ReadsAs s files
     → f.digests ≤ marks (scan_of (sought_for set f) files) f.opening f.cursor
 few_digests f set s belongs files reads =

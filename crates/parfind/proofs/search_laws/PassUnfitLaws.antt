@@ -26,7 +26,7 @@ use Rattle.parfind.proofs.search_laws.StepMovesLaws.{PassedTo, passed_by, more_m
 use Rattle.parfind.proofs.place_laws.SightingsBetweenLaws.{more_sees}
 use Rattle.parfind.proofs.search_laws.VisitLaws.{visit_past, visit_stopped, visit_passes}
 
--- n offsets on, before all slices
+-- the cursor n offsets after another one, before all slices
 abbrev pub cursor_on : Cursor → ℕ → Cursor
 cursor_on d n = record { file = d.file; offset = d.offset + n; slice = 0 }
 
@@ -41,7 +41,7 @@ next_here lengths d counted there = record {
 pub From-on : (d : Cursor) (m n : ℕ) → m ≤ n → From (cursor_on d m) (cursor_on d n)
 From-on d m n less = record { by_file = omega arith; by_offset = λ _. omega arith; by_slice = λ _ _. omega arith }
 
--- n places from d on, all of them in its file
+-- the cursor passes n places from d on, if all of them are in d's file
 pub passes_many : (lengths : List ℕ) (d : Cursor) (n : ℕ) → d.file < length lengths → d.offset + suc n ≤ slice_index lengths d.file
     → PassesAll lengths (suc n) d (cursor_on d (suc n))
 passes_many lengths d zero counted inside = visit_passes lengths d d (next_here lengths d counted (omega arith))
@@ -59,7 +59,7 @@ pub passes_some : (lengths : List ℕ) (d : Cursor) (n : ℕ) → 0 < n → d.fi
 passes_some lengths d zero some counted inside = absurd (omega arith)
 passes_some lengths d (suc n) some counted inside = passes_many lengths d n counted inside
 
--- no sighting lies between places without a slice's CRC-32
+-- no sighting lies between places whose windows don't have the CRC-32 of a slice
 pub on_unseen : (scan : Scan) (d : Cursor) (n : ℕ) → 0 < n → HaveNoComparedCrc scan.sought (content_of scan d.file) d.offset n
     → sightings_between scan (cursor_on d 1) (cursor_on d n) ≡ []
 on_unseen scan d n some none =
@@ -82,7 +82,8 @@ on_unseen scan d n some none =
 
 module _ (sought : Sought) (files : List (List ℕ)) (lengths : List ℕ) (same : map length files ≡ lengths) (d : Cursor)
     (next : IsNextPlace lengths d d) where
-  -- after n places of which no window but the first may have the CRC-32 of a slice, and there no slice is seen
+  -- no sighting lies at n places if no slice is seen at the first, and the windows of the others
+  -- don't have the CRC-32 of a slice
   pub many_unseen : (n : ℕ) → 0 < n → IsLeastFrom (is_slice_seen sought (file_of files d.file) d.offset) d.slice None
       → HaveNoComparedCrc sought (file_of files d.file) d.offset n → sightings_between (scan_of sought files) d (cursor_on d n) ≡ []
   many_unseen n some unseen none =
@@ -91,7 +92,7 @@ module _ (sought : Sought) (files : List (List ℕ)) (lengths : List ℕ) (same 
       sym (between_and_between cursor_of d (cursor_on d 1) (cursor_on d n) to (From-on d 1 n (omega arith)) (sightings_of (scan_of sought files)) (Rises-sightings_of (scan_of sought files)))
       ∙ (rw here (on_unseen (scan_of sought files) d n some none))
 
--- a step from the next place is a step from before it
+-- a step from the next place is a step from a cursor before it
 module _ (lengths : List ℕ) (c d e : Cursor) (next : IsNextPlace lengths c d) where
   passed_next : PassedTo lengths c d 0
   passed_next = record {

@@ -1,4 +1,4 @@
--- What was handed over of the files, by all calls since an opening.
+-- How many bytes of each file all calls since an opening read.
 use Rattle.std.proofs.Common.{◌≡◌, ℕ, ◌+◌, ◌-◌, ◌<◌, ◌≤◌, ◌⊎◌, true, false, List, [], ◌∷◌, nat_lt, nat_eq, sym, subst, arith, slice_index, inl, inr}
 use Rattle.std.proofs.lemmas.Bool.{cases_lt, cases_eq, lt-ltb, le-ltb, eq-eqb, ne_eqb}
 use Rattle.parfind.specs.Fetched.{Place, HandsUpTo, ReadsUpTo}

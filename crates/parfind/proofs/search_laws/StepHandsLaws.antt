@@ -1,4 +1,4 @@
--- A step hands out the sightings that it passes.
+-- A step returns exactly the sightings that it passes.
 use Rattle.std.proofs.Common.{◌≡◌, ℕ, true, false, [], ◌∷◌, filter, ap, ◌∙◌, Option, Result, Ok, Err}
 use Rattle.parshelf.specs.declared.shelves.reading.ReadFault.{ReadFault}
 use Rattle.parfind.specs.declared.cursors.cursor.Cursor.{Cursor}

@@ -1,4 +1,5 @@
--- What a step gives, by where it goes, what it sees and what was counted.
+-- The clauses of a step follow from its move, the sightings that it sees and the bytes that it
+-- reads.
 use Rattle.std.proofs.Common.{◌≡◌, ◌≢◌, ℕ, zero, suc, ◌+◌, ◌-◌, ◌<◌, ◌≤◌, true, nat_eq, List, [], length, take, refl, sym, ap, ◌∙◌, subst, arith, Option, Some, None, Result, Ok, Err, option_map}
 use Rattle.std.specs.List.{All, Contains}
 use Rattle.std.specs.Option.{option_eq}
@@ -29,7 +30,7 @@ use Rattle.parfind.proofs.place_laws.SightingsBetweenLaws.{same_left, more_sees}
 From-start_at : (e : Cursor) (x : Sighting) → From e (cursor_of x) → From (place_start e) (cursor_at (place_of x))
 From-start_at e x on = record { by_file = on.by_file; by_offset = on.by_offset; by_slice = λ _ _. omega arith }
 
--- a budget that is spent over no sighting
+-- if a budget is spent, no sighting is at its places
 pub spent_sees_none : SpentSeesNone
 spent_sees_none scan n old new gives =
     let c : Cursor = old.cursor in
@@ -50,14 +51,14 @@ spent_sees_none scan n old new gives =
     (All-from Elsewhere (sightings_from scan d)
     (Each-weaker Late Elsewhere late (sightings_from scan d) (Each-passes (λ x. is_from d (cursor_of x)) (sightings_of scan))))
 
--- what is counted, by what is read; an early end is a reading of no files
+-- the counts follow from what is read; an unexpected end isn't consistent with any files
 counts_of : (old new : SearchPoint) (files : List (List ℕ)) → ReadsAs new.shelf files → (answer : Result Step ReadFault)
     → ReadsFile new.cursor.file old.shelf new.shelf answer → StepCounts old answer new
 counts_of old new files reads (Ok step) leaves = leaves
 counts_of old new files reads (Err Failed) leaves = leaves
 counts_of old new files reads (Err Ended) leaves = leaves.none refl files reads
 
--- where it goes is said by the shelf's lengths, which are those of its files
+-- the move of a step depends only on the shelf's lengths, which are those of the files
 pub gives_by : (sought : Sought) (files : List (List ℕ)) (budget : Option ℕ) (old new : SearchPoint) → ReadsAs new.shelf files
     → (answer : Result Step ReadFault) → StepMoves old.shelf.lengths budget old.cursor answer new.cursor
     → StepSees (scan_of sought files) old.cursor answer new.cursor
@@ -69,7 +70,7 @@ gives_by sought files budget old new reads answer moves sees leaves =
       counts = counts_of old new files reads answer leaves;
     }
 
--- over a shelf that was only read meanwhile
+-- the same step over a shelf in which only bytes were read since
 
 module _ (sought : Sought) (old mid : ShelfState) (reads : ReadsOnly old mid) where
   pub moves_before : (budget : Option ℕ) (c d : Cursor) (answer : Result Step ReadFault) → StepMoves mid.lengths budget c answer d
@@ -92,14 +93,14 @@ module _ (sought : Sought) (old mid : ShelfState) (reads : ReadsOnly old mid) wh
     advances budget Spent other next = absurd (other refl)
     advances budget Done other next = tt
 
--- k places of a budget were passed, and so many are left
+-- k places of a budget were passed, and the rest of it is left
 abbrev pub Leaves : Option ℕ → Option ℕ → ℕ → Type 0
 Leaves None None k = Unit {0}
 Leaves None (Some left) k = ⊥
 Leaves (Some n) None k = ⊥
 Leaves (Some n) (Some left) k = (k + left ≡ n) × (0 < left)
 
--- what is left of a budget after so many places
+-- the rest of a budget after a number of places
 abbrev pub budget_left : Option ℕ → ℕ → Option ℕ
 budget_left left m = option_map (λ places. places - m) left
 
@@ -145,7 +146,7 @@ leaves_none (Some n) (Some left) k m leaves within none =
     let last : left - m ≡ 0 = cc in
     ap (λ (j : ℕ). Some j) (omega (arith, leaves.0))
 
--- a step of m places, once k places were passed of a budget
+-- a step of m places, after k places of a budget were passed
 module _ (sought : Sought) (old mid : ShelfState) (reads : ReadsOnly old mid) (budget left : Option ℕ) (c d : Cursor) (k : ℕ)
     (leaves : Leaves budget left k) (w : PassedTo old.lengths c d k) (e : Cursor) (m : ℕ) (within : IsWithin m left) where
   pub then_moves : (answer : Result Step ReadFault) → (answer ≡ Ok Spent → ⊥) → StepMoves mid.lengths (Some m) d answer e

@@ -1,4 +1,4 @@
--- Where a search goes by the lengths of the files, one part of the way after another.
+-- The moves of a search, given the lengths of the files, one part of the way after another.
 use Rattle.std.proofs.Common.{◌≡◌, ℕ, ◌+◌, ◌-◌, ◌<◌, ◌≤◌, List, [], ◌∷◌, ◌++◌, length, take, drop, refl, sym, ap, ◌∙◌, subst, arith, Option, Some, None, Result, Ok, Err, slice_get, slice_index, suc, false, true, ◌⊎◌, inl, inr, length-append}
 use Rattle.std.specs.List.{Contains}
 use Rattle.std.proofs.Math.Nat.{zero-add, suc-add}
@@ -22,7 +22,7 @@ use Rattle.parfind.proofs.place_laws.RisingLaws.{Rises-part_from, between_and_fr
 use Rattle.parfind.proofs.place_laws.SightingLaws.{Rises-places_of}
 use Rattle.parfind.proofs.place_laws.PlaceLaws.{place_at_place, From-start, Before-past, From-past_place}
 
--- after all files
+-- the cursor after all files
 
 pub greater-end : (lengths : List ℕ) (c : Cursor) → c.file < length lengths → greater_of c (end_of lengths) ≡ end_of lengths
 greater-end lengths c within =
@@ -46,14 +46,14 @@ From-greater c e = elim (cases_Bool (is_before c e)) [
       rw same (From-refl c)
 ]
 
--- a place is one of a file that is there
+-- a file that has a place exists
 pub counted_of : (lengths : List ℕ) (f o : ℕ) → o < slice_index lengths f → f < length lengths
 counted_of lengths f o inside = elim (cases_lt f (length lengths)) [
   | inl lt ↦ lt
   | inr past ↦ let none : slice_index lengths f ≡ 0 = get_or_past lengths f 0 past in absurd (omega arith)
 ]
 
--- places from one cursor to another, and from there on
+-- the places from one cursor to another, and those from there on
 
 module _ (lengths : List ℕ) (c d : Cursor) (on : From c d) where
   pub places_then_ahead : places_between lengths c d ++ places_ahead lengths d ≡ places_ahead lengths c
@@ -65,7 +65,7 @@ module _ (lengths : List ℕ) (c d : Cursor) (on : From c d) where
       between_and_between cursor_at (place_start c) (place_start d) (place_start e) (From-start c d on) (From-start d e on')
       (places_of lengths) (Rises-places_of lengths)
 
--- where a search stands once it has passed k places from c on
+-- the cursor d is reached from c after k places were passed
 pub record PassedTo (lengths : List ℕ) (c d : Cursor) (k : ℕ) : Type 0 where
   pub onward : From c d
   pub count : length (places_between lengths c d) ≡ k
@@ -90,7 +90,7 @@ passed_more lengths c d e k m v w = record {
   ];
 }
 
--- a spent budget is as many places as it has
+-- if a budget of n places is spent, exactly the first n places from the cursor on were passed
 module _ (lengths : List ℕ) (n : ℕ) (c d : Cursor) (all : PassesAll lengths n c d) where
   ahead : List Place
   ahead = places_ahead lengths c
@@ -134,7 +134,7 @@ module _ (lengths : List ℕ) (n : ℕ) (c d : Cursor) (all : PassesAll lengths 
         stays = inr (rw all.after (counted_of lengths all.last.file all.last.offset inside));
       }
 
--- each step goes on
+-- no step goes back
 pub moves_onward : (lengths : List ℕ) (budget : Option ℕ) (c d : Cursor) (answer : Result Step ReadFault)
     → StepMoves lengths budget c answer d → From c d
 moves_onward lengths budget c d (Ok (Hit x)) moves =
@@ -146,7 +146,7 @@ moves_onward lengths None c d (Ok Spent) moves = absurd moves
 moves_onward lengths budget c d (Ok Done) moves = rw moves.after (From-greater c (end_of lengths))
 moves_onward lengths budget c d (Err fault) moves = From-by_test c d moves.onward
 
--- a step from d, once k places were passed from c on
+-- a step from d, after k places were passed from c on
 
 contains_more : (xs : List Place) (m : ℕ) (p : Place) → Contains (take m xs) p → Contains xs p
 contains_more xs m p has =

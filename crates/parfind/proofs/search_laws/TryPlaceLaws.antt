@@ -1,4 +1,4 @@
--- Places that are tried one after another come to a step.
+-- Places that are tried one after another make up a step.
 use Rattle.std.proofs.Common.{◌≡◌, ◌≢◌, ℕ, ◌+◌, ◌≤◌, List, [], refl, subst, arith, Option, Some, Result, Ok, Err, IfOk}
 use Rattle.parshelf.specs.Shelf.{ShelfState, ReadsAs}
 use Rattle.parshelf.specs.declared.shelves.reading.ReadFault.{ReadFault}
@@ -23,7 +23,7 @@ use Rattle.parfind.proofs.search_laws.PassUnfitLaws.{next_place_moves, next_plac
 use Rattle.parfind.proofs.search_laws.StepLaws.{Leaves, budget_left, leaves_all, leaves_more, moves_before, nearer, advances, then_moves, then_spent, then_advances, then_passed, then_sees, then_gives}
 use Rattle.parfind.proofs.place_laws.SightingsBetweenLaws.{none_seen}
 
--- what is said of a step that was made, with its budget
+-- the clauses of a step with its budget
 pub record StepMade
     (sought : Sought) (budget : Option ℕ) (old new : ShelfState) (f g : FinderState) (r : Result Step ReadFault) : Type 0 where
   pub answer : (files : List (List ℕ)) → ReadsAs new files
@@ -32,7 +32,7 @@ pub record StepMade
   pub advances : IfOk r (λ step. Advances sought.set budget (search_at old f.cursor) step g.cursor)
   pub along : GoesAlong old new f g r
 
--- what is said of a place that was tried, with what is left of a budget
+-- the clauses of a try of a place, with the budget that is left
 pub record Tried
     (sought : Sought) (left : Option ℕ) (old new : ShelfState) (f g : FinderState) (r : Result Visit ReadFault) : Type 0 where
   pub sees : (files : List (List ℕ)) → ReadsAs new files → StepSees (scan_of sought files) f.cursor (step_answer r) g.cursor
@@ -45,11 +45,12 @@ pub tried_is : (sought : Sought) (left : Option ℕ) (old new : ShelfState) (f g
     → Tried sought left old new f g (Ok v) → Tried sought left old new f g (Ok w)
 tried_is sought left old new f g v w is tried = subst (λ (x : Visit). Tried sought left old new f g (Ok x)) is tried
 
--- a call that answered
+-- a result without an error
 abbrev pub answered : Result (Unit {0}) ReadFault
 answered = Ok tt
 
--- some places of a budget were passed, with no sighting, and so many are left
+-- some places of a budget were passed, with no sighting among them, and the rest of the budget is
+-- left
 pub record PassedSoFar (sought : Sought) (budget left : Option ℕ) (old mid : ShelfState) (f g : FinderState) : Type 0 where
   pub count : ℕ
   pub leaves : Leaves budget left count
@@ -69,7 +70,7 @@ none_so_far sought budget some s f = record {
   along = goes_still {A = Unit {0}} s f f tt refl refl refl refl;
 }
 
--- a place is tried then
+-- after that, another place is tried
 
 module _ (sought : Sought) (budget left : Option ℕ) (old mid new : ShelfState) (f g h : FinderState)
     (so_far : PassedSoFar sought budget left old mid f g) where
@@ -88,7 +89,7 @@ module _ (sought : Sought) (budget left : Option ℕ) (old mid new : ShelfState)
       let all = goes_more {A = Unit {0}} old mid new f g h tt (Err fault) so_far.along along in
       record { shelf = all.shelf; reads = all.reads; opening_is = all.opening_is; mode_is = all.mode_is; no_fewer = all.no_fewer }
 
-  -- any answer but that places were passed ends the step
+  -- each result of a try, except that places were passed, ends the step
   pub tried_ends : (r : Result Visit ReadFault) → (step_answer r ≡ Ok Spent → ⊥) → Tried sought left mid new g h r
       → StepMade sought budget old new f h (step_answer r)
   tried_ends r other tried =
@@ -107,7 +108,7 @@ module _ (sought : Sought) (budget left : Option ℕ) (old mid new : ShelfState)
         along = along;
       }
 
-  -- the places that were passed use the budget up
+  -- if the places that were passed use the budget up, the step ends
   pub tried_spends : (m : ℕ) → budget_left left m ≡ Some 0 → Tried sought left mid new g h (Ok (Passed m))
       → StepMade sought budget old new f h (Ok Spent)
   tried_spends m none tried =
@@ -127,7 +128,7 @@ module _ (sought : Sought) (budget left : Option ℕ) (old mid new : ShelfState)
         along = along;
       }
 
-  -- the places that were passed leave some of the budget
+  -- if they leave some of the budget, the step goes on
   pub tried_passes : (m : ℕ) → budget_left left m ≢ Some 0 → Tried sought left mid new g h (Ok (Passed m))
       → PassedSoFar sought budget (budget_left left m) old new f h
   tried_passes m some tried =
@@ -148,7 +149,7 @@ module _ (sought : Sought) (budget left : Option ℕ) (old mid new : ShelfState)
             (goes_more {A = Unit {0}} old mid new f g h tt (Ok (Passed m)) so_far.along tried.along);
       }
 
--- what is tried at the next place, once the window is there, is tried from before it
+-- a try at the next place, after the window was brought there, is a try from the cursor before it
 module _ {A : Type 0} (sought : Sought) (left : Option ℕ) (old mid new : ShelfState) (f g h : FinderState) (x : A)
     (along : GoesAlong old mid f g (Ok x)) (next : IsNextPlace old.lengths f.cursor g.cursor) where
   next_moves : (r : Result Visit ReadFault) → StepMoves mid.lengths (Some (count_of r)) g.cursor (step_answer r) h.cursor

@@ -1,4 +1,5 @@
--- A visit of the next place is a step with a budget of one place: where it goes, and what it sees.
+-- A try of the next place is a step with a budget of one place: its move, and the sightings that it
+-- sees.
 use Rattle.std.proofs.Common.{◌≤◌, refl, arith, false, ◌≡◌, ℕ, List, [], ◌∷◌, length, map, sym, subst, Some, None}
 use Rattle.parshelf.specs.Shelf.{file_of}
 use Rattle.parfind.specs.Sought.{Sought}
@@ -17,7 +18,7 @@ use Rattle.parfind.proofs.place_laws.ItemLaws.{Each-from_has, filter_none}
 use Rattle.parfind.proofs.place_laws.PlaceLaws.{place_at_place, ahead_of_start, next_over, next_ahead}
 use Rattle.parfind.proofs.place_laws.SightingsBetweenLaws.{next_unseen, end_unseen, past_unseen, hit_seen}
 
--- what it sees in files of these lengths
+-- the sightings that it sees, in files of these lengths
 
 module _ (sought : Sought) (files : List (List ℕ)) (lengths : List ℕ) (same : map length files ≡ lengths) where
   module _ (c : Cursor) where
@@ -40,7 +41,7 @@ module _ (sought : Sought) (files : List (List ℕ)) (lengths : List ℕ) (same 
       pub visit_stopped : sightings_between (scan_of sought files) c d ≡ []
       visit_stopped = next_unseen (scan_of sought files) c d next_of_scan
 
--- where it goes on any shelf
+-- its move, whatever the reads return
 
 module _ (lengths : List ℕ) (c d : Cursor) (next : IsNextPlace lengths c d) where
   pub visit_hits : (n : ℕ) → d.slice ≤ n

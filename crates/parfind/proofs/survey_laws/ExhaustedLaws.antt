@@ -1,4 +1,5 @@
--- The CRC-32s of which each slice is found: they stay as more are found and as less is left of a file.
+-- Exhausted CRC-32s, those whose slices are all found: they stay exhausted as more slices are found
+-- and as less is left of a file.
 use Rattle.std.proofs.Common.{◌≡◌, ℕ, ◌<◌, ◌≤◌, Bool, true, false, ◌==◌, nat_le, List, length, replicate, slice_get, slice_index, slice_index_or, slice_set, sym, ap, subst, ◌∙◌, arith, inl, inr, Option, Some, None, IfSome, get_or-set_same, get_or-set_other}
 use Rattle.std.specs.Option.{option_map_or}
 use Rattle.std.proofs.lemmas.Bool.{and_parts, and_from, cases_eq, cases_lt, false_from_ne_true, le-leb, leb-true}
@@ -15,7 +16,7 @@ if_some : (P Q : ℕ → Type 0) → ((crc : ℕ) → P crc → Q crc) → (know
 if_some P Q weaker None h = tt
 if_some P Q weaker (Some crc) h = weaker crc h
 
--- a slice that fits into less fits into more
+-- a slice that fits into fewer bytes fits into more
 compared_more : (sought : Sought) (own crc less more : ℕ) → less ≤ more → (n : ℕ)
     → slice_passes sought.set.slices (is_compared sought own (has_fit_crc_of crc less)) n ≡ true
     → slice_passes sought.set.slices (is_compared sought own (has_fit_crc_of crc more)) n ≡ true
@@ -30,7 +31,7 @@ compared_more sought own crc less more up n h =
     (and_from (has_known_crc crc slice.0) (nat_le slice.0.length more) fits.0 (le-leb slice.0.length more (omega arith)))
 
 module _ (sought : Sought) (left : ℕ) (crcs : List (Option ℕ)) where
-  -- as more are found
+  -- they stay exhausted as more slices are found
   pub exhausted_more : (was now : List Bool) (test : ℕ → Bool) → FindsMore test was now → AreExhausted sought was left crcs
       → AreExhausted sought now left crcs
   exhausted_more was now test marks are k within =
@@ -43,7 +44,7 @@ module _ (sought : Sought) (left : ℕ) (crcs : List (Option ℕ)) where
       let both : true ≡ false = sym before ∙ known in cc))
       (slice_index_or crcs k None) (are k within)
 
-  -- as less is left
+  -- they stay exhausted as less is left of the file
   pub exhausted_on : (found : List Bool) (less : ℕ) → less ≤ left → AreExhausted sought found left crcs → AreExhausted sought found less crcs
   exhausted_on found less up are k within =
       let own : ℕ = slice_index (compared_lengths sought) k in
@@ -57,7 +58,7 @@ module _ (sought : Sought) (left : ℕ) (crcs : List (Option ℕ)) where
       let both : true ≡ false = sym more ∙ known in cc))
       (slice_index_or crcs k None) (are k within)
 
-  -- one CRC-32 more
+  -- another CRC-32 may be noted if it is exhausted
   pub exhausted_set : (found : List Bool) (k crc : ℕ) → k < length crcs → IsExhausted sought found left (slice_index (compared_lengths sought) k) crc
       → AreExhausted sought found left crcs → AreExhausted sought found left (slice_set crcs k (Some crc))
   exhausted_set found k crc room known are j within =
@@ -73,7 +74,7 @@ module _ (sought : Sought) (left : ℕ) (crcs : List (Option ℕ)) where
             subst (λ (o : Option ℕ). IfSome o (P j)) (sym kept) (are j within)
       ]
 
--- none is known
+-- if none is noted, all that are noted are exhausted
 pub exhausted_none : (sought : Sought) (found : List Bool) (left count : ℕ) → AreExhausted sought found left (replicate count None)
 exhausted_none sought found left count k within = elim (cases_lt k count) [
   | inl less ↦ rw (get_or-replicate {A = Option ℕ} count k None None less) tt

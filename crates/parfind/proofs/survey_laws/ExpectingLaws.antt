@@ -1,4 +1,5 @@
--- A survey that looks for short slices where they are expected: what it sees there has a sighting, and it leaves no file in which a slice fits.
+-- A survey that looks for short slices at the places at which they are expected: a slice that it
+-- sees there has a sighting, and it reads only files into which a missing slice fits.
 use Rattle.std.proofs.Common.{◌≡◌, ◌⊎◌, ℕ, ◌+◌, ◌<◌, ◌≤◌, Bool, true, false, ◌||◌, ◌&&◌, ◌==◌, nat_le, nat_lt, List, [], length, refl, sym, ap, ◌∙◌, subst, arith, inl, inr, slice_get, slice_index, Option}
 use Rattle.std.specs.Option.{option_map_or}
 use Rattle.std.proofs.lemmas.Bool.{and_from, and_parts, cases_lt, eq-eqb, eqb-true, or_cases, or_parts, ltb-true, ltb-false, le-leb, le-ltb}
@@ -30,11 +31,11 @@ use Rattle.parfind.proofs.survey_laws.MissingSetLaws.{missing_of, same_slice}
 use Rattle.parfind.proofs.survey_laws.NotedLaws.{has_any}
 use Rattle.parfind.proofs.track_laws.NextBytesLaws.{whole_window}
 
--- none was seen but those before
+-- if no further slice was seen, each one that was seen has a sighting
 pub sees_same : (shelf : ShelfState) (short : ShortState) → SeesSighted shelf short short
 sees_same shelf short = record { set_is = refl; strict_is = refl; seen_is = λ files reads n h. inl h }
 
--- they have a sighting after more reads too
+-- slices that have a sighting still have one after more reads
 pub sees_later : (shelf later : ShelfState) (old new : ShortState) → Older shelf later → SeesSighted shelf old new → SeesSighted later old new
 sees_later shelf later old new older sees = record {
   set_is = sees.set_is;
@@ -42,7 +43,7 @@ sees_later shelf later old new older sees = record {
   seen_is = λ files reads n h. sees.seen_is files (older files reads) n h;
 }
 
--- a file with bytes is there
+-- a file that has bytes exists
 counted_file : (files : List (List ℕ)) (file : ℕ) → 0 < length (file_of files file) → file < length files
 counted_file files file some = elim (cases_lt file (length files)) [
   | inl less ↦ less
@@ -58,7 +59,7 @@ one_sighting sought files file offset n counted seen =
     (Has-sightings_of (scan_of sought files) x counted (seen_there sought (file_of files file) offset n seen) seen)
     (eq-eqb n n refl)
 
--- those that are seen in the full window of a place have one
+-- slices that are seen in the full window of a place have a sighting
 module _ (shelf : ShelfState) (window : WindowState) (track : Track) (tied : IsTied shelf window track)
     (full : length window.content ≡ window.capacity) (left : ℕ) (some : 0 < left)
     (room : track.window_offset + left ≡ slice_index shelf.lengths track.file) where
@@ -83,7 +84,8 @@ module _ (shelf : ShelfState) (window : WindowState) (track : Track) (tied : IsT
     ];
   }
 
--- if slices are looked for everywhere, one is missing
+-- if no short slice is expected and no short file is missing, a survey that goes on still looks for
+-- a slice
 pub open_strict : (missing count : ℕ) (waiting files : Bool) → (nat_lt missing count || (waiting || files)) ≡ true → waiting ≡ false → files ≡ false → missing < count
 open_strict missing count waiting files open_ none no_file = elim (or_cases (nat_lt missing count) (waiting || files) open_) [
   | inl less ↦ ltb-true missing count less
@@ -93,15 +95,16 @@ open_strict missing count waiting files open_ none no_file = elim (or_cases (nat
   ]
 ]
 
--- nothing is looked for any more
+-- a survey that ends looks for no slice any more
 pub shut : (missing count : ℕ) (others : Bool) → (nat_lt missing count || others) ≡ false → count ≤ missing
 shut missing count others none = let parts = or_parts (nat_lt missing count) others none in ltb-false missing count parts.0
 
--- as long as none is expected more
+-- if no slice is expected, none is after some were taken out
 pub waits_less : (before after : Expected) → after.count ≤ before.count → is_waiting before ≡ false → is_waiting after ≡ false
 waits_less before after fewer none = le-ltb 0 after.count (omega (arith, ltb-false 0 before.count none))
 
--- a slice fits into a file if one fits into what is left, if one is expected, or if a short file is missing and a whole slice is left
+-- a missing slice fits into a file if one fits into what is left, if one is expected, or if a short
+-- file is missing and a whole slice is left
 pub fits_file : (part all : SliceSet) (left least given size length : ℕ) (waiting files : Bool) → left ≤ length → given ≡ size → FitsAlso part all
     → (least ≤ left) ⊎ ((waiting ≡ true) ⊎ ((files ≡ true) × (given ≤ left))) → (least ≤ left → set_has_fit part left ≡ true)
     → (waiting ≡ true → set_has_fit all length ≡ true) → (files ≡ true → set_has_fit all size ≡ true) → set_has_fit all length ≡ true
@@ -111,7 +114,7 @@ fits_file part all left least given size length waiting files within sized also 
 fits_file part all left least given size length waiting files within sized also (inr (inr misses)) here ahead short =
     fits_more all size length (omega (arith, misses.1)) (short misses.0)
 
--- a slice that isn't found and has its checksums fits into a file of the slice size
+-- a short slice that isn't found and has known checksums fits into a file of the slice size
 pub missing_fits : (set : SliceSet) (found : List Bool) → length found ≡ length set.slices → (n : ℕ) → found_at found n ≡ false
     → slice_passes set.slices has_known_sums n ≡ true → slice_passes set.slices (λ s. nat_lt s.length set.slice_size) n ≡ true
     → set_has_fit (missing_set set found) set.slice_size ≡ true
@@ -123,7 +126,8 @@ missing_fits set found each n none knows short =
     (some_sums (nat_le slice.0.length set.slice_size) slice.0.sums slice.2
     ∙ le-leb slice.0.length set.slice_size (omega (arith, ltb-true slice.0.length set.slice_size below)))
 
--- a slice with the sums of as many first bytes and zeros is seen by its own bytes
+-- a slice with the checksums of the window's first `own` bytes, filled up with zeros, is seen with
+-- tails
 pub own_seen : (slices : List SetSlice) (size own left : ℕ) (content : List ℕ) → length content ≡ size → own ≤ left → (n : ℕ)
     → slice_passes slices (has_own own (has_sums (sums_of (zero_filled size own content)))) n ≡ true
     → slice_passes slices (is_fitting_compared Tails content left) n ≡ true

@@ -1,4 +1,5 @@
--- The least length of the slices that aren't found and have checksums, over one slice after another.
+-- The least unpadded length of the slices that aren't found and have checksums, taken over one
+-- slice after another.
 use Rattle.std.proofs.Common.{◌≡◌, ℕ, zero, suc, ◌+◌, ◌-◌, ◌^◌, ◌<◌, ◌≤◌, Bool, true, false, ◌||◌, nat_le, is_some, List, [], ◌∷◌, length, take, min, get_or, slice_get, refl, sym, ap, ◌∙◌, arith, inl, inr, Option, None, Some}
 use Rattle.std.specs.List.{list_any}
 use Rattle.std.specs.Option.{IsSomeAnd, option_map_or}
@@ -12,7 +13,7 @@ use Rattle.parwindow.specs.Index.{has_fit_of, has_known_sums, slice_passes}
 use Rattle.parwindow.specs.Missing.{found_at}
 use Rattle.parfind.proofs.survey_laws.MissingSetLaws.{as_many, missing_of, same_slice}
 
--- of the slices below a number it is the least length, or the greatest number
+-- `least` is the least such length of the first n slices, or the greatest number if there is none
 pub record LeastSoFar (slices : List SetSlice) (found : List Bool) (n least : ℕ) : Type 0 where
   pub some : 0 < least
   pub fits : (left : ℕ) → left < 2 ^ 64 - 1 → list_any (has_fit_of left) (take n (missing_of slices found)) ≡ nat_le least left
@@ -77,7 +78,7 @@ module _ (slices : List SetSlice) (found : List Bool) (each : length found ≡ l
       fits = λ left small. one_more left small ∙ ap (λ b. nat_le least left || b) (none left) ∙ or-false (nat_le least left);
     }
 
-    -- of a slice that is found
+    -- it stays if slice n is found
     pub least_found : found_at found n ≡ true → LeastSoFar slices found (n + 1) least
     least_found is = none_more (λ left. lost_fits slices found n left is)
 
@@ -85,11 +86,11 @@ module _ (slices : List SetSlice) (found : List Bool) (each : length found ≡ l
       kept : (left : ℕ) → option_map_or (has_fit_of left) (slice_get (missing_of slices found) n) false ≡ option_map_or (has_fit_of left) (slice_get slices n) false
       kept left = ap (λ (s : Option SetSlice). option_map_or (has_fit_of left) s false) (same_slice slices found n each open_)
 
-      -- of one without checksums
+      -- it stays if slice n has no checksums
       pub least_unknown : slice_passes slices has_known_sums n ≡ false → LeastSoFar slices found (n + 1) least
       least_unknown lacks = none_more (λ left. kept left ∙ unknown_fits (slice_get slices n) left lacks)
 
-      -- of any other one
+      -- else it becomes the lesser of it and the length of slice n
       pub least_more : (own : ℕ) → 0 < own → slice_passes slices has_known_sums n ≡ true → IsSomeAnd (slice_get slices n) (λ s. own ≡ s.length)
           → LeastSoFar slices found (n + 1) (min least own)
       least_more own some knows is = record {

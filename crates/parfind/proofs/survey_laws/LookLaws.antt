@@ -1,4 +1,5 @@
--- A survey looks into a full window by the index that is lent to it: what it finds there, and whether a slice that was missing fits.
+-- A survey looks into a full window with the index that it borrows: the slices that it finds there,
+-- and whether a slice that was missing at the beginning fits.
 use Rattle.std.proofs.Common.{◌≡◌, ℕ, ◌-◌, ◌^◌, ◌<◌, ◌≤◌, Bool, true, false, nat_le, List, length, sym, ap, ◌∙◌, subst, arith, Option, slice_index}
 use Rattle.std.proofs.lemmas.Bool.{false_from_ne_true, le-leb, leb-true}
 use Rattle.parfind.specs.Expecting.{ShortState, is_strict}
@@ -15,7 +16,8 @@ use Rattle.parfind.proofs.survey_laws.SurveyStates.{ComparedAt, Missing}
 use Rattle.parfind.proofs.survey_laws.SurveyGoesOnLaws.{made_same}
 use Rattle.parfind.proofs.survey_laws.SurveyedSoFarLaws.{IsNextMissing}
 
--- whether a slice that was missing fits into what is left of a file, by the least length of these
+-- whether a slice that was missing at the beginning fits into what is left of a file, given the
+-- least length of these slices
 module _ (short : ShortState) (sought : Sought) (part : SliceSet) (old now : SurveyState) (missing : ℕ) (exhausted : List (Option ℕ)) (left least : ℕ)
     (at : Missing short sought part old now missing exhausted left)
     (is : (left : ℕ) → left < 2 ^ 64 - 1 → set_has_fit (missing_set sought.set old.found) left ≡ nat_le least left)
@@ -30,7 +32,7 @@ module _ (short : ShortState) (sought : Sought) (part : SliceSet) (old now : Sur
   unfit_left less = false_from_ne_true (set_has_fit (missing_set sought.set old.found) left) (λ h.
       let most : least ≤ left = leb-true least left (sym (is left small) ∙ h) in absurd (omega arith))
 
--- the index that is lent has a part of all
+-- the index that is borrowed has a part of the whole set
 module _ (sought inner : Sought) (given : SliceSet) (smaller : Option SliceSet) (view : inner ≡ sought) (lent : given ≡ part_of inner.set smaller) where
   pub part_lent : given ≡ part_of sought.set smaller
   part_lent = lent ∙ ap (λ (s : Sought). part_of s.set smaller) view
@@ -38,7 +40,7 @@ module _ (sought inner : Sought) (given : SliceSet) (smaller : Option SliceSet) 
   pub part_sought : sought_of given inner.mode ≡ sought_of (part_of sought.set smaller) sought.mode
   part_sought = ap (λ (s : SliceSet). sought_of s inner.mode) part_lent ∙ ap (λ (s : Sought). sought_of (part_of sought.set smaller) s.mode) view
 
-  -- by it the slices are found that are seen in the window
+  -- with it, the slices are found that are seen in the window
   pub compared_at : (short : ShortState) (filled : SurveyState) (left : ℕ) (w : WindowState) (more : List Bool) (missing last : ℕ)
       → length filled.window.content ≡ filled.window.capacity → 0 < left → length more ≡ length filled.found
       → FindsMore (slice_passes given.slices (is_fitting_compared inner.mode filled.window.content left)) filled.found more
@@ -56,7 +58,7 @@ module _ (sought inner : Sought) (given : SliceSet) (smaller : Option SliceSet) 
     next = next;
   }
 
--- a window stays made for a part as it is filled, and as digests are taken of it
+-- a window that is made for a part stays so while it is filled and digests are taken of it
 module _ (sought : Sought) (u v w : WindowState) (before : v ≡ record u { content = v.content; digests = v.digests })
     (fill : w ≡ record v { content = w.content }) (made : IsWindowFor sought u) where
   capacity : w.capacity ≡ u.capacity

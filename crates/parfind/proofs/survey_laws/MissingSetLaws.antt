@@ -1,4 +1,5 @@
--- The set of the slices that aren't found: what is seen of it is seen of the whole set, and the other way round of a slice that isn't found.
+-- The set in which slices that are found have no checksums: a slice that is seen in it is seen in
+-- the whole set, and a slice that isn't found is seen in both alike.
 use Rattle.std.proofs.Common.{◌≡◌, ℕ, zero, suc, ◌-◌, ◌≤◌, Bool, true, false, ◌||◌, ◌&&◌, ◌==◌, List, [], ◌∷◌, filter, map, zip, length, refl, sym, ap, ◌∙◌, arith, slice_get, Option, None, inl, inr}
 use Rattle.std.specs.List.{list_any, flat_map, range_with_len}
 use Rattle.std.specs.Option.{option_map_or}
@@ -28,13 +29,14 @@ filtered_too test p q xs same h =
     let passed = Has-passed p xs some.0 some.1 in
     has_any test (filter q xs) some.0 (Has-filter q xs some.0 passed.0 (sym (same some.0 some.2) ∙ passed.1)) some.2
 
--- filters that agree on what a test finds
+-- if two filters agree on each element that passes a test, either both keep such an element or
+-- neither does
 pub any_filtered : {A : Type 0} (test p q : A → Bool) → ((x : A) → test x ≡ true → p x ≡ q x) → (xs : List A)
     → list_any test (filter p xs) ≡ list_any test (filter q xs)
 any_filtered test p q same xs =
     same_truth _ _ (filtered_too test p q xs same) (filtered_too test q p xs (λ x h. sym (same x h)))
 
--- a filter that passes less
+-- a stronger filter keeps no more elements
 pub filter_less : {A : Type 0} (p q : A → Bool) → ((x : A) → p x ≡ true → q x ≡ true) → (xs : List A)
     → length (filter p xs) ≤ length (filter q xs)
 filter_less p q weaker [] = omega arith
@@ -46,7 +48,7 @@ filter_less p q weaker (x ∷ xs) = elim (cases_Bool (p x)) [
   ]
 ]
 
--- the slices, of which those that are found lose their checksums
+-- the slices, without the checksums of those that are found
 abbrev pub missing_of : List SetSlice → List Bool → List SetSlice
 missing_of slices found = map unless_found (zip slices found)
 
@@ -55,7 +57,7 @@ as_many [] found each = refl
 as_many (x ∷ xs) [] each = absurd (omega arith)
 as_many (x ∷ xs) (b ∷ bs) each = ap suc (as_many xs bs (omega arith))
 
--- one that isn't found stays as it is
+-- a slice that isn't found stays as it is
 pub same_slice : (slices : List SetSlice) (found : List Bool) (n : ℕ) → length found ≡ length slices → found_at found n ≡ false
     → slice_get (missing_of slices found) n ≡ slice_get slices n
 same_slice [] found n each none = refl
@@ -64,7 +66,7 @@ same_slice (x ∷ xs) (true ∷ bs) zero each none = cc
 same_slice (x ∷ xs) (false ∷ bs) zero each none = refl
 same_slice (x ∷ xs) (b ∷ bs) (suc n) each none = same_slice xs bs n (omega arith) none
 
--- if none is found, nothing is lost
+-- if no slice is found, none changes
 pub none_lost : (slices : List SetSlice) (found : List Bool) → length found ≡ length slices → list_any (λ found. found) found ≡ false
     → missing_of slices found ≡ slices
 none_lost [] found each none = refl
@@ -72,7 +74,7 @@ none_lost (x ∷ xs) [] each none = absurd (omega arith)
 none_lost (x ∷ xs) (true ∷ bs) each none = cc
 none_lost (x ∷ xs) (false ∷ bs) each none = ap (λ (ys : List SetSlice). x ∷ ys) (none_lost xs bs (omega arith) none)
 
--- a test that no slice without sums passes
+-- a test that no slice without checksums passes
 pub any_missing : (test : SetSlice → Bool) → ((slice : SetSlice) → test (record slice { sums = None }) ≡ false)
     → (slices : List SetSlice) (found : List Bool) → list_any test (missing_of slices found) ≡ true → list_any test slices ≡ true
 any_missing test known [] found some = cc
@@ -86,7 +88,7 @@ any_missing test known (x ∷ xs) (false ∷ bs) some = elim (or_cases (test x) 
   | inr later ↦ or_right (test x) (list_any test xs) (any_missing test known xs bs later)
 ]
 
--- there are no more tails than before
+-- the number of short-slice lengths doesn't grow
 pub few_missing : (set : SliceSet) (found : List Bool) (mode : Mode) → HasFewTails (sought_of set mode) → HasFewTails (sought_of (missing_set set found) mode)
 few_missing set found Plain few = few
 few_missing set found Tails few =
@@ -115,7 +117,7 @@ module _ (set : SliceSet) (found : List Bool) (each : length found ≡ length se
     abbrev part : Scan
     part = scan_of (sought_of (missing_set set found) mode) files
 
-    -- a slice that isn't found is seen alike
+    -- a slice that isn't found has the same sightings in both sets
     seen_alike : (x : Sighting) → found_at found x.slice ≡ false → is_sighting part x ≡ is_sighting all x
     seen_alike x none =
         ap (λ (s : Option SetSlice). option_map_or (is_seen mode set.slice_size (content_of all x.file) x.offset) s false)

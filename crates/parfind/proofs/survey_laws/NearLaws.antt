@@ -1,4 +1,5 @@
--- How far a survey has read: little further than its place, and nothing of files into which no slice fits.
+-- How far a survey has read: little further than its place, and nothing of files into which no
+-- slice fits.
 use Rattle.std.proofs.Common.{◌≡◌, ℕ, ◌≤◌, true, false, List, sym, ap, ◌∙◌, arith, inl, inr, slice_index}
 use Rattle.std.proofs.lemmas.Bool.{cases_eq, cases_lt}
 use Rattle.parshelf.specs.Shelf.{ShelfState}
@@ -12,7 +13,8 @@ use Rattle.parfind.proofs.track_laws.FetchedLaws.{upto-before, upto-after}
 use Rattle.parfind.specs.OnePass.{IsNear}
 use Rattle.parfind.proofs.place_laws.UnfitPlaceLaws.{fits_more}
 
--- a window that goes along a file has read little further than its place
+-- a window reads its file at most up to a window and 4,096 bytes after its place, so after any
+-- later cursor
 pub tied_near : (u : ShelfState) (w : WindowState) (t : Track) (size : ℕ) (c : Cursor) → IsTied u w t → w.capacity ≡ size
     → t.file ≡ c.file → t.window_offset ≤ c.offset → IsNear size (fetched_of t) c
 tied_near u w t size c tied sized file held = record {
@@ -20,7 +22,7 @@ tied_near u w t size c tied sized file held = record {
   offset_is = λ _. omega (arith, tied.not_ahead, tied.within, tied.buffer_fits);
 }
 
--- of files without room for a slice nothing is read while another one is
+-- while a file into which a slice fits is read, nothing is read of files into which none fits
 pub others_unread : (set : SliceSet) (lengths a b : List ℕ) (p q : Place) (left : ℕ) → p.file ≡ q.file → HandsUpTo lengths a b p q
     → set_has_fit set left ≡ true → left ≤ slice_index lengths p.file
     → (f : ℕ) → set_has_fit set (slice_index lengths f) ≡ false → slice_index b f ≤ slice_index a f

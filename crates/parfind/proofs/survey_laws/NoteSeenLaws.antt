@@ -1,4 +1,5 @@
--- The slices that are found at a window by one compared length after another, and the digests that are taken of it.
+-- The slices that are found in a window at one compared length after another, and the digests that
+-- are taken of it.
 use Rattle.std.proofs.Common.{◌≡◌, ℕ, ◌+◌, ◌<◌, ◌≤◌, Bool, true, false, cond, ◌==◌, List, [], ◌∷◌, length, filter, take, get_or-take, slice_get, slice_index, sym, ap, ◌∙◌, arith, inl, inr}
 use Rattle.std.proofs.lemmas.Bool.{and_parts, cases_Bool, eqb-true, false_from_ne_true, or_cases}
 use Rattle.std.proofs.lemmas.List.{get_or_default, length-take-le}
@@ -19,7 +20,7 @@ use Rattle.parfind.proofs.track_laws.EachLengthLaws.{compared_rise, seen_by}
 use Rattle.parfind.proofs.place_laws.FittingLaws.{passing}
 use Rattle.parfind.proofs.survey_laws.NotedLaws.{found_kept, missing_there, missing_was, same_truth}
 
--- a slice is looked for by one length alone
+-- a slice has only one compared length
 one_length : (set : SliceSet) (mode : Mode) (own other n : ℕ) (first second : SetSlice → Bool)
     → slice_passes set.slices (is_compared (sought_of set mode) own first) n ≡ true
     → slice_passes set.slices (is_compared (sought_of set mode) other second) n ≡ true → own ≡ other
@@ -35,7 +36,7 @@ one_length set mode own other n first second here there =
 
 module _ (set : SliceSet) (mode : Mode) (window : List ℕ) (left k : ℕ) (below : k < length (compared_lengths (sought_of set mode)))
     (was now : List Bool) (marks : FindsMore (seen_by set mode window left (take k (compared_lengths (sought_of set mode)))) was now) where
-  -- no slice of this length is seen by the shorter ones
+  -- a slice of this compared length isn't seen at the shorter ones
   not_before : (test : SetSlice → Bool) (n : ℕ)
       → slice_passes set.slices (is_compared (sought_of set mode) (slice_index (compared_lengths (sought_of set mode)) k) test) n ≡ true
       → seen_by set mode window left (take k (compared_lengths (sought_of set mode))) n ≡ true → ⊥
@@ -49,7 +50,7 @@ module _ (set : SliceSet) (mode : Mode) (window : List ℕ) (left k : ℕ) (belo
       one_length set mode (slice_index owns k) some.1 n test (is_fitting_match (sums_of (zero_filled (length window) some.1 window)) left) here some.4 in
       absurd (omega (arith, own, same, compared_rise set mode some.0 k early below))
 
-  -- so those that are missing by it are the same as before
+  -- so the same slices of this length are missing as before the shorter ones were looked at
   pub missing_same : has_compared_missing (sought_of set mode) now window left (slice_index (compared_lengths (sought_of set mode)) k)
       ≡ has_compared_missing (sought_of set mode) was window left (slice_index (compared_lengths (sought_of set mode)) k)
   missing_same =
@@ -66,7 +67,7 @@ module _ (set : SliceSet) (mode : Mode) (window : List ℕ) (left k : ℕ) (belo
         ]),
       )))
 
-  -- one digest more where some slice of this length is missing
+  -- one more digest is taken if some slice of this length is missing
   pub digests_on : (u v w : WindowState)
       → TakesDigests (length (filter (has_compared_missing (sought_of set mode) was window left) (take k (compared_lengths (sought_of set mode))))) u v
       → TakesDigests (cond (has_compared_missing (sought_of set mode) now window left (slice_index (compared_lengths (sought_of set mode)) k)) 1 0) v w
@@ -91,7 +92,7 @@ filter_no_more p q weaker (x ∷ xs) = elim (cases_Bool (p x)) [
   ]
 ]
 
--- no more are missing than before, since none is taken back
+-- no more slices are missing than before, since a slice that is found stays found
 pub count_was : (sought : Sought) (was now : List Bool) (window : List ℕ) (left : ℕ) → ((k : ℕ) → found_at was k ≡ true → found_at now k ≡ true)
     → count_missing sought now window left ≤ count_missing sought was window left
 count_was sought was now window left kept =

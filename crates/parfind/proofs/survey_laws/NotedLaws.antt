@@ -1,4 +1,4 @@
--- The slices that a survey finds at one place, one slice after another, and those that it doesn't.
+-- The slices that a survey finds at one place, one after another, and those that it doesn't find.
 use Rattle.std.proofs.Common.{◌≡◌, ℕ, ◌+◌, ◌<◌, Bool, true, false, ◌||◌, ◌&&◌, ◌==◌, not, nat_lt, List, [], ◌∷◌, length, refl, sym, ap, ◌∙◌, arith, Some, None, inl, inr, get_or-set_same, get_or-set_other, slice_set}
 use Rattle.std.specs.List.{list_any, range_with_len}
 use Rattle.std.proofs.lemmas.Bool.{cases_Bool, cases_eq, cases_lt, eq-eqb, ne_eqb, or_cases, or_left, or_right, lt-ltb, le-ltb, false_from_ne_true, and_parts, and_from, not-true, not_from_false}
@@ -11,14 +11,14 @@ use Rattle.parwindow.specs.Missing.{has_unfound, found_at}
 use Rattle.parwindow.specs.Least.{IsLeastFrom}
 use Rattle.parfind.specs.Noting.{FindsMore}
 
--- two tests that pass alike
+-- two tests are equal if each passes whenever the other does
 pub same_truth : (a b : Bool) → (a ≡ true → b ≡ true) → (b ≡ true → a ≡ true) → a ≡ b
 same_truth a b f g = elim (cases_Bool a) [
   | inl h ↦ h ∙ sym (f h)
   | inr e ↦ e ∙ sym (false_from_ne_true b (λ h. let both : true ≡ false = sym (g h) ∙ e in cc))
 ]
 
--- some element passes a test
+-- some element of a list passes a test
 
 pub any_has : {A : Type 0} (p : A → Bool) (xs : List A) → list_any p xs ≡ true → (x : A) × Has xs x × (p x ≡ true)
 any_has p [] h = cc
@@ -37,7 +37,7 @@ has_any p (y ∷ ys) x has h = elim has [
 none_range : (p : ℕ → Bool) (n : ℕ) → ((k : ℕ) → p k ≡ true → ⊥) → list_any p (range_with_len 0 n) ≡ false
 none_range p n f = false_from_ne_true _ (λ h. let some = any_has p (range_with_len 0 n) h in f some.0 some.2)
 
--- the slices that pass a test and aren't found
+-- slices that pass a test and aren't found
 
 missing_some : (set : SliceSet) (found : List Bool) (test : SetSlice → Bool) (n : ℕ) → slice_passes set.slices test n ≡ true
     → found_at found n ≡ false → has_unfound set.slices found test ≡ true
@@ -53,7 +53,7 @@ missing_none set found test all =
     let parts = and_parts (slice_passes set.slices test k) (not (found_at found k)) h in
     let both : true ≡ false = sym (all k parts.0) ∙ not-true (found_at found k) parts.1 in cc)
 
--- those that pass are found, if none of them is missing
+-- if no slice that passes a test is missing, each slice that passes it is found
 pub passing_found : (set : SliceSet) (found : List Bool) (test : SetSlice → Bool) → has_unfound set.slices found test ≡ false
     → (k : ℕ) → slice_passes set.slices test k ≡ true → found_at found k ≡ true
 passing_found set found test known k has = elim (cases_Bool (found_at found k)) [
@@ -61,7 +61,8 @@ passing_found set found test known k has = elim (cases_Bool (found_at found k)) 
   | inr none ↦ let both : true ≡ false = sym (missing_some set found test k has none) ∙ known in cc
 ]
 
--- if those that pass a test and aren't found pass another and aren't found by other flags, one is missing there too
+-- if each slice that passes a first test and isn't found now passes a second test and wasn't found
+-- before, and there is a slice of the first kind, there is one of the second
 pub missing_there : (set : SliceSet) (was now : List Bool) (first second : SetSlice → Bool)
     → ((k : ℕ) → slice_passes set.slices first k ≡ true → found_at now k ≡ false
     → (slice_passes set.slices second k ≡ true) × (found_at was k ≡ false))
@@ -78,7 +79,7 @@ missing_there set was now first second there missing = elim (cases_Bool (has_unf
       let both : true ≡ false = sym missing ∙ nowhere in cc
 ]
 
--- a slice that isn't found wasn't found before, since none is taken back
+-- a slice that isn't found now wasn't found before, since a slice that is found stays found
 pub was_none : (was now : List Bool) (k : ℕ) → (found_at was k ≡ true → found_at now k ≡ true) → found_at now k ≡ false → found_at was k ≡ false
 was_none was now k kept none = false_from_ne_true (found_at was k) (λ marked. let both : true ≡ false = sym (kept marked) ∙ none in cc)
 
@@ -87,7 +88,7 @@ pub missing_was : (set : SliceSet) (was now : List Bool) (test : SetSlice → Bo
 missing_was set was now test kept =
     missing_there set was now test test (λ k has none. (has, was_none was now k (kept k) none))
 
--- if each of some slices is found, none of those that are among them is missing
+-- if each slice that passes a test is found, noting those that pass a stronger test changes nothing
 pub fits_found : (set : SliceSet) (found : List Bool) (fit test : SetSlice → Bool)
     → ((n : ℕ) → slice_passes set.slices fit n ≡ true → slice_passes set.slices test n ≡ true) → has_unfound set.slices found test ≡ false
     → FindsMore (slice_passes set.slices fit) found found
@@ -98,7 +99,7 @@ fits_found set found fit test among known n =
       | inr fits ↦ passing_found set found test known n (among n fits)
     ])
 
--- slices that are found one after another
+-- a slice that was found before others were stays found
 pub found_kept : (test : ℕ → Bool) (was now : List Bool) → FindsMore test was now → (n : ℕ) → found_at was n ≡ true → found_at now n ≡ true
 found_kept test was now marks n marked = marks n ∙ or_left (found_at was n) (test n) marked
 
@@ -111,7 +112,7 @@ found_on first second both was mid now are one other n =
 pub found_none : (test : ℕ → Bool) (found : List Bool) → ((n : ℕ) → test n ≡ false) → FindsMore test found found
 found_none test found none n = rw (none n) (sym (or-false (found_at found n)))
 
--- one more that is found
+-- one more slice is found
 
 pub found_at-set : (marks : List Bool) (k n : ℕ) → k < length marks → found_at (slice_set marks k true) n ≡ (found_at marks n || k == n)
 found_at-set marks k n within = elim (cases_eq k n) [
@@ -123,7 +124,8 @@ found_at-set marks k n within = elim (cases_eq k n) [
       rw (kept, ne_eqb k n other) (sym (or-false (found_at marks n)))
 ]
 
--- those slices below a number that pass a test are found
+-- exactly the slices below number k that pass a test are found, besides those that were found
+-- before
 abbrev pub FindsBelow : (ℕ → Bool) → ℕ → List Bool → List Bool → Type 0
 FindsBelow test k was now = (n : ℕ) → found_at now n ≡ (found_at was n || (nat_lt n k && test n))
 
@@ -138,7 +140,7 @@ module _ (test : ℕ → Bool) (was now : List Bool) where
         | inr more ↦ rw (le-ltb n k more) (sym (false_from_ne_true (test n) (none n more)))
       ])
 
-  -- the next slice that passes
+  -- the next slice that passes the test
   next_below : (k m n : ℕ) → IsLeastFrom test k (Some m) → ((nat_lt n k && test n) || m == n) ≡ (nat_lt n (m + 1) && test n)
   next_below k m n least = elim (cases_eq m n) [
     | inl same ↦

@@ -1,4 +1,5 @@
--- What remains of a set once some slices that are found have lost their checksums: of a slice that isn't found all is as in the whole set.
+-- The set after some slices that are found have lost their checksums: for a slice that isn't found,
+-- all is as in the whole set.
 use Rattle.std.proofs.Common.{◌≡◌, ℕ, zero, suc, ◌≤◌, Bool, true, false, ◌||◌, ◌&&◌, ◌==◌, not, ◌-◌, List, [], ◌∷◌, ◌++◌, length, replicate, filter, refl, sym, ap, ◌∙◌, subst, arith, inl, inr, Option, Result, Ok, Err}
 use Rattle.std.specs.List.{list_any, range_with_len}
 use Rattle.std.specs.Option.{option_map_or}
@@ -34,7 +35,7 @@ never_set zero n h = cc
 never_set (suc count) zero h = cc
 never_set (suc count) (suc n) h = never_set count n h
 
--- the whole set, of which none has lost its checksums
+-- the whole set is a part, in which no slice has lost its checksums
 pub whole_part : (set : SliceSet) (found : List Bool) → IsPart set found set
 whole_part set found =
     let none : List Bool = replicate (length set.slices) false in
@@ -46,17 +47,17 @@ whole_part set found =
       part_is = ap (λ (slices : List SetSlice). record set { slices = slices }) (sym (none_lost set.slices none each (none_set (length set.slices))));
     }
 
--- the set without what is found
+-- the set without the checksums of all slices that are found is a part
 pub missing_part : (set : SliceSet) (found : List Bool) → length found ≡ length set.slices → IsPart set found (missing_set set found)
 missing_part set found each = record { lost = found; each = each; are_found = λ n h. h; part_is = refl }
 
--- a smaller set, if there is one
+-- the smaller set that was made, or the whole set if memory was refused, is a part
 pub smaller_part : (set : SliceSet) (found : List Bool) → length found ≡ length set.slices → {E : Type 0} (made : Result SliceSet E)
     → IfOk made (λ smaller. smaller ≡ missing_set set found) → IsPart set found (part_of set (result_ok made))
 smaller_part set found each (Ok smaller) is = rw is (missing_part set found each)
 smaller_part set found each (Err fault) is = whole_part set found
 
--- none is taken back, so a part stays one
+-- since a slice that is found stays found, a part stays one
 pub part_kept : (set : SliceSet) (was now : List Bool) (part : SliceSet) → ((n : ℕ) → found_at was n ≡ true → found_at now n ≡ true)
     → IsPart set was part → IsPart set now part
 part_kept set was now part kept is =
@@ -88,7 +89,7 @@ any_alike : (p q : ℕ → Bool) → ((n : ℕ) → p n ≡ q n) → (xs : List 
 any_alike p q same [] = refl
 any_alike p q same (x ∷ xs) = ap (λ b. b || list_any p xs) (same x) ∙ ap (λ b. q x || b) (any_alike p q same xs)
 
--- the set without some slices that are found
+-- the set without the checksums of some slices that are found
 module _ (set : SliceSet) (lost found : List Bool) (each : length lost ≡ length set.slices)
     (are_found : (n : ℕ) → found_at lost n ≡ true → found_at found n ≡ true) where
   not_lost : (n : ℕ) → found_at found n ≡ false → found_at lost n ≡ false
@@ -140,25 +141,26 @@ module _ (set : SliceSet) (found : List Bool) (part : SliceSet) (is : IsPart set
   pub part_each : length part.slices ≡ length set.slices
   part_each = ap (λ (s : SliceSet). length s.slices) is.part_is ∙ as_many set.slices is.lost is.each
 
-  -- there are no more tails than before
+  -- the number of short-slice lengths doesn't grow
   pub few_part : (mode : Mode) → HasFewTails (sought_of set mode) → HasFewTails (sought_of part mode)
   few_part mode few = subst (λ (s : SliceSet). HasFewTails (sought_of s mode)) (sym is.part_is) (few_missing set is.lost mode few)
 
-  -- the slices that pass a test are found in both
+  -- the slices that are found in the part are those that are found in the whole set
   pub finds_whole : (test : SetSlice → Bool) (now : List Bool) → FindsMore (slice_passes part.slices test) found now
       → FindsMore (slice_passes set.slices test) found now
   finds_whole test now more =
       finds_alike set is.lost found is.each is.are_found test now
       (subst (λ (s : SliceSet). FindsMore (slice_passes s.slices test) found now) is.part_is more)
 
-  -- no more are missing in the part than in the whole set
+  -- in the part, no more slices are missing than in the whole set
   pub count_whole : (mode : Mode) (window : List ℕ) (left : ℕ)
       → count_missing (sought_of part mode) found window left ≤ count_missing (sought_of set mode) found window left
   count_whole mode window left =
       subst (λ (s : SliceSet). count_missing (sought_of s mode) found window left ≤ count_missing (sought_of set mode) found window left) (sym is.part_is)
       (count_less set is.lost found is.each is.are_found mode window left)
 
-  -- where none is sighted in the part between two cursors, none that isn't found is in the whole set
+  -- if the part has no sighting between two cursors, the whole set has none of a slice that isn't
+  -- found
   pub none_whole : (mode : Mode) (files : List (List ℕ)) (c d : Cursor) → From c d → sightings_between (scan_of (sought_of part mode) files) c d ≡ []
       → (n : ℕ) → found_at found n ≡ false
       → is_sighted_before (scan_of (sought_of set mode) files) c n ≡ is_sighted_before (scan_of (sought_of set mode) files) d n

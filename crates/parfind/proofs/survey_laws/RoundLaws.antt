@@ -1,4 +1,5 @@
--- A survey in two rounds: what each of them finds and reads, by the set that it goes by.
+-- A survey in two rounds: the slices that each round finds and the files that it reads, given the
+-- set with which it searches.
 use Rattle.std.proofs.Common.{◌≡◌, ℕ, zero, suc, ◌-◌, ◌^◌, ◌<◌, ◌≤◌, Bool, true, false, ◌||◌, ◌==◌, not, nat_le, nat_lt, List, [], ◌∷◌, filter, map, get_or, length, replicate, refl, sym, ap, ◌∙◌, subst, arith, slice_get, slice_index, Option, Some, None, Result, Ok, Err, inl, inr}
 use Rattle.std.specs.List.{list_any, range_with_len}
 use Rattle.std.specs.Option.{option_map_or}
@@ -31,7 +32,7 @@ use Rattle.parfind.proofs.survey_laws.PartLaws.{never_set}
 use Rattle.parfind.proofs.survey_laws.SettledLaws.{unknown_unseen}
 use Rattle.parfind.proofs.track_laws.NextBytesLaws.{length-window_at}
 
--- a slice that has lost its checksums has none
+-- a slice that has lost its checksums has no known ones
 lost_lacks : (slices : List SetSlice) (lost : List Bool) (n : ℕ) → found_at lost n ≡ true → slice_passes (missing_of slices lost) has_known_sums n ≡ false
 lost_lacks [] lost n h = refl
 lost_lacks (x ∷ xs) [] n h = cc
@@ -40,17 +41,17 @@ lost_lacks (x ∷ xs) (false ∷ bs) zero h = cc
 lost_lacks (x ∷ xs) (b ∷ bs) (suc n) h = lost_lacks xs bs n h
 
 module _ (set : SliceSet) (lost : List Bool) (each : length lost ≡ length set.slices) (mode : Mode) (files : List (List ℕ)) where
-  -- a slice that has its checksums still is sighted alike
+  -- a slice that still has its checksums has the same sightings in both sets
   pub kept_alike : (n : ℕ) → found_at lost n ≡ false
       → is_sighted (scan_of (sought_of (missing_set set lost) mode) files) n ≡ is_sighted (scan_of (sought_of set mode) files) n
   kept_alike n kept = found_alike set lost each mode files n kept (λ x. x.slice == n) (λ x h. eqb-true x.slice n h)
 
-  -- one that has lost them isn't
+  -- a slice that has lost them has no sighting
   pub lost_unseen : (n : ℕ) → found_at lost n ≡ true → is_sighted (scan_of (sought_of (missing_set set lost) mode) files) n ≡ false
   lost_unseen n gone =
       unknown_unseen (scan_of (sought_of (missing_set set lost) mode) files) n (ap not (lost_lacks set.slices lost n gone))
 
-  -- so what is sighted in the part is in all
+  -- so a slice that has a sighting in the part has one in the whole set
   pub part_sighted : (n : ℕ) → is_sighted (scan_of (sought_of (missing_set set lost) mode) files) n ≡ true
       → is_sighted (scan_of (sought_of set mode) files) n ≡ true
   part_sighted n h = elim (cases_Bool (found_at lost n)) [
@@ -58,11 +59,11 @@ module _ (set : SliceSet) (lost : List Bool) (each : length lost ≡ length set.
     | inr kept ↦ sym (kept_alike n kept) ∙ h
   ]
 
--- a slice of the slice size is seen alike in both modes
+-- a slice of the slice size is seen in both modes or in neither
 seen_full : (size : ℕ) (file : List ℕ) (offset : ℕ) (slice : SetSlice) → slice.length ≡ size → is_seen Plain size file offset slice ≡ is_seen Tails size file offset slice
 seen_full size file offset slice full = rw (length-window_at file size offset, full) refl
 
--- one that isn't short has the slice size
+-- a slice that isn't short has the slice size
 full_length : (set : SliceSet) → IsSliceSet set → (n : ℕ) (slice : SetSlice) → slice_get set.slices n ≡ Some slice → is_short set n ≡ false → slice.length ≡ set.slice_size
 full_length set is n slice there long =
     let within : n < length set.slices = slice_get_within set.slices n slice there in
@@ -72,7 +73,7 @@ full_length set is n slice there long =
     sym (ap (λ (s : Option SetSlice). option_map_or (λ (x : SetSlice). nat_lt x.length set.slice_size) s false) there) ∙ long in
     omega (arith, ltb-false slice.length set.slice_size known, own.1, ap (λ (s : SetSlice). s.length) same)
 
--- the slices that aren't short are sighted alike in both modes
+-- slices that aren't short have sightings in both modes or in neither
 module _ (set : SliceSet) (is : IsSliceSet set) (lost : List Bool) (each : length lost ≡ length set.slices) (files : List (List ℕ)) where
   abbrev plain : Scan
   plain = scan_of (sought_of (missing_set set lost) Plain) files
@@ -103,7 +104,7 @@ module _ (set : SliceSet) (is : IsSliceSet set) (lost : List Bool) (each : lengt
         (λ x h. seen_modes x n (eqb-true x.slice n h) kept (long kept)) (triples_of (missing_set set lost) (map length files))
   ]
 
--- checksums are lost in any order
+-- the order in which checksums are lost makes no difference
 commute : (xs : List SetSlice) (a b : List Bool) → length a ≡ length xs → length b ≡ length xs → missing_of (missing_of xs a) b ≡ missing_of (missing_of xs b) a
 commute [] a b each also = refl
 commute (x ∷ xs) [] b each also = absurd (omega arith)
@@ -113,7 +114,7 @@ commute (x ∷ xs) (true ∷ ps) (false ∷ qs) each also = ap (λ ys. record x 
 commute (x ∷ xs) (false ∷ ps) (true ∷ qs) each also = ap (λ ys. record x { sums = None } ∷ ys) (commute xs ps qs (omega arith) (omega arith))
 commute (x ∷ xs) (false ∷ ps) (false ∷ qs) each also = ap (λ ys. x ∷ ys) (commute xs ps qs (omega arith) (omega arith))
 
--- those that are lost already are lost again with others
+-- losing some checksums first, and then these with others, is losing all of them at once
 lost_again : (xs : List SetSlice) (a b : List Bool) → length a ≡ length xs → length b ≡ length xs → ((n : ℕ) → found_at a n ≡ true → found_at b n ≡ true)
     → missing_of (missing_of xs a) b ≡ missing_of xs b
 lost_again [] a b each also more = refl
@@ -124,13 +125,14 @@ lost_again (x ∷ xs) (true ∷ ps) (false ∷ qs) each also more = let wrong : 
 lost_again (x ∷ xs) (false ∷ ps) (true ∷ qs) each also more = ap (λ ys. record x { sums = None } ∷ ys) (lost_again xs ps qs (omega arith) (omega arith) (λ n. more (suc n)))
 lost_again (x ∷ xs) (false ∷ ps) (false ∷ qs) each also more = ap (λ ys. x ∷ ys) (lost_again xs ps qs (omega arith) (omega arith) (λ n. more (suc n)))
 
--- of a file into which nothing fits that is missing, nothing is read either if less is missing
+-- a call that skips the files into which no slice of a part fits skips those into which no slice of
+-- the whole fits, if a slice of the whole fits wherever one of the part does
 skips_if : (whole part : SliceSet) (old new : ShelfState) → ((left : ℕ) → set_has_fit part left ≡ true → set_has_fit whole left ≡ true)
     → SkipsUnfit part old new → SkipsUnfit whole old new
 skips_if whole part old new fewer skips f none =
     skips f (false_from_ne_true _ (λ fits. let both : true ≡ false = sym (fewer (slice_index old.lengths f) fits) ∙ none in cc))
 
--- those that are found stay found, also past the last slice
+-- slices that are found stay found; a number past the last slice is never found
 pub kept_each : (was now : List Bool) → KeepsFound was now → (n : ℕ) → found_at was n ≡ true → found_at now n ≡ true
 kept_each was now kept n had = elim (cases_lt n (length was)) [
   | inl less ↦ kept n less had
@@ -138,7 +140,7 @@ kept_each was now kept n had = elim (cases_lt n (length was)) [
 ]
 
 module _ (set : SliceSet) (found : List Bool) (each : length found ≡ length set.slices) where
-  -- what fits of a part fits of all
+  -- if a missing slice of a part fits, a missing slice of the whole set does
   pub fits_of_part : (lost : List Bool) → length lost ≡ length set.slices → FitsAlso (missing_set (missing_set set lost) found) (missing_set set found)
   fits_of_part lost also left fits =
       let fewer : list_any (has_fit_of left) (missing_of (missing_of set.slices found) lost) ≡ true =
@@ -149,7 +151,7 @@ module _ (set : SliceSet) (found : List Bool) (each : length found ≡ length se
       → SkipsUnfit (missing_set (missing_set set lost) found) old new → SkipsUnfit (missing_set set found) old new
   skips_part lost also old new = skips_if (missing_set set found) (missing_set (missing_set set lost) found) old new (fits_of_part lost also)
 
-  -- what fits of those that are missing later fits of those that are missing now
+  -- if a slice fits that is missing later, one fits that is missing now
   pub fits_sooner : (later : List Bool) → length later ≡ length set.slices → ((n : ℕ) → found_at found n ≡ true → found_at later n ≡ true) → (left : ℕ)
       → set_has_fit (missing_set set later) left ≡ true → set_has_fit (missing_set set found) left ≡ true
   fits_sooner later also kept left fits =
@@ -161,7 +163,8 @@ module _ (set : SliceSet) (found : List Bool) (each : length found ≡ length se
       → (old new : ShelfState) → SkipsUnfit (missing_set set later) old new → SkipsUnfit (missing_set set found) old new
   skips_later later also kept old new = skips_if (missing_set set found) (missing_set set later) old new (fits_sooner later also kept)
 
-  -- so what neither of two calls reads, for what is missing at each, both don't read for what was missing at first
+  -- so, if each of two calls skips the files into which none of its missing slices fits, both
+  -- together skip those into which none of the first call's fits
   pub skips_twice : (later : List Bool) → length later ≡ length set.slices → KeepsFound found later → (old mid new : ShelfState) → ReadsOnly old mid
       → SkipsUnfit (missing_set set found) old mid → SkipsUnfit (missing_set set later) mid new → SkipsUnfit (missing_set set found) old new
   skips_twice later also kept old mid new only first second f none =
@@ -169,7 +172,7 @@ module _ (set : SliceSet) (found : List Bool) (each : length found ≡ length se
       let after = skips_later later also (kept_each found later kept) mid new second f (rw lengths none) in
       omega (arith, first f none, after)
 
--- a filter after a filter
+-- one filter after another is one filter
 filter_twice : (p r q : ℕ → Bool) (xs : List ℕ) → ((x : ℕ) → Has xs x → p x ≡ true → r x ≡ q x) → ((x : ℕ) → q x ≡ true → p x ≡ true)
     → filter r (filter p xs) ≡ filter q xs
 filter_twice p r q [] same less = refl
@@ -184,7 +187,7 @@ filter_twice p r q (x ∷ xs) same less =
           rw (fails, none) rest
     ]
 
--- of the tails of a set those of a part are the tails of the part
+-- those short-slice lengths of a set that a part has are all of the part
 pub tails_of_part : (set : SliceSet) (lost : List Bool) → length lost ≡ length set.slices
     → filter (λ own. list_any (λ tail. tail == own) (tails_of (missing_set set lost))) (tails_of set) ≡ tails_of (missing_set set lost)
 tails_of_part set lost each =
@@ -199,7 +202,7 @@ tails_of_part set lost each =
     (λ h. has_any (λ tail. tail == x) (filter q range) x (Has-filter q range x has h) (eq-eqb x x refl)))
     (λ x. any_missing (has_own x has_known_sums) (λ slice. and-false (slice.length == x)) set.slices lost)
 
--- a slice that has a sighting is there
+-- a slice that has a sighting exists
 scan_there : (scan : Scan) (n : ℕ) → is_sighted scan n ≡ true → n < length scan.sought.set.slices
 scan_there scan n one = elim (cases_lt n (length scan.sought.set.slices)) [
   | inl less ↦ less
@@ -222,7 +225,7 @@ full_long set n full =
 full_there : (set : SliceSet) (n : ℕ) → is_full set n ≡ true → n < length set.slices
 full_there set n full = passes_there set (λ (s : SetSlice). not (nat_lt s.length set.slice_size)) n full
 
--- the first round, by the full-length slices that aren't found
+-- the first round finds the full-length slices that weren't found and have a sighting
 module _ (set : SliceSet) (is : IsSliceSet set) (was lost : List Bool) (each : length lost ≡ length set.slices)
     (lost_is : (n : ℕ) → found_at lost n ≡ (found_at was n || is_short set n)) (files : List (List ℕ)) where
   abbrev whole : Scan
@@ -265,7 +268,8 @@ module _ (set : SliceSet) (is : IsSliceSet set) (was lost : List Bool) (each : l
           noted n within ∙ or_left (found_at mid n) (found_at seen n) found;
     }
 
--- the second round, by the slices that aren't found and have less than the slice size
+-- the second round, if its index was made, finds the short slices that weren't found and have a
+-- sighting
 module _ (set : SliceSet) (was now lost : List Bool) (each : length lost ≡ length set.slices) (counted : length now ≡ length set.slices)
     (lost_is : (n : ℕ) → found_at lost n ≡ (found_at was n || is_full set n)) (files : List (List ℕ)) where
   abbrev every : Scan
@@ -293,14 +297,15 @@ module _ (set : SliceSet) (was now lost : List Bool) (each : length lost ≡ len
         ];
   }
 
--- the second round by all slices
+-- the second round finds them with the index of all slices, too
 pub every_finds : (scan : Scan) (was now : List Bool) → length now ≡ length scan.sought.set.slices → FindsSighted scan was now → FindsShort scan was now
 every_finds scan was now counted finds = record {
   no_other = λ n there h. sym (finds n there) ∙ h;
   short = λ n short one. finds n (omega (arith, scan_there scan n one)) ∙ or_right (found_at was n) (is_sighted scan n) one;
 }
 
--- a short slice that isn't found fits into a file with a byte less than a slice, if it has a sighting
+-- a short slice that isn't found and has a sighting fits into a file with a byte less than the
+-- slice size
 short_fits : (set : SliceSet) (found : List Bool) → length found ≡ length set.slices → (files : List (List ℕ)) (n : ℕ)
     → is_full set n ≡ false → found_at found n ≡ false → is_sighted (scan_of (sought_of set Tails) files) n ≡ true
     → set_has_fit (missing_set set found) (set.slice_size - 1) ≡ true
@@ -316,7 +321,7 @@ short_fits set found each files n short none one =
     passing_has (has_fit_of (set.slice_size - 1)) (missing_of set.slices found) n slice.0 (same_slice set.slices found n each none ∙ slice.1)
     (some_sums (nat_le slice.0.length (set.slice_size - 1)) slice.0.sums slice.2 ∙ le-leb slice.0.length (set.slice_size - 1) (omega arith))
 
--- no second round, if no short slice is left
+-- if no short slice is missing, no second round is needed
 pub none_left : (set : SliceSet) → IsSliceSet set → (found : List Bool) → length found ≡ length set.slices → (least : ℕ)
     → ((left : ℕ) → left < 2 ^ 64 - 1 → set_has_fit (missing_set set found) left ≡ nat_le least left) → set.slice_size ≤ least
     → (files : List (List ℕ)) → FindsShort (scan_of (sought_of set Tails) files) found found
@@ -332,7 +337,7 @@ none_left set is found each least fits full files = record {
   ];
 }
 
--- both rounds
+-- both rounds together find each slice that has a sighting
 pub both_find : (scan : Scan) (was mid now : List Bool) → length mid ≡ length now → length now ≡ length was → FindsFull scan was mid → FindsShort scan mid now → KeepsFound was mid → KeepsFound mid now → FindsSighted scan was now
 both_find scan was mid now same each first second before kept n there =
     same_truth (found_at now n) (found_at was n || is_sighted scan n)
@@ -348,7 +353,7 @@ both_find scan was mid now same each first second before kept n there =
       ]
     ])
 
--- so does a second round that answers, and one that doesn't finds no other
+-- this is the clause of the second round: after an error it has found no other slice
 pub second_result : (set : SliceSet) (was now lost : List Bool) → length lost ≡ length set.slices → length now ≡ length set.slices
     → ((n : ℕ) → found_at lost n ≡ (found_at was n || is_full set n)) → (files : List (List ℕ)) → {A E : Type 0} (result : Result A E)
     → SurveyFinds (scan_of (sought_of (missing_set set lost) Tails) files) was now result → SecondFinds (scan_of (sought_of set Tails) files) was now result
@@ -360,7 +365,7 @@ pub every_result : (scan : Scan) (was now : List Bool) → length now ≡ length
 every_result scan was now counted (Ok answer) finds = every_finds scan was now counted finds
 every_result scan was now counted (Err fault) finds = finds
 
--- what was seen where it was expected, if none was before
+-- a slice that was seen at an expected place has a sighting, if none was seen at the beginning
 pub seen_sighted : (shelf : ShelfState) (set : SliceSet) (old new : ShortState) → old ≡ record { set = set; seen = Some (replicate (length set.slices) false) }
     → SeesSighted shelf old new → (files : List (List ℕ)) → ReadsAs shelf files → (n : ℕ) → found_at (flags_of new.seen) n ≡ true
     → is_sighted (scan_of (sought_of set Tails) files) n ≡ true
@@ -373,6 +378,6 @@ filter_all : (r : ℕ → Bool) (xs : List ℕ) → ((x : ℕ) → Has xs x → 
 filter_all r [] all = refl
 filter_all r (x ∷ xs) all = rw (all x (inl refl), filter_all r xs (λ y has. all y (inr has))) refl
 
--- the tails of a set are its tails
+-- all short-slice lengths of a set are lengths of the set
 pub tails_of_whole : (set : SliceSet) → filter (λ own. list_any (λ tail. tail == own) (tails_of set)) (tails_of set) ≡ tails_of set
 tails_of_whole set = filter_all _ (tails_of set) (λ x has. has_any (λ tail. tail == x) (tails_of set) x has (eq-eqb x x refl))

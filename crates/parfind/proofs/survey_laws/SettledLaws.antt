@@ -1,4 +1,4 @@
--- Slices whose sums are not known: no search finds them.
+-- Slices whose checksums are not known: no search finds them.
 use Rattle.std.proofs.Common.{◌≡◌, ℕ, ◌∙◌, ◌&&◌, ◌||◌, ◌==◌, not, Bool, true, false, List, [], ◌∷◌, Option, None, Some, length, map, ap, sym, refl, cond, slice_get, inl, inr, is_some, bytes_eq}
 use Rattle.std.specs.Prelude.{filter}
 use Rattle.std.specs.List.{list_any}
@@ -44,7 +44,7 @@ no_seen mode size file offset (Some slice) e =
     let sums = sums_of (compared_window mode (window_at size file offset) slice) in
     never_all _ _ _ (no_sums (λ known. known.1 == sums.1 && bytes_eq known.0.0 sums.0.0) slice.sums e)
 
--- a slice whose sums are not known has no sighting
+-- a slice whose checksums are not known has no sighting
 pub unknown_unseen : (scan : Scan) (n : ℕ) → lacks_sums scan.sought.set n ≡ true → is_sighted scan n ≡ false
 unfolding sightings_of
 unknown_unseen scan n lacks =
@@ -62,7 +62,7 @@ or_none : (mark seen : Bool) → seen ≡ false → mark ≡ (mark || seen)
 or_none true seen none = refl
 or_none false seen none = sym none
 
--- where each slice is settled, what is found is that of a survey that answers
+-- if each slice is settled, a survey that finds no further one has found each that has a sighting
 pub settled_sighted : (scan : Scan) (marks : List Bool) → AreAllSettled scan.sought.set marks → FindsSighted scan marks marks
 settled_sighted scan marks all n there = elim (or_cases (found_at marks n) (lacks_sums scan.sought.set n) (all n there)) [
   | inl marked ↦ or_unseen (found_at marks n) (is_sighted scan n) marked

@@ -1,4 +1,4 @@
--- Which slices have a sighting before a cursor.
+-- The slices that have a sighting before a cursor.
 use Rattle.std.proofs.Common.{◌≡◌, ℕ, ◌+◌, ◌<◌, ◌≤◌, Bool, true, false, ◌||◌, ◌&&◌, ◌==◌, List, [], length, refl, sym, ◌∙◌, subst, arith, inl, inr}
 use Rattle.std.proofs.lemmas.Bool.{cases_Bool, cases_lt, eq-eqb, eqb-true, or_cases, or_parts, or_left, or_right, and_parts, and_from}
 use Rattle.parfind.specs.declared.cursors.cursor.Cursor.{Cursor}
@@ -17,7 +17,7 @@ use Rattle.parfind.proofs.search_laws.StepMovesLaws.{counted_of}
 use Rattle.parfind.proofs.place_laws.PlaceLaws.{sighting_seen, sighting_at_place, Has-sightings_of, From-past}
 use Rattle.parfind.proofs.place_laws.SeenLaws.{seen_there}
 
--- a sighting of slice n before a cursor
+-- x is a sighting of slice n before a cursor
 pub record IsOneBefore (scan : Scan) (c : Cursor) (n : ℕ) (x : Sighting) : Type 0 where
   pub has : Has (sightings_of scan) x
   pub slice_is : x.slice ≡ n
@@ -35,13 +35,13 @@ module _ (scan : Scan) where
       has_any (λ y. y.slice == n && is_before (cursor_of y) c) (sightings_of scan) x one.has
       (and_from _ _ (eq-eqb x.slice n one.slice_is) (is_before-true (cursor_of x) c one.before))
 
-  -- what has one before a cursor has one before each later cursor
+  -- a slice that has a sighting before a cursor has one before each later cursor
   pub sighted_on : (c d : Cursor) → From c d → (n : ℕ) → is_sighted_before scan c n ≡ true → is_sighted_before scan d n ≡ true
   sighted_on c d on n h =
       let one = sighted_one c n h in
       one_sighted d n one.0 (record { has = one.1.has; slice_is = one.1.slice_is; before = Before-From (cursor_of one.0) c d one.1.before on })
 
-  -- where none lies between two cursors, the same have one before both
+  -- if no sighting lies between two cursors, the same slices have one before each of them
   module _ (c d : Cursor) (on : From c d) (none : sightings_between scan c d ≡ []) where
     late : (x : Sighting) → Has (sightings_of scan) x → Before (cursor_of x) d → Before (cursor_of x) c
     late x has before = elim (cases_Bool (is_before (cursor_of x) c)) [
@@ -60,7 +60,8 @@ module _ (scan : Scan) where
         (λ h. let one = sighted_one d n h in
         one_sighted c n one.0 (record { has = one.1.has; slice_is = one.1.slice_is; before = late one.0 one.1.has one.1.before }))
 
-  -- after a place there are those that are seen there too
+  -- past a place, the slices that are seen at it have a sighting before the cursor, besides those
+  -- that had one
   module _ (c : Cursor) (first : c.slice ≡ 0) (counted : c.file < length scan.contents) where
     abbrev pub seen_here : ℕ → Bool
     seen_here n = is_slice_seen scan.sought (content_of scan c.file) c.offset n
@@ -113,7 +114,8 @@ module _ (scan : Scan) where
               or_right (is_sighted_before scan c n) (seen_here n) (same_seen one.0 n here.0 here.1 one.1.slice_is seen)
         ])
 
-  -- none is before the first cursor, and all are before those after the files
+  -- no slice has a sighting before the first cursor, and each one that has a sighting has one
+  -- before the end of all files
   pub none_first : (n : ℕ) → is_sighted_before scan origin n ≡ false
   none_first n = elim (cases_Bool (is_sighted_before scan origin n)) [
     | inl h ↦
@@ -139,7 +141,8 @@ module _ (scan : Scan) where
         before = record { by_file = omega arith; by_offset = λ e. absurd (omega arith); by_slice = λ e _. absurd (omega arith) };
       }))
 
-  -- the place by which each slice is found is not before a cursor up to which one is not
+  -- the place by which each slice is found isn't before a cursor by which some slice isn't found
+  -- yet
   pub still_missing : (was : List Bool) (c : Cursor) (m : ℕ) (p : Place) → m < length was
       → lacks_sums scan.sought.set m ≡ false → (found_at was m || is_sighted_before scan c m) ≡ false → AllSightedBy scan was p
       → (c.file ≤ p.file) × (c.file ≡ p.file → c.offset ≤ p.offset)

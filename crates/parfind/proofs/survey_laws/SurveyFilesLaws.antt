@@ -1,4 +1,5 @@
--- A survey on its way over the files: it enters the next one, fills its window, notes what is seen there, and slides on.
+-- The turns of a survey's loop: it enters the next file, or fills its window, notes the slices that
+-- are seen there, and slides on.
 use Rattle.std.proofs.Common.{◌≡◌, ℕ, ◌+◌, ◌<◌, ◌≤◌, Bool, true, false, List, [], length, replicate, refl, sym, ap, ◌∙◌, arith, Option, None, Ok, Err, inl, inr, slice_index}
 use Rattle.std.proofs.lemmas.Bool.{cases_lt, or_cases, or_left, or_right}
 use Rattle.parfind.specs.Expecting.{ShortState, is_strict}
@@ -41,11 +42,11 @@ module _ (short : ShortState) (sought : Sought) (part : SliceSet) (old now : Sur
   pub sized : now.window.capacity ≡ sought.set.slice_size
   sized = let so_far = at.so_far in so_far.surveyed.capacity ∙ at.capacity_is
 
-  -- then not each slice was settled
+  -- if a strict survey goes on, not every slice was settled at the beginning
   some_missing : is_strict short ≡ true → AreAllSettled sought.set old.found → ⊥
   some_missing is = never_all short sought part old now missing exhausted at.so_far (at.open_is is) at.each
 
-  -- no slice that was missing fits, and the next file is entered
+  -- if no slice that was missing at the beginning fits, the next file is entered
   pub enters : set_has_fit (missing_set sought.set old.found) left ≡ false → (w : WindowState) (t : Track) → IsUnread (now.track.file + 1) 0 t
       → w ≡ record now.window { content = [] } → SurveySoFar short sought part old (survey_at now.shelf w now.found t) missing (replicate 257 None)
   enters full w t unread window =
@@ -83,7 +84,7 @@ module _ (short : ShortState) (sought : Sought) (part : SliceSet) (old now : Sur
           all = tt;
         }
 
-    -- the slices that are seen in it are found
+    -- the slices that are seen in it are noted as found
     module _ (only : ReadsOnly now.shelf filled.shelf) (w : WindowState) (more : List Bool) (last : ℕ)
         (look : ComparedAt short sought part filled left w more missing last) where
       abbrev seen : SurveyState

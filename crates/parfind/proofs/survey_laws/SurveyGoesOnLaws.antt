@@ -1,4 +1,5 @@
--- A survey that goes on: to the next file, to the next place with the CRC-32 of a slice, over reads, and past a place that it looked at.
+-- A survey that goes on: over reads, past a place that it looked at, to the next place with the
+-- CRC-32 of a slice, and to the next file.
 use Rattle.std.proofs.Common.{◌≡◌, ℕ, ◌+◌, ◌-◌, ◌*◌, ◌<◌, ◌≤◌, Bool, true, false, List, [], length, refl, sym, ap, ◌∙◌, subst, arith, inl, inr, slice_index}
 use Rattle.std.proofs.lemmas.Bool.{cases_eq}
 use Rattle.parfind.specs.Expecting.{ShortState, is_strict}
@@ -38,20 +39,20 @@ use Rattle.parfind.proofs.survey_laws.SurveyedLaws.{surveyed_on, surveyed_here}
 use Rattle.parfind.proofs.survey_laws.NearLaws.{others_unread, tied_near}
 
 module _ (short : ShortState) (sought : Sought) (old now : SurveyState) (reads : ReadsOnly old.shelf now.shelf) where
-  -- the slices that were missing at the beginning
+  -- the set of the slices that were missing at the beginning
   abbrev missing_then : SliceSet
   missing_then = missing_set sought.set old.found
 
-  -- the same with those that are expected
+  -- the same for the set whose short slices are expected
   abbrev all_then : SliceSet
   all_then = missing_set short.set old.found
 
   same_lengths : now.shelf.lengths ≡ old.shelf.lengths
   same_lengths = ap (λ (s : ShelfState). s.lengths) reads.counts
 
-  -- while a slice is not settled
+  -- as long as a slice isn't settled
   module _ (m : ℕ) (there : is_strict short ≡ true → m < length old.found) (unsettled : is_strict short ≡ true → is_settled sought.set now.found m ≡ false) (left : ℕ) where
-    -- over a read of the file in which the window is
+    -- after a read of the window's file, what is true of the survey is still true
     pub swept_read : (c : Cursor) → Surveyed short sought old now c → (next : SurveyState) → next.found ≡ now.found → Older now.shelf next.shelf → IsTied next.shelf next.window next.track
         → next.window ≡ record now.window { content = next.window.content } → now.window.capacity ≡ sought.set.slice_size
         → next.track.file ≡ c.file → next.track.window_offset ≤ c.offset → next.track.file ≡ now.track.file
@@ -65,7 +66,7 @@ module _ (short : ShortState) (sought : Sought) (old now : SurveyState) (reads :
         (λ _. tied_near next.shelf next.window next.track sought.set.slice_size c tied (capacity ∙ sized) file held)
         (ap (λ (w : WindowState). w.digests) window) capacity
 
-    -- past places whose windows have no CRC-32 of a slice that remains
+    -- past places whose windows don't have the CRC-32 of a slice that is still looked for
     pub swept_pass : (part : SliceSet) → IsPart sought.set now.found part → (n : ℕ) → 0 < n → Surveyed short sought old now (cursor_on (cursor_of_track now.track) 1) → (next : SurveyState) → next.found ≡ now.found
         → Older now.shelf next.shelf → IsTied next.shelf next.window next.track → next.window ≡ record now.window { content = next.window.content }
         → now.window.capacity ≡ sought.set.slice_size → next.track.file ≡ now.track.file → next.track.window_offset ≡ now.track.window_offset + n
@@ -89,7 +90,8 @@ module _ (short : ShortState) (sought : Sought) (old now : SurveyState) (reads :
         (λ _. tied_near next.shelf next.window next.track sought.set.slice_size d tied (capacity ∙ sized) stays (omega (arith, held)))
         (ap (λ (w : WindowState). w.digests) window) capacity)
 
-    -- to the next file, where no slice that was missing fits into what is left of this one
+    -- to the next file, if no slice that was missing at the beginning fits into what is left of
+    -- this one
     module _ (room : now.track.window_offset + left ≡ slice_index old.shelf.lengths now.track.file)
         (each : length old.found ≡ length sought.set.slices) (full : set_has_fit missing_then left ≡ false) where
       unfit_here : (files : List (List ℕ)) → ReadsAs now.shelf files → (o n : ℕ) → now.track.window_offset ≤ o
@@ -145,7 +147,7 @@ module _ (short : ShortState) (sought : Sought) (old now : SurveyState) (reads :
           })
           (ap (λ (w : WindowState). w.digests) window) (ap (λ (w : WindowState). w.capacity) window)
 
-  -- past the place of a full window, once the slices that fit are found
+  -- past the place of a full window, after the slices that are seen there were noted
   module _ (tied : IsTied now.shelf now.window now.track) (sized : now.window.capacity ≡ sought.set.slice_size)
       (full : length now.window.content ≡ now.window.capacity) (so_far : Surveyed short sought old now (cursor_of_track now.track))
       (counted : now.track.file < length old.shelf.lengths) (left : ℕ) (some : 0 < left)
@@ -188,7 +190,8 @@ module _ (short : ShortState) (sought : Sought) (old now : SurveyState) (reads :
         subst (λ (n : ℕ). count ≤ count_missing sought old.found (window_at sought.set.slice_size file now.track.window_offset) n) rest there)
         (finds_whole sought.set now.found part is (is_fitting_compared sought.mode now.window.content left) next.found marks) capacity takes
 
--- the way that is left: less of it, once the window slid on or went to the next file
+-- the way that is left is shorter after the window slid on or went to the next file, so the loop
+-- ends
 module _ (files file offset : ℕ) (there : file < files) (small : offset < 9223372036854775808) where
   pub slid_nearer : (files' file' offset' n : ℕ) → files' ≡ files → file' ≡ file → offset' ≡ offset + n → 0 < n
       → (files' - file') * 9223372036854775808 - offset' < (files - file) * 9223372036854775808 - offset
@@ -228,7 +231,7 @@ module _ (short : ShortState) (sought : Sought) (old now : SurveyState) (reads :
       (swept_read short sought old now reads m there unsettled fit (cursor_of_track now.track) so_far next found older tied window sized
       same.file_is (omega (arith, same.offset_is)) same.file_is hands fits within)
 
-  -- and the slices that are seen in it are found
+  -- the slices that are seen in it are noted as found
   pub swept_look : ReadsOnly now.shelf next.shelf → length next.window.content ≡ next.window.capacity → now.track.file < length old.shelf.lengths
       → 0 < left → (part : SliceSet) → IsPart sought.set next.found part → (last : SurveyState) → last.shelf ≡ next.shelf → last.track ≡ next.track
       → FindsMore (slice_passes part.slices (is_fitting_compared sought.mode next.window.content left)) next.found last.found

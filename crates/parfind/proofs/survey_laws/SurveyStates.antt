@@ -1,4 +1,5 @@
--- What holds of a survey in the turns of its loop: before the window is filled, once it is, and once it was looked into and slid on.
+-- A survey within a turn of its loop: its state before the window is filled, after that, and after
+-- the slices seen in it were noted and it slid on.
 use Rattle.std.proofs.Common.{◌≡◌, ℕ, ◌<◌, Bool, true, List, length, ◌∙◌, Option}
 use Rattle.parfind.specs.Expecting.{ShortState, is_strict}
 use Rattle.parshelf.specs.Shelf.{ShelfState, Older}
@@ -16,7 +17,8 @@ use Rattle.parfind.specs.Tracks.{IsTied, SameTrack, cursor_of_track, fetched_of}
 use Rattle.parfind.proofs.survey_laws.PartLaws.{part_sized}
 use Rattle.parfind.proofs.survey_laws.SurveyedSoFarLaws.{SurveySoFar, IsNextMissing}
 
--- a slice is not settled, if the survey is short, and so much of a file is left
+-- a slice isn't settled, if the survey is strict (it expects no slice anywhere), and `left` bytes
+-- of the file are left
 pub record Missing
     (short : ShortState) (sought : Sought) (part : SliceSet) (old now : SurveyState) (missing : ℕ) (exhausted : List (Option ℕ)) (left : ℕ) : Type 0 where
   pub so_far : SurveySoFar short sought part old now missing exhausted
@@ -41,7 +43,7 @@ missing_left short sought part old now missing exhausted left so_far open_ each 
   left_is = left_is;
 }
 
--- the window was read on
+-- bytes were read into the window
 pub record ReadOn (now filled : SurveyState) : Type 0 where
   pub found_is : filled.found ≡ now.found
   pub older : Older now.shelf filled.shelf
@@ -50,7 +52,8 @@ pub record ReadOn (now filled : SurveyState) : Type 0 where
   pub same : SameTrack now.track filled.track
   pub hands : ReadsUpTo now.shelf filled.shelf (fetched_of now.track) (fetched_of filled.track)
 
--- in the full window of a state the slices that are seen were noted, and the next that is not settled was looked for
+-- the slices that are seen in the full window were noted, and the next slice that isn't settled was
+-- looked for
 pub record ComparedAt
     (short : ShortState) (sought : Sought) (part : SliceSet) (filled : SurveyState) (left : ℕ) (w : WindowState) (more : List Bool) (missing last : ℕ) : Type 0 where
   pub full : length filled.window.content ≡ filled.window.capacity

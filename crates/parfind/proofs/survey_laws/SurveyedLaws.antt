@@ -1,4 +1,5 @@
--- What a survey has done once it is at a cursor, and how it goes on.
+-- A survey that is at a cursor: the facts of `Surveyed` hold at the beginning, and stay true as it
+-- goes on.
 use Rattle.std.proofs.Common.{◌≡◌, ℕ, ◌+◌, ◌<◌, ◌≤◌, Bool, true, false, ◌||◌, List, length, refl, sym, ap, ◌∙◌, subst, arith, inl, inr, slice_index}
 use Rattle.std.proofs.lemmas.Bool.{cases_Bool, cases_eq, cases_lt, or_cases, or_left, or_parts, or_right, false_from_ne_true}
 use Rattle.std.proofs.lemmas.List.{length-map}
@@ -31,11 +32,11 @@ use Rattle.parfind.proofs.survey_laws.NearLaws.{near_further}
 use Rattle.parfind.proofs.survey_laws.SettledLaws.{unknown_unseen}
 use Rattle.parfind.proofs.survey_laws.SightedLaws.{sighted_on, here_more, none_first, before_sighted, all_before, still_missing}
 
--- where a survey begins
+-- the place at which a survey begins
 abbrev pub start : Place
 start = record { file = 0; offset = 0 }
 
--- at its beginning
+-- they hold at the beginning
 
 near_first : (size : ℕ) (q : Place) (c : Cursor) → q ≡ start → IsNear size q c
 near_first size q c first = record {
@@ -69,7 +70,7 @@ from_origin : (c : Cursor) → From origin c
 from_origin c = record { by_file = omega arith; by_offset = λ _. omega arith; by_slice = λ _ _. omega arith }
 
 module _ (short : ShortState) (sought : Sought) (old now : SurveyState) (c : Cursor) (so_far : Surveyed short sought old now c) where
-  -- a slice that is not settled was not at the beginning
+  -- a slice that isn't settled now wasn't settled at the beginning
   pub not_all : (m : ℕ) → m < length old.found → is_settled sought.set now.found m ≡ false → AreAllSettled sought.set old.found → ⊥
   not_all m there unsettled all =
       let parts = or_parts (found_at now.found m) (lacks_sums sought.set m) unsettled in
@@ -78,7 +79,8 @@ module _ (short : ShortState) (sought : Sought) (old now : SurveyState) (c : Cur
         | inr unknown ↦ let both : true ≡ false = sym unknown ∙ parts.1 in cc
       ]
 
-  -- to a cursor before which no other slice that isn't found has a sighting, while a slice is not settled
+  -- they stay true up to a later cursor, if no slice that isn't found has a sighting between the
+  -- two cursors, as long as a slice isn't settled
   module _ (next : SurveyState) (d : Cursor) (same : next.found ≡ now.found) (on : From c d) (older : Older now.shelf next.shelf)
       (none : (files : List (List ℕ)) → ReadsAs next.shelf files → (n : ℕ) → found_at now.found n ≡ false
       → is_sighted_before (scan_of sought files) c n ≡ is_sighted_before (scan_of sought files) d n) where
@@ -121,7 +123,7 @@ module _ (short : ShortState) (sought : Sought) (old now : SurveyState) (c : Cur
       capacity = capacity ∙ so_far.capacity;
     }
 
-  -- past its place, once the slices that are seen there are found
+  -- they stay true past a place, after the slices that are seen there were noted
   module _ (first : c.slice ≡ 0) (lengths : now.shelf.lengths ≡ old.shelf.lengths) (counted : c.file < length old.shelf.lengths) (there : IsAtPlace old.shelf.lengths c)
       (next : SurveyState) (same : next.shelf ≡ now.shelf) (track : next.track ≡ now.track) (test : ℕ → Bool) (count : ℕ)
       (seen : (files : List (List ℕ)) → ReadsAs now.shelf files → (n : ℕ) → test n ≡ is_slice_seen sought (file_of files c.file) c.offset n)
@@ -163,7 +165,7 @@ module _ (short : ShortState) (sought : Sought) (old now : SurveyState) (c : Cur
       capacity = capacity ∙ so_far.capacity;
     }
 
-  -- what it has done in the end
+  -- the clauses of a survey, at its end
 
   pub surveyed_kept : KeepsFound old.found now.found
   surveyed_kept n there marked = so_far.kept n marked

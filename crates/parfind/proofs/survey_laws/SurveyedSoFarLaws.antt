@@ -1,4 +1,5 @@
--- What a survey has come to on its way over the files, at its beginning and at its end.
+-- A survey on its way over the files: the invariant of its loop, which holds at the beginning and
+-- implies the clauses at the end.
 use Rattle.std.proofs.Common.{◌≡◌, ℕ, ◌<◌, ◌≤◌, ◌⊎◌, Bool, true, false, List, [], length, replicate, refl, sym, ap, ◌∙◌, subst, arith, Option, None, Ok, inl, inr, slice_index}
 use Rattle.parfind.specs.Expecting.{ShortState, is_strict}
 use Rattle.parshelf.specs.Reads.{ReadsOnly}
@@ -20,7 +21,8 @@ use Rattle.parfind.proofs.survey_laws.ExhaustedLaws.{exhausted_none}
 use Rattle.parfind.proofs.survey_laws.PartLaws.{part_sized}
 use Rattle.parfind.proofs.survey_laws.SurveyedLaws.{surveyed_none, not_all}
 
--- what a survey has come to, which goes by a part of the set, looks for slices from this number on, and for no slice with one of these CRC-32s
+-- what is true of a survey before each turn of its loop: it searches with `part` of the set, looks
+-- for slices from number `missing` on, and for no slice with one of the exhausted CRC-32s
 pub record SurveySoFar (short : ShortState) (sought : Sought) (part : SliceSet) (old now : SurveyState) (missing : ℕ) (exhausted : List (Option ℕ)) : Type 0 where
   pub part_is : IsPart sought.set now.found part
   pub made : IsWindowFor (sought_of part sought.mode) old.window
@@ -35,7 +37,7 @@ pub record SurveySoFar (short : ShortState) (sought : Sought) (part : SliceSet) 
   pub window_is : now.window ≡ record old.window { content = now.window.content; digests = now.window.digests }
   pub surveyed : Surveyed short sought old now (cursor_of_track now.track)
 
--- the next slice that is not settled
+-- `missing` is the next slice that isn't settled, or the number of all slices
 pub record IsNextMissing (set : SliceSet) (marks : List Bool) (from missing : ℕ) : Type 0 where
   pub within : missing ≤ length marks
   pub first : missing < length marks → is_settled set marks missing ≡ false
@@ -70,7 +72,7 @@ made_part set found Plain part smaller w was is same made = record {
 }
 made_part set found Tails part smaller w was is same made = subst (λ (s : SliceSet). IsWindowFor (sought_of s Tails) w) (sym (same refl)) made
 
--- it goes on by another part, if there is one
+-- the survey goes on with another part, if one was made
 pub shrunk : (short : ShortState) (sought : Sought) (before after : Option SliceSet) (old now : SurveyState) (missing : ℕ) (exhausted crcs : List (Option ℕ))
     → SurveySoFar short sought (part_of sought.set before) old now missing exhausted → IsPart sought.set now.found (part_of sought.set after)
     → (sought.mode ≡ Tails → after ≡ before) → (crcs ≡ replicate 257 None) ⊎ ((crcs ≡ exhausted) × (after ≡ before))
@@ -96,7 +98,7 @@ shrunk short sought before after old now missing exhausted crcs so_far is same w
   surveyed = so_far.surveyed;
 }
 
--- each slice is settled, or all files are passed
+-- the survey ends if each slice is settled or all files are passed
 pub ends_all : (short : ShortState) (sought : Sought) (part : SliceSet) (old now : SurveyState) (missing : ℕ) (exhausted : List (Option ℕ))
     → SurveySoFar short sought part old now missing exhausted
     → (length now.found ≤ missing) ⊎ (length old.shelf.lengths ≤ now.track.file) → SurveyEnds short sought old now (Ok tt)
@@ -112,7 +114,7 @@ ends_all short sought part old now missing exhausted so_far all = record {
   ];
 }
 
--- where a slice is not settled, not each was at the beginning
+-- if a slice isn't settled now, not every slice was settled at the beginning
 pub never_all : (short : ShortState) (sought : Sought) (part : SliceSet) (old now : SurveyState) (missing : ℕ) (exhausted : List (Option ℕ))
     → SurveySoFar short sought part old now missing exhausted
     → missing < length now.found → length now.found ≡ length old.found → AreAllSettled sought.set old.found → ⊥

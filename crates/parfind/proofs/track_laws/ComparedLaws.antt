@@ -1,4 +1,4 @@
--- By which compared length a slice is looked for: tests of one length, and of all of them together.
+-- Compared lengths: tests of the slices of one compared length, and of all of them together.
 use Rattle.std.proofs.Common.{◌≡◌, ℕ, zero, suc, ◌<◌, ◌≤◌, Bool, true, false, ◌&&◌, ◌==◌, nat_le, eqb, eq-eqb, List, [], ◌∷◌, length, slice_get, slice_index, refl, sym, ap, ◌∙◌, arith, Option, Some, None}
 use Rattle.std.specs.List.{list_any}
 use Rattle.std.specs.Option.{option_map_or}
@@ -16,7 +16,7 @@ use Rattle.parfind.proofs.place_laws.FittingLaws.{passing, passing_has, has_both
 use Rattle.parfind.specs.declared.tracks.mode.Mode.{Mode}
 use Rattle.parfind.specs.declared.tracks.mode.Mode.TheVariants.{Plain, Tails}
 
--- of the whole window alone there is one compared length, and it is that of each slice
+-- in the plain mode there is only one compared length, which each slice has
 plain_at : (set : SliceSet) (k : ℕ) → k < length (compared_lengths (sought_of set Plain))
     → (set.slice_size == slice_index (compared_lengths (sought_of set Plain)) k) ≡ true
 plain_at set zero below = eq-eqb set.slice_size set.slice_size refl
@@ -29,13 +29,13 @@ compared_plain set Plain k test is below =
     ap (λ (b : Bool). λ (slice : SetSlice). b && test slice) (plain_at set k below)
 compared_plain set Tails k test is below = cc
 
--- by its own bytes a slice is looked for by as many as it has
+-- with tails, the compared length of a slice is its unpadded length
 pub compared_tails : (set : SliceSet) (mode : Mode) (own : ℕ) (test : SetSlice → Bool) → mode ≡ Tails
     → is_compared (sought_of set mode) own test ≡ has_own own test
 compared_tails set Plain own test is = cc
 compared_tails set Tails own test is = refl
 
--- a slice of so many bytes fits where these do
+-- a slice of `own` bytes fits if `own` bytes do
 module _ (own left : ℕ) where
   fit_own : (whole test : SetSlice → Bool)
       → ((slice : SetSlice) → whole slice ≡ true → (test slice ≡ true) × (slice.length ≤ left))
@@ -71,7 +71,7 @@ module _ (own left : ℕ) where
       (λ slice h. let two = and_parts (nat_le slice.length left) (has_sums sums slice) h in (two.1, leb-true slice.length left two.0))
       (λ slice h fits. and_from (nat_le slice.length left) (has_sums sums slice) (le-leb slice.length left fits) h)
 
--- tests that say the same of each slice
+-- tests that agree on each element agree on a list
 pub any_agree : {A : Type 0} (p q : A → Bool) → ((x : A) → p x ≡ q x) → (xs : List A) → list_any p xs ≡ list_any q xs
 any_agree p q same [] = refl
 any_agree p q same (x ∷ xs) = rw (same x, any_agree p q same xs) refl
@@ -108,7 +108,8 @@ none_of [] n h = cc
 none_of (s ∷ ss) zero h = cc
 none_of (s ∷ ss) (suc n) h = none_of ss n h
 
--- the first of the slices of so many bytes is the first that fits, where these bytes do
+-- the first slice of `own` bytes with these checksums is the first one that fits, if `own` bytes
+-- fit
 module _ (slices : List SetSlice) (sums : Hash16 × ℕ) (own left first : ℕ) where
   same_fit : (b : Bool) → nat_le own left ≡ b → (n : ℕ)
       → slice_passes slices (λ slice. b && has_own own (has_sums sums) slice) n
@@ -126,7 +127,7 @@ module _ (slices : List SetSlice) (sums : Hash16 × ℕ) (own left first : ℕ) 
   pub own_none : nat_le own left ≡ false → IsLeastFrom (slice_passes slices (has_own own (is_fitting_match sums left))) first None
   own_none fails k from h = none_of slices k (same_fit false fails k ∙ h)
 
--- a slice that fits by a compared length has its CRC-32
+-- a slice of this compared length that has both checksums and fits has the CRC-32 and fits
 module _ (sought : Sought) (own left : ℕ) (sums : Hash16 × ℕ) where
   compared_crc : (slice : SetSlice) → is_compared sought own (is_fitting_match sums left) slice ≡ true
       → is_compared sought own (has_fit_crc_of sums.1 left) slice ≡ true
@@ -149,7 +150,7 @@ module _ (sought : Sought) (own left : ℕ) (sums : Hash16 × ℕ) where
       let slice = passing (is_compared sought own (is_fitting_match sums left)) (slice_get sought.set.slices n) h in
       passing_has (is_compared sought own (has_fit_crc_of sums.1 left)) sought.set.slices n slice.0 slice.1 (compared_crc slice.0 slice.2)
 
--- where one that fits has a CRC-32, one has it
+-- if a slice that fits has a CRC-32, a slice has it
 pub compared_known : (sought : Sought) (own crc left : ℕ) → list_any (is_compared sought own (has_fit_crc_of crc left)) sought.set.slices ≡ true
     → list_any (is_compared sought own (has_known_crc crc)) sought.set.slices ≡ true
 compared_known sought own crc left h =

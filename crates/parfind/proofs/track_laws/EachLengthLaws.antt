@@ -1,4 +1,5 @@
--- All lengths by which a window is compared: each slice with sums is looked for by one of them, and by no other.
+-- All lengths at which a window is compared: each slice with known checksums has one of them as its
+-- compared length.
 use Rattle.std.proofs.Common.{◌≡◌, ℕ, ◌+◌, ◌-◌, ◌<◌, ◌≤◌, Bool, true, false, ◌||◌, ◌&&◌, ◌==◌, nat_le, eqb, eq-eqb, List, [], ◌∷◌, ◌++◌, length, take, get_or, slice_get, slice_index, refl, sym, ap, ◌∙◌, arith, inl, inr, Option, Some, None, length-append}
 use Rattle.std.specs.Prelude.{Contains, is_some, min, IfSome}
 use Rattle.std.specs.List.{list_any, range_with_len}
@@ -26,19 +27,19 @@ use Rattle.parfind.proofs.place_laws.FittingLaws.{passing, passing_has}
 use Rattle.parfind.proofs.track_laws.ComparedLaws.{least_agree}
 use Rattle.parfind.proofs.place_laws.ItemLaws.{Has-range, Has-filter, Contains-from}
 
--- what passes a test is there
+-- an optional value that passes a test is there
 pub known_some : {A : Type 0} (test : A → Bool) (known : Option A) → option_map_or test known false ≡ true → is_some known ≡ true
 known_some test None h = cc
 known_some test (Some x) h = refl
 
--- a slice has some bytes of its file, and no more than the slice size
+-- a slice has at least one byte of its file, and at most as many as the slice size
 pub own_within : (set : SliceSet) → IsSliceSet set → (n : ℕ) (slice : SetSlice) → slice_get set.slices n ≡ Some slice
     → (0 < slice.length) × (slice.length ≤ set.slice_size)
 own_within set good n slice at =
     All-contains (λ s. (0 < s.length) × (s.length ≤ set.slice_size)) set.slices slice good.own
     (n, slice_get_within set.slices n slice at, get_or_from_slice_get set.slices n slice slice at)
 
--- a shorter length of a slice with sums is one of those
+-- the unpadded length of a short slice with known checksums is one of the shorter lengths
 pub tail_there : (set : SliceSet) (n : ℕ) (slice : SetSlice) → slice_get set.slices n ≡ Some slice → has_known_sums slice ≡ true
     → 0 < slice.length → slice.length < set.slice_size → Contains (tails_of set) slice.length
 tail_there set n slice at known some short =
@@ -50,7 +51,7 @@ tail_there set n slice at known some short =
     (Has-filter p (range_with_len 1 (set.slice_size - 1)) slice.length
     (Has-range 1 (set.slice_size - 1) slice.length (omega arith) (omega arith)) passes)
 
--- each slice with sums is looked for by one of the lengths
+-- the compared length of each slice with known checksums is one of the lengths
 pub compared_there : (set : SliceSet) (mode : Mode) → IsSliceSet set → (n : ℕ) (slice : SetSlice) → slice_get set.slices n ≡ Some slice
     → has_known_sums slice ≡ true → Contains (compared_lengths (sought_of set mode)) (compared_length mode set.slice_size slice)
 compared_there set Plain good n slice at known = (0, omega arith, refl)
@@ -63,11 +64,11 @@ compared_there set Tails good n slice at known =
           Contains-append_right (tails_of set) (set.slice_size ∷ []) slice.length (0, omega arith, omega (arith, own.1))
     ]
 
--- they are few where the shorter ones are
+-- there are at most 257 compared lengths, if at most 256 of them are shorter
 pub few_compared : (sought : Sought) → HasFewTails sought → length (compared_lengths sought) ≤ 257
 few_compared sought few = omega (arith, few, length-append (shorter_lengths sought.mode sought.set) (sought.set.slice_size ∷ []))
 
--- they rise
+-- the compared lengths rise
 pub compared_rise : (set : SliceSet) (mode : Mode) (i j : ℕ) → i < j → j < length (compared_lengths (sought_of set mode))
     → slice_index (compared_lengths (sought_of set mode)) i < slice_index (compared_lengths (sought_of set mode)) j
 compared_rise set Plain i j less within = absurd (omega arith)
@@ -89,11 +90,13 @@ compared_rise set Tails i j less within =
           rw (first, size) (fit.within i 0 (omega arith)).1
     ]
 
--- slice n is looked for by one of some lengths, and fits there
+-- whether slice n is seen at one of these lengths: that is its compared length, and it has the
+-- checksums of these bytes and fits
 abbrev pub seen_by : SliceSet → Mode → List ℕ → ℕ → List ℕ → ℕ → Bool
 seen_by set mode window left owns n = list_any (λ own. slice_passes set.slices (is_fitting_of (sought_of set mode) window left own) n) owns
 
--- a slice is looked for by the length that is its own, and fits there where what is compared of the window has its sums
+-- at its compared length, a slice is seen exactly if it has the checksums of the window's compared
+-- bytes and fits
 module _ (set : SliceSet) (mode : Mode) (window : List ℕ) (left : ℕ) (full : length window ≡ set.slice_size) where
   fits_own : (slice : SetSlice) (own : ℕ) → compared_length mode set.slice_size slice ≡ own
       → is_fitting_compared mode window left slice ≡ is_fitting_match (sums_of (zero_filled (length window) own window)) left slice
@@ -121,7 +124,7 @@ module _ (set : SliceSet) (mode : Mode) (window : List ℕ) (left : ℕ) (full :
       known_some (λ known. known.1 == sums.1 && bytes_eq known.0.0 sums.0.0) slice.sums
       (and_parts (nat_le slice.length left) (has_sums sums slice) fits).1
 
-  -- by one of all lengths those are seen that fit at all
+  -- the slices that are seen at one of all lengths are those that match the window and fit
   pub seen_by-all : IsSliceSet set → (n : ℕ)
       → seen_by set mode window left (compared_lengths (sought_of set mode)) n ≡ slice_passes set.slices (is_fitting_compared mode window left) n
   seen_by-all good n =
@@ -145,7 +148,8 @@ module _ (set : SliceSet) (mode : Mode) (window : List ℕ) (left : ℕ) (full :
             ),
       )
 
--- the lesser of the least numbers that pass two tests is the least that passes one of them
+-- if one number is the least that passes a test, and another the least that passes a second test, the
+-- lesser of them is the least that passes at least one of both tests
 lesser_least : (p q : ℕ → Bool) (first : ℕ) (a b : Option ℕ) → IsLeastFrom p first a → IsLeastFrom q first b
     → IsLeastFrom (λ n. p n || q n) first (lesser_of a b)
 lesser_least p q first None None none never = λ k from h. elim (or_cases (p k) (q k) h) [
@@ -184,7 +188,7 @@ lesser_least p q first (Some m) (Some n) one other = record {
   ];
 }
 
--- and of one length more
+-- the slices that are seen at the first k lengths or at the next one are seen at the first k + 1
 module _ (set : SliceSet) (mode : Mode) (window : List ℕ) (left k : ℕ) (below : k < length (compared_lengths (sought_of set mode))) where
   pub seen_by-more : (n : ℕ)
       → (seen_by set mode window left (take k (compared_lengths (sought_of set mode))) n
@@ -194,7 +198,7 @@ module _ (set : SliceSet) (mode : Mode) (window : List ℕ) (left k : ℕ) (belo
       sym (list_any_more (λ own. slice_passes set.slices (is_fitting_of (sought_of set mode) window left own) n)
       (compared_lengths (sought_of set mode)) k 0 below)
 
-  -- the first slice that is seen
+  -- so the first slice that is seen at them is the lesser of both
   pub first_more : (first : ℕ) (least found : Option ℕ)
       → IsLeastFrom (seen_by set mode window left (take k (compared_lengths (sought_of set mode)))) first least
       → IsLeastFrom (slice_passes set.slices (is_fitting_of (sought_of set mode) window left (slice_index (compared_lengths (sought_of set mode)) k))) first found

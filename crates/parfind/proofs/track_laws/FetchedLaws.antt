@@ -1,4 +1,4 @@
--- How far files are read, and how many of their bytes are handed over, by one read after another.
+-- How far files are read, and how many of their bytes reads return, over one read after another.
 use Rattle.std.proofs.Common.{◌≡◌, ℕ, ◌+◌, ◌<◌, ◌≤◌, true, false, List, length, min, nat_lt, nat_eq, refl, arith, slice_index, inl, inr}
 use Rattle.std.proofs.lemmas.Bool.{cases_lt, cases_eq, lt-ltb, le-ltb, eq-eqb, ne_eqb}
 use Rattle.std.proofs.lemmas.List.{get_or_past}
@@ -31,14 +31,14 @@ module _ (lengths : List ℕ) (p : Place) (f : ℕ) where
     ]
   ]
 
--- a place in a later file has more before it
+-- a place in a later file has no fewer bytes before it
 pub upto-rises : (lengths : List ℕ) (p q : Place) (f : ℕ) → p.file < q.file → upto lengths p f ≤ upto lengths q f
 upto-rises lengths p q f h = elim (cases_lt f q.file) [
   | inl before ↦ omega (arith, upto-before lengths q f before, upto-most lengths p f)
   | inr past ↦ omega (arith, upto-after lengths p f (omega arith))
 ]
 
--- a read that gives nothing, or none
+-- a read that returns no byte, or no read at all
 pub hands_none : (lengths handed : List ℕ) (p : Place) → HandsUpTo lengths handed handed p p
 hands_none lengths handed p = record {
   file_onward = omega arith;
@@ -46,7 +46,7 @@ hands_none lengths handed p = record {
   handed = λ f. omega arith;
 }
 
--- a read of a file, on to an offset within it
+-- a read of a file moves the place on by the bytes that it returned
 pub hands_read : (lengths before after : List ℕ) (file offset n : ℕ) → after ≡ added_at before file n
     → (0 < n → offset + n ≤ slice_index lengths file)
     → HandsUpTo lengths before after (record { file = file; offset = offset }) (record { file = file; offset = offset + n })
@@ -68,7 +68,7 @@ hands_read lengths before after file offset n same within =
       ]);
     }
 
--- another file is entered
+-- entering a later file reads nothing
 pub hands_enter : (lengths handed : List ℕ) (p q : Place) → p.file < q.file → HandsUpTo lengths handed handed p q
 hands_enter lengths handed p q later = record {
   file_onward = omega arith;
@@ -76,7 +76,7 @@ hands_enter lengths handed p q later = record {
   handed = λ f. omega (arith, upto-rises lengths p q f later);
 }
 
--- one after another
+-- two such steps, one after the other, are one
 pub hands_more : (lengths a b c : List ℕ) (p q r : Place) → HandsUpTo lengths a b p q → HandsUpTo lengths b c q r → HandsUpTo lengths a c p r
 hands_more lengths a b c p q r first next = record {
   file_onward = omega (arith, first.file_onward, next.file_onward);

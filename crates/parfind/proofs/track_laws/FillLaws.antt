@@ -1,4 +1,4 @@
--- A window that goes along a file: more bytes come into it, and a full one moves on.
+-- A window that goes along a file: bytes are appended to it, and a full one moves on.
 use Rattle.std.proofs.Common.{◌≡◌, ℕ, ◌+◌, ◌<◌, ◌≤◌, ◌==◌, true, eqb, eq-eqb, List, ◌++◌, length, get_or, slice_get, slice_index, refl, ap, ◌∙◌, arith, inl, inr, Some, length-append}
 use Rattle.std.specs.Prelude.{Contains}
 use Rattle.std.proofs.lemmas.Bool.{and_from, cases_lt, or_left, or_right}
@@ -21,7 +21,7 @@ use Rattle.parfind.proofs.track_laws.EachLengthLaws.{known_some, own_within, tai
 use Rattle.parfind.proofs.place_laws.FittingLaws.{passing_has}
 use Rattle.parfind.proofs.track_laws.NextBytesLaws.{more_bytes, slid_bytes, length-pushed_content, whole_window}
 
--- a window whose bytes alone changed, twice
+-- if only the bytes of a window changed, twice, only its bytes changed
 pub kept_window : (u v w : WindowState) (bytes : List ℕ) → v ≡ record u { content = v.content } → w ≡ record v { content = bytes }
     → w ≡ record u { content = w.content }
 kept_window u v w bytes before next =
@@ -31,7 +31,7 @@ kept_window u v w bytes before next =
     ap (λ (n : ℕ). record w { capacity = n }) capacity ∙ ap (λ (ns : List ℕ). record w { capacity = u.capacity; tails = ns }) tails
     ∙ ap (λ (n : ℕ). record u { content = w.content; digests = n }) digests
 
--- where a full window is at no slice, what is compared of it for a slice does not have its CRC-32
+-- if a full window doesn't have the CRC-32 of a slice, none of its compared parts has it
 module _ (set : SliceSet) (w : WindowState) (full : length w.content ≡ w.capacity) (never : is_at_slice set w ≡ true → ⊥) where
   no_whole : (n : ℕ) (slice : SetSlice) → slice_get set.slices n ≡ Some slice
       → has_known_crc (crc_of (zero_filled (length w.content) (length w.content) w.content)) slice ≡ true → ⊥
@@ -79,7 +79,7 @@ module _ (s : ShelfState) (w : WindowState) (t : Track) (tied : IsTied s w t) (p
   comes_next : (files : List (List ℕ)) → ReadsAs s files → HasBytes (file_of files t.file) (next_offset w t) piece
   comes_next files reads = is_piece (file_of files t.file) (length-file_of s files t.file reads) (tied.ahead files reads)
 
-  -- bytes come into a window that is being filled
+  -- the track still goes along its file after bytes are appended to a window that is being filled
   pub tied_more : 0 < length piece → length w.content + length piece ≤ w.capacity → IsTied s (record w { content = w.content ++ piece }) t
   tied_more some room =
       let longer : length (w.content ++ piece) ≡ length w.content + length piece = length-append w.content piece in
@@ -95,7 +95,7 @@ module _ (s : ShelfState) (w : WindowState) (t : Track) (tied : IsTied s w t) (p
         ahead = tied.ahead;
       }
 
-  -- a full window moves on by k bytes
+  -- the track still goes along its file after a full window moved on by k bytes
   module _ (k : ℕ) (fits : k ≤ length piece) where
     slid_has : (files : List (List ℕ)) → ReadsAs s files → HasBytes (file_of files t.file) (t.window_offset + k) (pushed_content w.content piece k)
     slid_has files reads =
@@ -115,7 +115,7 @@ module _ (s : ShelfState) (w : WindowState) (t : Track) (tied : IsTied s w t) (p
           ahead = tied.ahead;
         }
 
-  -- the windows on the way
+  -- the windows on the way don't have the CRC-32 of a slice
   pub none_on : (set : SliceSet) (mode : Mode) (n : ℕ) → IsSliceSet set → IsWindowFor (sought_of set mode) w → length w.content ≡ w.capacity
       → PushesUntil set w piece n → (files : List (List ℕ)) → ReadsAs s files
       → HaveNoComparedCrc (sought_of set mode) (file_of files t.file) t.window_offset n

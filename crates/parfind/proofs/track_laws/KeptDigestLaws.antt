@@ -1,4 +1,5 @@
--- The digests that are kept of a window: how many, and of which compared lengths.
+-- The digests that are kept of a window: their number, and the compared lengths that they belong
+-- to.
 use Rattle.std.proofs.Common.{◌≡◌, ℕ, zero, suc, ◌<◌, ◌≤◌, Bool, true, List, [], ◌∷◌, filter, length, replicate, is_some, slice_index, slice_index_or, refl, sym, ap, ◌∙◌, subst, arith, Option, None, Some, IfSome, inl, inr}
 use Rattle.std.proofs.lemmas.Bool.{cases_Bool, cases_lt}
 use Rattle.std.proofs.lemmas.List.{get_or_past, get_or-replicate, length-replicate}
@@ -10,7 +11,7 @@ use Rattle.parfind.specs.Sought.{Sought, count_compared, has_compared_crc, compa
 use Rattle.parfind.specs.Tracks.{IsTied, SameTrack, cursor_of_track}
 use Rattle.parshelf.specs.Shelf.{ShelfState}
 
--- no more are kept than pass a test, if for each that is kept its length does
+-- no more entries are kept than lengths pass a test, if the length of each one that is kept does
 few_some : {A : Type 0} (p : ℕ → Bool) (xs : List (Option A)) (ns : List ℕ) → length xs ≡ length ns
     → ((k : ℕ) → k < length xs → IfSome (slice_index_or xs k None) (λ _. p (slice_index ns k) ≡ true))
     → length (filter is_some xs) ≤ length (filter p ns)
@@ -27,7 +28,7 @@ few_some p (Some x ∷ xs) (n ∷ ns) same each =
     let passes : p n ≡ true = each 0 (omega arith) in
     rw passes (omega (arith, rest))
 
--- something is kept somewhere
+-- if the number of entries that are kept isn't 0, there is one
 some_kept : {A : Type 0} (xs : List (Option A)) → 0 < length (filter is_some xs)
     → (k : ℕ) × (k < length xs) × ((x : A) × (slice_index_or xs k None ≡ Some x))
 some_kept [] some = absurd (omega arith)
@@ -56,7 +57,7 @@ module _ (sought : Sought) (w : WindowState) (kept : List (Option Hash16)) (keep
       subst (λ (o : Option Hash16). IfSome o (IsDigestOf sought w own)) one.2.1 (keeps.each one.0 one.1) in
       is.full
 
--- none is kept
+-- an empty list of entries keeps none
 pub count_none : (n : ℕ) → kept_count (replicate n None) ≡ 0
 count_none zero = refl
 count_none (suc n) = count_none n
@@ -71,20 +72,20 @@ keeps_none sought w = record {
       subst (λ (o : Option Hash16). IfSome o (IsDigestOf sought w (slice_index (compared_lengths sought) k))) (sym none) tt;
 }
 
--- a track that stands where it stood
+-- a track whose window hasn't moved has the same cursor
 pub same_cursor : (a b : Track) → SameTrack a b → cursor_of_track b ≡ cursor_of_track a
 same_cursor a b same =
     ap (λ (f : ℕ). record { file = f; offset = b.window_offset; slice = 0 }) same.file_is
     ∙ ap (λ (o : ℕ). record { file = a.file; offset = o; slice = 0 }) same.offset_is
 
--- a file that has bytes is there
+-- a file that has bytes exists
 pub inside_counted : (lengths : List ℕ) (file offset : ℕ) → offset < slice_index lengths file → file < length lengths
 inside_counted lengths file offset inside = elim (cases_lt file (length lengths)) [
   | inl less ↦ less
   | inr past ↦ absurd (omega (arith, get_or_past lengths file 0 past))
 ]
 
--- a digest changes nothing of where a window goes
+-- a track still goes along its file after a digest was taken
 pub tied_digest : (s : ShelfState) (w y : WindowState) (t : Track) (n : ℕ) → IsTied s w t → y ≡ record w { digests = n } → IsTied s y t
 tied_digest s w y t n tied takes =
     subst (λ (x : WindowState). IsTied s x t) (sym takes) (record {

@@ -1,4 +1,4 @@
--- A shelf that was read on.
+-- A shelf before and after reads.
 use Rattle.std.proofs.Common.{◌≡◌, ℕ, refl, ap, Result, Ok, Err}
 use Rattle.parshelf.specs.Shelf.{ShelfState, Older}
 use Rattle.parshelf.specs.Reads.{ReadsOnly, FaultsIn, ReadsFile}
@@ -6,7 +6,8 @@ use Rattle.parshelf.specs.declared.shelves.reading.ReadFault.{ReadFault}
 use Rattle.parshelf.specs.declared.shelves.reading.ReadFault.TheVariants.{Failed, Ended}
 use Rattle.parshelf.proofs.ShelfLaws.{Older-refl}
 
--- paths, lengths and fixed files are the same, and whatever files it reads as, it read as them before
+-- paths, lengths and fixed files are the same, and files that are consistent with all reads are
+-- consistent with the earlier ones
 pub record Later (s t : ShelfState) : Type 0 where
   pub paths : t.paths ≡ s.paths
   pub lengths : t.lengths ≡ s.lengths

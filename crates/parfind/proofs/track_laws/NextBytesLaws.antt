@@ -1,4 +1,5 @@
--- Bytes of a file from an offset on, with zeros past its end: parts of them, more of them, and whole windows.
+-- Bytes of a file from an offset on, with zeros past its end: parts of them, more of them, and
+-- whole windows.
 use Rattle.std.proofs.Common.{◌≡◌, ℕ, ◌+◌, ◌-◌, ◌<◌, ◌≤◌, List, [], ◌++◌, length, take, drop, replicate, get_or, get_or-take, get_or-drop, slice_index, refl, sym, ap, ◌∙◌, subst, arith, length-drop, length-append, inl, inr}
 use Rattle.std.proofs.lemmas.Bool.{cases_lt}
 use Rattle.std.proofs.lemmas.List.{length-take-le, length-replicate, get_or_past, get_or-replicate, get_or_append_left, get_or-append_right, ext_get_or, drop-take}
@@ -6,7 +7,7 @@ use Rattle.parwindow.specs.Until.{pushed_content}
 use Rattle.parwindow.specs.Window.{window_at}
 use Rattle.parfind.specs.Tracks.{HasBytes}
 
--- an entry past the list's end is 0, and so is each of zeros
+-- each entry of a list of zeros is 0, and so is one past the end of a list, by default
 get_or-zeros : (n k : ℕ) → get_or (replicate {A = ℕ} n 0) k 0 ≡ 0
 get_or-zeros n k = elim (cases_lt k n) [
   | inl less ↦ get_or-replicate n k 0 0 less
@@ -58,7 +59,7 @@ module _ (file : List ℕ) where
     each = λ i less. get_or-zeros n i ∙ sym (get_or_past file (offset + i) 0 (omega arith));
   }
 
-  -- what was read of a file
+  -- bytes that a read returned are those of the file
   pub read_bytes : (offset n : ℕ) (bytes : List ℕ) → n ≤ length bytes → take n bytes ≡ take n (drop offset file)
       → HasBytes file offset (take n bytes)
   read_bytes offset n bytes fits same = record {
@@ -67,14 +68,15 @@ module _ (file : List ℕ) where
         ap (λ (xs : List ℕ). slice_index xs i) same ∙ get_or-take n (drop offset file) i 0 within ∙ get_or-drop offset file i 0;
   }
 
-  -- bytes that a window has once some were pushed into it
+  -- a window into which bytes were pushed has the bytes of the file from a later offset on
   pub slid_bytes : (offset k : ℕ) (content bytes : List ℕ) → k ≤ length bytes → HasBytes file offset content
       → HasBytes file (offset + length content) bytes → HasBytes file (offset + k) (pushed_content content bytes k)
   slid_bytes offset k content bytes fits has next =
       rest_bytes offset k (content ++ take k bytes)
       (more_bytes offset content (take k bytes) has (front_bytes (offset + length content) k bytes fits next))
 
-  -- as many bytes as the window of an offset has are that window
+  -- a window of an offset has the window's size, and bytes of that number that are the file's from
+  -- the offset on are this window
   pub length-window_at : (size offset : ℕ) → length (window_at size file offset) ≡ size
   length-window_at size offset =
       length-take-le size (drop offset file ++ replicate size 0)
@@ -92,7 +94,7 @@ pub length-pushed_content : (content bytes : List ℕ) (k : ℕ) → k ≤ lengt
 length-pushed_content content bytes k fits =
     omega (arith, length-drop k (content ++ take k bytes), length-append content (take k bytes), length-take-le k bytes fits)
 
--- bytes that are at hand, from an offset after their first one on
+-- of bytes that were read ahead, those from an offset on are the file's
 pub hand_bytes : (file : List ℕ) (base end at : ℕ) (bytes : List ℕ) → base ≤ at → at ≤ base + end → HasBytes file base (take end bytes)
     → HasBytes file at (take (end - (at - base)) (drop (at - base) bytes))
 hand_bytes file base end at bytes from within has =

@@ -1,4 +1,5 @@
--- What one read gives a track: some bytes of its file, none before the file's length, or a failure.
+-- The result of one read of a track: some bytes of its file, none before the file's noted length,
+-- or a failure.
 use Rattle.std.proofs.Common.{◌≡◌, ℕ, ◌+◌, ◌<◌, ◌≤◌, List, length, take, slice_index, ap, refl, ◌∙◌, arith}
 use Rattle.std.proofs.lemmas.List.{length-take-le}
 use Rattle.parshelf.specs.Shelf.{ShelfState, ReadsAs, after_read, file_of}
@@ -31,7 +32,8 @@ module _ (s t : ShelfState) (file offset room : ℕ) (buf : List ℕ) (n : ℕ) 
       let zero : length (take n buf) ≡ 0 = length_read ∙ none in
       FaultsIn-ended s t file offset room (take n buf) there zero given before read
 
--- what was read ahead is used up and the file has more: bytes that were read on are the file's
+-- if the bytes that were read ahead are used up and the file has more, the track still goes along
+-- its file after the next read
 pub tied_refilled : (s t : ShelfState) (w : WindowState) (a b : Track) → IsTied s w a → IsReadOn a b → Later s t
     → next_offset w a < slice_index s.lengths a.file → a.buffer_offset + a.buffer_len ≤ next_offset w a
     → ((files : List (List ℕ)) → ReadsAs t files → HasBytes (file_of files a.file) b.buffer_offset (take b.buffer_len b.bytes)) → IsTied t w b

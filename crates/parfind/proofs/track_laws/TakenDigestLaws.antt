@@ -1,11 +1,11 @@
--- A digest is taken of a window and kept, and nothing else of the window changes.
+-- A digest is taken of a window and kept; nothing else of the window changes.
 use Rattle.std.proofs.Common.{◌≡◌, ℕ, zero, suc, ◌+◌, ◌<◌, List, [], ◌∷◌, length, slice_set, slice_index_or, sym, ap, subst, ◌∙◌, arith, Option, None, Some}
 use Rattle.parfield.specs.declared.hash16.Hash16.{Hash16}
 use Rattle.parwindow.specs.Window.{WindowState}
 use Rattle.parfind.specs.KeptDigests.{KeepsDigests, IsFullFor, kept_count}
 use Rattle.parfind.specs.Sought.{Sought}
 
--- one more is kept
+-- one more digest is kept
 kept_more : (kept : List (Option Hash16)) (k : ℕ) (digest : Hash16) → k < length kept → slice_index_or kept k None ≡ None
     → kept_count (slice_set kept k (Some digest)) ≡ kept_count kept + 1
 kept_more [] k digest below none = absurd (omega arith)
@@ -24,7 +24,7 @@ looks_more v w kept k digest below none takes =
       kept = omega (arith, more);
     }
 
--- and one more after others
+-- digests that are taken after others are kept, too
 pub looks_on : (u v w : WindowState) (first second third : List (Option Hash16)) → KeepsDigests u first v second → KeepsDigests v second w third
     → KeepsDigests u first w third
 looks_on u v w first second third before next = record {

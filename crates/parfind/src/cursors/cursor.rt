@@ -1,4 +1,5 @@
-/// Where a search stands: after all sightings that are before it by file, then offset, then slice.
+/// A point in a search, after all sightings that are before it by file, then by offset, then by
+/// slice.
 #[derive(Clone, Copy, Debug, PartialEq, Eq, PartialOrd, Ord)]
 pub struct Cursor {
     /// The number of a scanned file; there may be no such file.

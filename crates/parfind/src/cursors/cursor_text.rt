@@ -7,24 +7,26 @@ use crate::cursors::cursor::Cursor;
 use parfield::Hash16;
 use std::alloc::{AllocError, Global};
 
-/// Why a text is no cursor of a set and a list of scanned files; the first that applies.
+/// Why a text is no cursor of a given set and list of scanned files. The first reason that applies
+/// is returned.
 #[derive(Clone, Copy, Debug, PartialEq, Eq)]
 pub enum CursorFault {
     /// It is no cursor text.
     Form,
-    /// It is the text of another set's cursor.
+    /// It is the text of a cursor of another set.
     OtherSet,
     /// It is the text of a cursor of another list of files: one that differs in a name, a length or
     /// the order.
     OtherList,
 }
 
-/// What a cursor belongs to instead of a given set and list of scanned files; the first that applies.
+/// Why a cursor isn't one of a given set and list of scanned files. The first reason that applies
+/// is returned.
 #[derive(Clone, Copy, Debug, PartialEq, Eq)]
 pub enum Foreign {
-    /// Another set.
+    /// It is a cursor of another set.
     OtherSet,
-    /// Another list of files: one that differs in a name, a length or the order.
+    /// It is a cursor of another list of files: one that differs in a name, a length or the order.
     OtherList,
 }
 
@@ -39,20 +41,21 @@ impl From<Foreign> for CursorFault {
     }
 }
 
-/// What a cursor's text tells.
+/// The parts of a cursor's text.
 #[derive(Clone, Copy, Debug, PartialEq, Eq)]
 pub struct CursorText {
     /// The ID of the set.
     pub set: Hash16,
-    /// The mark of the list of scanned files; `None` in the first version, which has none.
+    /// The mark (fingerprint) of the list of scanned files; `None` in the first version, which has
+    /// no mark.
     pub list: Option<Hash16>,
     /// The cursor.
     pub at: Cursor,
 }
 
 impl CursorText {
-    /// The cursor, where it is one of this set and of the list with this mark. A text without a mark
-    /// is taken for every list.
+    /// Returns the cursor if it is one of this set and of the list with this mark. A text without a
+    /// mark is accepted for every list.
     pub fn cursor_for(self, set: Hash16, list: Hash16) -> Result<Cursor, Foreign>
         ensures { result ≡ cursor_for set list self }
     {
@@ -67,8 +70,8 @@ impl CursorText {
 }
 
 impl Cursor {
-    /// The text of this cursor, in the second version, in the set of this ID and the list of scanned
-    /// files with this mark.
+    /// Returns the text of this cursor, in the second version, for the set with this ID and the
+    /// list of scanned files with this mark.
     #[tactic(auto, unfolding(crate::specs::CursorText::cursor_text))]
     pub fn text(self, alloc: Global, set: Hash16, list: Hash16) -> Result<Vec<u8>, AllocError>
         ensures text { IfOk result (λ text.
@@ -83,7 +86,8 @@ impl Cursor {
     }
 }
 
-/// What a text tells that is a cursor's, in either version; `None` for any other text.
+/// Splits the text of a cursor, of either version, into its parts. Returns `None` for any other
+/// text.
 #[tactic(auto, unfolding(crate::specs::CursorText::cursor_text_of))]
 pub fn split_cursor(text: &[u8]) -> Option<CursorText>
     ensures { result ≡ cursor_text_of text.now }
@@ -102,8 +106,8 @@ pub fn split_cursor(text: &[u8]) -> Option<CursorText>
     }
 }
 
-/// The cursor that a text of this set tells, and of the list of scanned files with this mark, or the
-/// first fault that the text has.
+/// Returns the cursor in a text, if it is one of this set and of the list of scanned files with
+/// this mark; else the first error of the text.
 pub fn read_cursor(text: &[u8], set: Hash16, list: Hash16) -> Result<Cursor, CursorFault>
     ensures { result ≡ read_for set list (cursor_text_of text.now) }
 {
@@ -111,7 +115,7 @@ pub fn read_cursor(text: &[u8], set: Hash16, list: Hash16) -> Result<Cursor, Cur
     Ok(text.cursor_for(set, list)?)
 }
 
-// What the parts behind the `2` of the second version tell.
+// Splits the parts of a text of the second version that follow its `2`.
 fn split_second(text: &[u8]) -> Option<CursorText>
     ensures { result ≡ second_version (slice_split is_colon text.now) }
 {
@@ -127,7 +131,7 @@ fn split_second(text: &[u8]) -> Option<CursorText>
     })
 }
 
-// The cursor that three numbers are, with a colon between two.
+// Returns the cursor that three numbers write, with a colon between each two.
 fn cursor_of(text: &[u8]) -> Option<Cursor>
     ensures { result ≡ cursor_of_parts (slice_split is_colon text.now) }
 {
@@ -136,7 +140,7 @@ fn cursor_of(text: &[u8]) -> Option<Cursor>
     cursor_of_parts(file, offset, slice)
 }
 
-// What stands before the first colon, and all that stands after it.
+// Returns the bytes before the first colon and all bytes after it; `None` if there is no colon.
 fn split_at_colon(text: &[u8]) -> Option<(&[u8], &[u8])>
     ensures parts { IfSome result (λ p.
         slice_split is_colon text.now ≡ p.0.now ∷ slice_split is_colon p.1.now) }
@@ -152,7 +156,8 @@ fn first_colon(text: &[u8]) -> Option<usize>
     text.iter().position(|byte| *byte == b':')
 }
 
-// The cursor that these parts are; `None` where one is not of its form.
+// Returns the cursor with these numbers; `None` if a part isn't canonical decimal, or its number is
+// too large.
 fn cursor_of_parts(file: &[u8], offset: &[u8], slice: &[u8]) -> Option<Cursor>
     ensures { result ≡ cursor_of_parts (file.now ∷ offset.now ∷ slice.now ∷ []) }
 {
@@ -166,7 +171,8 @@ fn cursor_of_parts(file: &[u8], offset: &[u8], slice: &[u8]) -> Option<Cursor>
     })
 }
 
-// The sixteen bytes that a part is in 32 digits, those above 9 in lower case; `None` for any other part.
+// Returns the sixteen bytes that a part of 32 lower-case hexadecimal digits writes; `None` for any
+// other part.
 fn parsed_hash(part: &[u8]) -> Option<Hash16>
     ensures { result ≡ parsed_hash part.now }
 {
@@ -177,7 +183,7 @@ fn parsed_hash(part: &[u8]) -> Option<Hash16>
     }
 }
 
-// Whether each byte is a hexadecimal digit, those above 9 in lower case.
+// Whether each byte is a lower-case hexadecimal digit.
 fn are_lower_hex_digits(part: &[u8]) -> bool
     ensures { result ≡ list_all is_lower_digit part.now }
 {
@@ -185,21 +191,21 @@ fn are_lower_hex_digits(part: &[u8]) -> bool
         .all(|byte| matches!(*byte, b'0'..=b'9' | b'a'..=b'f'))
 }
 
-// The number that a part is in canonical decimal, if it is below 2^32.
+// Returns the number that a part writes in canonical decimal, if it is below 2^32.
 fn u32_of(part: &[u8]) -> Option<u32>
     ensures { result ≡ number_of (2 ^ 32) part.now }
 {
     canonical(part)?.parse::<u32>().ok()
 }
 
-// The number that a part is in canonical decimal, if it is below 2^64.
+// Returns the number that a part writes in canonical decimal, if it is below 2^64.
 fn u64_of(part: &[u8]) -> Option<u64>
     ensures { result ≡ number_of (2 ^ 64) part.now }
 {
     canonical(part)?.parse::<u64>().ok()
 }
 
-// The part as text, where it is canonical decimal.
+// Returns the part as text, if it is canonical decimal.
 fn canonical(part: &[u8]) -> Option<&str>
     ensures text { IfSome result (λ digits. digits.now ≡ part.now) }
     ensures some { IfSome result (λ _. is_canonical part.now ≡ true) }
@@ -212,7 +218,7 @@ fn canonical(part: &[u8]) -> Option<&str>
     }
 }
 
-// Whether the part is canonical decimal: digits of which the first is not 0, or `0` alone.
+// Whether the part is canonical decimal: `0`, or digits of which the first is not 0.
 fn is_canonical(part: &[u8]) -> bool
     ensures { result ≡ is_canonical part.now }
 {

@@ -6,20 +6,22 @@ ghost use Rattle.parfind.specs.Sightings.{SightingsRise, AllFromOrigin, RestFoll
 
 use crate::cursors::cursor::Cursor;
 
-/// The order of cursors is that of searches: by file, then by offset, then by slice. Does nothing.
+/// States that the order of cursors is that of searches: by file, then by offset, then by slice.
+/// Does nothing.
 pub fn cursor_order_law()
     ensures less { (a b : Cursor) → is_lt (⟦<Cursor as Ord>⟧.cmp a b) ≡ is_before a b }
     ensures greater { (a b : Cursor) → is_gt (⟦<Cursor as Ord>⟧.cmp a b) ≡ is_before b a }
 {}
 
-/// The law of cursor texts: a text tells at most one set, mark (or none) and cursor, and is the one
-/// text of them. Does nothing.
+/// States the law of cursor texts: a text gives at most one set, mark (or none) and cursor, and is
+/// the only text of them. Does nothing.
 pub fn cursor_text_law()
     ensures read { ReadsItsText }
     ensures one { HasOneText }
 {}
 
-/// The laws of sightings: they rise strictly, and parts of them follow one another. Does nothing.
+/// States the laws of sightings: their order is strictly rising, and parts of their list can be
+/// joined. Does nothing.
 pub fn sighting_laws()
     ensures rise { SightingsRise }
     ensures all { AllFromOrigin }

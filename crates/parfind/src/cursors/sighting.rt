@@ -1,4 +1,4 @@
-/// A slice of the set that was seen at an offset of a scanned file.
+/// A match: a slice of the set that was seen at an offset of a scanned file.
 #[derive(Clone, Copy, Debug, PartialEq, Eq)]
 pub struct Sighting {
     /// The number of the scanned file.

@@ -9,26 +9,26 @@ pub enum Call {
     Step(u64),
     /// A step without a budget.
     Next,
-    /// The finder is given up, and another one is opened at its cursor.
+    /// The finder is closed, and another one is opened at its cursor.
     Reopen,
 }
 
-/// What a call answers.
+/// The result of a call.
 #[derive(Clone, Copy, Debug, PartialEq, Eq)]
 pub enum Answer {
-    /// What the step gave.
+    /// The result of the step.
     Step(Result<Step, ReadFault>),
-    /// Another finder is open.
+    /// Another finder was opened.
     Reopened,
-    /// There was no memory for another finder.
+    /// Memory for another finder was refused.
     NoMemory,
 }
 
-/// What a list of calls came to.
+/// The result of a script of calls.
 #[derive(Drop)]
 pub struct Drive {
     /// The answers, in order.
     pub answers: Sequence<Answer>,
-    /// Where the search stands.
+    /// The cursor of the search after the last answer.
     pub cursor: Cursor,
 }

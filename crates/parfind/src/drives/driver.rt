@@ -18,7 +18,7 @@ use parwindow::Index;
 use std::alloc::Global;
 
 /// Makes the calls in order, from a cursor on. Memory for all answers and for the first finder is
-/// taken before any read; where another finder is refused, no further call is made.
+/// taken before any read. If memory for another finder is refused, no further call is made.
 pub fn drive<H: Shelf>(
     alloc: Global,
     calls: &[Call],
@@ -29,13 +29,13 @@ pub fn drive<H: Shelf>(
 ) -> Result<Drive, StartFault>
     requires { All HasBudget calls.now }
 
-    // The answers, the cursor and the shelf, in any files that the shelf is read as in the end.
+    // The answers, the cursor and the shelf, in any files that are consistent with all reads.
     ensures answer { (files : List (List ℕ)) → ReadsAs (H.state shelf.new) files →
         IfOk result (λ drive. CallsGive (scan_of (sought_of index.now mode) files)
         (search_at (H.state shelf.old) start) calls.now drive.answers
         (search_at (H.state shelf.new) drive.cursor)) }
 
-    // On any shelf.
+    // Whatever the reads returned.
     ensures each { IfOk result (λ drive. AnswersEach calls.now drive.answers) }
     ensures onward { IfOk result (λ drive. IsTrue (is_from start drive.cursor)) }
     ensures told { IfOk result (λ drive.
@@ -43,7 +43,7 @@ pub fn drive<H: Shelf>(
     ensures untouched { IfErr result (λ _. H.state shelf.new ≡ H.state shelf.old) }
     ensures tails { TellsTails (sought_of index.now mode) result }
 
-    // How much is read where no call reopens, on any shelf.
+    // How much is read if no call reopens, whatever the reads returned.
     ensures reads { ¬ Contains calls.now Reopen → IfOk result (λ drive.
         HandsWithin index.now.slice_size
         (search_at (H.state shelf.old) start) (search_at (H.state shelf.new) drive.cursor)) }
@@ -56,7 +56,7 @@ pub fn drive<H: Shelf>(
             Call::Next => Answer::Step(finder.next(index, shelf)),
             Call::Reopen => {
                 let at = finder.cursor();
-                // Two windows at once would be one too many.
+                // The old finder goes first, so that there are never two windows.
                 drop(finder);
                 match Finder::open(alloc, index, shelf, at, mode) {
                     Ok(next) => {
@@ -88,7 +88,7 @@ fn put(answers: &mut Vec<Answer>, answer: Answer)
     }
 }
 
-// What calls came to that gave these answers and left the search at a cursor.
+// Makes the result of a script, given its answers and its last cursor.
 fn drive_of(answers: Vec<Answer>, cursor: Cursor) -> Drive
     ensures answers { result.answers ≡ answers.items }
     ensures cursor { result.cursor ≡ cursor }

@@ -22,30 +22,29 @@ use parwindow::{Index, Window};
 use std::alloc::Global;
 use std::marker::Model;
 
-/// What a step of a search gives.
+/// The result of a step of a search.
 #[derive(Clone, Copy, Debug, PartialEq, Eq)]
 pub enum Step {
     /// The next sighting.
     Hit(Sighting),
-    /// As many places as the step may look at were passed, with no sighting from the cursor on at
-    /// any of them.
+    /// All places of the budget were passed, and no sighting from the cursor on is at any of them.
     Spent,
     /// There is no further sighting.
     Done,
 }
 
-// What a try of a place comes to.
+// The result of a try of a place.
 #[derive(Clone, Copy)]
 pub(crate) enum Visit {
     // A sighting at the place.
     Hit(Sighting),
-    // So many places were passed, with no sighting from the cursor on at any of them.
+    // This number of places was passed; no sighting from the cursor on is at any of them.
     Passed(u64),
     // No place is left.
     End,
 }
 
-/// A search that stands at a cursor, in one pass over each file.
+/// An open search with a cursor, which goes over each file in one pass.
 #[derive(Drop)]
 pub struct Finder {
     opening: Cursor,
@@ -75,7 +74,7 @@ impl Model for Finder {
 }
 
 impl Finder {
-    /// A search from a cursor on. It takes all memory that it needs, and reads nothing yet.
+    /// Opens a search at a cursor. It takes all memory that it needs, and reads nothing yet.
     pub fn open<H: Shelf>(
         alloc: Global,
         index: &Index,
@@ -91,7 +90,7 @@ impl Finder {
         ensures belongs { IfOk result (λ finder. BelongsTo finder index.now (H.state shelf.now)) }
         ensures tails { TellsTails (sought_of index.now mode) result }
     {
-        // Only the contract speaks of it.
+        // Only the contract uses the shelf.
         let _ = shelf;
         if has_too_many_tails(index, mode) {
             return Err(StartFault::TooManyTails);
@@ -109,26 +108,26 @@ impl Finder {
         })
     }
 
-    /// Where the search stands.
+    /// Returns the cursor of the search.
     pub fn cursor(&self) -> Cursor
         ensures { result ≡ self.now.cursor }
     {
         self.cursor
     }
 
-    /// The next sighting, or `Done`.
+    /// Returns the next sighting, or `Done` if there is none.
     #[tactic(auto, using(crate::proofs::search_laws::NextCallLaws::reads_near, crate::proofs::search_laws::NextCallLaws::few_digests))]
     pub fn next<H: Shelf>(&mut self, index: &Index, shelf: &mut H) -> Result<Step, ReadFault>
         requires { BelongsTo self.old index.now (H.state shelf.old) }
         ensures belongs { BelongsTo self.new index.now (H.state shelf.new) }
 
-        // The answer, the cursor and the shelf, in any files that the shelf is read as.
+        // The result, the cursor and the shelf, in any files that are consistent with the reads.
         ensures answer { (files : List (List ℕ)) → ReadsAs (H.state shelf.new) files → StepGives
             (scan_of (sought_for index.now self.old) files) None
             (search_at (H.state shelf.old) self.old.cursor) result
             (search_at (H.state shelf.new) self.new.cursor) }
 
-        // On any shelf: where the search goes, that it comes nearer to its end, what was counted.
+        // Whatever the reads returned: the move, that it comes nearer to the end, and the counts.
         ensures moves { StepMoves (H.state shelf.old).lengths None
             self.old.cursor result self.new.cursor }
         ensures advances { IfOk result (λ step. Advances index.now None
@@ -136,7 +135,7 @@ impl Finder {
         ensures along { GoesAlong (H.state shelf.old) (H.state shelf.new)
             self.old self.new result }
 
-        // How much is read, on any shelf, and hashed of what was read.
+        // How much is read, whatever the reads returned, and how many digests are taken.
         ensures reads { CallReads index.now.slice_size
             (search_of (H.state shelf.old) self.old) (search_of (H.state shelf.new) self.new) }
         ensures digests { (files : List (List ℕ)) → ReadsAs (H.state shelf.new) files
@@ -146,8 +145,8 @@ impl Finder {
         self.advance(index, shelf, None)
     }
 
-    /// The next sighting, if it is at one of the first `budget` places; `Done`, where fewer places
-    /// are ahead and there is none; else `Spent`.
+    /// Returns the next sighting if it is at one of the first `budget` places; `Done` if there is
+    /// none and fewer places are ahead; else `Spent`.
     #[tactic(auto, using(crate::proofs::search_laws::NextCallLaws::reads_near, crate::proofs::search_laws::NextCallLaws::few_digests))]
     pub fn step<H: Shelf>(
         &mut self,
@@ -159,13 +158,13 @@ impl Finder {
         requires belongs { BelongsTo self.old index.now (H.state shelf.old) }
         ensures belongs { BelongsTo self.new index.now (H.state shelf.new) }
 
-        // The answer, the cursor and the shelf, in any files that the shelf is read as.
+        // The result, the cursor and the shelf, in any files that are consistent with the reads.
         ensures answer { (files : List (List ℕ)) → ReadsAs (H.state shelf.new) files → StepGives
             (scan_of (sought_for index.now self.old) files) (Some budget)
             (search_at (H.state shelf.old) self.old.cursor) result
             (search_at (H.state shelf.new) self.new.cursor) }
 
-        // On any shelf: where the search goes, that it comes nearer to its end, what was counted.
+        // Whatever the reads returned: the move, that it comes nearer to the end, and the counts.
         ensures moves { StepMoves (H.state shelf.old).lengths (Some budget)
             self.old.cursor result self.new.cursor }
         ensures advances { IfOk result (λ step. Advances index.now (Some budget)
@@ -173,7 +172,7 @@ impl Finder {
         ensures along { GoesAlong (H.state shelf.old) (H.state shelf.new)
             self.old self.new result }
 
-        // How much is read, on any shelf, and hashed of what was read.
+        // How much is read, whatever the reads returned, and how many digests are taken.
         ensures reads { CallReads index.now.slice_size
             (search_of (H.state shelf.old) self.old) (search_of (H.state shelf.new) self.new) }
         ensures digests { (files : List (List ℕ)) → ReadsAs (H.state shelf.new) files
@@ -183,7 +182,7 @@ impl Finder {
         self.advance(index, shelf, Some(budget))
     }
 
-    // A step with a budget of places, or with none.
+    // Makes a step with a budget of places, or without one.
     fn advance<H: Shelf>(
         &mut self,
         index: &Index,
@@ -221,9 +220,9 @@ impl Finder {
         }
     }
 
-    // Tries the first place from the cursor on: without a hit it is passed, with those after it up
-    // to one whose window has a slice's CRC-32, or all that are left of a file into which no slice
-    // fits.
+    // Tries the first place from the cursor on. Without a hit, passes it and those after it, up to
+    // one whose window has a slice's CRC-32; or, if no slice fits into what is left of the file,
+    // all that are left of it. Passes at most `left` places.
     fn try_place<H: Shelf>(
         &mut self,
         index: &Index,
@@ -262,8 +261,8 @@ impl Finder {
         self.at_place(index, shelf, left)
     }
 
-    // Passes the places that are left of a file into which no slice fits any more, as many as the
-    // budget has, and answers how many; `None` where one fits.
+    // If no slice fits into what is left of the file, passes its places, at most as many as the
+    // budget has, and returns their number; else returns `None`.
     fn pass_unfit<H: Shelf>(
         &mut self,
         index: &Index,
@@ -302,7 +301,7 @@ impl Finder {
         Some(count)
     }
 
-    // Goes to the next place, and brings the window there; where it is there, digests stay.
+    // Goes to the next place, and brings the window there. If it is there, its digests are kept.
     fn move_window<H: Shelf>(
         &mut self,
         index: &Index,
@@ -319,7 +318,7 @@ impl Finder {
         ensures along { GoesAlong (H.state shelf.old) (H.state shelf.new)
             self.old self.new result }
     {
-        // Only the contract speaks of it.
+        // Only the contract uses the index.
         let _ = index;
         self.cursor = at;
         if at.file == self.track.file() && self.window.is_full() {
@@ -330,7 +329,7 @@ impl Finder {
         self.track.fill(&mut self.window, shelf)
     }
 
-    // What `try_place` gives at the place where the search stands, whose window is there.
+    // Does the work of `try_place` at the cursor's place, with the full window there.
     fn at_place<H: Shelf>(
         &mut self,
         index: &Index,
@@ -388,7 +387,7 @@ impl Finder {
     }
 }
 
-// What is left of a budget after so many more places.
+// Returns the rest of a budget after `count` more places.
 fn budget_left(budget: Option<u64>, count: u64) -> Option<u64>
     requires { IsWithin count budget }
     ensures { result ≡ option_map (λ places. places - count) budget }

@@ -4,7 +4,8 @@ ghost use Rattle.parfind.specs.NextPlace.{IsAtPlace, IsNextPlace, NoPlaceFrom, r
 use crate::cursors::Cursor;
 use parshelf::Shelf;
 
-/// The first place from a cursor on. Where the cursor stands at a place, it keeps its slice.
+/// Returns the first place from a cursor on. If the cursor itself is at a place, it keeps its
+/// slice.
 pub fn next_place<H: Shelf>(shelf: &H, from: Cursor) -> Option<Cursor>
     ensures found { IfSome result (IsNextPlace (H.state shelf.now).lengths from) }
     ensures none { IfNone result (NoPlaceFrom (H.state shelf.now).lengths from) }
@@ -23,7 +24,7 @@ pub fn next_place<H: Shelf>(shelf: &H, from: Cursor) -> Option<Cursor>
     None
 }
 
-/// How many bytes of its file are ahead of a place.
+/// Returns how many bytes of its file are left from a place on.
 pub fn rest_of<H: Shelf>(shelf: &H, at: Cursor) -> u64
     requires counted { at.file < length (H.state shelf.now).lengths }
     requires there { IsAtPlace (H.state shelf.now).lengths at }

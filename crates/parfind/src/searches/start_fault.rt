@@ -3,10 +3,10 @@ ghost use Rattle.parfind.specs.declared.searches.start_fault.StartFault.TheVaria
 
 use std::alloc::AllocError;
 
-/// Why a search could not be started, in the order in which it is tested.
+/// Why a search can't be started, in the order in which the reasons are tested.
 #[derive(Clone, Copy, Debug, PartialEq, Eq)]
 pub enum StartFault {
-    /// There are more lengths of short slices than 256.
+    /// More than 256 short-slice lengths would be compared.
     TooManyTails,
     /// Memory was refused.
     Memory,

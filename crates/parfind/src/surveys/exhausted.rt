@@ -11,23 +11,24 @@ use crate::tracks::{MOST_TAILS, Sought};
 use parfield::Hash16;
 use parwindow::Window;
 
-// How many lengths of a window may be compared.
+// The greatest number of lengths of a window that are compared.
 const MOST_LENGTHS: usize = MOST_TAILS + 1;
 
-/// For each compared length a CRC-32 of which each slice that fits is found, so that this is asked
-/// once in a run of equal windows, as of zeros; and what it cost to ask.
+/// For each compared length, a CRC-32 that is exhausted: each slice that has it and fits is found.
+/// So a run of equal windows, as of zeros, is looked up once. Also what the lookups cost.
 #[derive(Drop)]
 pub struct Exhausted {
     pub crcs: [Option<u32>; MOST_LENGTHS],
-    /// How many looks found no slice missing: one for each compared length at a place where some slice
-    /// has the CRC-32, and one more for every sixteen slices that were looked through.
+    /// The cost of the lookups that found no slice missing: one for each compared length at a
+    /// place, if some slice has the CRC-32 or it is noted as exhausted, and one more for every
+    /// sixteen slices that were looked through.
     pub in_vain: u64,
     /// The slices that were found last.
     pub noted: Noted,
 }
 
 impl Exhausted {
-    /// None is known.
+    /// Makes a state in which no CRC-32 is noted.
     pub fn none() -> Exhausted
         ensures { result.crcs ≡ replicate 257 None }
     {
@@ -38,16 +39,16 @@ impl Exhausted {
         }
     }
 
-    /// None is known any more. The count of looks stays.
+    /// Forgets the CRC-32s. The cost of the lookups stays.
     pub fn forget(&mut self)
         ensures { self.new.crcs ≡ replicate 257 None }
     {
         self.crcs = [None; MOST_LENGTHS];
     }
 
-    /// Notes as found each slice that has both checksums of what is compared of a full window for it,
-    /// and fits into what is left of the file. An MD5 is taken only if some slice of its compared
-    /// length with the CRC-32 fits and isn't found.
+    /// Notes as found each slice that has both checksums of the bytes of a full window that are
+    /// compared for it, and that fits into the `left` bytes of the file. An MD5 is taken only if
+    /// some slice of its compared length with the CRC-32 fits and isn't found.
     pub fn note_seen(&mut self, window: &mut Window, sought: &Sought, left: u64, found: &mut [bool])
         requires full { IsFullFor sought.now window.old }
         requires each { length found.old ≡ length sought.now.set.slices }
@@ -65,7 +66,7 @@ impl Exhausted {
         }
     }
 
-    // Notes those of them that are looked for by compared length `k`.
+    // Notes those of these slices whose compared length is number `k`.
     fn note_seen_at(
         &mut self,
         window: &mut Window,
@@ -101,8 +102,8 @@ impl Exhausted {
         }
     }
 
-    // Notes as found each slice of compared length `k` that has both checksums and fits into what is
-    // left of the file.
+    // Notes as found each slice of compared length `k` that has both checksums and fits into the
+    // `left` bytes of the file.
     fn note_matches(
         &mut self,
         sought: &Sought,

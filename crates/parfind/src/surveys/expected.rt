@@ -1,6 +1,6 @@
 ghost use Rattle.std.specs.Prelude.{◌≡◌, ◌≤◌, ◌<◌, ◌+◌, false, MatchOption};
 
-// At how many places slices are expected at most. For more of them a survey looks everywhere.
+// The greatest number of expected slices. A survey looks everywhere for those that are beyond it.
 const MOST_EXPECTED: usize = 16;
 
 /// The offsets of a file at which a short slice is expected, each with the slice.
@@ -15,7 +15,7 @@ pub struct Expected {
 impl Expected {
     ghost use Rattle.parfind.specs.Waiting.{is_waiting};
 
-    /// None is expected.
+    /// Makes a list without expected slices.
     pub fn none() -> Expected
         ensures { is_waiting result ≡ false }
     {
@@ -33,7 +33,7 @@ impl Expected {
         self.count > 0
     }
 
-    /// None is expected any more.
+    /// Forgets all slices that are expected.
     pub fn forget(&mut self)
         ensures { is_waiting self.new ≡ false }
     {
@@ -49,7 +49,8 @@ impl Expected {
         }
     }
 
-    /// Takes out a slice that is expected at this offset or before it, with the offset.
+    /// Takes out a slice that is expected at this offset or before it, and returns the offset and
+    /// the slice.
     pub fn next_until(&mut self, offset: u64) -> Option<(u64, u32)>
         ensures { MatchOption result (self.new ≡ self.old)
             (λ _. self.new.count + 1 ≡ self.old.count) }
@@ -66,8 +67,8 @@ impl Expected {
         None
     }
 
-    /// How many bytes there are from an offset up to the next one that is expected after it; the
-    /// greatest number, if there is none.
+    /// Returns the number of bytes from an offset to the next one after it at which a slice is
+    /// expected; the greatest number, if there is none.
     pub fn distance(&self, offset: u64) -> u64
         ensures { 0 < result }
     {

@@ -1,9 +1,9 @@
 ghost use Rattle.std.specs.Prelude.{◌≤◌};
 
-// How many slices are kept of those that are found at one place.
+// The greatest number of slices that are kept of those that are found at one place.
 const MOST_NOTED: usize = 16;
 
-/// The slices that were found last, or the first of these: short ones are expected after them.
+/// The slices that were found last, or the first 16 of them: short slices are expected after them.
 #[derive(Drop)]
 pub struct Noted {
     slices: [u32; 16],
@@ -12,7 +12,7 @@ pub struct Noted {
 }
 
 impl Noted {
-    /// No slice.
+    /// Makes an empty list.
     pub fn none() -> Noted {
         Noted {
             slices: [0; 16],
@@ -20,7 +20,7 @@ impl Noted {
         }
     }
 
-    /// One slice more, if there is room.
+    /// Appends a slice, if there is room.
     pub fn push(&mut self, slice: u32) {
         if self.count < MOST_NOTED {
             self.slices[self.count] = slice;
@@ -28,12 +28,12 @@ impl Noted {
         }
     }
 
-    /// These slices.
+    /// Returns the slices in the list.
     pub fn slices(&self) -> &[u32] {
         &self.slices[..self.count]
     }
 
-    /// None of them any more.
+    /// Removes all slices from the list.
     pub fn clear(&mut self) {
         self.count = 0;
     }

@@ -19,8 +19,9 @@ use parshelf::{ReadFault, Shelf};
 use parwindow::{Index, WaitingTails, Window};
 use std::alloc::{AllocError, Global};
 
-/// Finds each slice of the set that has a sighting by its own bytes, in two rounds: full-length slices
-/// anywhere, and short ones right after the slice before them; then the short ones that are left.
+/// Finds each slice of the set that has a sighting in `Mode::Tails`, in two rounds: full-length
+/// slices anywhere, and short ones right after the slice before them or at the beginning of a file;
+/// then the short slices that are left.
 pub(crate) fn survey_twice<H: Shelf>(
     alloc: Global,
     index: &Index,
@@ -47,7 +48,7 @@ pub(crate) fn survey_twice<H: Shelf>(
     Ok(())
 }
 
-// The first round.
+// Makes the first round.
 fn look_for_full<H: Shelf>(
     alloc: Global,
     index: &Index,
@@ -88,8 +89,8 @@ fn look_for_full<H: Shelf>(
     Ok(())
 }
 
-// The second round, if a short slice is left: by those of these tails that such a slice has. If
-// memory is refused, it looks for all slices.
+// Makes the second round, if a short slice is left, with those of these tails (lengths of short
+// slices) that such slices have. If memory is refused, it looks for all slices.
 fn look_for_rest<H: Shelf>(
     alloc: Global,
     index: &Index,
@@ -124,7 +125,7 @@ fn look_for_rest<H: Shelf>(
     }
 }
 
-// The index of the short slices that are left.
+// Makes an index of the short slices that are left.
 fn rest_of(alloc: Global, index: &Index, found: &[bool]) -> Result<Index, AllocError>
     requires { length found.now ≡ length index.now.slices }
     ensures { IfOk result (λ rest. IsWithout index.now found.now (leaves_out index.now false) rest) }
@@ -133,8 +134,8 @@ fn rest_of(alloc: Global, index: &Index, found: &[bool]) -> Result<Index, AllocE
     index.missing(alloc, &lost)
 }
 
-// Finds each slice of an index that has a sighting by its own bytes, with these tails of an empty
-// window, of which those stay that are the index's.
+// Finds each slice of an index that has a sighting in `Mode::Tails`. The window is empty, and gets
+// those of these tails that are lengths of slices of the index.
 fn look_by<H: Shelf>(
     index: &Index,
     tails: WaitingTails,
@@ -172,7 +173,8 @@ fn look_by<H: Shelf>(
     )
 }
 
-// For each slice whether it is found, or is short as this says.
+// Returns a flag for each slice: whether it is found, or is short if `short` is true, and
+// full-length if it is false.
 fn left_out(
     alloc: Global,
     index: &Index,

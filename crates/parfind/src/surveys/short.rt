@@ -12,17 +12,18 @@ use parwindow::{Index, Window};
 use std::alloc::{AllocError, Global};
 use std::marker::Model;
 
-/// The short slices that a survey looks for at few places: right after the slice before each of them,
-/// and, if it is a whole file, where files may begin.
+/// The short slices that a survey looks for only at few places: right after the slice before each
+/// of them, and, if a slice is a whole file, at the places at which files may begin.
 #[derive(Drop)]
 pub struct Short<'a> {
-    /// All slices.
+    /// The index of all slices.
     all: &'a Index,
-    /// Those that were seen so, as flags by number. Without flags none is expected.
+    /// A flag for each slice, by number: whether it was seen at such a place. Without flags, no
+    /// slice is expected.
     seen: Option<Vec<bool>>,
-    /// The places at which files may begin that are shorter than a slice.
+    /// The places at which files that are shorter than a slice may begin.
     starts: FileStarts,
-    /// No slice before this one is such a file that is missing.
+    /// The slices before this number are no missing files that are shorter than a slice.
     first: u32,
     /// Whether such a file is missing.
     waits: bool,
@@ -40,7 +41,7 @@ impl<'a> Model for Short<'a> {
 impl<'a> Short<'a> {
     ghost use Rattle.parfind.specs.Expecting.{SeesMore, flags_of, is_strict};
 
-    /// No slice is expected anywhere.
+    /// Makes a state in which no slice is expected anywhere.
     pub fn nowhere(all: &'a Index) -> Short<'a>
         ensures { result ≡ record { set = all.now; seen = None } }
     {
@@ -53,7 +54,8 @@ impl<'a> Short<'a> {
         }
     }
 
-    /// Each short slice is expected after the slice before it. None of them is seen yet.
+    /// Makes a state in which each short slice is expected after the slice before it, and none is
+    /// seen yet.
     pub fn of(alloc: Global, all: &'a Index) -> Result<Short<'a>, AllocError>
         ensures { IfOk result (λ short. short ≡ record {
           set = all.now;
@@ -70,7 +72,7 @@ impl<'a> Short<'a> {
         })
     }
 
-    /// Those that were seen are found too.
+    /// Notes as found each slice that was seen.
     pub fn note(&self, found: &mut [bool])
         ensures { (n : ℕ) → n < length found.old → found_at found.new n
             ≡ (found_at found.old n || found_at (flags_of self.now.seen) n) }
@@ -83,9 +85,9 @@ impl<'a> Short<'a> {
         }
     }
 
-    /// Looks for the slices that are expected at an offset, in the full window there, and for files
-    /// that may begin there: each has to have both checksums of its own bytes, and to fit into what is
-    /// left of the scanned file.
+    /// Looks in the full window at an offset for the slices that are expected there, and for files
+    /// that may begin there: the window has to begin with the slice, by both checksums, and the
+    /// slice has to fit into the `left` bytes of the scanned file.
     pub fn look(&mut self, expected: &mut Expected, window: &mut Window, offset: u64, left: u64)
         requires sized { window.old.capacity ≡ self.old.set.slice_size }
         requires full { length window.old.content ≡ window.old.capacity }
@@ -104,7 +106,7 @@ impl<'a> Short<'a> {
         }
     }
 
-    /// The slice size.
+    /// Returns the slice size.
     pub fn size(&self) -> u64
         ensures size { result ≡ self.now.set.slice_size }
         ensures some { 0 < result }
@@ -112,15 +114,15 @@ impl<'a> Short<'a> {
         self.all.size()
     }
 
-    /// A scanned file begins.
+    /// Goes to the beginning of another scanned file.
     pub fn enter_file(&mut self)
         ensures { self.new ≡ self.old }
     {
         self.starts.enter();
     }
 
-    /// How many bytes there are from an offset up to the next place at which a file may begin that is
-    /// missing; the greatest number, if there is none.
+    /// Returns the number of bytes from an offset to the next place at which a missing file may
+    /// begin; the greatest number, if there is none.
     pub fn distance(&mut self, window: &Window, offset: u64) -> u64
         ensures same { self.new ≡ self.old }
         ensures some { 0 < result }
@@ -132,7 +134,7 @@ impl<'a> Short<'a> {
         self.starts.distance(offset)
     }
 
-    /// Whether a file is missing that is shorter than a slice and has its checksums.
+    /// Whether a file is missing that is shorter than a slice and whose checksums are known.
     pub fn misses_files(&mut self, found: &[bool]) -> bool
         requires each { length found.now ≡ length self.old.set.slices }
         ensures same { self.new ≡ self.old }
@@ -148,7 +150,7 @@ impl<'a> Short<'a> {
         self.waits
     }
 
-    // Notes as seen the short slices that the window begins with.
+    // Notes as seen the short slices with which the window begins.
     fn look_for_files(&mut self, window: &mut Window, offset: u64, left: u64)
         requires sized { window.old.capacity ≡ self.old.set.slice_size }
         requires full { length window.old.content ≡ window.old.capacity }
@@ -176,8 +178,8 @@ impl<'a> Short<'a> {
         }
     }
 
-    /// Expects, after each of these slices, the next one, if that is a short slice that wasn't seen and
-    /// fits into what is left of the file. None of them is noted any more.
+    /// Expects, after each of the slices in `noted`, the next one, if it is a short slice that
+    /// wasn't seen and fits into what is left of the file. Then empties `noted`.
     pub fn expect_after(
         &mut self,
         noted: &mut Noted,
@@ -202,7 +204,7 @@ impl<'a> Short<'a> {
         noted.clear();
     }
 
-    // Notes a slice as seen, if it is.
+    // Notes a slice as seen, if the window begins with it.
     fn look_for(&mut self, window: &mut Window, slice: u32, offset: u64, left: u64)
         requires sized { window.old.capacity ≡ self.old.set.slice_size }
         requires full { length window.old.content ≡ window.old.capacity }
@@ -221,8 +223,8 @@ impl<'a> Short<'a> {
     }
 }
 
-// Whether a slice is a short file: no slice of the same file is before it, since only the last slice
-// of a file is short.
+// Whether a slice is a whole file that is shorter than a slice and has known checksums: either no
+// slice is before it, or that one is short, and so is the last of another file.
 fn is_file(all: &Index, slice: u32) -> bool
     requires { slice < length all.now.slices }
     ensures sums { IsTrue result → slice_passes all.now.slices has_known_sums slice ≡ true }
@@ -234,8 +236,8 @@ fn is_file(all: &Index, slice: u32) -> bool
         && (slice == 0 || all.own_length(slice - 1) < size)
 }
 
-// The first slice from a number on that is a short file, and neither found nor seen; the number of all
-// slices, if there is none.
+// Returns the first slice from a number on that is such a file, and neither found nor seen; the
+// number of all slices, if there is none.
 fn next_file(all: &Index, found: &[bool], seen: &[bool], from: u32) -> u32
     requires { length found.now ≡ length all.now.slices }
     ensures { result < length all.now.slices
@@ -251,8 +253,9 @@ fn next_file(all: &Index, found: &[bool], seen: &[bool], from: u32) -> u32
     count
 }
 
-// Notes each slice of this own length that the window begins with, by both checksums. Whether there is
-// one, and whether it was noted for the first time; if not, so were all that are equal to it.
+// Notes as seen each slice of this unpadded length with which the window begins, by both checksums.
+// Returns whether there is one, and whether it was noted for the first time. If it was noted
+// before, so were all that are equal to it.
 fn note_all(all: &Index, seen: &mut [bool], window: &mut Window, own: usize) -> (bool, bool)
     requires sized { window.old.capacity ≡ all.now.slice_size }
     requires own { own ≤ all.now.slice_size }
@@ -277,7 +280,8 @@ fn note_all(all: &Index, seen: &mut [bool], window: &mut Window, own: usize) -> 
     (more, more)
 }
 
-// Whether the slice after this one is short, wasn't seen, and fits into what is left of the file.
+// Whether the slice after this one is short, wasn't seen, fits into the `left` bytes of the file,
+// and has known checksums.
 fn is_short_after(all: &Index, seen: &[bool], slice: u32, left: u64) -> bool
     ensures { IsTrue result → slice + 1 < 2 ^ 32 }
 {
@@ -289,8 +293,8 @@ fn is_short_after(all: &Index, seen: &[bool], slice: u32, left: u64) -> bool
     own < all.size() && own <= left && all.has_sums(next as u32)
 }
 
-// Whether the window begins with a slice, by both checksums of its own bytes, and the slice fits into
-// what is left of the file.
+// Whether the window begins with a slice, by both checksums of the slice's bytes and the zeros that
+// fill it up, and the slice fits into the `left` bytes of the file.
 fn has_both_sums(all: &Index, window: &mut Window, slice: u32, left: u64) -> bool
     requires sized { window.old.capacity ≡ all.now.slice_size }
     requires full { length window.old.content ≡ window.old.capacity }

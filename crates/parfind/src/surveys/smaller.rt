@@ -6,19 +6,19 @@ use crate::tracks::{Mode, Sought};
 use parwindow::Index;
 use std::alloc::Global;
 
-/// The smaller index by which a survey goes on, if it has one: in it slices that are found have no
-/// checksums. There is at most one at a time.
+/// The smaller index with which a survey goes on, if it has one: slices that are found have no
+/// checksums in it. There is at most one at a time.
 #[derive(Drop)]
 pub struct Smaller {
     pub index: Option<Index>,
-    /// How many slices were found when it was made.
+    /// How many slices were found when the index was made.
     pub left_out: usize,
-    /// The allocator for another one, if one may be made.
+    /// The allocator for another index, if one may be made.
     pub alloc: Option<Global>,
 }
 
 impl Smaller {
-    /// No smaller index, and none is made.
+    /// Makes a state without a smaller index, which never gets one.
     pub fn none() -> Smaller
         ensures { result.index ≡ None }
     {
@@ -29,17 +29,17 @@ impl Smaller {
         }
     }
 
-    /// This index, or that of all slices, if there is none.
+    /// Returns the smaller index, or the index of all slices if there is none.
     pub fn or<'a>(&'a self, all: &'a Index) -> &'a Index
         ensures { result.now ≡ part_of all.now self.now.index }
     {
         self.index.as_ref().unwrap_or(all)
     }
 
-    /// Makes an index without the slices that are found, in place of the one before, if more are found
-    /// than then. If its memory is refused, the survey goes on with the index of all slices. The answer
-    /// is whether the survey has to ask anew. Nothing changes if no index may be made, or in `Tails`: the
-    /// window was made for the lengths of the index that is there.
+    /// Makes an index without the slices that are found, in place of the one before, if more are
+    /// found than then. If memory is refused, the survey goes on with the index of all slices.
+    /// Returns whether the survey has to look up windows again. Nothing changes if no index may be
+    /// made, or in `Mode::Tails`: the window was made for the lengths of the index that is there.
     pub fn shrink(&mut self, all: &Sought, found: &[bool]) -> bool
         requires each { length found.now ≡ length all.now.set.slices }
         requires part { IsPart all.now.set found.now (part_of all.now.set self.old.index) }
@@ -53,7 +53,7 @@ impl Smaller {
         }
         if let (Some(alloc), Mode::Plain) = (self.alloc, all.mode) {
             self.left_out = count;
-            // The old one goes first, so that there are never two of them.
+            // The old index goes first, so that there are never two of them.
             self.index = None;
             self.index = all.index.missing(alloc, found).ok();
             return true;

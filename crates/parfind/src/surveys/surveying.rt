@@ -19,15 +19,15 @@ use parshelf::{ReadFault, Shelf};
 use parwindow::{Index, Window};
 use std::alloc::{AllocError, Global};
 
-/// Why the sightings were not all found. Too many tails are told before any memory is taken, and
-/// want of memory before any read.
+/// Why a survey didn't find all slices that have a sighting. Too many tails are reported before any
+/// memory is taken, and refused memory before any read.
 #[derive(Clone, Copy, Debug, PartialEq, Eq)]
 pub enum SurveyFault {
     /// The file of this number could not be read.
     Read(u32, ReadFault),
     /// Memory was refused.
     Memory,
-    /// There are more lengths of short slices than 256, whichever slices are found.
+    /// More than 256 short-slice lengths would be compared, whichever slices are found.
     TooManyTails,
 }
 
@@ -47,12 +47,13 @@ impl From<(u32, ReadFault)> for SurveyFault {
     }
 }
 
-/// Finds each slice of the set that has a sighting. `found` has a flag for each slice, by number; the
-/// survey sets those of the slices that it sees, and takes none back. It looks only for slices that
-/// aren't found at the call and have checksums, and ends once it has found them all. It takes memory
-/// for a window, and for a second index if some slices are found at the call and others aren't. If
-/// content repeats, it makes a second index on its way, without what it has found. If memory for that
-/// is refused, it goes on with the given one. It takes none if nothing is to be looked for.
+/// Finds each slice of the set that has a sighting. `found` has a flag for each slice, by number;
+/// the survey sets those of the slices that it sees, and clears none. It looks only for slices that
+/// aren't found at the call and have checksums, and ends when it has found them all. It takes
+/// memory for a window, and for a second index if some slices are found at the call and others
+/// aren't. If content repeats, it makes a second index on its way, without the slices that it has
+/// found. If memory for that is refused, it goes on with the given one. It takes no memory if there
+/// is nothing to look for.
 pub fn survey<H: Shelf>(
     alloc: Global,
     index: &Index,
@@ -62,14 +63,14 @@ pub fn survey<H: Shelf>(
 ) -> Result<(), SurveyFault>
     requires { length found.old ≡ length index.now.slices }
 
-    // What is found, in any files that the shelf is read as.
+    // The slices that are found, in any files that are consistent with the reads.
     ensures found { (files : List (List ℕ)) → ReadsAs (H.state shelf.new) files →
         SurveyFinds (scan_of (sought_of index.now mode) files) found.old found.new result }
     ensures stops { mode ≡ Plain → (files : List (List ℕ)) → ReadsAs (H.state shelf.new) files →
         StopsOnceFound (scan_of (sought_of index.now mode) files)
         (H.state shelf.old) (H.state shelf.new) found.old }
 
-    // On any shelf.
+    // Whatever the reads returned.
     ensures kept { KeepsFound found.old found.new }
     ensures leaves { SurveyLeaves (survey_point (H.state shelf.old) found.old)
         (survey_point (H.state shelf.new) found.new) result }
@@ -95,7 +96,7 @@ pub fn survey<H: Shelf>(
     }
 }
 
-// The index without the slices that are found, if some are.
+// Makes an index without the slices that are found, if some are.
 fn first_smaller(alloc: Global, index: &Index, found: &[bool]) -> Result<Smaller, AllocError>
     requires { length found.now ≡ length index.now.slices }
     ensures { IfOk result (λ smaller. IsPart index.now found.now (part_of index.now smaller.index)) }
@@ -113,7 +114,7 @@ fn first_smaller(alloc: Global, index: &Index, found: &[bool]) -> Result<Smaller
     })
 }
 
-// Finds each slice of the set that has a sighting by the whole window.
+// Finds each slice of the set that has a sighting in `Mode::Plain`.
 fn survey_once<H: Shelf>(
     alloc: Global,
     index: &Index,
@@ -146,10 +147,11 @@ fn survey_once<H: Shelf>(
     Ok(())
 }
 
-/// Finds each slice of the set that has a sighting, as `survey` does, by a window that is handed in
-/// and without memory. A fault comes with its file's number. MD5s are taken no more often than there
-/// are pairs of a place and a compared length by which a slice that fits and isn't found at the call
-/// has the CRC-32. No more is read than around the place by which each slice with checksums is found.
+/// Finds each slice of the set that has a sighting, as `survey` does, but with a window of the
+/// caller and without taking memory. An error comes with the number of its file. No more MD5s are
+/// taken than there are pairs of a place and a compared length at which a slice that fits and isn't
+/// found at the call has the CRC-32. Nothing is read further than a window and 4,096 bytes after
+/// the place by which each slice with checksums is found.
 pub fn survey_in<H: Shelf>(
     index: &Index,
     shelf: &mut H,
@@ -160,7 +162,7 @@ pub fn survey_in<H: Shelf>(
     requires made { IsWindowFor (sought_of index.now mode) window.old }
     requires each { length found.old ≡ length index.now.slices }
 
-    // What is found, in any files that the shelf is read as.
+    // The slices that are found, in any files that are consistent with the reads.
     ensures found { (files : List (List ℕ)) → ReadsAs (H.state shelf.new) files →
         SurveyFinds (scan_of (sought_of index.now mode) files) found.old found.new result }
     ensures so_far { IfErr result (λ fault. FindsUpToFault (sought_of index.now mode)
@@ -175,7 +177,7 @@ pub fn survey_in<H: Shelf>(
         window.new.digests ≤ window.old.digests
         + missing_count (scan_of (sought_of index.now mode) files) found.old }
 
-    // On any shelf.
+    // Whatever the reads returned.
     ensures kept { KeepsFound found.old found.new }
     ensures shelf { ReadsNamed (H.state shelf.old) (H.state shelf.new) result }
     ensures handed { HandsEachOnce (H.state shelf.old) (H.state shelf.new) }

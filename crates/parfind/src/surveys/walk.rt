@@ -78,7 +78,8 @@ pub(crate) fn survey_by<H: Shelf>(
     }
 }
 
-// Goes from the beginning of all files on, until each slice is found or has no checksums to be found by.
+// Goes over all places from the first file on, until each slice is found or has no checksums, and
+// no short slice is expected.
 fn survey_files<H: Shelf>(
     sought: &Sought,
     smaller: &mut Smaller,
@@ -148,16 +149,17 @@ fn survey_files<H: Shelf>(
     Ok(())
 }
 
-// Whether some slice is looked for still, or expected, or a file is missing that is shorter.
+// Whether a slice is still looked for or expected, or a file is missing that is shorter than a
+// slice.
 fn is_open(missing: usize, count: usize, expected: &Expected, waits: bool) -> bool
     ensures { result ≡ (nat_lt missing count || (is_waiting expected.now || waits)) }
 {
     missing < count || expected.is_waiting() || waits
 }
 
-// Whether no slice can be seen in what is left of a file: each that is missing has at least `least`
-// bytes, and none is expected. If a file is missing that is shorter than a slice, it is looked for
-// in each file with a whole slice.
+// Whether no slice can be seen in what is left of a file: each missing one has at least `least`
+// bytes, and none is expected. A missing file that is shorter than a slice is looked for as long as
+// a whole slice fits into what is left.
 fn is_passed(left: u64, least: u64, size: u64, expected: &Expected, waits: bool) -> bool
     requires some { 0 < least }
     requires sized { 0 < size }
@@ -168,7 +170,7 @@ fn is_passed(left: u64, least: u64, size: u64, expected: &Expected, waits: bool)
     left < least && (left == 0 || !(expected.is_waiting() || (waits && size <= left)))
 }
 
-// Makes a smaller index, once more looks were in vain than it costs to make one.
+// Makes a smaller index when lookups in vain have cost more than it costs to make one.
 fn shrink_if_in_vain(
     sought: &Sought,
     smaller: &mut Smaller,
@@ -190,8 +192,8 @@ fn shrink_if_in_vain(
     }
 }
 
-/// How many bytes of its file the shortest slice has that isn't found and has checksums; the greatest
-/// number, if there is no such slice.
+/// Returns the unpadded length of the shortest slice that isn't found and has checksums; the
+/// greatest number, if there is no such slice.
 pub(crate) fn least_missing(sought: &Sought, found: &[bool]) -> u64
     requires { length found.now ≡ length sought.now.set.slices }
     ensures some { 0 < result }
@@ -207,8 +209,8 @@ pub(crate) fn least_missing(sought: &Sought, found: &[bool]) -> u64
     least
 }
 
-/// The first slice from a number on that isn't found and has checksums; the number of all slices, if
-/// there is none.
+/// Returns the first slice from a number on that isn't found and has checksums; the number of all
+/// slices, if there is none.
 pub(crate) fn next_missing(sought: &Sought, found: &[bool], from: usize) -> usize
     requires each { length found.now ≡ length sought.now.set.slices }
     requires from { from ≤ length found.now }

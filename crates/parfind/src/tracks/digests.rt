@@ -12,15 +12,15 @@ use parfield::Hash16;
 use parwindow::Window;
 use std::alloc::{AllocError, Global};
 
-/// The digests that were taken of a window: one for each compared length, which is kept until the
-/// window moves.
+/// The digests (MD5s) that were taken of a window: one for each compared length, which is kept
+/// until the window moves.
 #[derive(Drop)]
 pub(crate) struct Digests {
     pub kept: Vec<Option<Hash16>>,
 }
 
 impl Digests {
-    /// Room for a digest of each compared length, of which none is kept yet.
+    /// Makes room for a digest of each compared length; none is kept yet.
     pub fn new(alloc: Global, sought: &Sought) -> Result<Digests, AllocError>
         ensures { IfOk result (λ digests. digests.kept.items
             ≡ replicate (length (compared_lengths sought.now)) None) }
@@ -29,7 +29,7 @@ impl Digests {
         Ok(Digests { kept })
     }
 
-    /// No digest is kept any more.
+    /// Forgets all digests.
     pub fn forget(&mut self)
         ensures { self.new.kept.items ≡ replicate (length self.old.kept.items) None }
     {
@@ -38,9 +38,9 @@ impl Digests {
         }
     }
 
-    /// The first slice from a number on that has both sums of what is compared of a full window
-    /// for it, and fits into what is left of the file. An MD5 is taken only where some slice of its
-    /// compared length has the CRC-32 and fits, and once.
+    /// Returns the first slice from a number on that has both checksums of the bytes of a full
+    /// window that are compared for it, and that fits into the `left` bytes of the file. An MD5 is
+    /// taken only if some slice of its compared length has the CRC-32 and fits, and only once.
     pub fn first_seen(
         &mut self,
         window: &mut Window,
@@ -67,7 +67,7 @@ impl Digests {
         least
     }
 
-    // The first of them that is looked for by compared length `k`.
+    // Returns the first such slice of compared length `k`.
     fn first_seen_at(
         &mut self,
         window: &mut Window,
@@ -94,7 +94,7 @@ impl Digests {
         sought.first_match_at(k, (digest, crc), left, first)
     }
 
-    // The MD5 of a full window by compared length `k`, which is taken once.
+    // Returns the MD5 of a full window at compared length `k`, which is taken only once.
     fn digest_of(&mut self, window: &mut Window, sought: &Sought, k: usize) -> Hash16
         requires there { k < length (compared_lengths sought.now) }
         requires full { IsFullFor sought.now window.old }
@@ -115,7 +115,7 @@ impl Digests {
     }
 }
 
-// The lesser of two numbers that may be there.
+// Returns the lesser of two numbers, or the only one that is given.
 fn lesser(a: Option<u32>, b: Option<u32>) -> Option<u32>
     ensures { result ≡ lesser_of a b }
 {

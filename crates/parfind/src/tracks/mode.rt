@@ -1,8 +1,9 @@
-/// How slices are looked for that have fewer bytes of their file than a slice.
+/// How short slices, which have fewer bytes of their file than the slice size, are compared.
 #[derive(Clone, Copy, Debug, PartialEq, Eq)]
 pub enum Mode {
-    /// By all bytes of a window, so where zeros follow in the scanned file, or its end.
+    /// The whole window is compared, so a short slice is seen only if zeros or the file's end
+    /// follow it in the scanned file.
     Plain,
-    /// By as many bytes of a window as they have of their file, so whatever follows.
+    /// Only the bytes that the slice has of its file are compared, whatever follows them.
     Tails,
 }

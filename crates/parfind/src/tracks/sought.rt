@@ -16,10 +16,10 @@ use parfield::Hash16;
 use parwindow::{Index, Window};
 use std::marker::Model;
 
-/// How many shorter lengths of a window may be compared.
+/// How many compared lengths may be shorter than the window.
 pub(crate) const MOST_TAILS: usize = 256;
 
-/// The slices that are looked for, and in which mode.
+/// The slices that are looked for, and the mode in which they are compared.
 #[derive(Drop)]
 pub(crate) struct Sought<'a> {
     pub index: &'a Index,
@@ -35,7 +35,7 @@ impl<'a> Model for Sought<'a> {
 }
 
 impl<'a> Sought<'a> {
-    /// The shorter lengths of a window that are compared, rising.
+    /// Returns the compared lengths that are shorter than the window, in rising order.
     pub fn shorter_lengths(&self) -> &'a [usize]
         ensures all { result.now ≡ shorter_lengths self.now.mode self.now.set }
         ensures tails { AreTails self.now.set.slice_size result.now }
@@ -46,14 +46,14 @@ impl<'a> Sought<'a> {
         }
     }
 
-    /// How many lengths of a window are compared: the shorter ones, and after them all of it.
+    /// Returns how many lengths of a window are compared: the shorter ones, and its whole length.
     pub fn count_lengths(&self) -> usize
         ensures { result ≡ length (compared_lengths self.now) }
     {
         self.shorter_lengths().len() + 1
     }
 
-    /// Compared length `k`.
+    /// Returns compared length number `k`, counted from 0.
     pub fn length_at(&self, k: usize) -> u64
         requires { k < length (compared_lengths self.now) }
         ensures { result ≡ nth_compared self.now k }
@@ -66,7 +66,7 @@ impl<'a> Sought<'a> {
         }
     }
 
-    /// The CRC-32 of a full window by compared length `k`.
+    /// Returns the CRC-32 of a full window at compared length `k`.
     pub fn crc_at(&self, window: &Window, k: usize) -> u32
         requires there { k < length (compared_lengths self.now) }
         requires full { IsFullFor self.now window.now }
@@ -79,7 +79,7 @@ impl<'a> Sought<'a> {
         }
     }
 
-    /// Its MD5.
+    /// Takes and returns the MD5 of a full window at compared length `k`.
     pub fn digest_at(&self, window: &mut Window, k: usize) -> Hash16
         requires there { k < length (compared_lengths self.now) }
         requires full { IsFullFor self.now window.old }
@@ -93,8 +93,8 @@ impl<'a> Sought<'a> {
         }
     }
 
-    /// Whether some slice of compared length `k` has this CRC-32 and fits into what is left of the
-    /// file.
+    /// Whether some slice of compared length `k` has this CRC-32 and fits into the `left` bytes of
+    /// the file.
     pub fn has_fitting_crc(&self, k: usize, crc: u32, left: u64) -> bool
         requires { k < length (compared_lengths self.now) }
         ensures { result ≡ list_any (is_compared self.now (nth_compared self.now k)
@@ -109,7 +109,7 @@ impl<'a> Sought<'a> {
         }
     }
 
-    /// Whether some such slice isn't found.
+    /// Whether some such slice isn't found yet.
     pub fn is_missing_at(&self, k: usize, crc: u32, left: u64, found: &[bool]) -> bool
         requires there { k < length (compared_lengths self.now) }
         requires each { length found.now ≡ length self.now.set.slices }
@@ -124,8 +124,8 @@ impl<'a> Sought<'a> {
         }
     }
 
-    /// The first slice from a number on that is of compared length `k`, has both sums and fits into
-    /// what is left of the file.
+    /// Returns the first slice from a number on that has compared length `k` and both checksums,
+    /// and fits into the `left` bytes of the file.
     pub fn first_match_at(
         &self,
         k: usize,
@@ -151,7 +151,8 @@ impl<'a> Sought<'a> {
     }
 }
 
-/// Whether a mode compares more than 256 shorter lengths of a window. A window has room for no more.
+/// Whether a mode compares more than 256 lengths that are shorter than the window. A window has room
+/// for no more.
 pub fn has_too_many_tails(index: &Index, mode: Mode) -> bool
     ensures many { result ≡ true → ¬ HasFewTails (sought_of index.now mode) }
     ensures few { result ≡ false → HasFewTails (sought_of index.now mode) }
@@ -160,7 +161,8 @@ pub fn has_too_many_tails(index: &Index, mode: Mode) -> bool
     sought.shorter_lengths().len() > MOST_TAILS
 }
 
-// The first slice from a number on that has both sums and fits into what is left of the file.
+// Returns the first slice from a number on that has both checksums and fits into the `left` bytes
+// of the file.
 fn first_fitting_match(index: &Index, sums: (Hash16, u32), left: u64, first: u32) -> Option<u32>
     ensures first { IsLeastFrom (slice_passes index.now.slices (is_fitting_match sums left))
         first result }

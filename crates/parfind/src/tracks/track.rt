@@ -10,30 +10,30 @@ ghost use Rattle.parfind.specs.declared.tracks.mode.Mode.{Mode};
 use parshelf::{Failed, ReadFault, Shelf};
 use parwindow::{Index, Window};
 
-/// How many bytes are read ahead at most.
+/// The greatest number of bytes that are read ahead.
 pub(crate) const AHEAD: usize = 4096;
 
-// What follows the end of a file in a window.
+// The zeros that follow the end of a file in a window.
 static ZEROS: [u8; AHEAD] = [0; AHEAD];
 
-/// Where a window goes along a file, and what was read ahead of it. The window is lent to each
-/// call.
+/// The way of a window along a file, and the bytes that were read ahead of it. Each call borrows
+/// the window.
 #[derive(Drop)]
 pub(crate) struct Track {
     /// The number of the file.
     pub file: u32,
-    /// The offset whose window is held, or is being filled.
+    /// The offset of the window, which is full or being filled.
     pub window_offset: u64,
-    /// The offset of what was read last.
+    /// The offset of the bytes that were read last.
     pub buffer_offset: u64,
-    /// What was read last, in the first `buffer_len` bytes.
+    /// The bytes that were read last, followed by unused ones.
     pub bytes: [u8; AHEAD],
     /// How many bytes were read last.
     pub buffer_len: usize,
 }
 
 impl Track {
-    /// A track for the window of an offset, of which nothing is read yet.
+    /// Starts at the window of an offset, for which nothing is read yet.
     pub fn new(file: u32, offset: u64) -> Track
         ensures { IsUnread file offset result }
     {
@@ -46,14 +46,14 @@ impl Track {
         }
     }
 
-    /// The number of the file along which the window goes.
+    /// Returns the number of the file along which the window goes.
     pub fn file(&self) -> u32
         ensures { result ≡ self.now.file }
     {
         self.file
     }
 
-    /// How many bytes of the file are ahead of the window's offset.
+    /// Returns how many bytes of the file are left from the window's offset on.
     pub fn rest<H: Shelf>(&self, shelf: &H) -> u64
         requires file { self.now.file < length (H.state shelf.now).lengths }
         requires inside { self.now.window_offset
@@ -63,7 +63,8 @@ impl Track {
         shelf.length(self.file) - self.window_offset
     }
 
-    /// Goes to an offset of another file, with an empty window. In the same file nothing changes.
+    /// Goes to an offset of another file, with an empty window. If it is the same file, nothing
+    /// changes.
     pub fn enter_file(&mut self, window: &mut Window, file: u32, offset: u64)
         ensures same { self.old.file ≡ file → (self.new ≡ self.old) × (window.new ≡ window.old) }
         ensures other { self.old.file ≢ file → IsUnread file offset self.new
@@ -100,9 +101,9 @@ impl Track {
         Ok(())
     }
 
-    /// Passes the place of a full window, and those after it up to the first whose CRC-32, by some
-    /// length that is compared, is that of a slice, or whose window wants bytes that are not at
-    /// hand; at most so many, and only of this file. The answer is how many.
+    /// Passes the place of a full window, and those after it up to the first at which the window
+    /// has the CRC-32 of a slice at some compared length, or for which more bytes have to be read;
+    /// at most `most`, and only places of this file. Returns how many it passed.
     pub fn slide_until_crc<H: Shelf>(
         &mut self,
         window: &mut Window,
@@ -145,7 +146,7 @@ impl Track {
         Ok(count)
     }
 
-    // Sees to it that the byte which the window takes next is at hand, if the file has one.
+    // Reads on if the file has a byte for the window to take next, and it isn't read yet.
     fn ensure_next_byte<H: Shelf>(
         &mut self,
         window: &Window,
@@ -173,7 +174,7 @@ impl Track {
         self.refill(shelf)
     }
 
-    // Reads on, once all that was read is used up. A fault leaves nothing read.
+    // Reads on after all bytes that were read last are used up. After an error, none are held.
     fn refill<H: Shelf>(&mut self, shelf: &mut H) -> Result<(), ReadFault>
         requires file { self.old.file < length (H.state shelf.old).lengths }
         requires more { self.old.buffer_offset + self.old.buffer_len
@@ -203,8 +204,8 @@ impl Track {
         }
     }
 
-    // The bytes that the window takes next, at least one and at most so many: what is at hand of a
-    // file that ends there, or zeros past its end.
+    // Returns the bytes that the window takes next, at least one and at most `most`: those that
+    // were read ahead in a file of length `file_end`, or zeros past its end.
     fn next_bytes(&self, window: &Window, file_end: u64, most: u64) -> &[u8]
         requires some { 0 < most }
         requires small { next_offset window.now self.now < 2 ^ 64 }
@@ -230,7 +231,7 @@ impl Track {
     }
 }
 
-// The first of the bytes, at most so many.
+// Returns the first of the bytes, at most `most`.
 fn at_most(bytes: &[u8], most: u64) -> &[u8]
     ensures { result.now ≡ take (min (length bytes.now) most) bytes.now }
 {

@@ -5,7 +5,7 @@ use crate::Scanned;
 use parfield::{Sequence, Text};
 use std::alloc::{AllocError, Global};
 
-/// The packet files among the words, in order.
+/// Returns the packet files among the arguments, in order.
 pub fn packet_files(alloc: Global, words: &[&str]) -> Result<Sequence<Text>, AllocError>
     ensures files { IfOk result (λ files. files
         ≡ filter is_packet_file (map (λ word. word.now) words.now)) }
@@ -20,7 +20,7 @@ pub fn packet_files(alloc: Global, words: &[&str]) -> Result<Sequence<Text>, All
     Ok(Sequence::from_vec(packets))
 }
 
-/// The other files among the words, in order, each with its name under a folder.
+/// Returns the other files among the arguments, in order, each with its name in the folder `base`.
 pub fn scanned_files(
     alloc: Global,
     base: Option<&str>,
@@ -41,7 +41,7 @@ pub fn scanned_files(
     Ok(Sequence::from_vec(scanned))
 }
 
-// A file to be scanned, whose name loses a prefix.
+// Makes a scanned file, whose name is the argument without the prefix.
 fn scanned_file(alloc: Global, prefix: &str, word: &str) -> Result<Scanned, AllocError>
     ensures { IfOk result (λ file. file ≡ scanned_as prefix.now word.now) }
 {
@@ -51,14 +51,14 @@ fn scanned_file(alloc: Global, prefix: &str, word: &str) -> Result<Scanned, Allo
     })
 }
 
-// A copy of a word.
+// Copies an argument.
 fn text(alloc: Global, word: &str) -> Result<Text, AllocError>
     ensures { IfOk result (λ text. text ≡ word.now) }
 {
     Ok(Text::from_string(String::from_str(alloc, word)?))
 }
 
-// The prefix that names lose, which is empty without DIR.
+// Returns the prefix that names lose: the folder of `-B DIR`, or an empty text if there is none.
 fn base_prefix(alloc: Global, base: Option<&str>) -> Result<String, AllocError>
     ensures { IfOk result (λ prefix. string_bytes prefix
         ≡ base_prefix (option_map (λ dir. dir.now) base.entry)) }
@@ -69,7 +69,7 @@ fn base_prefix(alloc: Global, base: Option<&str>) -> Result<String, AllocError>
     }
 }
 
-// DIR with a `/` at its end.
+// Returns the folder DIR with a `/` at its end.
 fn folder(alloc: Global, dir: &str) -> Result<String, AllocError>
     ensures { IfOk result (λ folder. string_bytes folder ≡ folder_of dir.now) }
 {
@@ -80,7 +80,7 @@ fn folder(alloc: Global, dir: &str) -> Result<String, AllocError>
     }
 }
 
-// The word without the prefix, where it begins so.
+// Returns the argument without the prefix, if it begins with it.
 fn stripped<'a>(prefix: &str, word: &'a str) -> &'a str
     ensures { result.now ≡ without_prefix prefix.now word.entry.now }
 {

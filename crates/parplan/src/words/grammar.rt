@@ -5,7 +5,7 @@ ghost use Rattle.parplan.specs.Grammar.{empty_grammar, shared_grammar, grammar_o
 use clap::{Arg, ArgAction, Command};
 use std::alloc::{AllocError, Global};
 
-/// The word that names a command.
+/// The first argument, which names the command.
 #[derive(Clone, Copy)]
 pub enum Verb {
     /// `packets`.
@@ -18,7 +18,7 @@ pub enum Verb {
     Verify,
 }
 
-/// The command line of a verb.
+/// Makes the command line of a verb.
 pub fn command_line<'a>(alloc: Global, verb: Verb) -> Result<Command<'a>, AllocError>
     ensures { IfOk result (λ command. app_of command ≡ grammar_of verb) }
 {
@@ -37,7 +37,7 @@ pub fn command_line<'a>(alloc: Global, verb: Verb) -> Result<Command<'a>, AllocE
     }
 }
 
-// The command line of what all verbs take.
+// Makes the command line that has what all verbs share.
 fn shared<'a>(alloc: Global) -> Result<Command<'a>, AllocError>
     ensures { IfOk result (λ command. app_of command ≡ shared_grammar) }
 {
@@ -46,14 +46,14 @@ fn shared<'a>(alloc: Global) -> Result<Command<'a>, AllocError>
     with(based, files(alloc))
 }
 
-// A command line without arguments, which knows no `--help`.
+// Makes a command line without arguments; `--help` isn't one of its options.
 fn empty<'a>(alloc: Global) -> Command<'a>
     ensures { app_of result ≡ empty_grammar }
 {
     Command::new(alloc, "parv").disable_help_flag(true)
 }
 
-// The command line with one argument more.
+// Adds an argument to a command line.
 fn with<'a>(command: Command<'a>, arg: Arg<'a>) -> Result<Command<'a>, AllocError>
     requires { arg.global ≡ false }
     ensures { IfOk result (λ longer. app_of longer
@@ -62,7 +62,7 @@ fn with<'a>(command: Command<'a>, arg: Arg<'a>) -> Result<Command<'a>, AllocErro
     command.arg(arg)
 }
 
-// `--NAME VALUE`.
+// Makes the option `--NAME VALUE`.
 fn option<'a>(alloc: Global, name: &'a str) -> Arg<'a>
     ensures rule { rule_of result ≡ option_rule name.entry.now }
     ensures own { result.global ≡ false }
@@ -70,7 +70,7 @@ fn option<'a>(alloc: Global, name: &'a str) -> Arg<'a>
     Arg::new(alloc, name).long(name).action(ArgAction::Set)
 }
 
-// `-B DIR`, or `--base DIR`.
+// Makes the option `-B DIR`, or `--base DIR`.
 fn base<'a>(alloc: Global) -> Arg<'a>
     ensures rule { rule_of result ≡ base_rule }
     ensures own { result.global ≡ false }
@@ -78,7 +78,7 @@ fn base<'a>(alloc: Global) -> Arg<'a>
     option(alloc, "base").short('B')
 }
 
-// FILES, one or more.
+// Makes the argument FILES: one file or more.
 fn files<'a>(alloc: Global) -> Arg<'a>
     ensures rule { rule_of result ≡ files_rule }
     ensures own { result.global ≡ false }
@@ -88,7 +88,7 @@ fn files<'a>(alloc: Global) -> Arg<'a>
         .action(ArgAction::Append)
 }
 
-// `-q`, which may be repeated.
+// Makes the flag `-q`, which may be repeated.
 fn quiet<'a>(alloc: Global) -> Arg<'a>
     ensures rule { rule_of result ≡ quiet_rule }
     ensures own { result.global ≡ false }
@@ -96,7 +96,7 @@ fn quiet<'a>(alloc: Global) -> Arg<'a>
     Arg::new(alloc, "quiet").short('q').action(ArgAction::Count)
 }
 
-// `--tails`, which stands once at most.
+// Makes the flag `--tails`, which may be given once.
 fn tails<'a>(alloc: Global) -> Arg<'a>
     ensures rule { rule_of result ≡ tails_rule }
     ensures own { result.global ≡ false }

@@ -2,7 +2,7 @@ ghost use Rattle.std.specs.Prelude.{◌≡◌, ◌<◌, ◌↔◌, IfSome, IsTru
 ghost use Rattle.std.specs.Int.{IsInRange};
 ghost use Rattle.parplan.specs.Limit.{limit_of};
 
-/// The limit that a text is in canonical decimal, from 1 on.
+/// Reads a limit from a text in canonical decimal, from 1 on; `None` for any other text.
 pub fn read_limit(text: &str) -> Option<u64>
     ensures limit { result ≡ limit_of text.now }
     ensures positive { IfSome result (λ limit. 0 < limit) }

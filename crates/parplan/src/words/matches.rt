@@ -8,7 +8,8 @@ use clap::error::ErrorKind;
 use clap::{ArgMatches, Error};
 use std::alloc::Global;
 
-/// What the words give a verb. The first word is passed over: it names the verb.
+/// Returns the matches that `clap` finds in the arguments of a verb. The first argument isn't
+/// looked at: it names the verb.
 pub fn matches_for<'a>(
     alloc: Global,
     verb: Verb,
@@ -25,7 +26,7 @@ pub fn matches_for<'a>(
     }
 }
 
-// What an error of clap comes to; a request for help is one.
+// Returns the plan's error for an error of clap; a request for help is an error too.
 fn fault(error: &Error) -> PlanFault
     ensures { result ≡ plan_fault_of (kind_of error.now) }
 {
@@ -35,7 +36,7 @@ fn fault(error: &Error) -> PlanFault
     }
 }
 
-/// The value of an option.
+/// Returns the value of an option, if it is given.
 pub fn value_of<'a>(matches: &ArgMatches<'a>, id: &str) -> Option<&'a str>
     ensures { option_map (λ text. text.now) result
         ≡ first_of id.now (rows_of (found_of matches.now)) }
@@ -43,7 +44,7 @@ pub fn value_of<'a>(matches: &ArgMatches<'a>, id: &str) -> Option<&'a str>
     matches.get_str(id)
 }
 
-/// The values of an argument.
+/// Returns the values of an argument, if it is given.
 pub fn values_of<'m, 'a>(matches: &'m ArgMatches<'a>, id: &str) -> Option<&'m [&'a str]>
     ensures { option_map (λ texts. map (λ text. text.now) texts.now) result
         ≡ all_of id.now (rows_of (found_of matches.now)) }
@@ -51,7 +52,7 @@ pub fn values_of<'m, 'a>(matches: &'m ArgMatches<'a>, id: &str) -> Option<&'m [&
     matches.get_strs(id)
 }
 
-/// How often a flag stands, at most 255 times.
+/// Returns how often a flag is given; more than 255 times counts as 255.
 pub fn uses_of(matches: &ArgMatches<'_>, id: &str) -> u8
     ensures { result ≡ count_of id.now (rows_of (found_of matches.now)) }
 {

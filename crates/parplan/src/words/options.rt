@@ -11,7 +11,7 @@ use clap::ArgMatches;
 use parfield::Hash16;
 use parfind::{CursorText, split_cursor};
 
-/// The command of a verb, with the options that it alone has.
+/// Reads the command of a verb, with the options that only this command has.
 pub fn command_given(verb: Verb, matches: &ArgMatches<'_>) -> Result<Command, PlanFault>
     ensures command { result ≡ command_of verb (rows_of (found_of matches.now)) }
     ensures limit { IfOk result LimitIsNotZero }
@@ -36,7 +36,7 @@ pub fn command_given(verb: Verb, matches: &ArgMatches<'_>) -> Result<Command, Pl
     }
 }
 
-/// `--set HEX`.
+/// Reads the set ID of `--set HEX`, if it is given.
 pub fn set_given(matches: &ArgMatches<'_>) -> Result<Option<Hash16>, PlanFault>
     ensures { result ≡ set_option_of (rows_of (found_of matches.now)) }
 {
@@ -46,7 +46,7 @@ pub fn set_given(matches: &ArgMatches<'_>) -> Result<Option<Hash16>, PlanFault>
     }
 }
 
-/// `-B DIR`, which is not empty.
+/// Reads the folder of `-B DIR`, if it is given; it must not be empty.
 pub fn base_given<'a>(matches: &ArgMatches<'a>) -> Result<Option<&'a str>, PlanFault>
     ensures base { IfOk result (λ base. base_option_of (rows_of (found_of matches.now))
         ≡ Ok (option_map (λ text. text.now) base)) }
@@ -60,7 +60,7 @@ pub fn base_given<'a>(matches: &ArgMatches<'a>) -> Result<Option<&'a str>, PlanF
     }
 }
 
-// `--limit N`.
+// Reads the limit of `--limit N`, if it is given.
 fn limit_given(matches: &ArgMatches<'_>) -> Result<Option<u64>, PlanFault>
     ensures limit { result ≡ limit_option_of (rows_of (found_of matches.now)) }
     ensures some { IfOk result (λ limit. limit ≢ Some 0) }
@@ -71,7 +71,7 @@ fn limit_given(matches: &ArgMatches<'_>) -> Result<Option<u64>, PlanFault>
     }
 }
 
-// `--cursor TEXT`.
+// Reads the parts of the cursor's text in `--cursor TEXT`, if it is given.
 fn cursor_given(matches: &ArgMatches<'_>) -> Result<Option<CursorText>, PlanFault>
     ensures { result ≡ cursor_option_of (rows_of (found_of matches.now)) }
 {
@@ -81,7 +81,7 @@ fn cursor_given(matches: &ArgMatches<'_>) -> Result<Option<CursorText>, PlanFaul
     }
 }
 
-// How often `-q` stands, at most 2.
+// Returns how often `-q` is given; more than 2 counts as 2.
 fn quiet_given(matches: &ArgMatches<'_>) -> u8
     ensures quiet { result ≡ quiet_of (rows_of (found_of matches.now)) }
     ensures few { result ≤ 2 }
@@ -89,7 +89,8 @@ fn quiet_given(matches: &ArgMatches<'_>) -> u8
     uses_of(matches, "quiet").min(2)
 }
 
-// Whether `--tails` stands: `clap` gives a flag that stands the value `true`, and else `false`.
+// Whether `--tails` is given: `clap` gives a flag the value `true` if it is
+// there, and else `false`.
 fn tails_given(matches: &ArgMatches<'_>) -> bool
     ensures { result ≡ has_tails (rows_of (found_of matches.now)) }
 {

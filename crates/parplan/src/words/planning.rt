@@ -13,14 +13,15 @@ use crate::{Plan, PlanFault};
 use clap::ArgMatches;
 use std::alloc::Global;
 
-/// The plan of the words behind the program's name.
+/// Makes the plan of the words after the program's name, or returns the first error in them.
 pub fn plan(alloc: Global, words: &[String]) -> Result<Plan, PlanFault>
     ensures plan { AnswersPlan (plan_of (map string_bytes words.now)) result }
 
-    // `Usage` is the fault of exactly the words that clap's definition refuses.
+    // The result is `Usage` exactly if clap's definition refuses the words,
+    // unless memory is refused.
     ensures usage { TellsTaken (map string_bytes words.now) result }
 
-    // What every plan keeps to.
+    // The limits that every plan satisfies.
     ensures few { IfOk result (λ plan.
         (length plan.packets ≤ open_file_limit) × (length plan.scanned ≤ open_file_limit)) }
     ensures some_packets { IfOk result (λ plan. 0 < length plan.packets) }
@@ -31,7 +32,7 @@ pub fn plan(alloc: Global, words: &[String]) -> Result<Plan, PlanFault>
     plan_of_matches(alloc, verb, &matches)
 }
 
-// The plan of what the words give a verb, which takes them.
+// Makes the plan of a verb and of the matches in its arguments, which `clap` has taken.
 fn plan_of_matches(alloc: Global, verb: Verb, matches: &ArgMatches<'_>) -> Result<Plan, PlanFault>
     ensures plan { AnswersPlan (plan_of_rows verb (rows_of (found_of matches.now))) result }
     ensures taken { IfErr result (λ fault. fault ≢ PlanFault.Usage) }
@@ -57,7 +58,7 @@ fn plan_of_matches(alloc: Global, verb: Verb, matches: &ArgMatches<'_>) -> Resul
     })
 }
 
-// The verb that the first word names.
+// Finds the verb that the first argument names.
 fn first_verb(words: &[String]) -> Result<Verb, PlanFault>
     ensures { result ≡ first_verb_of (map string_bytes words.now) }
 {
@@ -67,7 +68,7 @@ fn first_verb(words: &[String]) -> Result<Verb, PlanFault>
     }
 }
 
-// The verb that a word names.
+// Finds the verb that a word names.
 fn verb_named(word: &str) -> Result<Verb, PlanFault>
     ensures { result ≡ verb_of word.now }
 {
@@ -80,7 +81,7 @@ fn verb_named(word: &str) -> Result<Verb, PlanFault>
     }
 }
 
-// FILES, of which there are not too many.
+// Returns the files that the argument FILES names, of which there are not too many.
 fn files_given<'m, 'a>(matches: &'m ArgMatches<'a>) -> Result<&'m [&'a str], PlanFault>
     ensures files { IfOk result (λ files. file_names_of (rows_of (found_of matches.now))
         ≡ Ok (map (λ file. file.now) files.now)) }

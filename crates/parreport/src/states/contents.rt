@@ -14,7 +14,7 @@ use parshelf::{Shelf, digest_of};
 use std::alloc::{AllocError, Global};
 use std::collections::BTreeSet;
 
-/// What the content of a scanned file is compared by.
+/// The length and the MD5 of a file, by which contents are compared.
 #[derive(Clone, Copy, PartialEq, Eq, PartialOrd, Ord)]
 pub struct LengthAndMd5 {
     /// The length in bytes.
@@ -23,8 +23,8 @@ pub struct LengthAndMd5 {
     pub whole: Hash16,
 }
 
-/// What is asked of each scanned file, in order: its length and its MD5, where some file of the set
-/// has that length. Of no other file a byte is handed over.
+/// Returns, for each scanned file in order, its length and its MD5 if some file of the set has that
+/// length. Nothing is read of any other file.
 pub fn contents<Q: Shelf>(
     alloc: Global,
     files: &[SetFile],
@@ -46,7 +46,7 @@ pub fn contents<Q: Shelf>(
     Ok(contents)
 }
 
-// The lengths of the files.
+// Returns the lengths of the files.
 fn lengths_of(alloc: Global, files: &[SetFile]) -> Result<BTreeSet<u64>, AllocError>
     ensures { IfOk result (λ lengths. (n : ℕ)
         → contains nat_cmp lengths n ≡ has_length files.now n) }
@@ -67,8 +67,8 @@ fn add_length(lengths: &mut BTreeSet<u64>, length: u64) -> Result<(), AllocError
     Ok(())
 }
 
-// The length and the MD5 of a file, where its length is one of those of the files of the set. Inlined,
-// the array of a digest would stay on the stack beside the window of a survey.
+// Returns the length and the MD5 of a file, if its length is one of those of the files of the set.
+// If it were inlined, the array of a digest would stay on the stack beside the window of a survey.
 #[inline(never)]
 fn content_at<Q: Shelf>(
     files: &[SetFile],

@@ -23,10 +23,10 @@ use parshelf::Shelf;
 use parwindow::Index;
 use std::alloc::Global;
 
-/// What the scanned files show of a recovery set.
+/// The findings on a recovery set in the scanned files.
 #[derive(Debug, Drop)]
 pub(crate) struct Findings {
-    /// The state of each file, by ID.
+    /// The state of each file of the set, by ID.
     pub states: Sequence<State>,
     /// Whether each slice is found, by number.
     pub found: Sequence<bool>,
@@ -35,7 +35,7 @@ pub(crate) struct Findings {
 impl Findings {
     ghost use Rattle.parreport.specs.Findings.{need_of};
 
-    /// How many slices are not found.
+    /// Returns how many slices are not found.
     pub fn need(&self) -> usize
         ensures { result ≡ need_of self.now.found }
     {
@@ -43,9 +43,9 @@ impl Findings {
     }
 }
 
-/// The findings of the files on the shelf, of these names. Those of a length of the set are read
-/// whole, and then all are searched for slices that are not found yet, unless none of these has
-/// its sums.
+/// Returns the findings on a set in the files on the shelf, which have these names. Files with the
+/// length of a file of the set are read whole. Then all are searched for the slices that are not
+/// found yet, unless no such slice has known checksums.
 pub(crate) fn findings_on<Q: Shelf>(
     alloc: Global,
     files: &[Scanned],
@@ -58,17 +58,17 @@ pub(crate) fn findings_on<Q: Shelf>(
     requires index { index.now ≡ slice_set_of set.now.size set.now.slices }
     requires few { HasFewTails (set_sought_of set.now mode) }
 
-    // Of any files of which that was read, by their digests and by the search.
+    // The findings are those in any files that are consistent with the reads.
     ensures findings { (contents : List (List ℕ)) → ReadsAs (Q.state shelf.new) contents
         → IfOk result (λ findings.
         findings ≡ findings_of set.now mode (named_files files.now contents)) }
 
-    // Where no slice needs a search, by what was read, there is none.
+    // If no slice needs a search, in files that are consistent with the reads, no search is made.
     ensures unsearched { (contents : List (List ℕ)) → ReadsAs (Q.state shelf.new) contents
         → NeedsNoSearch set.now (named_files files.now contents)
         → ReadsCandidates set.now.files (Q.state shelf.old) (Q.state shelf.new) }
 
-    // Whatever was read.
+    // Whatever the reads returned.
     ensures states { IfOk result (λ findings. length findings.states ≡ length set.now.files) }
     ensures slices { IfOk result (λ findings. length findings.found ≡ length set.now.slices) }
     ensures handed { HandsPerFile

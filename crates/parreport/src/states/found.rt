@@ -26,7 +26,7 @@ use parwindow::Index;
 use std::alloc::{AllocError, Global};
 use std::collections::BTreeSet;
 
-/// The IDs of the files that are complete or renamed.
+/// Returns the IDs of the files that are complete or renamed.
 pub fn intact_ids(
     alloc: Global,
     files: &[SetFile],
@@ -56,9 +56,9 @@ fn add_if_intact(whole: &mut BTreeSet<Hash16>, id: Hash16, state: State) -> Resu
     Ok(())
 }
 
-/// Which slices are found: those of these files, and those that have a sighting. Files are searched
-/// until each slice of another file that has its sums is found; where none is left to be found so,
-/// nothing is read.
+/// Returns which slices are found: those of the files in `whole`, and those that have a sighting.
+/// Files are searched until each slice of another file that has known checksums is found. If there
+/// is no such slice, nothing is read.
 pub fn found_slices<Q: Shelf>(
     alloc: Global,
     set: &RecoverySet,
@@ -70,7 +70,7 @@ pub fn found_slices<Q: Shelf>(
     requires index { index.now ≡ slice_set_of set.now.size set.now.slices }
     requires few { HasFewTails (set_sought_of set.now mode) }
 
-    // Of any files of which that was read.
+    // In any files that are consistent with the reads.
     ensures found { (files : List (List ℕ)) → ReadsAs (Q.state shelf.new) files
         → IfOk result (λ found. found.items ≡ map (λ slice. contains id_cmp whole.now slice.1.id
         || is_sighted (set_scan_of set.now mode files) slice.0)
@@ -79,7 +79,7 @@ pub fn found_slices<Q: Shelf>(
         → StopsOnceFound (set_scan_of set.now mode files) (Q.state shelf.old) (Q.state shelf.new)
         (map (is_in_whole_file whole.now) set.now.slices) }
 
-    // Whatever was read.
+    // Whatever the reads returned.
     ensures slices { IfOk result (λ found. length found.items ≡ length set.now.slices) }
     ensures handed { HandsPerFile
         (λ file. searched_length_of set.now mode (slice_index (Q.state shelf.old).lengths file))
@@ -94,7 +94,7 @@ pub fn found_slices<Q: Shelf>(
     Ok(found)
 }
 
-// Which slices are those of these files.
+// Returns a flag for each slice: whether its file is one of `whole`.
 fn slices_of_whole_files(
     alloc: Global,
     slices: &[SetSlice],
@@ -108,7 +108,7 @@ fn slices_of_whole_files(
         .collect(alloc)
 }
 
-/// How many slices are not found.
+/// Returns how many slices are not found.
 pub fn need_of(found: &[bool]) -> usize
     ensures { result ≡ need_of found.now }
 {

@@ -11,19 +11,20 @@ use parset::SetFile;
 use std::alloc::{AllocError, Global};
 use std::collections::{BTreeMap, BTreeSet};
 
-/// What scanned files are found by, so that a file of the set is not compared with each of them.
+/// The maps and sets in which scanned files are looked up, so that a file of the set is not
+/// compared with each of them.
 #[derive(Drop)]
 pub struct Lookups<'a> {
-    /// The number of the first scanned file that has a length and an MD5.
+    /// The number of the first scanned file with each length and MD5.
     pub firsts: BTreeMap<LengthAndMd5, usize>,
     /// The names of the scanned files, borrowed from them.
     pub names: BTreeSet<&'a [u8]>,
-    /// Their lengths and MD5s, each with the name of its file.
+    /// The lengths and MD5s of the scanned files, each with the name of its file.
     pub both: BTreeSet<(LengthAndMd5, &'a [u8])>,
 }
 
 impl<'a> Lookups<'a> {
-    /// What scanned files of these names and contents are found by.
+    /// Makes the lookups of scanned files with these names and contents.
     pub fn new(
         alloc: Global,
         files: &'a [Scanned],
@@ -43,22 +44,22 @@ impl<'a> Lookups<'a> {
         })
     }
 
-    /// The number that stands at the content of a file of the set.
+    /// Returns the number of the first scanned file with the content of a file of the set.
     pub fn first(&self, file: &SetFile) -> Option<usize>
         ensures { result ≡ first_at self.now.firsts file.now }
     {
         self.firsts.get(&length_and_md5_of(file)).copied()
     }
 
-    /// Whether the name of a file of the set is there.
+    /// Whether a scanned file has the name of a file of the set.
     pub fn has_name(&self, file: &SetFile) -> bool
         ensures { result ≡ has_name_of self.now.names file.now }
     {
         self.names.contains(file.name.as_slice())
     }
 
-    /// Whether the content and the name of a file of the set are there as one. The file is borrowed
-    /// as long as the names here, since its own name is in the key that is looked up.
+    /// Whether a scanned file has the content and the name of a file of the set. The file is
+    /// borrowed as long as the names here, since its own name is in the key that is looked up.
     pub fn has_both(&self, file: &'a SetFile) -> bool
         ensures { result ≡ has_both_of self.now.both file.now }
     {
@@ -67,7 +68,7 @@ impl<'a> Lookups<'a> {
     }
 }
 
-// The length and the MD5 of a file of the set.
+// Returns the length and the MD5 of a file of the set.
 fn length_and_md5_of(file: &SetFile) -> LengthAndMd5
     ensures { result ≡ length_and_md5_of file.now }
 {
@@ -77,7 +78,7 @@ fn length_and_md5_of(file: &SetFile) -> LengthAndMd5
     }
 }
 
-// The number of the first file with each content, by the content.
+// Returns the number of the first file with each content.
 fn firsts_of(
     alloc: Global,
     contents: &[Option<LengthAndMd5>],
@@ -92,7 +93,7 @@ fn firsts_of(
     Ok(firsts)
 }
 
-// Adds the number of a file at its content, unless an earlier one has it.
+// Adds the number of a file for its content, unless an earlier file has that content.
 fn add_first(
     firsts: &mut BTreeMap<LengthAndMd5, usize>,
     content: Option<LengthAndMd5>,
@@ -108,7 +109,7 @@ fn add_first(
     Ok(())
 }
 
-// The names of the files.
+// Returns the names of the files.
 fn names_of<'a>(alloc: Global, files: &'a [Scanned]) -> Result<BTreeSet<&'a [u8]>, AllocError>
     ensures { IfOk result (λ names. (file : SetFile)
         → has_name_of names file ≡ list_any (λ one. is_name_of file one.name) files.now) }
@@ -129,7 +130,7 @@ fn add_name<'a>(names: &mut BTreeSet<&'a [u8]>, name: &'a [u8]) -> Result<(), Al
     Ok(())
 }
 
-// The contents of the files with their names.
+// Returns the contents of the files, each with its file's name.
 fn both_of<'a>(
     alloc: Global,
     files: &'a [Scanned],

@@ -8,16 +8,17 @@ use parplan::Scanned;
 use parset::SetFile;
 use std::alloc::{AllocError, Global};
 
-/// How the scanned files stand to a file of the recovery set.
+/// The state of a file of the recovery set in the scanned files.
 #[derive(Clone, Copy, Debug, PartialEq, Eq)]
 pub(crate) enum State {
-    /// A scanned file of this name has its content, by its length and its MD5.
+    /// A scanned file has the file's name and its content, by length and MD5.
     Complete,
-    /// None of this name has its content, but others have; this is the number of the first of them.
+    /// No scanned file has both, but some have its content; this is the number of the first of
+    /// them.
     Renamed(usize),
-    /// None has its content, but one has this name.
+    /// No scanned file has its content, but one has its name.
     Damaged,
-    /// None has its content, and none has this name.
+    /// No scanned file has its content or its name.
     Missing,
 }
 
@@ -32,7 +33,7 @@ impl State {
         }
     }
 
-    /// Whether it has it under the file's name.
+    /// Whether a scanned file has the whole content under the file's name.
     pub fn is_complete(self) -> bool
         ensures { result ≡ is_complete self }
     {
@@ -43,7 +44,7 @@ impl State {
     }
 }
 
-/// The state of each file.
+/// Returns the state of each file of the set.
 pub fn states<'a>(
     alloc: Global,
     files: &'a [Scanned],
@@ -57,7 +58,7 @@ pub fn states<'a>(
     states_from(alloc, &lookups, set_files)
 }
 
-// The state of each file, by what is looked up.
+// Returns the state of each file of the set, given the lookups.
 fn states_from<'a>(
     alloc: Global,
     lookups: &Lookups<'a>,
@@ -73,7 +74,7 @@ fn states_from<'a>(
     Ok(states)
 }
 
-// The state of a file.
+// Returns the state of a file of the set.
 fn state_from<'a>(lookups: &Lookups<'a>, file: &'a SetFile) -> State
     ensures { result ≡ looked_up_state_of lookups.now file.now }
 {

@@ -6,26 +6,26 @@ use parshelf::{Sink, write_text};
 use std::alloc::Global;
 use std::mem::replace;
 
-/// What lines are written to: they are given to the sink in blocks, so that a long text is never
-/// held whole. Who makes one takes it apart at the end, and writes what waits.
+/// A writer that gives lines to a sink in blocks, so that a long text is never held whole. The
+/// function that makes one takes it apart at the end, and writes the bytes that wait.
 #[derive(Drop)]
 pub struct BlockWriter<'a, W> {
     alloc: Global,
-    /// Where the blocks go.
+    /// The sink that the blocks go to.
     pub sink: &'a mut W,
-    /// What waits for more.
+    /// The bytes that wait until there is a block of them.
     pub buffer: String,
     ghost below_block: { length (string_bytes buffer) < block },
 }
 
-// At least so many bytes of a long text are given to the sink at once.
+// At least this number of bytes is given to the sink at once, except at the end of a text.
 const BLOCK: usize = 65_536;
 
 impl<'a, W: Sink> BlockWriter<'a, W> {
     ghost use Rattle.std.specs.Prelude.{◌≡◌, [], OnOk, IfErr};
     ghost use Rattle.parreport.specs.Blocks.{IsBuffered, StopsIn};
 
-    /// A writer to a sink, in which nothing waits.
+    /// Makes a writer to a sink. Its buffer is empty.
     pub fn new(alloc: Global, sink: &'a mut W) -> BlockWriter<'a, W>
         ensures same_sink { result.sink.ghost_name ≡ sink.entry.ghost_name }
         ensures state { W.state result.sink.now ≡ W.state sink.old }
@@ -38,7 +38,7 @@ impl<'a, W: Sink> BlockWriter<'a, W> {
         }
     }
 
-    /// Takes out what waits, so that a line can be appended to it.
+    /// Takes out the bytes that wait, so that a line can be appended to them.
     pub fn take_buffer(&mut self) -> String
         ensures same_sink { self.new.sink.ghost_name ≡ self.old.sink.ghost_name }
         ensures state { W.state self.new.sink.now ≡ W.state self.old.sink.now }
@@ -48,7 +48,8 @@ impl<'a, W: Sink> BlockWriter<'a, W> {
         replace(&mut self.buffer, String::new(self.alloc))
     }
 
-    /// Lets a text wait that begins with what was taken out, or writes it once it is a block.
+    /// Puts back a text that begins with the bytes that were taken out: it waits, or is written if
+    /// it is a block.
     pub fn put_back(&mut self, text: String) -> Result<(), RunFault>
         ensures same_sink { self.new.sink.ghost_name ≡ self.old.sink.ghost_name }
         ensures buffered { OnOk result (IsBuffered (W.state self.old.sink.now)

@@ -24,8 +24,8 @@ mod sightings;
 
 pub(crate) use crate::text::find::query::Query;
 
-/// Writes where slices of the set are seen, from the cursor on.
-// Inlined, its finder would stay on the stack beside the arrays of salvage.
+/// Writes the sightings of slices of the set, from the cursor on.
+// If it were inlined, its finder would stay on the stack beside the arrays of salvage.
 #[inline(never)]
 pub(crate) fn write_find<Q: Shelf, W: Sink>(
     alloc: Global,
@@ -65,7 +65,8 @@ pub(crate) fn write_find<Q: Shelf, W: Sink>(
     Ok(Status::Listed)
 }
 
-// Where a search begins, unless the cursor is one of another set or of other files.
+// Returns the cursor at which a search begins, or the error if the given one is of another set or
+// of other files.
 fn start<Q: Shelf>(
     files: &[Scanned],
     set: &RecoverySet,

@@ -4,7 +4,7 @@ ghost use Rattle.parreport.specs.Names.{names_of};
 use parfield::Text;
 use parplan::Scanned;
 
-/// The name of a packet file, or nothing where there is no such file.
+/// Returns the name of a packet file, by its number; an empty one if there is no such file.
 pub fn packet_name(names: &[Text], file: u32) -> &[u8]
     ensures { result.now ≡ slice_index_or names.now file [] }
 {
@@ -14,7 +14,7 @@ pub fn packet_name(names: &[Text], file: u32) -> &[u8]
     }
 }
 
-/// The name of a scanned file, or nothing where there is no such file.
+/// Returns the name of a scanned file, by its number; an empty one if there is no such file.
 pub fn scanned_name(files: &[Scanned], file: usize) -> &[u8]
     ensures { result.now ≡ slice_index_or (names_of files.now) file [] }
 {

@@ -15,7 +15,7 @@ use std::alloc::Global;
 
 mod lines;
 
-/// Writes a line for each packet, and their number.
+/// Writes a line for each packet that the plan asks for, and their number.
 pub(crate) fn write_packets<W: Sink>(
     alloc: Global,
     plan: &Plan,

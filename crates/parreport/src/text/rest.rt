@@ -6,7 +6,7 @@ use crate::faults::RunFault;
 use crate::status::Status;
 use parshelf::{Sink, write_text};
 
-/// Writes what is left of a text, and gives the status that goes with it.
+/// Writes the last bytes of a text, and returns the status that goes with it.
 pub fn write_rest<W: Sink>(out: &mut W, text: &[u8], status: Status) -> Result<Status, RunFault>
     ensures text { Answers (record { text = text.now; answer = Ok status }) result
         (W.state out.old) (W.state out.new) }

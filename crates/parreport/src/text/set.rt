@@ -15,7 +15,7 @@ use std::alloc::Global;
 
 mod lines;
 
-/// Writes what the recovery set holds.
+/// Writes the text of `set`, which describes the recovery set.
 pub(crate) fn write_set<W: Sink>(
     alloc: Global,
     plan: &Plan,

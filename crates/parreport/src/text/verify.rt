@@ -29,8 +29,8 @@ mod counts;
 mod lines;
 mod status;
 
-/// Writes what of the set is there.
-// Inlined, what it holds would stay on the stack beside the arrays of salvage.
+/// Writes the text of `verify`: how much of the set is found.
+// If it were inlined, its values would stay on the stack beside the arrays of salvage.
 #[inline(never)]
 pub(crate) fn write_verify<Q: Shelf, W: Sink>(
     alloc: Global,
@@ -70,7 +70,7 @@ pub(crate) fn write_verify<Q: Shelf, W: Sink>(
     write_findings(alloc, quiet, files, set, &findings, out)
 }
 
-// Writes what the findings show of a set.
+// Writes the text of the findings on a set, and returns the status.
 fn write_findings<W: Sink>(
     alloc: Global,
     quiet: u8,

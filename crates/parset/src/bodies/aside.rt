@@ -5,11 +5,11 @@ use std::alloc::AllocError;
 /// Why a packet body is not usable.
 #[derive(Clone, Copy, Debug, PartialEq, Eq)]
 pub enum Aside {
-    /// The body has too few bytes, too many, or ends within a field.
+    /// The body has too few bytes or too many, or ends within a field.
     WrongLength = 1,
-    /// The slice size is 0 or no multiple of 4.
+    /// The slice size is 0 or not a multiple of 4.
     SliceSize = 2,
-    /// A file ID stands twice.
+    /// A file ID is listed twice.
     IdTwice = 3,
     /// The MD5 of the body is not the recovery set ID.
     SetId = 4,
@@ -22,7 +22,7 @@ pub enum Aside {
 impl Aside {
     ghost use Rattle.parset.specs.Reasons.{reason_number};
 
-    /// The number by which the reason is shown.
+    /// Returns the number by which the reason is printed.
     pub fn number(self) -> u8
         ensures { result ≡ reason_number self }
     {
@@ -30,12 +30,13 @@ impl Aside {
     }
 }
 
-/// Why a body reader gives no fields.
+/// Why a body reader returns no fields.
 #[derive(Clone, Copy, Debug, PartialEq, Eq)]
 pub enum BodyFault {
-    /// The body is not usable; the first reason that applies.
+    /// The body is not usable. This is the first reason that applies.
     Aside(Aside),
-    /// Memory ran out: for the fields of a usable body, or while looking for an ID twice.
+    /// Memory was refused: for the fields of a usable body, or for the search for an ID
+    /// that is listed twice.
     Memory,
 }
 

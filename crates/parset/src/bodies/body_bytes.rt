@@ -15,7 +15,7 @@ pub fn is_over_limit(body: &[u8]) -> bool
     body.len() as u64 > BODY_LIMIT
 }
 
-/// The hash or the ID in the sixteen bytes from an offset on.
+/// Reads the hash or the ID in the sixteen bytes from an offset on.
 pub fn hash_at(bytes: &[u8], at: usize) -> Hash16
     requires { at + 16 ≤ length bytes.now }
     ensures { result ≡ hash_of (slice_range bytes.now at (at + 16)) }
@@ -23,7 +23,7 @@ pub fn hash_at(bytes: &[u8], at: usize) -> Hash16
     Hash16(field_at(bytes, at))
 }
 
-/// The little-endian number in the eight bytes from an offset on.
+/// Reads the little-endian number in the eight bytes from an offset on.
 pub fn u64_at(bytes: &[u8], at: usize) -> u64
     requires { at + 8 ≤ length bytes.now }
     ensures { result ≡ le_value (slice_range bytes.now at (at + 8)) }
@@ -31,7 +31,7 @@ pub fn u64_at(bytes: &[u8], at: usize) -> u64
     LittleEndian::read_u64(&bytes[at..at + 8])
 }
 
-/// The little-endian number in the four bytes from an offset on.
+/// Reads the little-endian number in the four bytes from an offset on.
 pub fn u32_at(bytes: &[u8], at: usize) -> u32
     requires { at + 4 ≤ length bytes.now }
     ensures { result ≡ le_value (slice_range bytes.now at (at + 4)) }
@@ -39,14 +39,14 @@ pub fn u32_at(bytes: &[u8], at: usize) -> u32
     LittleEndian::read_u32(&bytes[at..at + 4])
 }
 
-/// The same bytes in memory of their own.
+/// Copies bytes into new memory.
 pub fn copied(alloc: Global, bytes: &[u8]) -> Result<Sequence<u8>, AllocError>
     ensures { IfOk result (λ copy. copy ≡ bytes.now) }
 {
     Ok(Sequence::from_vec(Vec::from_slice(alloc, bytes)?))
 }
 
-/// The bytes without the zero bytes at their end.
+/// Returns the bytes without the zero bytes at their end; nothing is copied.
 pub fn trimmed(bytes: &[u8]) -> &[u8]
     ensures { result.now ≡ without_end_zeros bytes.now }
 {

@@ -8,7 +8,7 @@ use crate::bodies::body_bytes::{hash_at, is_over_limit, u32_at};
 use parfield::{Hash16, Sequence};
 use std::alloc::{AllocError, Global};
 
-/// The most slices of a recovery set, and so of a file.
+/// The most slices that a recovery set may have, and so the most that a file may have.
 pub(crate) const SLICES_LIMIT: usize = 32_768;
 
 /// The fields of an Input File Slice Checksum body.
@@ -20,7 +20,8 @@ pub struct Ifsc {
     pub sums: Sequence<(Hash16, u32)>,
 }
 
-/// The fields of an Input File Slice Checksum body.
+/// Reads the fields of an Input File Slice Checksum body, or returns the first reason
+/// why it isn't usable.
 pub fn ifsc_body(alloc: Global, body: &[u8]) -> Result<Ifsc, BodyFault>
     ensures answer { AnswersBody (checksums_reason body.now) (checksums_of body.now) result }
 {
@@ -30,7 +31,8 @@ pub fn ifsc_body(alloc: Global, body: &[u8]) -> Result<Ifsc, BodyFault>
     }
 }
 
-/// Why an Input File Slice Checksum body is not usable.
+/// Returns the first reason why an Input File Slice Checksum body is not
+/// usable, or `None` if it is.
 #[tactic(auto, unfolding(crate::specs::Reasons::checksums_reason))]
 pub(crate) fn checksums_reason(body: &[u8]) -> Option<Aside>
     ensures reason { result ≡ checksums_reason body.now }
@@ -48,7 +50,7 @@ pub(crate) fn checksums_reason(body: &[u8]) -> Option<Aside>
     None
 }
 
-// The fields of a body that is long enough for them.
+// Reads the fields of a body that is long enough for them.
 fn checksums_of(alloc: Global, body: &[u8]) -> Result<Ifsc, AllocError>
     requires { 16 ≤ length body.now }
     ensures { IfOk result (λ fields. fields ≡ checksums_of body.now) }
@@ -59,7 +61,7 @@ fn checksums_of(alloc: Global, body: &[u8]) -> Result<Ifsc, AllocError>
     })
 }
 
-// The sums of the slices, twenty bytes each.
+// Returns the checksums of the slices as bytes, twenty for each slice.
 #[tactic(auto, unfolding(crate::specs::Bodies::pairs_of))]
 fn raw_pairs(body: &[u8]) -> &[[u8; 20]]
     requires { 16 ≤ length body.now }
@@ -69,14 +71,14 @@ fn raw_pairs(body: &[u8]) -> &[[u8; 20]]
     pairs
 }
 
-// The sums of each slice.
+// Reads the checksums of each slice.
 fn pairs_of(alloc: Global, pairs: &[[u8; 20]]) -> Result<Vec<(Hash16, u32)>, AllocError>
     ensures { IfOk result (λ found. found.items ≡ map pair_of pairs.now) }
 {
     pairs.iter().map(pair_of).collect(alloc)
 }
 
-// The MD5 and the CRC-32 of a slice.
+// Reads the MD5 and the CRC-32 of a slice.
 fn pair_of(pair: &[u8; 20]) -> (Hash16, u32)
     ensures { result ≡ pair_of pair.now }
 {

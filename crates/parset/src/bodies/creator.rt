@@ -8,7 +8,7 @@ use crate::bodies::body_bytes::{copied, is_over_limit, trimmed};
 use parfield::Sequence;
 use std::alloc::Global;
 
-/// The text of a Creator body.
+/// Reads the text of a Creator body, or returns the first reason why it isn't usable.
 #[tactic(auto, unfolding(crate::specs::Bodies::creator_text_of))]
 pub fn creator_body(alloc: Global, body: &[u8]) -> Result<Sequence<u8>, BodyFault>
     ensures answer { AnswersBody (creator_reason body.now) (creator_text_of body.now) result }
@@ -19,7 +19,7 @@ pub fn creator_body(alloc: Global, body: &[u8]) -> Result<Sequence<u8>, BodyFaul
     Ok(copied(alloc, trimmed(body))?)
 }
 
-/// Why a Creator body is not usable.
+/// Returns the first reason why a Creator body is not usable, or `None` if it is.
 #[tactic(auto, unfolding(crate::specs::Reasons::creator_reason))]
 pub(crate) fn creator_reason(body: &[u8]) -> Option<Aside>
     ensures { result ≡ creator_reason body.now }

@@ -8,7 +8,7 @@ use crate::bodies::body_bytes::{copied, hash_at, is_over_limit, trimmed, u64_at}
 use parfield::{Hash16, Sequence};
 use std::alloc::{AllocError, Global};
 
-// The most bytes of a name.
+// The most bytes that a name may have.
 const NAME_LIMIT: usize = 4_096;
 
 // The least file length that is too large.
@@ -29,7 +29,7 @@ pub struct Desc {
     pub name: Sequence<u8>,
 }
 
-/// The fields of a File Description body.
+/// Reads the fields of a File Description body, or returns the first reason why it isn't usable.
 pub fn desc_body(alloc: Global, body: &[u8]) -> Result<Desc, BodyFault>
     ensures answer { AnswersBody (description_reason body.now) (description_of body.now) result }
 {
@@ -39,7 +39,7 @@ pub fn desc_body(alloc: Global, body: &[u8]) -> Result<Desc, BodyFault>
     }
 }
 
-/// Why a File Description body is not usable.
+/// Returns the first reason why a File Description body is not usable, or `None` if it is.
 #[tactic(auto, unfolding(crate::specs::Reasons::description_reason, crate::specs::Bodies::file_length_field))]
 pub(crate) fn description_reason(body: &[u8]) -> Option<Aside>
     ensures reason { result ≡ description_reason body.now }
@@ -60,7 +60,7 @@ pub(crate) fn description_reason(body: &[u8]) -> Option<Aside>
     None
 }
 
-// The fields of a body that is long enough for them.
+// Reads the fields of a body that is long enough for them.
 #[tactic(auto, unfolding(crate::specs::Bodies::file_length_field))]
 fn description_of(alloc: Global, body: &[u8]) -> Result<Desc, AllocError>
     requires { 56 ≤ length body.now }
@@ -75,7 +75,7 @@ fn description_of(alloc: Global, body: &[u8]) -> Result<Desc, AllocError>
     })
 }
 
-// The name, without the zero bytes that fill it up.
+// Returns the name without the zero bytes that fill it up.
 fn name_of(body: &[u8]) -> &[u8]
     requires { 56 ≤ length body.now }
     ensures { result.now ≡ name_of body.now }

@@ -15,7 +15,7 @@ use std::alloc::{AllocError, Global};
 // The largest slice size, in bytes.
 const SIZE_LIMIT: u64 = 268_435_456;
 
-// The most files, those outside the recovery set included.
+// The most files, the non-recovery files included.
 const FILES_LIMIT: usize = 32_768;
 
 /// The fields of a Main body.
@@ -23,13 +23,14 @@ const FILES_LIMIT: usize = 32_768;
 pub struct Main {
     /// The slice size in bytes.
     pub size: u64,
-    /// The file IDs of the recovery set, in the order in which they stand.
+    /// The file IDs of the recovery set, in the order of the body.
     pub recovery: Sequence<Hash16>,
-    /// The file IDs of the non-recovery files, in the order in which they stand.
+    /// The file IDs of the non-recovery files, in the order of the body.
     pub others: Sequence<Hash16>,
 }
 
-/// The fields of a Main body in a packet of this recovery set ID.
+/// Reads the fields of a Main body, or returns the first reason why it isn't usable in a packet
+/// that has this recovery set ID.
 pub fn main_body(alloc: Global, body: &[u8], set: Hash16) -> Result<Main, BodyFault>
     ensures answer { AnswersBodyAfter (early_main_reason body.now) (main_reason body.now set)
         (main_of body.now) result }
@@ -40,7 +41,8 @@ pub fn main_body(alloc: Global, body: &[u8], set: Hash16) -> Result<Main, BodyFa
     }
 }
 
-/// Why a Main body in a packet of this recovery set ID is not usable.
+/// Returns the first reason why a Main body isn't usable in a packet that has this recovery set
+/// ID, or `None` if it is.
 #[tactic(auto, unfolding(crate::specs::Reasons::main_reason, crate::specs::Reasons::early_main_reason))]
 pub(crate) fn main_reason(
     alloc: Global,
@@ -64,7 +66,8 @@ pub(crate) fn main_reason(
     Ok(None)
 }
 
-// The first reason that the lengths and numbers of a Main body give.
+// Returns the first reason that follows from the lengths and numbers of a Main body. Testing
+// these takes no memory.
 #[tactic(auto, unfolding(crate::specs::Reasons::early_main_reason))]
 fn early_main_reason(body: &[u8]) -> Option<Aside>
     ensures reason { result ≡ early_main_reason body.now }
@@ -92,7 +95,7 @@ fn has_wrong_main_length(body: &[u8]) -> bool
     body.len() < 12 || (body.len() - 12) % 16 != 0 || file_ids(body).len() < file_count(body)
 }
 
-// Whether the slice size is 0 or no multiple of 4.
+// Whether the slice size is 0 or not a multiple of 4.
 fn has_wrong_size(body: &[u8]) -> bool
     requires { 12 ≤ length body.now }
     ensures { result ≡ has_wrong_size body.now }
@@ -101,7 +104,7 @@ fn has_wrong_size(body: &[u8]) -> bool
     size == 0 || size % 4 != 0
 }
 
-// Whether the slices are too large, or the files too many.
+// Whether the slice size or the number of files is above its limit.
 fn is_large_main(body: &[u8]) -> bool
     requires { 12 ≤ length body.now }
     ensures { result ≡ is_large_main body.now }
@@ -109,7 +112,7 @@ fn is_large_main(body: &[u8]) -> bool
     slice_size(body) > SIZE_LIMIT || file_ids(body).len() > FILES_LIMIT
 }
 
-// Whether an ID stands twice.
+// Whether an ID is listed twice.
 fn has_repeat(alloc: Global, ids: &[[u8; 16]]) -> Result<bool, AllocError>
     ensures { IfOk result (λ found. found ≡ has_repeat (map hash_of ids.now)) }
 {
@@ -118,7 +121,7 @@ fn has_repeat(alloc: Global, ids: &[[u8; 16]]) -> Result<bool, AllocError>
     Ok(!sorted.is_sorted_by(|a, b| a < b))
 }
 
-// The fields of a body of a right length.
+// Reads the fields of a body that has a right length.
 fn main_of(alloc: Global, body: &[u8]) -> Result<Main, AllocError>
     requires { has_wrong_main_length body.now ≡ false }
     ensures { IfOk result (λ main. main ≡ main_of body.now) }
@@ -131,7 +134,7 @@ fn main_of(alloc: Global, body: &[u8]) -> Result<Main, AllocError>
     })
 }
 
-// The slice size in bytes.
+// Reads the slice size in bytes.
 #[tactic(auto, unfolding(crate::specs::Bodies::slice_size_field))]
 fn slice_size(body: &[u8]) -> u64
     requires { 12 ≤ length body.now }
@@ -140,7 +143,7 @@ fn slice_size(body: &[u8]) -> u64
     u64_at(body, 0)
 }
 
-// How many files the recovery set has.
+// Reads how many files the recovery set has.
 #[tactic(auto, unfolding(crate::specs::Bodies::file_count_field))]
 fn file_count(body: &[u8]) -> usize
     requires { 12 ≤ length body.now }
@@ -149,7 +152,7 @@ fn file_count(body: &[u8]) -> usize
     u32_at(body, 8) as usize
 }
 
-// All file IDs, those of the recovery set first.
+// Returns all file IDs as bytes; the files of the recovery set come first.
 #[tactic(auto, unfolding(crate::specs::Bodies::file_ids_of))]
 fn file_ids(body: &[u8]) -> &[[u8; 16]]
     requires { 12 ≤ length body.now }
@@ -159,7 +162,7 @@ fn file_ids(body: &[u8]) -> &[[u8; 16]]
     ids
 }
 
-// IDs as hashes.
+// Copies IDs as hashes.
 fn hashes(alloc: Global, ids: &[[u8; 16]]) -> Result<Vec<Hash16>, AllocError>
     ensures { IfOk result (λ found. found.items ≡ map hash_of ids.now) }
 {

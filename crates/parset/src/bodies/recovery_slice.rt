@@ -6,11 +6,12 @@ ghost use Rattle.parset.specs.Reasons.{slice_reason};
 use crate::bodies::aside::Aside;
 use crate::bodies::body_bytes::u32_at;
 
-/// The largest exponent.
+/// The largest exponent that a recovery slice may have.
 pub(crate) const EXPONENT_LIMIT: u32 = 65_534;
 
-/// The exponent of a Recovery Slice body, by its first four bytes and its length, in a set of this
-/// slice size.
+/// Reads the exponent of a Recovery Slice body, or returns the first reason why it isn't
+/// usable. The body is given by its first four bytes and its length in bytes, and the
+/// set by its slice size.
 #[tactic(auto, unfolding(crate::specs::Reasons::slice_reason, crate::specs::Bodies::exponent_of))]
 pub fn slice_body(first: [u8; 4], len: u64, size: u64) -> Result<u32, Aside>
     ensures { result ≡ answer_of (slice_reason first len size) (exponent_of first) }

@@ -9,8 +9,8 @@ use std::fs::{File, Files};
 use std::os::unix::fs::FileExt;
 use std::{fs, io};
 
-/// Regular files on disk, with the lengths that they had as they were opened. If one grows, nothing
-/// past its noted length is read.
+/// Regular files on disk, with the lengths that they had when they were opened. If a file grows,
+/// nothing past its noted length is read.
 #[derive(Drop)]
 pub struct DiskShelf {
     files: Vec<Opened>,
@@ -25,7 +25,7 @@ pub struct DiskShelf {
     ghost handed_each: { length handed_by_file.counts ≡ length files.items },
 }
 
-// A file that is open, and the path that it was opened at.
+// An open file, and the path that it was opened at.
 #[derive(Drop)]
 struct Opened {
     path: Transcript,
@@ -56,7 +56,7 @@ impl From<AllocError> for OpenFault {
 impl DiskShelf {
     ghost use Rattle.parshelf.specs.Disk.{disk_state_of, open_file_limit, unread_of, NamesPath};
 
-    /// Opens the files at these paths, in order. A folder, a pipe or a device is not opened.
+    /// Opens the files at these paths, in order. Fails at a folder, a pipe or a device.
     pub fn open<R: Files<File = File>, S: AsStr>(
         rt: &R,
         alloc: Global,
@@ -92,7 +92,7 @@ impl DiskShelf {
     }
 }
 
-// The regular file at a path, or `None` where something else stands there or it is too long.
+// Opens the regular file at a path; `None` if what is there isn't a regular file or is too long.
 fn open_regular<R: Files<File = File>>(rt: &R, path: &str) -> io::Result<Option<Opened>>
     ensures path { IfOk result (λ found. IfSome found (λ opened. opened.path.bytes ≡ path.now)) }
     ensures short { IfOk result (λ found. IfSome found (λ opened. opened.length < 2 ^ 63)) }

@@ -5,7 +5,7 @@ use crate::shelves::shelf::Shelf;
 use crate::sinks::Failed;
 use parfield::{Counts, Readings};
 
-/// Files in memory, of which certain reads fail.
+/// Files in memory, some of whose reads fail.
 #[derive(Drop)]
 pub struct MemShelf {
     files: Vec<Vec<u8>>,
@@ -30,8 +30,8 @@ pub struct MemShelf {
 impl MemShelf {
     ghost use Rattle.parshelf.specs.Memory.{unread_files_of, shelf_state_of, read_piece, failing_of, read_number_of};
 
-    /// Files that are read at most `piece` bytes at a time, and the numbers of the reads that fail.
-    /// Reads are numbered from 1, over all files.
+    /// Makes files in memory that are read at most `piece` bytes at a time. `failing` has the
+    /// numbers of the reads that fail; reads are numbered from 1, over all files.
     #[tactic(auto, using(crate::proofs::MemoryLaws::maps))]
     pub fn new(files: Vec<Vec<u8>>, piece: usize, failing: Vec<u64>) -> MemShelf
         requires few { vec_len files < 2 ^ 32 }
@@ -57,7 +57,7 @@ impl MemShelf {
         }
     }
 
-    /// How many bytes the shelf has handed over, at most the greatest `u64`.
+    /// Returns how many bytes were read of all files, at most the greatest `u64`.
     pub fn handed(&self) -> u64
         ensures { result ≡ min (sum (shelf_state_of self.now).handed) (2 ^ 64 - 1) }
     {
@@ -83,13 +83,13 @@ impl Shelf for MemShelf {
     fn read_at(&mut self, file: u32, offset: u64, buf: &mut [u8]) -> Result<usize, Failed>
         requires { file < length (shelf_state_of self.old).lengths }
 
-        // As every shelf.
+        // The clauses of every list of read-only files.
         ensures ok { IfOk result (λ n. shelf_state_of self.new
             ≡ after_read (shelf_state_of self.old) file offset (length buf.old) (take n buf.new)) }
         ensures failed { OnErr result
             (shelf_state_of self.new ≡ after_failure (shelf_state_of self.old) file) }
 
-        // Which reads fail, and how much the others give.
+        // Which reads fail, and how many bytes the others return.
         ensures number { read_number_of self.new ≡ min (read_number_of self.old + 1) (2 ^ 64 - 1) }
         ensures failing { IsErr result ↔ Contains (failing_of self.old) (read_number_of self.new) }
         ensures piece { IfOk result (λ n. n ≡ min (min (read_piece self.old) (length buf.old))
@@ -113,7 +113,8 @@ impl Shelf for MemShelf {
     ghost well_formed = { shelf_state_of-IsShelf };
 }
 
-// Puts the bytes from an offset on, at most `piece` of them, at the front of `buf`.
+// Copies the bytes from an offset on, at most `piece` of them, to the front of `buf`, and
+// returns their number.
 fn copy_piece(bytes: &[u8], offset: u64, piece: usize, buf: &mut [u8]) -> usize
     ensures size { result ≡ min (min piece (length buf.old)) (length bytes.now - offset) }
     ensures bytes { take result buf.new ≡ take result (drop offset bytes.now) }

@@ -6,12 +6,12 @@ use crate::shelves::shelf::Shelf;
 use md5::{Digest, Md5};
 use parfield::{Hash16, Text};
 
-/// What has a name.
+/// A thing that has a name.
 pub trait Named {
     /// The bytes of the name.
     ghost name: { Self → List ℕ };
 
-    /// The name.
+    /// Returns the name.
     fn name(&self) -> &str
         ensures { result.now ≡ name self.now };
 }
@@ -32,8 +32,8 @@ impl Named for String {
     }
 }
 
-/// The mark of a list of files, by which it is told from other lists: the MD5 of the name and the
-/// length of each in order, each name after its own length. It knows nothing of what the files hold.
+/// Computes the fingerprint of a list of files, which identifies it: the MD5 of the name and the
+/// length of each file in order, each name after its own length. The files' contents play no part.
 pub fn list_mark<H: Shelf, N: Named>(shelf: &H, names: &[N]) -> Hash16
     requires { length names.now ≡ length (H.state shelf.now).lengths }
     ensures { result.0 ≡ mark_of_list (map N.name names.now) (H.state shelf.now).lengths }
@@ -45,6 +45,7 @@ pub fn list_mark<H: Shelf, N: Named>(shelf: &H, names: &[N]) -> Hash16
     Hash16(hasher.finalize())
 }
 
+// Hashes a file's name and length, as `listed_file` has them.
 fn hash_file(hasher: &mut Md5, name: &str, size: u64)
     ensures { (files : List ℕ) → Holds hasher.old files
         → Holds hasher.new (files ++ listed_file (name.now, size)) }

@@ -17,7 +17,8 @@ pub enum ReadFault {
     Ended,
 }
 
-/// Fills `buf` with a file's bytes from an offset on. After a fault the content of `buf` is open.
+/// Fills `buf` with a file's bytes from an offset on. The first failed read or early end is returned,
+/// and then `buf` may contain anything.
 pub fn fill<H: Shelf>(
     shelf: &mut H,
     file: u32,
@@ -41,11 +42,11 @@ pub fn fill<H: Shelf>(
     Ok(())
 }
 
-// How many bytes of a file are hashed at a time. Larger pieces are no faster, and their array is
+// The number of bytes of a file that are hashed at a time. Larger pieces are no faster, and their array is
 // filled with zeros at each call.
 const PIECE: usize = 32_768;
 
-/// The MD5 of a whole file.
+/// Returns the MD5 of a whole file.
 pub fn digest_of<H: Shelf>(shelf: &mut H, file: u32) -> Result<Hash16, ReadFault>
     requires { file < length (H.state shelf.old).lengths }
     ensures leaves { ReadsPart file (slice_index (H.state shelf.old).lengths file)
@@ -58,7 +59,7 @@ pub fn digest_of<H: Shelf>(shelf: &mut H, file: u32) -> Result<Hash16, ReadFault
     digest_of_part(shelf, file, 0, end, &mut buffer)
 }
 
-/// The MD5 of a part of a file, which is read into `buffer` piece by piece.
+/// Returns the MD5 of a part of a file, which is read into `buffer` piece by piece.
 pub fn digest_of_part<H: Shelf>(
     shelf: &mut H,
     file: u32,
@@ -78,8 +79,9 @@ pub fn digest_of_part<H: Shelf>(
     Ok(Hash16(hasher.finalize()))
 }
 
-/// Hashes a part of a file behind what was hashed before. It is read into `buffer` piece by piece.
-/// After a fault what the hasher holds is open.
+/// Hashes a part of a file, after the bytes that the hasher holds. The part is read into `buffer`
+/// piece by piece.
+/// After a fault the hasher may hold anything.
 pub fn hash_part<H: Shelf>(
     shelf: &mut H,
     file: u32,

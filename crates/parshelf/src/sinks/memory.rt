@@ -4,7 +4,7 @@ use crate::sinks::sink::{Failed, Sink};
 use parfield::Tally;
 use std::alloc::{AllocError, Global};
 
-/// A sink in memory, with room for so many bytes.
+/// A sink in memory that takes a fixed number of bytes.
 #[derive(Drop)]
 pub struct MemSink {
     buffer: Vec<u8>,
@@ -20,8 +20,8 @@ impl MemSink {
     ghost use Rattle.parshelf.specs.SinkState.{empty_sink};
     ghost use Rattle.parshelf.specs.MemorySink.{memory_sink_state, sink_limits_of};
 
-    /// A sink that takes `room` bytes, at most `piece` a call. With no room left it takes 0 bytes
-    /// of a part that is not empty where `zero`, else it fails.
+    /// Makes a sink that takes `room` bytes in all, at most `piece` in one call. If it is full and
+    /// the part is not empty, it takes 0 bytes if `zero` is set, and else it fails.
     pub fn new(alloc: Global, room: usize, piece: usize, zero: bool) -> Result<MemSink, AllocError>
         requires { 0 < piece }
         ensures state { IfOk result (λ sink. memory_sink_state sink ≡ empty_sink) }
@@ -38,7 +38,7 @@ impl MemSink {
         })
     }
 
-    /// The bytes written to it.
+    /// Lends the bytes that were written to the sink.
     pub fn text(&self) -> &[u8]
         ensures { result.now ≡ (memory_sink_state self.now).bytes }
     {
@@ -65,7 +65,7 @@ impl Sink for MemSink {
         ensures failed { OnErr result
             (memory_sink_state self.new ≡ refused (memory_sink_state self.old)) }
 
-        // How much it takes, when it fails, and how it goes on.
+        // How much the sink takes, when it fails, and what it takes afterwards.
         ensures size { IfOk result (λ n. n
             ≡ min (min (length part.now) (sink_limits_of self.old).piece)
             (sink_limits_of self.old).room) }

@@ -16,7 +16,7 @@ impl<W> WriteSink<W> {
     ghost use Rattle.parshelf.specs.SinkState.{empty_sink};
     ghost use Rattle.parshelf.specs.WriterSink.{writer_sink_state, writer_of};
 
-    /// A sink over a writer, to which nothing was written.
+    /// Makes a sink over a writer, before anything is written.
     pub fn new(writer: W) -> WriteSink<W>
         ensures state { writer_sink_state result ≡ empty_sink }
         ensures writer { writer_of result ≡ writer }
@@ -36,7 +36,8 @@ impl<W: Write> Sink for WriteSink<W> {
 
     ghost state = { writer_sink_state };
 
-    /// One `write` of the writer, or none if the part is empty; an error of it is `Failed`.
+    /// Calls the writer's `write` once, or not at all if the part is empty; an
+    /// error of it is `Failed`.
     fn put(&mut self, part: &[u8]) -> Result<usize, Failed>
         ensures bound { IfOk result (λ n. n ≤ length part.now) }
         ensures taken { IfOk result (λ n. 0 < n
@@ -50,7 +51,8 @@ impl<W: Write> Sink for WriteSink<W> {
         ensures failed { OnErr result
             (writer_sink_state self.new ≡ refused (writer_sink_state self.old)) }
 
-        // What the writer holds, where its type tells, grows by what was taken.
+        // The contents of the writer, if its type says what they are, grow by the
+        // bytes that were taken.
         ensures writer { WriteAppends (W.contents (writer_of self.old))
             (W.contents (writer_of self.new)) result part.now }
     {

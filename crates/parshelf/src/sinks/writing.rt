@@ -3,7 +3,7 @@ ghost use Rattle.parshelf.specs.SinkState.{appended, FailsAfterPrefix};
 
 use crate::sinks::sink::{Failed, Sink};
 
-/// Writes a whole text; a sink that takes nothing of a part that is not empty has failed.
+/// Writes a whole text. A sink that takes nothing of a part that is not empty has failed.
 pub fn write_text<W: Sink>(out: &mut W, text: &[u8]) -> Result<(), Failed>
     ensures ok { OnOk result (W.state out.new ≡ appended (W.state out.old) text.now) }
     ensures err { OnErr result (FailsAfterPrefix (W.state out.old) (W.state out.new) text.now) }

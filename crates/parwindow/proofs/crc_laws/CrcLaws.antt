@@ -1,4 +1,4 @@
--- The steps of a CRC-32 register are linear over xor, and so a first byte can be taken out of it.
+-- The steps of a CRC-32 register are linear over xor, so a first byte can be taken out of it.
 use Rattle.std.proofs.Common.{◌≡◌, ◌⊎◌, ℕ, zero, suc, ◌+◌, ◌*◌, ◌/◌, ◌%◌, List, [], ◌∷◌, ◌++◌, length, refl, sym, ap, ◌∙◌, inl, inr, arith}
 use Rattle.std.specs.List.{fold}
 use Rattle.std.specs.Int.Bits.{bit_xor}
@@ -91,7 +91,8 @@ one_byte_first n d =
     let e : 8 * suc n ≡ 8 + 8 * n = omega arith in
     ap (λ k. crc_steps k d) e ∙ crc_steps-add 8 (8 * n) d
 
--- two registers that take the same bytes differ by what is left of their first difference
+-- if two registers differ by d and take the same bytes, they differ afterwards by d after the
+-- same number of steps
 pub fold-register_after-xor : (bytes : List ℕ) (a d : ℕ)
     → fold register_after (bit_xor a d) bytes
     ≡ bit_xor (fold register_after a bytes) (crc_steps (8 * length bytes) d)
@@ -109,7 +110,7 @@ register_of-push bytes last = fold_push register_after 0xFFFFFFFF bytes last
 two_changes : (start changed : ℕ) → bit_xor changed (bit_xor start changed) ≡ start
 two_changes start changed = simp xor_laws
 
--- the register of bytes, from that of the bytes with a first one before them
+-- the register of bytes, computed from the register of the same bytes after a first one
 pub register_of-removal_of : (bytes : List ℕ) (first : ℕ)
     → register_of bytes ≡ bit_xor (register_of (first ∷ bytes)) (removal_of first (length bytes))
 unfolding register_of removal_of

@@ -1,4 +1,4 @@
--- Eight bytes go into a register at once, by a look-up for each.
+-- Eight bytes enter a register at once, with one look-up for each.
 use Rattle.std.proofs.Common.{◌≡◌, ℕ, zero, suc, ◌+◌, ◌*◌, ◌/◌, ◌%◌, ◌^◌, ◌<◌, true, List, [], ◌∷◌, length, get_or, fold, take, drop, refl, sym, ap, ◌∙◌, arith, w64}
 use Rattle.std.specs.Int.{from_le_bytes}
 use Rattle.std.specs.Int.Bits.{bit_and, bit_xor, xor_assoc, xor_zero_r}
@@ -15,7 +15,7 @@ use Rattle.parwindow.proofs.crc_laws.CrcLaws.{crc_steps-xor, crc_steps-add}
 use Rattle.parwindow.proofs.crc_laws.TableLaws.{agrees_below, agrees_at, crc_steps-high, steps_bytes, steps_twice}
 use Rattle.parwindow.proofs.crc_laws.XorLaws.{xor_parts}
 
--- the number whose bytes these are, the lowest first
+-- the number that bytes make, the lowest byte first
 abbrev le_number : List ℕ → ℕ
 le_number [] = 0
 le_number (x ∷ xs) = x + 256 * le_number xs
@@ -24,7 +24,7 @@ no_steps : (r : ℕ) → crc_steps 0 r ≡ r
 unfolding crc_steps
 no_steps r = refl
 
--- the bytes go in as one number
+-- the bytes enter the register as if their number were xored into it before all steps
 fold-le_number : (xs : List ℕ) (r : ℕ) → ((i : ℕ) → get_or xs i 0 < 256)
     → fold register_after r xs ≡ crc_steps (8 * length xs) (bit_xor r (le_number xs))
 unfolding register_after
@@ -47,7 +47,7 @@ fold-le_number (x ∷ xs) r small =
     ∙ ap (λ n. crc_steps n (bit_xor (bit_xor r x) (le_number xs * 256))) more
     ∙ ap (crc_steps (8 * suc (length xs))) joined
 
--- the low byte of a number goes by a table, and the others move down
+-- the steps of a number: its low byte is looked up in a table, and its other bytes move down
 low_by : (n : ℕ) (table : List ℕ) (w high : ℕ) → IsStepTable table (8 + n) → w / 256 ≡ high
     → crc_steps (8 + n) w ≡ bit_xor (crc_steps n high) (get_or table (bit_and w 255) 0)
 low_by n table w high steps is =
@@ -84,7 +84,7 @@ agrees_64 : agrees_below 64 STEPPED_64 256 ≡ true
 unfolding crc_step crc_steps
 agrees_64 = refl
 
--- the number of eight bytes goes in by a look-up for each of them
+-- the number of eight bytes after all steps, with one look-up for each byte
 abbrev looked_up : ℕ → ℕ
 looked_up w =
     bit_xor
@@ -128,7 +128,7 @@ number_by w small =
     ∙ ap (λ h. bit_xor h (get_or STEPPED_TWICE (bit_and (w / 281474976710656) 255) 0))
     (sym (steps_bytes (w / 72057594037927936) top)))))))))
 
--- that of eight bytes is what is read of them
+-- for eight bytes, this number is the one that the code reads
 le_number_eight : (bytes : List ℕ) → length bytes ≡ 8
     → le_number bytes ≡ from_le_bytes w64 bytes
 le_number_eight [] few = absurd (omega arith)
@@ -142,7 +142,7 @@ le_number_eight (a ∷ b ∷ x ∷ d ∷ e ∷ f ∷ g ∷ []) few = absurd (ome
 le_number_eight (a ∷ b ∷ x ∷ d ∷ e ∷ f ∷ g ∷ h ∷ []) few = omega arith
 le_number_eight (a ∷ b ∷ x ∷ d ∷ e ∷ f ∷ g ∷ h ∷ y ∷ ys) few = absurd (omega arith)
 
--- a turn is eight bytes one after another
+-- eight look-ups give the same register as eight bytes one after another
 pub eight_by : (r : ℕ) (bytes : List ℕ) → r < 2 ^ 64 → length bytes ≡ 8
     → ((i : ℕ) → get_or bytes i 0 < 256) → from_le_bytes w64 bytes < 2 ^ 64
     → looked_up (bit_xor r (from_le_bytes w64 bytes)) ≡ fold register_after r bytes
@@ -154,7 +154,7 @@ eight_by r bytes fits eight small fits_too =
     ∙ ap (λ n. crc_steps n (bit_xor r (le_number bytes))) (sym long)
     ∙ sym (fold-le_number bytes r small)
 
--- the eights, one after another
+-- groups of eight bytes, one after another, are their bytes one after another
 fold_eights : (bytes : List ℕ) (k r : ℕ)
     → fold (fold register_after) r (first_chunks 8 k bytes)
     ≡ fold register_after r (take (k * 8) bytes)
@@ -166,7 +166,7 @@ fold_eights bytes (suc k) r =
     ∙ ap (fold register_after r) (sym (take-add 8 (k * 8) bytes))
     ∙ ap (λ n. fold register_after r (take n bytes)) (sym more)
 
--- and then the rest
+-- the groups of eight, and then the rest, are all bytes
 pub fold_all : (bytes : List ℕ) (k r : ℕ)
     → fold register_after (fold (fold register_after) r (first_chunks 8 k bytes))
     (drop (k * 8) bytes) ≡ fold register_after r bytes

@@ -1,4 +1,4 @@
--- The operations on vectors of sixteen bytes, lane by lane.
+-- Operations on vectors of sixteen bytes, byte by byte.
 use Rattle.std.proofs.Common.{◌≡◌, ◌≢◌, ℕ, ◌%◌, ◌^◌, ◌<◌, false, not, cond, eqb, List, length, get_or, map, replicate, refl, sym, ap, ◌∙◌, inl, inr, arith, w8}
 use Rattle.std.specs.Int.{bit_at}
 use Rattle.std.specs.Simd.Lanes.{zip2, mask_l, top}
@@ -15,7 +15,7 @@ HasLanes-zip2 f a b p q = record {
   each = λ i l. get_or-zip2 f a b i 0 0 0 (omega arith) (omega arith);
 }
 
--- an operator on a vector and a splat
+-- an operator on a vector and a vector that repeats one byte
 pub HasLanes-splat : (f : ℕ → ℕ → ℕ) (a : List ℕ) (x : ℕ) → length a ≡ 16
     → HasLanes (zip2 f a (replicate 16 x)) (λ i. f (get_or a i 0) x)
 HasLanes-splat f a x p =
@@ -25,7 +25,7 @@ HasLanes-splat f a x p =
       each = λ i l. h.each i l ∙ ap (f (get_or a i 0)) (get_or-replicate 16 i x 0 l);
     }
 
--- places below 16 may be looked up
+-- indices below 16 may be looked up
 module _ (places : List ℕ) (long : length places ≡ 16)
     (small : (i : ℕ) → i < 16 → get_or places i 0 < 16) where
   pub may_look_up : SwzOk w8 16 16 0 places
@@ -42,7 +42,7 @@ module _ (places : List ℕ) (long : length places ≡ 16)
         ∙ ap (λ j. get_or table j 0) (omega arith);
   }
 
--- a lane that isn't 0 has its bit
+-- a byte that isn't 0 has its bit set
 pub marked : (v : List ℕ) (i : ℕ) → length v ≡ 16 → i < 16 → get_or v i 0 ≢ 0
     → bit_at (mask_l (map (top 7) (zip2 (λ a b. cond (not (eqb a b)) 255 0) v (replicate 16 0))) % 2 ^ 64) i ≡ 1
 marked v i long below some =

@@ -1,4 +1,5 @@
--- A register is the xor of its eight nibbles, and so is what zeros make of it.
+-- A register is the xor of its eight nibbles (groups of four bits), and the register after zeros is
+-- the xor of what follows from each.
 use Rattle.std.proofs.Common.{◌≡◌, ℕ, ◌+◌, ◌*◌, ◌/◌, ◌%◌, ◌^◌, ◌<◌, ◌≤◌, refl, sym, ap, ◌∙◌, arith}
 use Rattle.std.specs.Int.Bits.{bit_xor}
 use Rattle.std.proofs.lemmas.Nat.{mod-pow-add, mod_below, pow_pos, xor_comm, xor_mod}
@@ -9,14 +10,14 @@ use Rattle.parwindow.proofs.crc_laws.CrcLaws.{crc_steps-xor}
 use Rattle.parwindow.proofs.crc_laws.XorLaws.{xor_parts}
 use Rattle.parwindow.proofs.crc_laws.ZeroRunLaws.{crc_steps-nothing}
 
--- no nibble
+-- with no nibble, the register is 0
 pub word_none : (n r : ℕ) → 0 ≡ crc_steps n (r % 2 ^ (4 * 0))
 word_none n r = sym (ap (crc_steps n) (mod-one r) ∙ crc_steps-nothing n)
 
 pub low_none : (n r : ℕ) → 0 ≡ crc_steps n (r % 2 ^ (4 * 0)) % 256
 low_none n r = ap (λ x. x % 256) (word_none n r)
 
--- one nibble more
+-- one nibble more of the register is added
 pub word_more : (n r q out by : ℕ) → out ≡ crc_steps n (r % 2 ^ (4 * q))
     → by ≡ crc_steps n (r / 2 ^ (4 * q) % 16 * 2 ^ (4 * q))
     → bit_xor out by ≡ crc_steps n (r % 2 ^ (4 * (q + 1)))
@@ -40,7 +41,7 @@ low_more n r q low by so_far one =
     let more : ℕ = crc_steps n (r / 2 ^ (4 * q) % 16 * 2 ^ (4 * q)) in
     rw (so_far, one) (sym (xor_mod out more 8) ∙ ap (λ x. x % 256) (word_more n r q out more refl refl))
 
--- all of them
+-- with all eight nibbles, it is the whole register
 pub word_all : (n r out : ℕ) → r < 2 ^ 32 → out ≡ crc_steps n (r % 2 ^ (4 * 8)) → out ≡ crc_steps n r
 word_all n r out small is = is ∙ ap (crc_steps n) (mod-eq_of_lt small)
 
@@ -48,7 +49,7 @@ pub low_all : (n r low : ℕ) → r < 2 ^ 32 → low ≡ crc_steps n (r % 2 ^ (4
     → low ≡ crc_steps n r % 256
 low_all n r low small is = is ∙ ap (λ x. crc_steps n x % 256) (mod-eq_of_lt small)
 
--- a nibble at one of eight places is a register
+-- a nibble at one of the eight positions of a register fits into 32 bits
 pub nibble_small : (i : ℕ) → i < 128
     → i % 16 * 2 ^ (4 * (i / 16)) % 2 ^ 32 ≡ i % 16 * 2 ^ (4 * (i / 16))
 nibble_small i below =

@@ -1,4 +1,5 @@
--- The table: each entry is its index after eight steps, and a byte goes in by one look-up.
+-- The tables: each entry is its index after some steps, and a byte enters a
+-- register with one look-up.
 use Rattle.std.proofs.Common.{◌≡◌, ℕ, zero, suc, ◌*◌, ◌/◌, ◌%◌, ◌^◌, ◌<◌, Bool, true, List, get_or, ◌&&◌, eqb, refl, sym, ap, ◌∙◌, arith, inl, inr}
 use Rattle.std.specs.Int.Bits.{bit_and, bit_xor, xor_zero_r}
 use Rattle.std.proofs.lemmas.Bool.{and_parts, eqb-true, cases_lt}
@@ -10,7 +11,7 @@ use Rattle.parwindow.specs.declared.crcs.table.TheConstants.{STEPPED_BYTES, STEP
 use Rattle.parwindow.proofs.crc_laws.CrcLaws.{crc_step-even, crc_steps-xor, crc_steps-add, register_after-xor, in_first}
 use Rattle.parwindow.proofs.crc_laws.XorLaws.{xor_parts}
 
--- each of the first n entries is its index after so many steps
+-- each of the first n entries is its index after this number of steps
 abbrev pub agrees_below : ℕ → List ℕ → ℕ → Bool
 agrees_below steps table zero = true
 agrees_below steps table (suc n) = eqb (get_or table n 0)
@@ -36,7 +37,7 @@ twice_agrees : agrees_below 16 STEPPED_TWICE 256 ≡ true
 unfolding crc_step crc_steps
 twice_agrees = refl
 
--- steps of a number whose low bits are zeros only move it down
+-- steps of a number whose low bits are all zeros only shift it down
 pub crc_steps-high : (n high : ℕ) → crc_steps n (high * 2 ^ n) ≡ high
 unfolding crc_steps
 crc_steps-high zero high = omega arith
@@ -72,7 +73,7 @@ register_after-table r byte small =
     table_agrees low)
     ∙ sym (register_after-parts r byte small)
 
--- the same by any table of eight steps
+-- a byte enters a register with one look-up in any table of eight steps
 pub register_after-by : (table : List ℕ) (r byte : ℕ) → IsStepTable table 8 → byte < 256
     → bit_xor (r / 256) (get_or table (bit_and (bit_xor r byte) 255) 0) ≡ register_after r byte
 register_after-by table r byte steps small =
@@ -80,7 +81,7 @@ register_after-by table r byte steps small =
     ap (bit_xor (r / 256)) (steps (bit_and (bit_xor r byte) 255) low)
     ∙ sym (register_after-parts r byte small)
 
--- two bytes go in by two look-ups that do not wait for one another
+-- two bytes enter a register with two look-ups that don't wait for one another
 pub register_after-twice : (table two : List ℕ) (r a b : ℕ) → IsStepTable table 8
     → IsStepTable two 16
     → a < 256 → b < 256
@@ -103,7 +104,7 @@ register_after-twice table two r a b steps two_steps small_a small_b =
     ∙ ap (λ h. bit_xor (bit_xor h (get_or two (bit_and (bit_xor r a) 255) 0))
     (get_or table (bit_and (bit_xor (r / 256) b) 255) 0)) (sym shifted))
 
--- the two tables
+-- the two tables in the code
 pub steps_bytes : IsStepTable STEPPED_BYTES 8
 steps_bytes x below = agrees_at 8 STEPPED_BYTES 256 x table_agrees below
 

@@ -1,4 +1,4 @@
--- 2^32 - 1 steps change no register of 32 bits, so that zeros are taken back by more zeros.
+-- 2^32 - 1 steps change no register of 32 bits, so zeros are taken back by more zeros.
 use Rattle.std.proofs.Common.{◌≡◌, ℕ, zero, suc, ◌+◌, ◌-◌, ◌*◌, ◌/◌, ◌%◌, ◌^◌, ◌<◌, ◌≤◌, refl, sym, ap, ◌∙◌, inl, inr, arith}
 use Rattle.std.specs.Int.Bits.{bit_xor}
 use Rattle.std.specs.Int.{bit_at}
@@ -12,7 +12,7 @@ use Rattle.parwindow.proofs.crc_laws.ZeroRunLaws.{crc_steps_none, crc_steps-noth
 use Rattle.parwindow.proofs.crc_laws.TableLaws.{crc_steps-high}
 use Rattle.parwindow.proofs.crc_laws.XorLaws.{xor_parts}
 
--- a register of 32 bits stays one
+-- a register of 32 bits has 32 bits after a step
 crc_step-lt : (r : ℕ) → r < 2 ^ 32 → crc_step r < 2 ^ 32
 crc_step-lt r small =
     let half : r / 2 < 2 ^ 32 = omega (arith, small) in
@@ -27,7 +27,7 @@ unfolding crc_steps
 crc_steps-lt zero r small = small
 crc_steps-lt (suc n) r small = crc_steps-lt n (crc_step r) (crc_step-lt r small)
 
--- steps come in any order
+-- m steps and n steps may be taken in either order
 swapped : (m n r : ℕ) → crc_steps m (crc_steps n r) ≡ crc_steps n (crc_steps m r)
 swapped m n r =
     let e : n + m ≡ m + n = omega arith in
@@ -43,7 +43,7 @@ one_first n r =
     let e : 1 + n ≡ n + 1 = omega arith in
     sym (crc_steps-add 1 n r) ∙ ap (λ k. crc_steps k r) e
 
--- a register or none
+-- the steps of a register times a bit, which is the register or 0
 times_bit : (n r bit : ℕ) → bit < 2 → crc_steps n (r * bit) ≡ crc_steps n r * bit
 times_bit n r bit small = elim (cases_eq bit 1) [
   | inl set ↦ rw set (ap (crc_steps n) (mul-one r) ∙ sym (mul-one (crc_steps n r)))
@@ -53,7 +53,7 @@ times_bit n r bit small = elim (cases_eq bit 1) [
       ∙ sym (mul-zero (crc_steps n r)))
 ]
 
--- one bit more of a number
+-- the steps of a number, with one bit more of it
 bit_more : (n b i : ℕ) → crc_steps n (b % 2 ^ (i + 1))
     ≡ bit_xor (crc_steps n (b % 2 ^ i)) (crc_steps n (2 ^ i) * bit_at b i)
 bit_more n b i =
@@ -66,7 +66,7 @@ bit_more n b i =
     ∙ crc_steps-xor n (b % 2 ^ i) (2 ^ i * bit_at b i)
     ∙ ap (bit_xor (crc_steps n (b % 2 ^ i))) (times_bit n (2 ^ i) (bit_at b i) (bit_at-lt b i))
 
--- each bit comes of the highest one
+-- a single bit is the highest bit after some steps, so the same holds for it after n more
 from_highest : (n i : ℕ) → i < 32 → crc_steps n (2 ^ i) ≡ crc_steps (31 - i) (crc_steps n (2 ^ 31))
 from_highest n i below =
     let e : 31 ≡ i + (31 - i) = omega (arith, below) in
@@ -74,7 +74,7 @@ from_highest n i below =
     ∙ crc_steps-high (31 - i) (2 ^ i)))
     ∙ swapped n (31 - i) (2 ^ 31)
 
--- two such registers as polynomials, multiplied by the first bits of one of them
+-- the product of two registers as polynomials, for the first bits of the second one
 product : ℕ → ℕ → ℕ → ℕ
 product a b zero = 0
 product a b (suc i) = bit_xor (crc_step (product a b i)) (a * bit_at b i)
@@ -101,7 +101,7 @@ product_is n a b (suc i) is few =
     )))))
     ∙ sym (bit_more n b i))
 
--- the highest bit after 2^k - 1 steps
+-- the highest bit of a register, after 2^k - 1 steps
 highest_after : ℕ → ℕ
 highest_after zero = 2 ^ 31
 highest_after (suc k) = crc_step (product (highest_after k) (highest_after k) 32)
@@ -128,7 +128,7 @@ comes_round : highest_after 32 ≡ 2 ^ 31
 unfolding crc_step highest_after product
 comes_round = refl
 
--- so each register does
+-- since the highest bit returns after 2^32 - 1 steps, each register does
 bits_turn : (r i : ℕ) → i ≤ 32 → crc_steps 0xFFFFFFFF (r % 2 ^ i) ≡ r % 2 ^ i
 bits_turn r zero few =
     ap (crc_steps 0xFFFFFFFF) (mod-one r) ∙ crc_steps-nothing 0xFFFFFFFF ∙ sym (mod-one r)
@@ -158,7 +158,7 @@ turns_often (suc k) r small =
     ap (λ n. crc_steps n r) e ∙ crc_steps-add 0xFFFFFFFF (0xFFFFFFFF * k) r
     ∙ ap (crc_steps (0xFFFFFFFF * k)) (turns r small) ∙ turns_often k r small
 
--- zeros are taken back by as many more as are missing to 2^32 - 1
+-- zeros are taken back by appending the number of zeros that are missing to 2^32 - 1
 pub taken_back : (zeros r t : ℕ) → r < 2 ^ 32 → zeros ≤ 0xFFFFFFFF
     → crc_steps (8 * zeros) r ≡ t → crc_steps (8 * (0xFFFFFFFF - zeros)) t ≡ r
 taken_back zeros r t small few is =

@@ -1,4 +1,5 @@
--- A run of zero bytes is a linear map, known by what it makes of each bit.
+-- A run of zero bytes is a linear map of registers, given by the register that
+-- it makes of each bit.
 use Rattle.std.proofs.Common.{◌≡◌, ℕ, zero, suc, ◌+◌, ◌*◌, ◌/◌, ◌%◌, ◌^◌, ◌<◌, List, get_or, refl, sym, ap, ◌∙◌, inl, inr, arith, zero-add, length, set, ◌≢◌, below_more, get_or-set_same, get_or-set_other}
 use Rattle.std.proofs.Math.ListN.{length-set}
 use Rattle.std.specs.Int.Bits.{bit_and, bit_xor, xor_zero_r}
@@ -21,7 +22,7 @@ unfolding crc_steps crc_step
 crc_steps-nothing zero = refl
 crc_steps-nothing (suc n) = crc_steps-nothing n
 
--- one bit more of a number
+-- the lowest i + 1 bits of a number are its bit i and the bits below
 pub mod_more : (n i : ℕ) → n % 2 ^ (i + 1) ≡ bit_at n i * 2 ^ i + n % 2 ^ i
 mod_more n i = let e : i + 1 ≡ 1 + i = omega arith in rw e (mod-pow-add n 1 i)
 
@@ -68,7 +69,7 @@ apply_more_zero len r i out so_far clear =
     let bit : bit_at r i ≡ 0 = omega (arith, shr_and_one r i, bit_at-lt r i) in
     rw (mod_more r i, bit, zero-mul, zero-add) so_far
 
--- one bit more, by a product
+-- the register after the run, with one bit more of the register before it
 pub apply_more : (len r i c out : ℕ) → out ≡ crc_steps (8 * len) (r % 2 ^ i)
     → c ≡ crc_steps (8 * len) (2 ^ i)
     → bit_xor out (c * bit_and (r / 2 ^ i) 1) ≡ crc_steps (8 * len) (r % 2 ^ (i + 1))
@@ -103,7 +104,7 @@ pub fills_more : (f : ℕ → ℕ) (size : ℕ) (xs : List ℕ) (i v : ℕ) → 
 fills_more f size xs i v len within is below =
     (simp length-set len, fill_more f xs i v (omega arith) is below)
 
--- a run for each bit that is set in how many zeros there are
+-- the register after `count` zeros, with a run for each bit that is set in `count`
 module _ (count r i out : ℕ) (so_far : out ≡ crc_steps (8 * (count % 2 ^ i)) r) where
   pub run_more_set : (len next : ℕ) → len ≡ 2 ^ i → next ≡ crc_steps (8 * len) out
       → bit_and (count / 2 ^ i) 1 ≡ 1 → next ≡ crc_steps (8 * (count % 2 ^ (i + 1))) r

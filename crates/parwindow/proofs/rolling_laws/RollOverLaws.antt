@@ -1,4 +1,5 @@
--- Bytes are pushed into a full window: its register at each place, and where it stops.
+-- Bytes are pushed into a full window: the register of the window after each, and the point
+-- at which a roll stops.
 use Rattle.std.proofs.Common.{◌≡◌, ℕ, ◌+◌, ◌-◌, ◌<◌, ◌≤◌, List, [], ◌∷◌, ◌++◌, length, take, drop, get_or, true, false, refl, sym, ap, ◌∙◌, arith, add-one, add-zero, append_assoc, length-append, length-drop, length-take, drop-cons, get_or-drop, min, nat_eq, eq-eqb}
 use Rattle.std.proofs.lemmas.List.{take_more, take-append-drop, get_or_append_left, get_or-append-add, drop-append-le, append-nil, drop-drop}
 use Rattle.std.specs.Int.Bits.{bit_xor}
@@ -14,7 +15,7 @@ use Rattle.parwindow.proofs.rolling_laws.RollUntilLaws.{along, joined}
 drop_one : (xs : List ℕ) (k : ℕ) → k < length xs → drop k xs ≡ get_or xs k 0 ∷ drop (k + 1) xs
 drop_one xs k less = rw add-one (drop-cons xs k 0 less)
 
--- one byte more of those that come: the first byte goes
+-- when one byte more comes, the first byte of the window leaves
 pub window-more : (content bytes : List ℕ) (n k : ℕ) → length content ≡ n + 1 → k < length bytes
     → register_of (pushed_content content bytes (k + 1))
     ≡ rolled_register n (register_of (pushed_content content bytes k)) (get_or (content ++ bytes) k 0)
@@ -50,7 +51,7 @@ window-more content bytes n k full less =
     (removal_of (get_or (content ++ bytes) k 0) m)) others
     ∙ ap (λ l. bit_xor (register_of l) (removal_of (get_or (content ++ bytes) k 0) n)) (sym first))
 
--- a stretch of the way, from `base` on
+-- a stretch of the roll, from offset `base` on
 pub stretch : (content bytes gone come : List ℕ) (n r base count : ℕ) → length content ≡ n + 1
     → base + count ≤ length bytes
     → ((j : ℕ) → j < count → get_or (content ++ bytes) (base + j) 0 ≡ get_or gone j 0)
@@ -73,7 +74,8 @@ stretch content bytes gone come n r base count full within goes comes is k few =
     (comes j less)))
     k few
 
--- the first part of the window goes, then the second, and then the bytes themselves
+-- first the first part of the window leaves, then the second part, and then the
+-- pushed bytes themselves
 pub front_goes : (front back bytes : List ℕ) (n r : ℕ) → length (front ++ back) ≡ n + 1
     → r ≡ register_of (front ++ back)
     → (k : ℕ) → k ≤ min (length front) (length bytes)
@@ -192,7 +194,7 @@ bytes_part Has front back bytes n a b full within before missed short third =
     bytes n a.register full enough is) moved) in
     rw total at result
 
--- one push more, and one byte more of those that come
+-- one more push is one more of the bytes that come
 one_more : (w : WindowState) (bytes : List ℕ) (k : ℕ) → length w.content ≡ w.capacity
     → k < length bytes
     → content_after (record w { content = pushed_content w.content bytes k }) (get_or bytes k 0)

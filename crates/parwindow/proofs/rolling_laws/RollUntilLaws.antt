@@ -1,10 +1,10 @@
--- From place to place, up to the first whose register has a property.
+-- A roll goes from register to register, up to the first that has a property.
 use Rattle.std.proofs.Common.{◌≡◌, ◌⊎◌, ℕ, ◌+◌, ◌-◌, ◌<◌, ◌≤◌, true, false, Bool, refl, sym, ◌∙◌, inl, inr, arith, IsTrue, ◌↔◌}
 use Rattle.std.proofs.lemmas.Bool.{cases_lt}
 use Rattle.parwindow.specs.Rolling.{StopsAt}
 use Rattle.parwindow.specs.declared.rolling.roll.Roll.{Roll}
 
--- at place i, and at none of the places up to it has the register the property
+-- the register after i bytes, if neither it nor an earlier one has the property
 pub record GoesOn (Has : ℕ → Type 0) (at : ℕ → ℕ) (i : ℕ) (register : ℕ) : Type 0 where
   pub here : register ≡ at i
   pub none : (k : ℕ) → 0 < k → k ≤ i → ¬ Has (at k)
@@ -53,15 +53,15 @@ ends_at Has at i r s n false on is last tells =
     rw (← last) (ends Has at s (i + 1)
     (goes_on Has at i r s on is (λ has. let wrong : false ≡ true = tells.1 has in cc)))
 
--- a test that says it
+-- a test that returns whether a property holds
 pub told : (b has : Bool) → b ≡ has → IsTrue b ↔ IsTrue has
 told b has is = (λ yes. sym is ∙ yes, λ yes. is ∙ yes)
 
--- a test that failed
+-- if the test returns false, the property doesn't hold
 pub refuses : (b : Bool) (P : Type 0) → (IsTrue b ↔ P) → b ≡ false → ¬ P
 refuses b P tells missed has = let yes : b ≡ true = tells.1 has in cc
 
--- two places at once
+-- two registers at once
 pub goes_on_twice : (Has : ℕ → Type 0) (at : ℕ → ℕ) (i r s t : ℕ) → GoesOn Has at i r
     → s ≡ at (i + 1) → ¬ Has s
     → t ≡ at (i + 2) → ¬ Has t → GoesOn Has at (i + 2) t
@@ -79,7 +79,8 @@ stops_twice Has at i r s t n on is misses next_is has within =
     rw (← two) (stops Has at (i + 1) s t n (goes_on Has at i r s on is misses) (rw two next_is) has
     (omega arith))
 
--- one stretch after another
+-- a roll stops at the same point in registers that are equal up to n; and one stretch of a
+-- roll follows another
 pub along : (Has : ℕ → Type 0) (at other : ℕ → ℕ) (n : ℕ) (s : Roll)
     → ((k : ℕ) → k ≤ n → other k ≡ at k)
     → StopsAt Has other n s → StopsAt Has at n s
@@ -126,7 +127,7 @@ joined Has at m n a b missed first second =
       );
     })
 
--- where it stopped or came to the end
+-- a roll over m registers is a roll over n if it stopped with a hit or came to the end of n
 pub arrived : (Has : ℕ → Type 0) (at : ℕ → ℕ) (m n : ℕ) (s : Roll) → StopsAt Has at m s
     → (s.hit ≡ true) ⊎ (s.count ≡ n) → m ≤ n
     → StopsAt Has at n s

@@ -83,7 +83,7 @@ twice_by_two bytes two once twice n r x y u v steps two_steps removes two_remove
     (twice_by bytes two once twice n r x y u v steps two_steps removes two_removes x_in y_in u_in
     v_in)
 
--- the register rolls on by a byte, or two
+-- the register after one more byte, or two
 pub rolled_over-start : (n r : ℕ) (gone come : List ℕ) → rolled_over n r gone come 0 ≡ r
 unfolding rolled_over
 rolled_over-start n r gone come = refl
@@ -114,7 +114,8 @@ rolled_over-twice n r gone come k now next is moves =
     ∙ sym (rolled_over-more n r gone come (k + 1))
     ∙ ap (rolled_over n r gone come) (let two : k + 1 + 1 ≡ k + 2 = omega arith in two)
 
--- a register that rolls along a list of registers
+-- if each register of a list follows from the one before by a push, they are the
+-- registers of the roll
 pub rolled_over-along : (at : ℕ → ℕ) (n : ℕ) (gone come : List ℕ) (count : ℕ)
     → ((j : ℕ) → j < count → at (j + 1)
     ≡ rolled_register n (at j) (get_or gone j 0) (get_or come j 0))

@@ -1,4 +1,4 @@
--- Where the entries of each key begin.
+-- The index at which the entries of each key begin.
 use Rattle.std.proofs.Common.{◌≡◌, ℕ, ◌+◌, ◌-◌, ◌<◌, ◌≤◌, List, [], ◌∷◌, ◌++◌, length, get_or, eq-eqb, ne_eqb, refl, ap, ◌∙◌, inl, inr, arith, below_more, length-append}
 use Rattle.std.specs.List.{filter}
 use Rattle.std.specs.List.Sorted.{IsSorted}
@@ -10,14 +10,14 @@ use Rattle.parwindow.specs.Entries.{entry_cmp, entry_has_crc}
 use Rattle.parwindow.proofs.ListLaws.{filter_between, filter_twice}
 use Rattle.parwindow.proofs.slice_laws.LeastFromLaws.{crcs_rise}
 
--- the keys rise
+-- the keys of sorted entries are increasing
 pub keys_rise : (entries : List Entry) → IsSorted entry_cmp entries → (i j : ℕ) (d : Entry) → i ≤ j
     → j < length entries
     → key_of (get_or entries i d).crc ≤ key_of (get_or entries j d).crc
 keys_rise entries rises i j d up within =
     omega (arith, crcs_rise entries rises i j d up within)
 
--- all entries but the first ones have no key below the first one
+-- the entries of key 0 begin at index 0
 pub begins_first : (entries : List Entry) → BeginsKey entries 0 0
 begins_first entries = record {
   within = omega arith;
@@ -25,7 +25,7 @@ begins_first entries = record {
   after = λ k d low high. omega arith;
 }
 
--- the next key begins where the first entry with another one is
+-- the entries of the next key begin at the first entry that has another key
 pub begins_next : (entries : List Entry) (key from at : ℕ) → IsSorted entry_cmp entries
     → BeginsKey entries key from
     → from ≤ at
@@ -45,7 +45,8 @@ begins_next entries key from at rises first up within same other = record {
       omega (arith, more, keys_rise entries rises at k d low high);
 }
 
--- no other key begins where all entries from a place on have this one
+-- if all entries from an index on have this key, the entries of the next key begin
+-- at the end of the list
 pub begins_end : (entries : List Entry) (key from : ℕ) → BeginsKey entries key from
     → ((k : ℕ) (d : Entry) → from ≤ k → k < length entries
     → key_of (get_or entries k d).crc ≡ key)
@@ -59,7 +60,8 @@ begins_end entries key from first same = record {
   after = λ k d low high. absurd (omega arith);
 }
 
--- the entries of a key are those from where it begins up to where the next one does
+-- the entries of a key are those between the index at which it begins and the index at
+-- which the next key begins
 part_is : (entries : List Entry) (key from to : ℕ) → from ≤ to → BeginsKey entries key from
     → BeginsKey entries (key + 1) to
     → IsPart entries key from to
@@ -84,7 +86,7 @@ part_is entries key from to up first next =
           (λ same. absurd (omega (arith, next.after k d (omega arith) high, same))));
     }
 
--- the places at which the keys up to one begin, and the last one of them
+-- the list has the index at which each key up to `key` begins, and the last of these is `at`
 pub record StartsSoFar (entries : List Entry) (starts : List ℕ) (key at : ℕ) : Type 0 where
   pub each : length starts ≡ key + 1
   pub last : get_or starts key 0 ≡ at

@@ -1,4 +1,4 @@
--- The entries of an index, one slice at a time, and in another order.
+-- The entries of an index, with one slice more at a time, and in another order.
 use Rattle.std.proofs.Common.{◌≡◌, ℕ, ◌+◌, ◌<◌, ◌≤◌, get_or, List, [], ◌∷◌, ◌++◌, length, Some, None, cond, arith, inl, inr, refl, sym, ◌∙◌, length-append, Bool, false, eqb, ◌&&◌, add-zero}
 use Rattle.std.specs.Prelude.{All, Contains}
 use Rattle.std.specs.List.{count_by, range_with_len}
@@ -18,9 +18,9 @@ use Rattle.parwindow.specs.Entries.{IsEntryOf, IsIndexOf, HasSums, entry_has_crc
 use Rattle.parwindow.proofs.slice_laws.SearchLaws.{entry_of}
 use Rattle.parwindow.proofs.slice_laws.KnownSumsLaws.{sums_none, sums_same, sums_known, passes_within}
 
--- each slice with sums below a number has its entry, each entry is of a slice with sums, and of
--- each CRC-32 there are as many entries as slices below the number, whatever test their numbers
--- pass
+-- the entries of the slices below `number`: each such slice with known checksums has its entry,
+-- each entry belongs to one, and for each CRC-32 there is one entry for each of them that has it,
+-- whatever test the numbers pass
 pub record IndexSoFar (slices : List SetSlice) (number : ℕ) (entries : List Entry) : Type 0 where
   pub sound : All (IsEntryOf slices) entries
   pub complete : (n crc : ℕ) (digest : List ℕ) → n < number → HasSums slices n crc digest
@@ -39,7 +39,7 @@ index_all slices xs n whole ix = record {
   counts = λ test c. rw (← whole) (ix.counts test c);
 }
 
--- a slice without sums adds nothing
+-- a slice whose checksums aren't known adds no entry
 pub index_skip : (slices : List SetSlice) (xs : List Entry) (n : ℕ) (d : SetSlice)
     → n < length slices
     → (get_or slices n d).sums ≡ None
@@ -63,7 +63,7 @@ index_skip slices xs n empty within unknown ix = record {
   few = omega (arith, ix.few);
 }
 
--- a slice with sums adds its entry
+-- a slice whose checksums are known adds its entry
 pub index_push : (slices : List SetSlice) (xs : List Entry) (n : ℕ) (d : SetSlice) (md5 : Hash16)
     (sum : ℕ)
     → n < length slices
@@ -91,7 +91,7 @@ index_push slices xs n empty md5 sum within known ix = record {
   few = omega (arith, ix.few, length-append xs (entry_of sum md5.0 n ∷ []));
 }
 
--- the same entries in another order
+-- the same entries in another order are the entries of the same slices
 pub index_moved : (slices : List SetSlice) (xs ys : List Entry) → IsPermutation xs ys
     → IsIndexOf slices xs
     → IsIndexOf slices ys

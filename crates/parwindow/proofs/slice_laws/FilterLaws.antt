@@ -1,4 +1,4 @@
--- Bits that are set, and the slices that they are set for.
+-- Bits of a filter, and the slices that they are set for.
 use Rattle.std.proofs.Common.{◌≡◌, ℕ, ◌*◌, ◌/◌, ◌%◌, ◌^◌, ◌<◌, List, length, take, get_or, set, ◌+◌, true, false, Some, None, sym, ◌∙◌, inl, inr, arith, get_or-set_same, get_or-set_other, w64}
 use mir.Val.{bits}
 use Rattle.std.specs.Int.{Width, bit_at}
@@ -15,7 +15,7 @@ use Rattle.parwindow.specs.FilterBits.{MayHave, HasSlices}
 use Rattle.parwindow.specs.KeyBits.{HasBit}
 use Rattle.parwindow.specs.declared.slices.bloom_filter.BloomFilter.{BloomFilter}
 
--- a bit is set in one of some words
+-- setting a bit in one of some words
 module _ (w : Width) (words : List ℕ) (i bit : ℕ) (within : i < length words)
     (below : bit < bits w) where
   abbrev pub with_bit : List ℕ
@@ -36,7 +36,7 @@ module _ (w : Width) (words : List ℕ) (i bit : ℕ) (within : i < length words
     | inr apart ↦ rw get_or-set_other was
   ]
 
--- the words once the bit of a key is set
+-- the words after the bit of a key was set
 abbrev pub inserted : List ℕ → ℕ → List ℕ
 inserted words r = set words (r / 262144) (bit_or (get_or words (r / 262144) 0)
     (1 * 2 ^ (bit_and r 63) % 2 ^ 64))
@@ -53,7 +53,7 @@ insert-keeps words r other within was =
     with_bit-keeps w64 words (r / 262144) (bit_and r 63) within bit (other / 262144)
     (bit_and other 63) was
 
--- one slice more
+-- one slice more: the filter has it if its bits were set and all others stayed set
 has_more : (slices : List SetSlice) (i : ℕ) (d : SetSlice) (before after : BloomFilter)
     → i < length slices
     → HasSlices (take i slices) before → ((other : ℕ) → MayHave before other → MayHave after other)
@@ -67,7 +67,7 @@ has_more slices i d before after within has keeps marks crc any =
           ∙ any))
     ]
 
--- it has no sums
+-- if the slice's checksums aren't known, no bit is needed
 pub has_none : (slices : List SetSlice) (i : ℕ) (d : SetSlice) (filter : BloomFilter)
     → i < length slices
     → HasSlices (take i slices) filter → (get_or slices i d).sums ≡ None
@@ -76,7 +76,7 @@ has_none slices i d filter within has unknown =
     has_more slices i d filter filter within has (λ other was. was)
     (λ crc hit. let wrong : false ≡ true = rw unknown at hit in cc)
 
--- the bit of its register is set
+-- if they are known, the bits of the slice's register are needed
 pub has_some : (slices : List SetSlice) (i : ℕ) (d : SetSlice) (before after : BloomFilter)
     (md5 : Hash16) (sum : ℕ)
     → i < length slices

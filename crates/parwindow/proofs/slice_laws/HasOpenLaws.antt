@@ -1,4 +1,4 @@
--- Whether the slice of an entry has a length between two and isn't found.
+-- Whether the slice of an entry isn't found, and its length is between two bounds.
 use Rattle.std.proofs.Common.{◌≡◌, ℕ, ◌<◌, ◌≤◌, Bool, true, false, not, nat_le, List, length, get_or, sym, ◌∙◌, arith}
 use Rattle.std.proofs.lemmas.Bool.{and_parts, and_from, le-leb, leb-true, false_from_ne_true, not-true, not_from_false}
 use Rattle.std.proofs.lemmas.List.{get_or_default}
@@ -9,7 +9,7 @@ use Rattle.parwindow.specs.Entries.{is_between, is_open}
 use Rattle.parwindow.specs.Index.{slice_passes}
 use Rattle.parwindow.specs.Missing.{found_at}
 
--- a length between two
+-- a length between two bounds passes the test
 pub between : (least most : ℕ) (s : SetSlice) → least ≤ s.length → s.length ≤ most
     → is_between least most s ≡ true
 between least most s above below =
@@ -38,7 +38,7 @@ above_most least most s more =
           (and_parts (nat_le least s.length) (nat_le s.length most) h).1,
     )))
 
--- whether the slice of an entry is open
+-- whether the slice of an entry passes a test and isn't found
 module _ (slices : List SetSlice) (found : List Bool) (e : Entry)
     (there : e.slice < length slices) (each : length found ≡ length slices) where
   found_is : (b : Bool) → found_at found e.slice ≡ get_or found e.slice b

@@ -1,4 +1,4 @@
--- The sums of a slice that passes a test of them.
+-- The checksums of a slice that passes a test of them.
 use Rattle.std.proofs.Common.{◌≡◌, ℕ, zero, suc, ◌<◌, List, [], ◌∷◌, length, Option, Some, None, Bool, true, false, eqb, ◌&&◌, IsTrue, ◌↔◌, eq-eqb, refl, sym, inl, inr, arith}
 use Rattle.std.specs.Prelude.{IfSome}
 use Rattle.std.specs.List.{slice_get, list_any}
@@ -12,14 +12,14 @@ use Rattle.parwindow.specs.Entries.{HasSums}
 use Rattle.parwindow.specs.Index.{slice_passes, has_sums, has_known_crc}
 use Rattle.parwindow.specs.Least.{IsLeastFrom}
 
--- both sums of a slice are these
+-- a pair of checksums that passes the test for these two is equal to them
 both_same : (md5 : Hash16) (sum c : ℕ) (d : List ℕ) → (eqb sum c && bytes_eq md5.0 d) ≡ true
     → (sum ≡ c) × (md5.0 ≡ d)
 both_same md5 sum c d h =
     let parts = and_parts (eqb sum c) (bytes_eq md5.0 d) h in
     (eqb-true sum c parts.0, (bytes_eq-Decides md5.0 d).0 parts.1)
 
--- what is known of a slice with sums
+-- if a slice has these checksums and passes the test for others, they are the same
 pub sums_same : (slices : List SetSlice) (n c : ℕ) (d : List ℕ) (s : SetSlice) (md5 : Hash16)
     (sum : ℕ)
     → slice_get slices n ≡ Some s
@@ -44,7 +44,7 @@ sums_known slices n s md5 sum there known =
     let digest : bytes_eq md5.0 md5.0 ≡ true = (bytes_eq-Decides md5.0 md5.0).1 refl in
     rw (there, known, crc, digest) refl
 
--- a number that passes a test is that of a slice
+-- a number that passes a test is the number of a slice
 pub passes_within : (test : SetSlice → Bool) (slices : List SetSlice) (n : ℕ)
     → slice_passes slices test n ≡ true
     → n < length slices
@@ -58,7 +58,7 @@ pub found_within : (test : SetSlice → Bool) (slices : List SetSlice) (first : 
 found_within test slices first None least = tt
 found_within test slices first (Some n) least = passes_within test slices n least.passes
 
--- some slice has this CRC-32, and so it has some MD5 with it
+-- some slice has this CRC-32 exactly if some slice has it together with an MD5
 crc_of_sums : (o : Option (Hash16 × ℕ)) (c : ℕ) (d : List ℕ)
     → option_map_or (λ known. eqb known.1 c && bytes_eq known.0.0 d) o false ≡ true
     → option_map_or (λ (known : Hash16 × ℕ). eqb known.1 c) o false ≡ true
@@ -103,7 +103,7 @@ sums_from_any (s ∷ ss) c any =
           (suc found.0, (found.1.0, found.1.1))
     ]
 
--- two tests that say the same
+-- two tests that hold in the same cases are equal
 pub same_bools : (a b : Bool) → (IsTrue a ↔ IsTrue b) → a ≡ b
 same_bools true true h = refl
 same_bools true false h = sym (h.0 refl)

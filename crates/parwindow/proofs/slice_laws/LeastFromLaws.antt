@@ -1,4 +1,4 @@
--- The least number of the entries that have a CRC-32.
+-- The least number of the slices that have a CRC-32, found among their entries.
 use Rattle.std.proofs.Common.{◌≡◌, ℕ, ◌+◌, ◌-◌, ◌<◌, ◌≤◌, List, [], ◌∷◌, ◌++◌, length, take, drop, get_or, Option, Some, None, nat_lt, min, eqb, eq-eqb, true, false, refl, sym, ap, ◌∙◌, inl, inr, arith, length-drop, get_or-drop}
 use Rattle.std.specs.Prelude.{Contains}
 use Rattle.std.specs.List.{filter}
@@ -20,7 +20,7 @@ use Rattle.parwindow.proofs.slice_laws.KnownSumsLaws.{has_crc_at, crc_at}
 use Rattle.parwindow.proofs.slice_laws.WithCrcLaws.{AreWithCrc}
 use Rattle.parwindow.proofs.ListLaws.{filter_between}
 
--- one entry more
+-- the least number after one entry more
 least_from_none : (xs : List Entry) (from : ℕ) (e : Entry) → IsLeastOf xs from None
     → IsLeastOf (xs ++ e ∷ []) from (lesser from None e.slice)
 least_from_none xs from e below =
@@ -89,7 +89,7 @@ pub least_at : (xs : List Entry) (i : ℕ) (d : Entry) (from : ℕ) (least now :
 least_at xs i d from least now within is next =
     rw (next, take_more xs i d within) (least_more (take i xs) from least (get_or xs i d) is)
 
--- the CRC-32s rise
+-- the CRC-32s of sorted entries are increasing
 pub crcs_rise : (entries : List Entry) → IsSorted entry_cmp entries → (i j : ℕ) (d : Entry) → i ≤ j
     → j < length entries
     → (get_or entries i d).crc ≤ (get_or entries j d).crc
@@ -113,7 +113,7 @@ parted_below entries c rises i j d up within lower =
     let up_to = crcs_rise entries rises i j d up within in
     lt-ltb (get_or entries i d).crc c (omega (arith, less, up_to))
 
--- from the first entry on that is not below a CRC-32
+-- the entries from index `start` on: it is the index of the first entry whose CRC-32 is not below c
 module _ (entries : List Entry) (c start : ℕ) (rises : IsSorted entry_cmp entries)
     (first : IsPartitionPoint (λ (y : Entry). nat_lt y.crc c ≡ true)
     (λ (y : Entry). nat_lt y.crc c ≡ false)
@@ -159,7 +159,7 @@ module _ (entries : List Entry) (c start : ℕ) (rises : IsSorted entry_cmp entr
       (λ k d low high. rw (behind k d (omega arith)) at
       (second.1 (k - start) d (omega arith) (omega (arith, length-drop start entries))))
 
--- that is the least number of a slice that has the CRC-32
+-- the least number among the entries with a CRC-32 is the least number of a slice that has it
 pub next_crc_is : (slices : List SetSlice) (entries found : List Entry) (c from : ℕ)
     (least : Option ℕ)
     → IsIndexOf slices entries

@@ -8,11 +8,11 @@ use Rattle.parwindow.proofs.slice_laws.ShortSliceLaws.{HoldsOfShort}
 set_of-lt : (own : ℕ) → set_of own < 1024
 set_of-lt own = omega arith
 
--- the set of a length has a register
+-- the set of the length `own` has this register
 abbrev pub LowsHave : List LowSet → ℕ → ℕ → Type 0
 LowsHave sets own register = (set : LowSet) → HasLow (get_or sets (set_of own) set) register
 
--- one slice more
+-- the sets after the register of one slice more is put in
 module _ (size : ℕ) (slices : List SetSlice) (i : ℕ) (before after : List LowSet)
     (have : HaveLows size (take i slices) before) where
   pub held_lows : HoldsOfShort size (take i slices) (LowsHave before)

@@ -19,7 +19,7 @@ use Rattle.parwindow.proofs.slice_laws.OrderLaws.{entry_cmp_total}
 use Rattle.parwindow.proofs.slice_laws.SearchLaws.{entry_of}
 use Rattle.parwindow.proofs.slice_laws.UnlessFoundLaws.{and_assoc, and_swap, length-unless_found, passes_unless_found}
 
--- as many slices pass a test as numbers of slices that pass it
+-- the number of slices that pass a test is the number of slice numbers that pass it
 pub count_numbers : (test : SetSlice → Bool) (slices : List SetSlice)
     → count_by (slice_passes slices test) (range_with_len 0 (length slices)) ≡ count_by test slices
 count_numbers test [] = refl
@@ -28,7 +28,7 @@ count_numbers test (s ∷ ss) =
     ∙ (rw (count_range_rest (slice_passes (s ∷ ss) test) 0 (length ss), count_numbers test ss) refl)
     ∙ sym (sum_by-cons (λ x. cond (test x) 1 0) s ss)
 
--- as many entries have a CRC-32 as slices
+-- the number of entries that have a CRC-32 is the number of slices that have it
 pub count_slices : (slices : List SetSlice) (entries : List Entry) (c : ℕ) → IsIndexOf slices entries
     → count_by (entry_has_crc c) entries ≡ count_by (has_known_crc c) slices
 count_slices slices entries c ix = ix.counts (λ n. true) c ∙ count_numbers (has_known_crc c) slices
@@ -39,14 +39,15 @@ missing_rises entries found =
     sorted_filter (λ x y. is_lt (entry_cmp x y)) (ranks_by entry_cmp_total (λ (e : Entry). e))
     (is_unfound found) entries
 
--- each is of a slice
+-- each entry belongs to a slice
 pub entries_within : (slices : List SetSlice) (entries : List Entry) → IsIndexOf slices entries
     → All (λ (e : Entry). e.slice < length slices) entries
 entries_within slices entries ix k d within =
     let e = get_or entries k d in
     passes_within (has_sums (record { 0 = e.digest }, e.crc)) slices e.slice (ix.sound k d within)
 
--- they are the entries of the slices of which those that are found lose their checksums
+-- the entries of the slices that aren't found index the set in which all other
+-- slices have no checksums
 pub missing_index : (slices : List SetSlice) (found : List Bool) (entries : List Entry)
     → length found ≡ length slices
     → IsIndexOf slices entries

@@ -1,4 +1,4 @@
--- The slices that have a CRC-32 and fit, and their entries.
+-- The slices that have a CRC-32 and fit into the rest of a file, and their entries.
 use Rattle.std.proofs.Common.{◌≡◌, ℕ, zero, suc, ◌<◌, ◌≤◌, Bool, true, false, not, nat_le, eqb, eq-eqb, ◌&&◌, List, [], ◌∷◌, length, get_or, refl, sym, ap, ◌∙◌, arith, inl, inr, zero-add}
 use Rattle.std.specs.Prelude.{All, Contains}
 use Rattle.std.specs.List.{list_any, range_with_len}
@@ -17,7 +17,7 @@ use Rattle.parwindow.proofs.slice_laws.SearchLaws.{entry_of}
 use Rattle.parwindow.proofs.slice_laws.WithCrcLaws.{AreWithCrc}
 use Rattle.parwindow.proofs.slice_laws.KnownSumsLaws.{crc_at, has_crc_at, passes_within, same_bools}
 
--- a number below n passes a test
+-- if a number below n passes a test, some number below n does
 any_below : (p : ℕ → Bool) (n k : ℕ) → k < n → p k ≡ true → list_any p (range_with_len 0 n) ≡ true
 any_below p n k below h =
     list_any_at p (range_with_len 0 n) k 0 (omega (arith, length-range_with_len 0 n))
@@ -34,7 +34,7 @@ below_any p n h =
           ∙ sym (get_or-range_with_len 0 n some.0 some.1 below) ∙ some.3) ∙ some.4,
     )
 
--- slice n has the CRC-32 and passes another test, where one test says both
+-- slice n has the CRC-32 and passes another test; `whole` is the test for both
 module _ (whole test : SetSlice → Bool) (c : ℕ)
     (both : (s : SetSlice) → whole s ≡ (has_known_crc c s && test s)) where
   pub passes_both : (slices : List SetSlice) (n : ℕ)
@@ -50,7 +50,7 @@ module _ (whole test : SetSlice → Bool) (c : ℕ)
   passes_parts (s ∷ ss) zero h = and_parts (has_known_crc c s) (test s) (sym (both s) ∙ h)
   passes_parts (s ∷ ss) (suc n) h = passes_parts ss n h
 
--- where no slice has the CRC-32 none fits too
+-- if no slice has the CRC-32, none has it and fits
 pub no_fit : (slices : List SetSlice) (c left : ℕ) → list_any (has_known_crc c) slices ≡ false
     → list_any (has_fit_crc_of c left) slices ≡ false
 no_fit [] c left h = refl
@@ -59,12 +59,12 @@ no_fit (s ∷ ss) c left h = elim (cases_Bool (has_known_crc c s)) [
   | inr other ↦ rw other (no_fit ss c left (rw other at h))
 ]
 
--- a slice that fits is one from 0 on
+-- a slice fits if its length is from 0 to `left`
 pub fits_between : (c left : ℕ) (s : SetSlice)
     → has_fit_crc_of c left s ≡ (has_known_crc c s && is_between 0 left s)
 fits_between c left s = rw leb-zero refl
 
--- one that fits and has a length is one from there to there
+-- a slice fits and has the length `own` if its length is from `own` to `own`
 pub own_between : (c own left : ℕ) → own ≤ left → (s : SetSlice)
     → has_own own (has_fit_crc_of c left) s ≡ (has_known_crc c s && is_between own own s)
 own_between c own left fits s =
@@ -86,7 +86,7 @@ own_between c own left fits s =
           (le-leb s.length left (omega (arith, is, fits)))),
     )
 
--- one that is longer than what is left does not fit
+-- a slice longer than what is left doesn't fit
 pub own_past : (c own left : ℕ) → left < own → (s : SetSlice)
     → has_own own (has_fit_crc_of c left) s ≡ false
 own_past c own left past s =
@@ -106,7 +106,7 @@ passes_none test fails [] n = refl
 passes_none test fails (s ∷ ss) zero = fails s
 passes_none test fails (s ∷ ss) (suc n) = passes_none test fails ss n
 
--- if none passes, none that isn't found does
+-- if no slice passes a test, none that isn't found does
 pub none_unfound : (slices : List SetSlice) (found : List Bool) (test : SetSlice → Bool)
     → ((s : SetSlice) → test s ≡ false) → has_unfound slices found test ≡ false
 none_unfound slices found test fails =
@@ -171,7 +171,7 @@ module _ (slices : List SetSlice) (entries those : List Entry) (ix : IsIndexOf s
           and_from (slice_passes slices test k) (not (found_at found k)) fits.1 parts.1,
         )
 
-    -- the entries tell whether some slice isn't found
+    -- some entry's slice passes and isn't found exactly if some slice of the set does and isn't
     pub unfound_is : list_any (is_open slices found test) those ≡ has_unfound slices found whole
     unfound_is = same_bools (list_any (is_open slices found test) those)
         (has_unfound slices found whole) (open_unfound, unfound_open)

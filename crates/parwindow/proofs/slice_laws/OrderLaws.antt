@@ -1,4 +1,4 @@
--- An entry between two that share their sums shares them too.
+-- The order of entries: an entry between two that have the same checksums has them too.
 use Rattle.std.proofs.Common.{◌≡◌, ℕ, List, [], ◌∷◌, refl, sym, ap, ap₂, ◌∙◌, Ordering, Less, Equal, Greater}
 use Rattle.std.specs.Ordering.{nat_cmp, then_cmp, ordering_then, ordering_reverse}
 use Rattle.std.specs.Cmp.{IsTotalOrder}

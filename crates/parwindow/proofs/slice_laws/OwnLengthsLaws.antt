@@ -1,4 +1,4 @@
--- The shortest slice with a CRC-32.
+-- The shortest slice that has a CRC-32, and a binary search for a CRC-32 and a length.
 use Rattle.std.proofs.Common.{◌≡◌, ℕ, ◌<◌, ◌≤◌, true, false, nat_lt, nat_le, eqb, eq-eqb, List, length, get_or, Result, Ok, Err, Ordering, Less, Equal, Greater, refl, sym, ◌∙◌, inl, inr, arith}
 use Rattle.std.specs.Prelude.{is_ok}
 use Rattle.std.specs.Ordering.{nat_cmp, ordering_then, is_lt}
@@ -55,7 +55,7 @@ module _ (own : List OwnLength) (rises : IsSorted length_cmp own) where
   module _ (c left start : ℕ)
       (first : IsPartitionPoint (λ (y : OwnLength). nat_lt y.crc c ≡ true)
       (λ (y : OwnLength). nat_lt y.crc c ≡ false) own start) where
-    -- where one is within, the first one is
+    -- if some item has the CRC-32 and fits, the first one with this CRC-32 does
     some_within : list_any (is_within c left) own ≡ true → (d : OwnLength)
         → (start < length own) × (is_within c left (get_or own start d) ≡ true)
     some_within h d =
@@ -108,7 +108,7 @@ both_equal Greater b h = cc
 abbrev pub length_of : ℕ → ℕ → OwnLength
 length_of c l = record { crc = c; length = l }
 
--- a length that passes is the wanted one
+-- an item that passes the test is equal to the wanted one in the order
 is_the_one : (c l : ℕ) (x : OwnLength) → is_exactly c l x ≡ true
     → length_cmp x (length_of c l) ≡ Equal
 is_the_one c l x h =
@@ -120,7 +120,7 @@ is_the_one c l x h =
       tied_itself nat_cmp_total l,
     ) refl
 
--- what a search for a CRC-32 and a length finds
+-- the search for a CRC-32 and a length finds one exactly if some item has both
 pub exactly_from_search : (own : List OwnLength) → IsSorted length_cmp own → (c l : ℕ)
     (r : Result ℕ ℕ)
     → IsSearchInRange r (length own)
@@ -151,7 +151,7 @@ exactly_from_search own rises c l (Err at) range parted =
           let wrong : Greater ≡ Equal = sym more ∙ even in cc
     ]))
 
--- where no slice has the CRC-32, none of a length has
+-- if no slice has the CRC-32, no slice of any length has it
 pub no_own : (slices : List SetSlice) (c own : ℕ) → list_any (has_known_crc c) slices ≡ false
     → list_any (has_own own (has_known_crc c)) slices ≡ false
 no_own slices c own none =

@@ -1,4 +1,4 @@
--- What a binary search finds among the entries of an index.
+-- The result of a binary search among the entries of an index.
 use Rattle.std.proofs.Common.{◌≡◌, ℕ, ◌<◌, ◌≤◌, List, length, get_or, Ok, Err, Ordering, Less, Equal, Greater, false, true, refl, sym, ◌∙◌, arith, inl, inr}
 use Rattle.std.specs.Ordering.{nat_cmp, then_cmp, on, ordering_then, is_lt}
 use Rattle.std.specs.Cmp.Lexicographic.{slice_cmp}
@@ -63,7 +63,7 @@ module _ (entries : List Entry) (rises : IsSorted entry_cmp entries) (t : Entry)
             ];
       }
 
--- two entries with the same sums are ordered by their numbers
+-- two entries that have the same checksums are ordered by their slice numbers
 pub entry_cmp-same : (c : ℕ) (d : List ℕ) (m n : ℕ)
     → entry_cmp (entry_of c d m) (entry_of c d n) ≡ nat_cmp m n
 entry_cmp-same c d m n = rw (tied_itself nat_cmp_total c, tied_itself nat_list_cmp_total d) refl
@@ -78,7 +78,8 @@ module _ (slices : List SetSlice) (entries : List Entry) (c : ℕ) (d : List ℕ
     (ix : HasAllOf slices c d entries)
     (from at : ℕ)
     (lowest : IsFloor entries (entry_of c d from) at) where
-  -- a slice at or above `from` with these sums has its entry at `at` or after it
+  -- the entry of a slice that has these checksums, and a number from `from` on, is at
+  -- index `at` or after it
   reaches : (n : ℕ) (e : Entry) → from ≤ n → HasSums slices n c d
       → (at < length entries) × (entry_cmp (entry_of c d n) (get_or entries at e) ≡ Less → ⊥)
   reaches n e above has =
@@ -128,7 +129,7 @@ same_bytes xs ys h = (slice_eq-Decides Decides-eqb xs ys true h).0 refl
 pub other_bytes : (xs ys : List ℕ) → false ≡ pointwise eqb xs ys → xs ≡ ys → ⊥
 other_bytes xs ys h e = let q = (slice_eq-Decides Decides-eqb xs ys false h).1 e in cc
 
--- where entries rise, their CRC-32s do
+-- if entries are sorted, so are their CRC-32s
 first_not_less : (o p : Ordering) → is_lt (ordering_then o p) ≡ false → is_lt o ≡ false
 first_not_less Less p h = h
 first_not_less Equal p h = refl

@@ -1,4 +1,4 @@
--- What holds of the register of each short slice before its zeros, slice by slice.
+-- Facts about the register of each short slice before its padding, collected slice by slice.
 use Rattle.std.proofs.Common.{◌≡◌, ℕ, ◌+◌, ◌-◌, ◌*◌, ◌^◌, ◌<◌, ◌≤◌, List, length, take, get_or, true, false, Some, None, eqb, sym, ap, ◌∙◌, inl, inr, arith, IsTrue}
 use Rattle.std.specs.Int.Bits.{bit_xor}
 use Rattle.std.specs.List.{list_any}
@@ -11,8 +11,8 @@ use Rattle.parwindow.specs.FilterBits.{zeros_crc}
 use Rattle.parwindow.specs.Index.{has_known_crc, has_own}
 use Rattle.parwindow.proofs.crc_laws.XorLaws.{xor_laws}
 
--- it holds of each length below the slice size and each register of which the zeros up to that size
--- make the CRC-32 of a slice of this own length
+-- the fact holds for each length below the slice size and each register that zeros up to that size
+-- turn into the CRC-32 of a slice of this unpadded length
 abbrev pub HoldsOfShort : ℕ → List SetSlice → (ℕ → ℕ → Type 0) → Type 0
 HoldsOfShort size slices Holds =
     (own register : ℕ) → own < size → register < 2 ^ 32
@@ -22,7 +22,7 @@ HoldsOfShort size slices Holds =
 uninverted : (r ones : ℕ) → bit_xor (bit_xor r ones) ones ≡ r
 uninverted r ones = simp xor_laws
 
--- one slice more
+-- the step from the first i slices to the first i + 1
 module _ (size : ℕ) (slices : List SetSlice) (i : ℕ) (d : SetSlice) (Before After : ℕ → ℕ → Type 0)
     (within : i < length slices) (holds : HoldsOfShort size (take i slices) Before)
     (keeps : (own register : ℕ) → Before own register → After own register) where
@@ -47,20 +47,20 @@ module _ (size : ℕ) (slices : List SetSlice) (i : ℕ) (d : SetSlice) (Before 
       (has_known_crc (zeros_crc (size - own) register) (get_or slices i d)) hit in
       (eqb-true (get_or slices i d).length own parts.0, parts.1)
 
-  -- its sums aren't known
+  -- the slice's checksums aren't known
   pub short_none : (get_or slices i d).sums ≡ None → HoldsOfShort size (take (i + 1) slices) After
   short_none unknown = more (λ own register shorter small hit.
       let known = (both own register hit).1 in
       let wrong : false ≡ true = rw unknown at known in cc)
 
-  -- it is no shorter one
+  -- the slice isn't short
   pub short_whole : size ≤ (get_or slices i d).length
       → HoldsOfShort size (take (i + 1) slices) After
   short_whole long = more (λ own register shorter small hit.
       let same : (get_or slices i d).length ≡ own = (both own register hit).0 in
       absurd (omega (arith, long, same, shorter)))
 
-  -- the register before its zeros is taken in
+  -- the slice is short: the fact is needed for the register before its padding
   pub short_some : (md5 : Hash16) (sum mark : ℕ) → (get_or slices i d).sums ≡ Some (md5, sum)
       → ((r : ℕ) → r < 2 ^ 32 → crc_steps (8 * (size - (get_or slices i d).length)) r
       ≡ bit_xor sum 0xFFFFFFFF → mark ≡ r)

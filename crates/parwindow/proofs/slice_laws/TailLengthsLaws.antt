@@ -1,4 +1,5 @@
--- The own lengths below the slice size, sorted and each once, are those that pass a test.
+-- The unpadded lengths below the slice size, sorted and without repeats, are the
+-- numbers that pass a test.
 use Rattle.std.proofs.Common.{◌≡◌, ◌⊎◌, ℕ, zero, suc, ◌+◌, ◌-◌, ◌<◌, ◌≤◌, Bool, true, false, nat_lt, not, eqb, eq-eqb, List, [], ◌∷◌, length, refl, sym, ap, ◌∙◌, inl, inr, arith}
 use Rattle.std.specs.Prelude.{All, Contains, filter}
 use Rattle.std.specs.List.{dedup, list_any, range_with_len}
@@ -16,7 +17,7 @@ use Rattle.parset.specs.declared.recovery_set.SetSlice.{SetSlice}
 use Rattle.parwindow.specs.Index.{SliceSet, has_known_sums, has_own, slice_set_of, tails_of}
 use Rattle.parwindow.specs.TailLengths.{AreShortOf, TailsFit, is_short}
 
--- the first of a list or one of the rest
+-- an item of a list is its first one or in the rest
 first_or_rest : (x y : ℕ) (ys : List ℕ) → Contains (x ∷ ys) y → (x ≡ y) ⊎ Contains ys y
 first_or_rest x y ys (zero, below, is) = inl is
 first_or_rest x y ys (suc k, below, is) = inr (k, omega (arith, below), is)
@@ -33,7 +34,8 @@ rest_rises : (x : ℕ) (ys : List ℕ) → IsStrictlySortedBy nat_cmp (x ∷ ys)
 unfolding IsStrictlySortedBy
 rest_rises x ys rises = rises.1
 
--- the rest of the range being known, its first number passes
+-- the case that the first number of the range passes, if the result is known for
+-- the rest of the range
 with_first : (p : ℕ → Bool) (n lo : ℕ) (xs : List ℕ)
     → ((ys : List ℕ) → IsStrictlySortedBy nat_cmp ys
     → ((x : ℕ) → Contains ys x → (lo + 1 ≤ x) × (x < lo + 1 + n) × (p x ≡ true))
@@ -64,7 +66,7 @@ with_first p n lo (x ∷ ys) known rises sound complete passes =
     ]) in
     rw (same, ← rest) refl
 
--- a rising list of just the numbers of a range that pass a test
+-- an increasing list of exactly the numbers of a range that pass a test is the filtered range
 pub rising_is_filter : (p : ℕ → Bool) (n lo : ℕ) (xs : List ℕ) → IsStrictlySortedBy nat_cmp xs
     → ((x : ℕ) → Contains xs x → (lo ≤ x) × (x < lo + n) × (p x ≡ true))
     → ((x : ℕ) → lo ≤ x → x < lo + n → p x ≡ true → Contains xs x)
@@ -90,7 +92,7 @@ rising_is_filter p (suc n) lo xs rises sound complete =
           (λ x above below pass. complete x (omega (arith, above)) (omega (arith, below)) pass))
     ]
 
--- the lengths in any order, from the slices
+-- the short-slice lengths in the order of the slices
 module _ (size : ℕ) (slices : List SetSlice) (lengths : List ℕ)
     (own : All (λ slice. 0 < slice.length) slices) (are : AreShortOf size slices lengths) where
   pub short_sound : (x : ℕ) → Contains lengths x → (1 ≤ x) × (x < 1 + (size - 1))
@@ -140,7 +142,7 @@ module _ (size : ℕ) (slices : List SetSlice) (lengths : List ℕ)
       let place : Contains lengths there.1 = (there.0, there.2, there.3) in
       rw same at place
 
-  -- sorted, each once
+  -- the short-slice lengths, sorted and without repeats
   pub tails_are : (sorted : List ℕ) → IsPermutation lengths sorted → IsSorted nat_cmp sorted
       → dedup eqb sorted ≡ tails_of (slice_set_of size slices)
   tails_are sorted moved rises =
@@ -153,7 +155,7 @@ module _ (size : ℕ) (slices : List SetSlice) (lengths : List ℕ)
       (λ x above below any. Contains-dedup_nat sorted x
       (Contains-permutation lengths sorted x moved (short_complete x above below any)))
 
--- they rise, and each is below the size
+-- the lengths are increasing, and each is below the slice size
 range_rises : (n lo : ℕ) → IsStrictlyIncreasing (range_with_len lo n)
 range_rises n lo k below =
     let inside : k + 1 < n = omega (arith, below, length-range_with_len lo n) in
@@ -165,7 +167,7 @@ range_within n lo k d below =
     let inside : k < n = omega (arith, below, length-range_with_len lo n) in
     rw (get_or-range_with_len lo n k d inside) (omega arith, omega arith)
 
--- there are no more than bytes in a slice
+-- there are no more short-slice lengths than bytes in a slice
 pub few_tails : (set : SliceSet) → length (tails_of set) ≤ set.slice_size
 few_tails set =
     let p : ℕ → Bool = λ own. list_any (has_own own has_known_sums) set.slices in

@@ -1,4 +1,4 @@
--- The slices of which those that are found lose their checksums.
+-- The slices of a set, after those that are found lost their checksums.
 use Rattle.std.proofs.Common.{◌≡◌, ℕ, ◌+◌, ◌<◌, ◌≤◌, zero, suc, Bool, true, false, not, ◌&&◌, None, List, [], ◌∷◌, ◌++◌, length, map, take, get_or, refl, sym, ap, ◌∙◌, arith}
 use Rattle.std.specs.Prelude.{zip}
 use Rattle.std.proofs.lemmas.List.{length-map, get_or-map, take_more, take_all}
@@ -27,14 +27,14 @@ pub length-unless_found : (slices : List SetSlice) (found : List Bool) → lengt
 length-unless_found slices found each =
     omega (arith, length-map (zip slices found) unless_found, length-zip slices found)
 
--- a slice keeps its own length
+-- a slice keeps its unpadded length
 length_kept : (size : ℕ) (slice : SetSlice) (flag : Bool)
     → (0 < slice.length) × (slice.length ≤ size)
     → (0 < (unless_found (slice, flag)).length) × ((unless_found (slice, flag)).length ≤ size)
 length_kept size slice true own = own
 length_kept size slice false own = own
 
--- the slices of an index have its limits without the sums of some of them
+-- the slices of an index stay within its limits if some of them lose their checksums
 pub missing_good : (set : SliceSet) (found : List Bool) → length found ≡ length set.slices
     → IsSliceSet set → IsSliceSet (missing_set set found)
 missing_good set found each good =
@@ -55,8 +55,8 @@ missing_good set found each good =
           (good.own i d.0 inside)));
     }
 
--- the slices without the checksums of those that are found pass a test of checksums if they aren't
--- found and pass it with them
+-- if no slice without checksums passes a test, slice n passes it after those that are found lost
+-- their checksums exactly if it isn't found and passed before
 pub passes_unless_found : (test : SetSlice → Bool)
     → ((s : SetSlice) → test (record s { sums = None }) ≡ false)
     → (slices : List SetSlice) (found : List Bool) (n : ℕ) → length found ≡ length slices
@@ -70,7 +70,7 @@ passes_unless_found test none (s ∷ ss) (false ∷ fs) zero each = refl
 passes_unless_found test none (s ∷ ss) (f ∷ fs) (suc n) each =
     passes_unless_found test none ss fs n (omega arith)
 
--- one slice more
+-- the list so far, followed by one slice more
 pub unless_found_more : (slices : List SetSlice) (found : List Bool) (list : List SetSlice) (i : ℕ)
     (d : SetSlice) → length found ≡ length slices → i < length slices
     → list ≡ take i (map unless_found (zip slices found))

@@ -10,7 +10,7 @@ use Rattle.parwindow.specs.Entries.{entry_has_crc, HasAllOf, IsEntryOf, IsIndexO
 use Rattle.parwindow.proofs.ListLaws.{contains_filter}
 use Rattle.parwindow.proofs.slice_laws.SearchLaws.{entry_of}
 
--- these are the entries that have a CRC-32
+-- `found` has exactly the entries that have this CRC-32
 pub record AreWithCrc (entries : List Entry) (crc : ℕ) (found : List Entry) : Type 0 where
   pub sound : All (λ e. Contains entries e × (e.crc ≡ crc)) found
   pub complete : (e : Entry) → Contains entries e → e.crc ≡ crc → Contains found e
@@ -26,7 +26,7 @@ with_crc entries c = record {
       there.1 there.2;
 }
 
--- they have each slice with this CRC-32 and an MD5
+-- for each slice that has this CRC-32 and an MD5, they have its entry
 pub has_all : (slices : List SetSlice) (entries found : List Entry) (c : ℕ) (d : List ℕ)
     → IsIndexOf slices entries → AreWithCrc entries c found → HasAllOf slices c d found
 has_all slices entries found c d ix are = record {

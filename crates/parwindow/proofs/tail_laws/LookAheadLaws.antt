@@ -1,4 +1,4 @@
--- Tails of which some look ahead.
+-- Tails that look ahead, one after another.
 use Rattle.std.proofs.Common.{◌≡◌, ◌≢◌, ℕ, ◌+◌, ◌<◌, ◌≤◌, List, length, get_or, set, inl, inr, refl, sym, ap, ◌∙◌, arith, get_or-set_same, get_or-set_other}
 use Rattle.std.proofs.lemmas.Bool.{cases_lt}
 use Rattle.std.proofs.lemmas.List.{get_or_default, length-map}
@@ -12,7 +12,7 @@ use Rattle.parwindow.specs.declared.tails.tail.Tail.{Tail}
 use Rattle.parwindow.proofs.tail_laws.RollAlongLaws.{tail_passed}
 use Rattle.parwindow.proofs.tail_laws.RollTailsLaws.{rolled_tail}
 
--- as many lengths are as many tails
+-- if two lists of tails have the same lengths, they have the same number of tails
 pub as_long : (a b : List Tail) → tail_lengths_of a ≡ tail_lengths_of b → length a ≡ length b
 as_long a b same =
     sym (length-map a (λ (tail : Tail). tail.length)) ∙ ap length same
@@ -35,10 +35,10 @@ module _ (tails : List Tail) (k : ℕ) (t e : Tail) (below : k < length tails)
     ]
   ]
 
--- one tail looks ahead, and the others stay
+-- one tail looks ahead, and the others stay as they are
 module _ (slices : SliceSet) (content bytes : List ℕ) (now after : List Tail) (k : ℕ)
     (keeps : (j : ℕ) (d : Tail) → AreOneTail (get_or after j d) (get_or now j d)) where
-  -- each is still a tail of the content
+  -- each tail is still right for the content
   pub look_each : (size : ℕ) → tail_lengths_of after ≡ tail_lengths_of now
       → All (IsTail size content) now → All (IsTail size content) after
   look_each size lengths are j d below =
@@ -47,7 +47,8 @@ module _ (slices : SliceSet) (content bytes : List ℕ) (now after : List Tail) 
       rolled_tail size content content (get_or now j d) (get_or after j d) was is.length is.zeros
       (is.register ∙ was.rolled)
 
-  -- no more places are passed than by those before it, and all tails pass them
+  -- no more bytes are passed than by the tails before this one, and if these are all bytes, this
+  -- tail passes them too
   pub look_more : (t : Tail) (limit passed : ℕ) (s : Roll) → k < length now → t ≡ get_or now k t
       → ((j : ℕ) (d : Tail) → j ≢ k → get_or after j d ≡ get_or now j d)
       → ((d : Tail) → (get_or after k d).ahead ≡ s.register) → limit ≤ length bytes

@@ -1,5 +1,5 @@
--- The shortest length from one on whose bytes and zeros have the CRC-32 of a slice, looked for
--- length by length.
+-- The search for the least short-slice length, from one on, whose bytes and zeros have the CRC-32
+-- of a slice: length by length.
 use Rattle.std.proofs.Common.{◌≡◌, ℕ, zero, suc, ◌+◌, ◌-◌, ◌<◌, ◌≤◌, ◌++◌, Bool, true, false, ◌&&◌, nat_le, List, [], ◌∷◌, length, take, drop, fold, min, get_or, refl, sym, ap, ◌∙◌, arith, inl, inr, None, Some}
 use Rattle.std.specs.List.{find}
 use Rattle.std.proofs.lemmas.Bool.{cases_Bool, false_from_ne_true, leb-true, le-leb}
@@ -15,7 +15,7 @@ use Rattle.parwindow.specs.Tails.{is_tail_slice}
 use Rattle.parwindow.specs.Window.{AreTails}
 use Rattle.parwindow.proofs.tail_laws.TailContentLaws.{tail_crc_is}
 
--- the first element that passes, if none before it does
+-- the first element that passes a test, if none before it does
 find_at : (p : ℕ → Bool) (xs : List ℕ) (k : ℕ) → k < length xs → find p (take k xs) ≡ None → p (get_or xs k 0) ≡ true → find p xs ≡ Some (get_or xs k 0)
 find_at p [] k there none passes = absurd (omega arith)
 find_at p (x ∷ xs) zero there none passes = rw passes refl
@@ -24,7 +24,7 @@ find_at p (x ∷ xs) (suc k) there none passes = elim (cases_Bool (p x)) [
   | inr fails ↦ rw fails (find_at p xs k (omega arith) (rw fails at none) passes)
 ]
 
--- one more that doesn't pass
+-- one more element that doesn't pass
 find_more : (p : ℕ → Bool) (xs : List ℕ) (k : ℕ) → k < length xs → find p (take k xs) ≡ None → p (get_or xs k 0) ≡ false → find p (take (suc k) xs) ≡ None
 find_more p [] k there none fails = absurd (omega arith)
 find_more p (x ∷ xs) zero there none fails = rw fails refl
@@ -33,7 +33,8 @@ find_more p (x ∷ xs) (suc k) there none fails = elim (cases_Bool (p x)) [
   | inr not ↦ rw not (find_more p xs k (omega arith) (rw not at none) fails)
 ]
 
--- of two lists in a row, as many elements are dropped of each as it has
+-- dropping n elements of two joined lists drops from the first list what it has, and the remaining
+-- number from the second
 pub drop_both : (n : ℕ) (xs ys : List ℕ) → drop n (xs ++ ys) ≡ drop n xs ++ drop (n - length xs) ys
 drop_both zero [] ys = refl
 drop_both (suc n) [] ys =
@@ -46,11 +47,11 @@ drop_both (suc n) (x ∷ xs) ys =
     let same : n - length xs ≡ suc n - suc (length xs) = omega arith in
     drop_both n xs ys ∙ ap (λ m. drop n xs ++ drop m ys) same
 
--- what is left of a list from a place on
+-- the rest of a list from index m on
 rest_of_list : (m : ℕ) (xs : List ℕ) → take (length xs - m) (drop m xs) ≡ drop m xs
 rest_of_list m xs = take_all (length xs - m) (drop m xs) (omega (arith, length-drop m xs))
 
--- the register after bytes in two parts, from a place on
+-- the register after bytes that are in two parts, from index `done` on
 pub register_on : (front back bytes : List ℕ) (done m n register : ℕ) → front ++ back ≡ bytes → m ≡ min done (length front) → n ≡ min (done - m) (length back)
     → fold register_after (fold register_after register (take (length front - m) (drop m front))) (take (length back - n) (drop n back))
     ≡ fold register_after register (drop done bytes)
@@ -64,7 +65,8 @@ register_on front back bytes done m n register is first second =
     ∙ sym (fold-append register_after register (drop done front) (drop (done - length front) back))
     ∙ ap (fold register_after register) (sym (drop_both done front back) ∙ ap (drop done) is)
 
--- no length of the first k passes, and the register is that of as many bytes as the last of these
+-- none of the first k lengths passes, and the register is the one after the first `done` bytes;
+-- `done` is the last of these lengths
 pub record NextTailSoFar (set : SliceSet) (content : List ℕ) (from : ℕ) (tails : List ℕ) (k done register : ℕ) : Type 0 where
   pub rolled : register ≡ register_of (take done content)
   pub before : (j : ℕ) → k ≤ j → j < length tails → done ≤ get_or tails j 0
@@ -78,7 +80,7 @@ module _ (set : SliceSet) (content : List ℕ) (from : ℕ) (tails : List ℕ) (
   unfolding register_of
   next_init = record { rolled = refl; before = λ j later there. omega arith; none = refl }
 
-  -- the next length
+  -- the step to the next length
   module _ (k done register after : ℕ)
       (so_far : NextTailSoFar set content from tails k done register) (there : k < length tails)
       (rolls : after ≡ fold register_after register (drop done (take (get_or tails k 0) content))) where
@@ -114,7 +116,7 @@ module _ (set : SliceSet) (content : List ℕ) (from : ℕ) (tails : List ℕ) (
           rw next (find_more test tails k there so_far.none fails);
     }
 
-    -- it is the first one
+    -- it is the first one that passes
     pub next_found : from ≤ own
         → set_has_own_crc set (zeros_crc (set.slice_size - own) after) own ≡ true
         → Some own ≡ find (λ own. nat_le from own && is_tail_slice set set.slice_size content own) tails
@@ -123,14 +125,14 @@ module _ (set : SliceSet) (content : List ℕ) (from : ℕ) (tails : List ℕ) (
         let is : is_tail_slice set set.slice_size content own ≡ true = sym own_test ∙ hit in
         sym (find_at test tails k there so_far.none (rw (passes, is) refl))
 
-    -- it is too short
+    -- the length is too short: it is below `from`
     pub next_early : own < from → NextTailSoFar set content from tails (k + 1) own after
     next_early early =
         let fails : nat_le from own ≡ false = false_from_ne_true (nat_le from own) (λ h.
         let late : from ≤ own = leb-true from own h in absurd (omega (arith, early))) in
         more (ap (λ b. b && is_tail_slice set set.slice_size content own) fails)
 
-    -- no slice of it has this CRC-32
+    -- no slice of this length has the CRC-32
     pub next_missed : set_has_own_crc set (zeros_crc (set.slice_size - own) after) own ≡ false
         → NextTailSoFar set content from tails (k + 1) own after
     next_missed none =

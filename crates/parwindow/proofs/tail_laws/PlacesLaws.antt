@@ -1,4 +1,5 @@
--- The registers of tails, by a running register where their bytes begin and where they end.
+-- The registers of tails, computed from the running registers at the offsets at which their
+-- bytes begin and end.
 use Rattle.std.proofs.Common.{◌≡◌, ◌≢◌, ℕ, ◌+◌, ◌-◌, ◌*◌, ◌/◌, ◌%◌, ◌^◌, ◌<◌, ◌≤◌, List, ◌++◌, true, false, Bool, length, take, drop, fold, get_or, refl, sym, ap, ◌∙◌, inl, inr, arith, length-append, length-drop, length-take, shr-shr}
 use Rattle.std.specs.Int.{bit_at}
 use Rattle.std.specs.Int.Bits.{bit_and, bit_xor}
@@ -18,7 +19,7 @@ use Rattle.parwindow.proofs.crc_laws.CrcLaws.{fold-register_after-xor}
 use Rattle.parwindow.proofs.crc_laws.XorLaws.{xor_laws}
 use Rattle.parwindow.proofs.tail_laws.RollAlongLaws.{own_front}
 
--- where a register is in a set, the bytes at its nibbles share a bit
+-- if a register is in a set, the bytes that its nibbles choose have a bit in common
 pub low_marked : (set : LowSet) (r low high : ℕ) → low ≡ get_or set.low (bit_and r 15) 0
     → high ≡ get_or set.high (bit_and (r / 2 ^ 4) 15) 0 → HasLow set r
     → bit_and low high ≢ 0
@@ -41,7 +42,7 @@ given_back r ones = simp xor_laws
 taken_out : (own z : ℕ) → bit_xor (bit_xor own z) z ≡ own
 taken_out own z = simp xor_laws
 
--- the register of some bytes, from a running one before and after them
+-- the register of some bytes, computed from the running registers before and after them
 module _ (start : ℕ) (items bytes : List ℕ) (own k : ℕ) (few : own ≤ length items)
     (within : k ≤ length bytes) where
   pub own_ended : own_register own items bytes k
@@ -69,7 +70,7 @@ module _ (start : ℕ) (items bytes : List ℕ) (own k : ℕ) (few : own ≤ len
       sym (ap (λ x. bit_xor x (crc_steps (8 * own) (bit_xor r 0xFFFFFFFF))) end
       ∙ taken_out (own_register own items bytes k) (crc_steps (8 * own) (bit_xor r 0xFFFFFFFF)))
 
--- so it is at each place after the first
+-- the same at each offset after the first one
 pub ended_at : (start own limit : ℕ) (items bytes registers fronts ends : List ℕ)
     → own < length items → limit ≤ length bytes → limit ≤ 512
     → RunsOver start (items ++ bytes) registers
@@ -93,7 +94,7 @@ ended_at start own limit items bytes registers fronts ends shorter within few ru
     ∙ runs.each (own + k) (omega (arith, length-append items bytes)) in
     rw (front_is, end_is) (sym (own_ended start items bytes own k (omega arith) (omega arith)))
 
--- the same stops, if the registers are the same after the first place
+-- a roll stops at the same point in two lists of registers that agree after the first one
 pub stops_after : (Has : ℕ → Type 0) (at other : ℕ → ℕ) (n : ℕ) (s : Roll) → 0 < n
     → ((k : ℕ) → 0 < k → k ≤ n → other k ≡ at k) → StopsAt Has other n s → StopsAt Has at n s
 stops_after Has at other n s some same stops =
@@ -112,7 +113,7 @@ stops_after Has at other n s some same stops =
     came true is = (stops.found is).0
     came false is = omega (arith, (stops.ended is).0, some)
 
--- a register that has the property, at none of the places before
+-- a roll stops at register i if it has the property and none before it has
 pub stop_at : (Has : ℕ → Type 0) (at : ℕ → ℕ) (n i r : ℕ) → i < n
     → ((k : ℕ) → k < i → ¬ Has (at k)) → Has (at i) → r ≡ at i
     → StopsAt Has (λ k. at (k - 1)) n (record { count = i + 1; register = r; hit = true })
@@ -125,7 +126,7 @@ stop_at Has at n i r less none has is =
       ended = λ wrong. cc;
     }
 
--- or all places passed
+-- a roll that goes to the end, if no register has the property
 pub stop_none : (Has : ℕ → Type 0) (at : ℕ → ℕ) (n r : ℕ) → 0 < n
     → ((k : ℕ) → k < n → ¬ Has (at k)) → r ≡ at (n - 1)
     → StopsAt Has (λ k. at (k - 1)) n (record { count = n; register = r; hit = false })
@@ -137,7 +138,7 @@ stop_none Has at n r some none is = record {
   ended = λ _. (refl, λ up. none (n - 1) (omega arith));
 }
 
--- more places without the property
+-- no register below `to` has the property, if none below `at` has and none from there up to `to`
 pub none_more : (Has : ℕ → Type 0) (at to : ℕ) → ((i : ℕ) → i < at → ¬ Has i)
     → ((i : ℕ) → at ≤ i → i < to → ¬ Has i) → (i : ℕ) → i < to → ¬ Has i
 none_more Has at to before here i below = elim (cases_lt i at) [
@@ -145,7 +146,7 @@ none_more Has at to before here i below = elim (cases_lt i at) [
   | inr late ↦ here i late below
 ]
 
--- those without a mark
+-- registers without a mark don't have the property
 pub none_marked : (Has : ℕ → Type 0) (at to marks : ℕ) → to ≤ at + 16
     → ((i : ℕ) → i < 16 → Has (at + i) → bit_at marks i ≡ 1) → marks ≡ 0
     → (i : ℕ) → at ≤ i → i < to → ¬ Has i
@@ -155,7 +156,7 @@ none_marked Has at to marks few marked empty i from below has =
     let wrong : bit_at 0 (i - at) ≡ 1 = ap (λ x. bit_at x (i - at)) (sym empty) ∙ bit in
     absurd (omega (arith, wrong))
 
--- no bit is left
+-- if all bits from number i on are 0, bit j is 0
 pub none_left : (n i j : ℕ) → n / 2 ^ i ≡ 0 → i ≤ j → bit_at n j ≡ 0
 none_left n i j none up =
     let sum : i + (j - i) ≡ j = omega arith in
@@ -163,7 +164,7 @@ none_left n i j none up =
     ∙ ap (λ x. x % 2) (sym (shr-shr n i (j - i)) ∙ ap (λ x. x / 2 ^ (j - i)) none)
     ∙ bit_at-zero (j - i)
 
--- a place without a mark
+-- a register whose mark is 0 doesn't have the property
 pub unmarked : (Has : ℕ → Type 0) (at marks i : ℕ) → i - at < 16 → at ≤ i
     → ((k : ℕ) → k < 16 → Has (at + k) → bit_at marks k ≡ 1) → bit_at marks (i - at) ≡ 0 → ¬ Has i
 unmarked Has at marks i few from marked clear has =

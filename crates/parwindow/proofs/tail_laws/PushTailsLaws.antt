@@ -1,4 +1,4 @@
--- The register of the first bytes of a window, as a byte comes and another goes.
+-- The register of the first bytes of a window, when a byte comes and another one leaves.
 use Rattle.std.proofs.Common.{◌≡◌, ℕ, zero, suc, ◌+◌, ◌-◌, ◌<◌, ◌≤◌, ◌≢◌, Option, List, [], ◌∷◌, ◌++◌, length, take, drop, get_or, set, refl, sym, ap, ◌∙◌, inl, inr, arith, length-append, length-take, get_or-set_same, get_or-set_other}
 use Rattle.std.proofs.Math.Seq.{map-set_same, take-append_seam}
 use Rattle.std.specs.List.{slice_get}
@@ -20,13 +20,13 @@ use Rattle.parwindow.specs.declared.tails.tail.Tail.{Tail}
 use Rattle.parwindow.proofs.crc_laws.CrcLaws.{register_of-push}
 use Rattle.parwindow.proofs.window_laws.PushLaws.{once_rolled, keep_last-full, keep_last-room, register_of-rolled}
 
--- the content once a byte comes
+-- the content after a byte came
 abbrev pub moved : List ℕ → ℕ → ℕ → List ℕ
 moved items cap y = keep_last cap (items ++ y ∷ [])
 
 module _ (items : List ℕ) (cap own y r : ℕ) (is : r ≡ register_of (take own items))
     (some : 0 < own) (shorter : own < cap) where
-  -- while there are fewer bytes, it takes each
+  -- as long as the window has fewer bytes than the tail's length, its register takes in each
   pub tail_grows : length items < own
       → register_after r y ≡ register_of (take own (moved items cap y))
   tail_grows fewer =
@@ -37,7 +37,7 @@ module _ (items : List ℕ) (cap own y r : ℕ) (is : r ≡ register_of (take ow
       let all : take own items ≡ items = take_all own items (omega arith) in
       rw (room, whole, is, all) (sym (register_of-push items y))
 
-  -- it stays until the window is full
+  -- after that, it stays the same until the window is full
   pub tail_stays : own ≤ length items → length items < cap
       → r ≡ register_of (take own (moved items cap y))
   tail_stays enough less =
@@ -45,7 +45,7 @@ module _ (items : List ℕ) (cap own y r : ℕ) (is : r ≡ register_of (take ow
       keep_last-room items cap y less in
       rw (room, take-append-le own items (y ∷ []) enough) is
 
--- and then it rolls
+-- when the window is full, it rolls
 slides_on : (x : ℕ) (b : List ℕ) (m y : ℕ) → m < length b
     → rolled_register m (register_of (x ∷ take m b)) x (get_or b m 0)
     ≡ register_of (take (m + 1) (b ++ y ∷ []))
@@ -67,20 +67,20 @@ tail_rolls (x ∷ b) cap (suc m) y r is some shorter full =
     rw (before, is, keep_last-full x b cap y (omega arith))
     (slides_on x b m y (omega arith) ∙ ap (λ n. register_of (take n (b ++ y ∷ []))) (sym next))
 
--- of no bytes
+-- the register of no bytes
 pub register_of-none : (n : ℕ) → register_of (take n []) ≡ 0xFFFFFFFF
 unfolding register_of
 register_of-none zero = refl
 register_of-none (suc n) = refl
 
--- what is read of a list
+-- the byte that is read of a list
 pub read_at : (items : List ℕ) (i read : ℕ) (found copied : Option ℕ) → i < length items
     → found ≡ slice_get items i → copied ≡ found → read ≡ unwrap_or copied 0
     → read ≡ get_or items i 0
 read_at items i read found copied inside get copy is =
     is ∙ ap (λ o. unwrap_or o 0) (copy ∙ get ∙ slice_get-get_or items i 0 inside)
 
--- by its table
+-- rolling the register with its table
 pub tail_rolled : (removed : List ℕ) (own r x y : ℕ) → 0 < own → IsRemovalTable removed own → x < 256
     → bit_xor (register_after r y) (get_or removed x 0) ≡ rolled_register (own - 1) r x y
 tail_rolled removed own r x y some removes small =
@@ -88,12 +88,12 @@ tail_rolled removed own r x y some removes small =
     ap (bit_xor (register_after r y)) (removes x small ∙ ap (removal_of x) e)
     ∙ once_rolled (own - 1) r x y
 
--- the first tails have moved, and the others not yet
+-- the first k tails were moved, and the others not yet
 pub record MovedSoFar (cap : ℕ) (before after : List ℕ) (tails : List Tail) (k : ℕ) : Type 0 where
   pub moved : (j : ℕ) (d : Tail) → j < k → IsTail cap after (get_or tails j d)
   pub others : (j : ℕ) (d : Tail) → k ≤ j → j < length tails → IsTail cap before (get_or tails j d)
 
--- one tail more has moved
+-- one tail more was moved
 module _ (tails : List Tail) (k : ℕ) (t e : Tail) (below : k < length tails)
     (length_is : t.length ≡ (get_or tails k e).length) where
   pub lengths_more : tail_lengths_of (set tails k t) ≡ tail_lengths_of tails
@@ -126,7 +126,7 @@ module _ (tails : List Tail) (k : ℕ) (t e : Tail) (below : k < length tails)
       } in
       moved_to cap before after now so_far
 
--- one tail more of a window without bytes
+-- one tail more for a window without bytes
 pub tail_pushed : (size : ℕ) (lengths : List ℕ) (tails : List Tail) (i : ℕ) (t : Tail)
     → AreTails size lengths → i < length lengths → t.length ≡ get_or lengths i 0
     → t.register ≡ 0xFFFFFFFF → t.zeros.len ≡ size - t.length
@@ -145,7 +145,7 @@ tail_pushed size lengths tails i t are below length_is register_is zeros_is so_f
       All-push (IsTail size []) tails t so_far.1 one,
     )
 
--- what stands in the vector once as many tails are written
+-- the vector after all of its tails were overwritten
 pub refilled : (items new : List Tail) (len : ℕ) → len ≡ length items
     → tail_lengths_of new ≡ tail_lengths_of items → take len (new ++ drop (length new) items) ≡ new
 refilled items new len is same =

@@ -1,4 +1,4 @@
--- The registers of tails at the places ahead.
+-- The registers of tails after bytes that are not pushed yet.
 use Rattle.std.proofs.Common.{◌≡◌, ℕ, ◌+◌, ◌-◌, ◌<◌, ◌≤◌, false, IsTrue, List, ◌++◌, length, take, drop, get_or, set, min, inl, inr, refl, sym, ap, ◌∙◌, arith, length-append, length-drop, length-take, get_or-drop}
 use Rattle.std.proofs.lemmas.List.{append-nil, drop-take, get_or-take, take-append-drop, take-append-le}
 use Rattle.std.proofs.Math.Seq.{take-add, take-append-add}
@@ -14,7 +14,7 @@ use Rattle.parwindow.proofs.ListLaws.{take_fewer}
 use Rattle.parwindow.proofs.rolling_laws.RollOverLaws.{stretch}
 use Rattle.parwindow.proofs.rolling_laws.RollUntilLaws.{along, begins, ends, joined}
 
--- the first bytes of a window, once k are pushed
+-- the first bytes of a window, after k bytes were pushed
 pub own_front : (items bytes : List ℕ) (own k : ℕ) → own ≤ length items → k ≤ length bytes
     → take own (pushed_content items bytes k) ≡ take own (drop k (items ++ bytes))
 own_front items bytes own k few within =
@@ -24,7 +24,7 @@ own_front items bytes own k few within =
     ∙ ap (take own) (drop-take k (length items) (items ++ bytes))
     ∙ take_fewer own (length items) (drop k (items ++ bytes)) few
 
--- a tail is a window of its own: its bytes go, and the bytes behind them come
+-- a tail is like a window itself: its bytes leave, and the bytes after them come
 own_pushed : (items bytes : List ℕ) (own k : ℕ) → own ≤ length items → k ≤ length bytes
     → pushed_content (take own items) (drop own (items ++ bytes)) k
     ≡ take own (pushed_content items bytes k)
@@ -37,7 +37,7 @@ own_pushed items bytes own k few within =
     ∙ drop-take k own (items ++ bytes)
     ∙ sym (own_front items bytes own k few within)
 
--- what stands in a piece of a stream
+-- each item of a piece of a stream is in the stream, at the offset of the piece and its index
 pub piece_at : (piece stream : List ℕ) (place j : ℕ) → piece ≡ take (length piece) (drop place stream)
     → j < length piece → get_or stream (place + j) 0 ≡ get_or piece j 0
 piece_at piece stream place j is inside =
@@ -45,7 +45,7 @@ piece_at piece stream place j is inside =
     ∙ get_or-take (length piece) (drop place stream) j 0 inside
     ∙ get_or-drop place stream j 0)
 
--- the register of a tail rolls along a piece
+-- the register of a tail rolls along a piece of the stream
 pub own_rolls : (items bytes gone come : List ℕ) (own n r base count : ℕ) → n + 1 ≡ own
     → own ≤ length items → base + count ≤ length bytes
     → gone ≡ take (length gone) (drop base (items ++ bytes)) → count ≤ length gone
@@ -75,7 +75,7 @@ own_rolls items bytes gone come own n r base count room few within goes enough c
     start k below
     ∙ ap register_of (own_pushed items bytes own (base + k) few (omega arith))
 
--- where it stopped it stops up to there
+-- a roll is also one up to the point at which it stopped
 pub here_only : (Has : ℕ → Type 0) (at : ℕ → ℕ) (n : ℕ) (s : Roll) → StopsAt Has at n s
     → StopsAt Has at s.count s
 here_only Has at n s stops = record {
@@ -91,7 +91,7 @@ here_only Has at n s stops = record {
   );
 }
 
--- the front of a piece
+-- the front of a piece is a piece
 front_piece : (piece stream : List ℕ) (place most : ℕ)
     → piece ≡ take (length piece) (drop place stream) → most ≤ length piece
     → take most piece ≡ take (length (take most piece)) (drop place stream)
@@ -100,7 +100,7 @@ front_piece piece stream place most is few =
     ap (take most) is ∙ take_fewer most (length piece) (drop place stream) few
     ∙ ap (λ n. take n (drop place stream)) long
 
--- one stretch more, up to where it stopped
+-- one stretch more, up to the point at which it stopped
 pub one_stretch : (Has : ℕ → Type 0) (items bytes gone come : List ℕ) (own n most : ℕ) (a b : Roll)
     → n + 1 ≡ own → own ≤ length items → a.count + most ≤ length bytes
     → gone ≡ take (length gone) (drop a.count (items ++ bytes)) → most ≤ length gone
@@ -120,7 +120,7 @@ one_stretch Has items bytes gone come own n most a b room few within goes inside
     (omega arith) (front_piece gone (items ++ bytes) a.count most goes inside) (omega arith)
     comes enough first.register) second)
 
--- one piece more
+-- the roll along one piece more
 pub one_piece : (Has : ℕ → Type 0) (items bytes gone come : List ℕ) (own n limit most : ℕ)
     (a b : Roll)
     → n + 1 ≡ own → own ≤ length items → limit ≤ length bytes
@@ -143,7 +143,7 @@ one_piece Has items bytes gone come own n limit most a b room few within goes in
           (min (length (take most gone)) (length come)) b second),
     )
 
--- at the start
+-- a roll that has not begun
 pub own_begins : (Has : ℕ → Type 0) (items bytes : List ℕ) (own r : ℕ)
     → r ≡ register_of (take own items)
     → StopsAt Has (own_register own items bytes) 0
@@ -160,7 +160,7 @@ fewer_passed n passed s within is =
       | inr missed ↦ let far : passed ≡ s.count = is ∙ rw missed refl in omega arith
     ]
 
--- one tail more came past all places, or it did not
+-- one tail more passed all bytes, or it did not
 pub tail_passed : (set : SliceSet) (content bytes : List ℕ) (old t : Tail) (limit passed : ℕ)
     (s : Roll) → t.length ≡ old.length → t.zeros.len ≡ old.zeros.len → t.ahead ≡ s.register
     → limit ≤ length bytes

@@ -1,4 +1,5 @@
--- The tails of a full window roll, and whether some tail then has the CRC-32 of a slice.
+-- The tails of a full window roll, and it is tested whether some tail then has
+-- the CRC-32 of a slice.
 use Rattle.std.proofs.Common.{◌≡◌, ℕ, ◌+◌, ◌<◌, ◌≤◌, ◌||◌, Bool, true, false, List, length, take, get_or, sym, ap, ◌∙◌, arith}
 use Rattle.std.specs.List.{list_any}
 use Rattle.std.proofs.lemmas.List.Folds.{list_any_more}
@@ -8,7 +9,7 @@ use Rattle.parwindow.specs.Crc32.{register_of}
 use Rattle.parwindow.specs.Tails.{tail_lengths_of, IsTail}
 use Rattle.parwindow.specs.declared.tails.tail.Tail.{Tail}
 
--- it has the register of other bytes
+-- a tail that got the register of the new content is right for it
 pub rolled_tail : (size : ℕ) (before after : List ℕ) (old new : Tail) → IsTail size before old
     → new.length ≡ old.length → new.zeros.len ≡ old.zeros.len
     → new.register ≡ register_of (take old.length after) → IsTail size after new
@@ -19,7 +20,7 @@ rolled_tail size before after old new was length_is zeros_is moves = record {
   rolled = rw length_is moves;
 }
 
--- one length more, which passes or does not
+-- one length more, which passes the test or doesn't
 module _ (p : ℕ → Bool) (lengths : List ℕ) (k own : ℕ) (hit found : Bool)
     (below : k < length lengths) (is : own ≡ get_or lengths k 0)
     (so_far : hit ≡ list_any p (take k lengths)) (finds : found ≡ p own) where
@@ -35,7 +36,7 @@ module _ (p : ℕ → Bool) (lengths : List ℕ) (k own : ℕ) (hit found : Bool
   pub one_fails : found ≡ false → hit ≡ list_any p (take (k + 1) lengths)
   one_fails fails = ap (λ b. b || hit) (sym fails) ∙ either
 
--- the length of a tail, from their lengths
+-- the length of tail k, in the list of all lengths
 module _ (tails : List Tail) (lengths : List ℕ) (k : ℕ) (are : tail_lengths_of tails ≡ lengths) where
   pub length_at : (e : Tail) → k < length tails
       → (k < length lengths) × ((get_or tails k e).length ≡ get_or lengths k 0)

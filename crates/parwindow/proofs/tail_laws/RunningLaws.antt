@@ -1,4 +1,4 @@
--- A running register, as bytes come and others fall out.
+-- A running register, while bytes come and others fall out of the window.
 use Rattle.std.proofs.Common.{◌≡◌, ℕ, ◌+◌, ◌-◌, ◌<◌, ◌≤◌, List, [], ◌∷◌, ◌++◌, length, take, drop, fold, get_or, refl, sym, ap, ◌∙◌, inl, inr, arith, length-append, length-drop, length-take-le, get_or-drop}
 use Rattle.std.proofs.lemmas.Bool.{cases_lt}
 use Rattle.std.proofs.lemmas.List.{take_more, get_or-take, take-append-le, take-append-drop, get_or_append_left, get_or-append_right}
@@ -9,14 +9,14 @@ use Rattle.parwindow.specs.Crc32.{register_after}
 use Rattle.parwindow.specs.Running.{run_register, IsRun, RunsOver}
 use Rattle.parwindow.specs.declared.tails.running.Running.{Running}
 
--- the register after some bytes and then others
+-- the running register after some bytes and then others
 pub run_register-add : (start : ℕ) (bytes : List ℕ) (d k : ℕ)
     → run_register (run_register start bytes d) (drop d bytes) k ≡ run_register start bytes (d + k)
 run_register-add start bytes d k =
     sym (fold-append register_after start (take d bytes) (take k (drop d bytes)))
     ∙ ap (fold register_after start) (sym (take-add d k bytes))
 
--- one run after another
+-- the running registers of two lists of bytes, one after the other
 pub runs_on : (start : ℕ) (xs ys rs qs : List ℕ) → RunsOver start xs rs
     → RunsOver (fold register_after start xs) ys qs → RunsOver start (xs ++ ys) (rs ++ qs)
 runs_on start xs ys rs qs first second = record {
@@ -37,7 +37,7 @@ runs_on start xs ys rs qs first second = record {
   ];
 }
 
--- without the first bytes
+-- the running registers without the first bytes
 pub runs_from : (start d : ℕ) (bytes registers : List ℕ) → RunsOver start bytes registers
     → RunsOver (run_register start bytes d) (drop d bytes) (drop d registers)
 runs_from start d bytes registers runs = record {
@@ -48,7 +48,7 @@ runs_from start d bytes registers runs = record {
       ∙ sym (run_register-add start bytes d k);
 }
 
--- as a window keeps the last bytes
+-- the running registers of the last bytes, which the window keeps
 pub run_keeps : (size : ℕ) (content bytes registers : List ℕ) (old new : Running)
     → IsRun size content old → RunsOver old.last bytes registers
     → new.last ≡ fold register_after old.last bytes
@@ -74,21 +74,21 @@ run_keeps size content bytes registers old new was comes last_is items_is capaci
           ∙ fold-append register_after start (take d (content ++ bytes)) (drop d (content ++ bytes));
     }
 
--- one byte
+-- the running register before one byte
 pub runs_one : (start byte : ℕ) → RunsOver start (byte ∷ []) (start ∷ [])
 runs_one start byte = record {
   long = refl;
   each = λ k below. let first : k ≡ 0 = omega arith in rw first refl;
 }
 
--- one byte more of those that come
+-- the running register after one byte more
 pub coming_more : (start : ℕ) (bytes : List ℕ) (i : ℕ) → i < length bytes
     → register_after (run_register start bytes i) (get_or bytes i 0) ≡ run_register start bytes (i + 1)
 coming_more start bytes i below =
     sym (ap (fold register_after start) (take_more bytes i 0 below)
     ∙ fold_push register_after start (take i bytes) (get_or bytes i 0))
 
--- all of them
+-- the running registers before all bytes
 pub coming_all : (start n : ℕ) (bytes registers : List ℕ) → length bytes ≤ length registers
     → n ≡ length bytes
     → ((k : ℕ) → k < n → get_or registers k 0 ≡ run_register start bytes k)

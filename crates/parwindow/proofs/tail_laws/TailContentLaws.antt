@@ -1,4 +1,4 @@
--- The first bytes of a window, and the zeros behind them.
+-- The first bytes of a window, followed by zeros.
 use Rattle.std.proofs.Common.{◌≡◌, ℕ, zero, suc, ◌+◌, ◌-◌, ◌*◌, ◌<◌, ◌≤◌, List, [], ◌∷◌, ◌++◌, length, take, get_or, replicate, refl, sym, ap, ◌∙◌, arith, append_assoc}
 use Rattle.std.specs.Prelude.{All}
 use Rattle.std.specs.List.{fold}
@@ -27,7 +27,7 @@ take-replicate zero m x few = refl
 take-replicate (suc n) zero x few = absurd (omega arith)
 take-replicate (suc n) (suc m) x few = ap (λ xs. x ∷ xs) (take-replicate n m x (omega arith))
 
--- some of the zeros more
+-- after n more of the zeros, n fewer are left to be hashed
 pub zeros_more : (m : List ℕ) (count left n room : ℕ) → left ≤ count → n ≤ left → n ≤ room
     → (m ++ replicate (count - left) 0) ++ take n (replicate room 0)
     ≡ m ++ replicate (count - (left - n)) 0
@@ -39,7 +39,7 @@ register_after-zero : (r : ℕ) → register_after r 0 ≡ crc_steps 8 r
 unfolding register_after
 register_after-zero r = ap (crc_steps 8) (xor_zero_r r)
 
--- a run of zeros goes in
+-- the register after a run of zeros is that after eight steps for each zero
 fold-zeros : (n r : ℕ) → fold register_after r (replicate n 0) ≡ crc_steps (8 * n) r
 fold-zeros zero r = sym (crc_steps_none r)
 fold-zeros (suc n) r =
@@ -48,7 +48,7 @@ fold-zeros (suc n) r =
     ∙ fold-zeros n (crc_steps 8 r)
     ∙ sym (ap (λ k. crc_steps k r) e ∙ crc_steps-add 8 (8 * n) r)
 
--- the CRC-32 of first bytes and zeros, from the register of these bytes
+-- the CRC-32 of the first bytes and zeros, computed from the register of these bytes
 pub tail_crc_is : (items : List ℕ) (size own zeros r : ℕ) → r ≡ register_of (take own items)
     → own + zeros ≡ size
     → bit_xor (crc_steps (8 * zeros) r) 0xFFFFFFFF ≡ crc_of (zero_filled size own items)
@@ -60,7 +60,7 @@ tail_crc_is items size own zeros r rolled room =
     (sym (fold-append register_after 0xFFFFFFFF (take own items) (replicate zeros 0)
     ∙ fold-zeros zeros (fold register_after 0xFFFFFFFF (take own items)))))
 
--- tail k, from the list of tails
+-- tail k, found in the list of tails
 module _ (tails : List Tail) (k size : ℕ) (content : List ℕ) (tail : Tail)
     (within : k < length (tail_lengths_of tails))
     (is : tail ≡ get_or tails k tail) where
@@ -74,7 +74,7 @@ module _ (tails : List Tail) (k size : ℕ) (content : List ℕ) (tail : Tail)
   pub tail_is : All (IsTail size content) tails → IsTail size content tail
   tail_is each = rw (← is) at (each k tail there)
 
--- whether a slice has its CRC-32, by its register
+-- whether a slice has the tail's CRC-32, tested by its register
 pub tail_slice : (set : SliceSet) (size : ℕ) (content : List ℕ) (tail : Tail)
     → IsTail size content tail
     → set_has_own_crc set (zeros_crc tail.zeros.len tail.register) tail.length

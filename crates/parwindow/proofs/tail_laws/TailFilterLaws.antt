@@ -1,10 +1,10 @@
--- The filter of the registers that zeros make those of shorter slices.
+-- The filter of the registers that short slices have before their padding.
 use Rattle.std.proofs.Common.{◌≡◌, ℕ, ◌+◌, ◌-◌, ◌<◌, Bool, true, false, sym, ◌∙◌, inl, inr, arith}
 use Rattle.std.proofs.lemmas.Bool.{cases_Bool}
 use Rattle.parwindow.specs.FilterBits.{zeros_crc}
 use Rattle.parwindow.specs.Index.{SliceSet, set_has_own_crc}
 
--- where the filter says no, no slice of this own length has the CRC-32
+-- if the filter says no, no slice of this unpadded length has the CRC-32
 pub tail_misses : (set : SliceSet) (own zeros register : ℕ) (may : Bool)
     → ((own : ℕ) → own < set.slice_size
     → set_has_own_crc set (zeros_crc (set.slice_size - own) register) own ≡ true → may ≡ true)

@@ -1,4 +1,4 @@
--- A window takes a piece for which it has room.
+-- Several bytes are appended to a window that has space for them.
 use Rattle.std.proofs.Common.{◌≡◌, ℕ, ◌+◌, ◌-◌, ◌<◌, ◌≤◌, false, List, [], ◌∷◌, ◌++◌, length, take, get_or, fold, nat_eq, sym, ap, ◌∙◌, arith, append_assoc, length-append, length-take}
 use Rattle.std.proofs.lemmas.Bool.Decides.{nat_tests}
 use Rattle.std.proofs.lemmas.List.{take_more, take_all, append-nil}
@@ -10,25 +10,25 @@ use Rattle.parwindow.specs.Tails.{tail_lengths_of}
 use Rattle.parwindow.specs.Window.{WindowState, content_after}
 use Rattle.parwindow.specs.declared.tails.tail.Tail.{Tail}
 
--- nothing falls out
+-- no byte falls out
 pub keep_last-piece : (items bytes : List ℕ) (cap : ℕ) → length items + length bytes ≤ cap
     → keep_last cap (items ++ bytes) ≡ items ++ bytes
 keep_last-piece items bytes cap room =
     let none : length (items ++ bytes) - cap ≡ 0 = omega (arith, length-append items bytes) in
     rw none
 
--- the register takes all bytes
+-- the register takes in all bytes
 pub register_of-piece : (items bytes : List ℕ)
     → fold register_after (register_of items) bytes ≡ register_of (items ++ bytes)
 unfolding register_of
 register_of-piece items bytes = sym (fold-append register_after 0xFFFFFFFF items bytes)
 
--- where there is no tail, anything holds of each
+-- if there is no tail, any fact holds for each
 pub each_of_none : (P : Tail → Type 0) (tails : List Tail) → tail_lengths_of tails ≡ [] → All P tails
 each_of_none P [] none = λ i t below. absurd (omega arith)
 each_of_none P (t ∷ tails) none = cc
 
--- a window once i of the bytes are appended
+-- a window after the first i bytes were appended
 abbrev pub extended : WindowState → List ℕ → ℕ → WindowState
 extended w bytes i = record w { content = w.content ++ take i bytes }
 
@@ -40,7 +40,7 @@ pub extended_all : (w : WindowState) (bytes : List ℕ)
 extended_all w bytes = ap (λ xs. record w { content = w.content ++ xs })
     (take_all (length bytes) bytes (omega arith))
 
--- one push more
+-- pushing one byte more appends it, as long as there is space
 pub extended_more : (w now after : WindowState) (bytes : List ℕ) (i : ℕ)
     → length w.content + length bytes ≤ w.capacity → i < length bytes → now ≡ extended w bytes i
     → after ≡ record now { content = content_after now (get_or bytes i 0) }

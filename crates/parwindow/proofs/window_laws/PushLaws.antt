@@ -1,4 +1,4 @@
--- A byte is pushed into a full window: its register, its content and what falls out.
+-- A byte is pushed into a full window: its register, its content and the byte that falls out.
 use Rattle.std.proofs.Common.{◌≡◌, ℕ, ◌+◌, ◌-◌, ◌*◌, ◌/◌, ◌<◌, ◌≤◌, ◌⊎◌, List, [], ◌∷◌, ◌++◌, length, drop, get_or, Option, Some, None, cond, nat_lt, nat_eq, true, false, refl, sym, ap, ◌∙◌, inl, inr, arith, length-append, length-drop}
 use Rattle.std.specs.List.{slice_get}
 use Rattle.std.specs.Int.Bits.{bit_and, bit_xor, xor_zero_r}
@@ -11,7 +11,7 @@ use Rattle.parwindow.specs.Tables.{IsStepTable, IsRemovalTable}
 use Rattle.parwindow.proofs.crc_laws.TableLaws.{register_after-by}
 use Rattle.parwindow.proofs.crc_laws.CrcLaws.{register_after-xor, crc_steps-add, register_of-push, register_of-removal_of}
 
--- one byte more has followed
+-- the change that a first byte made in the register, after one byte more has followed
 pub removal_of-more : (x n : ℕ) → crc_steps 8 (removal_of x n) ≡ removal_of x (n + 1)
 unfolding removal_of
 removal_of-more x n =
@@ -32,7 +32,7 @@ once_rolled n r x y =
     sym (register_after-xor r (removal_of x n) y
     ∙ ap (bit_xor (register_after r y)) (removal_of-more x n))
 
--- by the tables
+-- the same, computed with the tables
 pub once_by : (bytes once : List ℕ) (n r x y : ℕ) → IsStepTable bytes 8
     → IsRemovalTable once (n + 1) → x < 256
     → y < 256
@@ -41,14 +41,14 @@ pub once_by : (bytes once : List ℕ) (n r x y : ℕ) → IsStepTable bytes 8
 once_by bytes once n r x y steps removes small_x small_y =
     rw (register_after-by bytes r y steps small_y, removes x small_x) (once_rolled n r x y)
 
--- what `push_back` answers
+-- the byte that `push_back` of the ring buffer returns
 abbrev pub ring_answer : List ℕ → ℕ → ℕ → Option ℕ
 ring_answer items cap y = cond (nat_lt (length items) cap) None (slice_get (items ++ y ∷ []) 0)
 
 length-push : (b : List ℕ) (y : ℕ) → length (b ++ y ∷ []) ≡ length b + 1
 length-push b y = length-append b (y ∷ [])
 
--- while there is room
+-- a window that isn't full keeps all its bytes
 pub keep_last-room : (items : List ℕ) (cap y : ℕ) → length items < cap
     → keep_last cap (items ++ y ∷ []) ≡ items ++ y ∷ []
 keep_last-room items cap y less =
@@ -58,7 +58,7 @@ keep_last-room items cap y less =
 answer-room : (items : List ℕ) (cap y : ℕ) → length items < cap → ring_answer items cap y ≡ None
 answer-room items cap y less = rw (lt-ltb (length items) cap less)
 
--- where it is full
+-- a full window loses its first byte
 pub keep_last-full : (x : ℕ) (b : List ℕ) (cap y : ℕ) → length b + 1 ≡ cap
     → keep_last cap ((x ∷ b) ++ y ∷ []) ≡ b ++ y ∷ []
 keep_last-full x b cap y full =
@@ -99,14 +99,15 @@ ring_fallen items cap y within some =
       | inr (x, b, e, full, same) ↦ rw (e, same) (answer-full x b cap y full)
     ]
 
--- the register of n bytes and a last one, from that of a first one and the n bytes
+-- the register of n bytes and a last one, computed from the register of a first byte
+-- and the same n bytes
 pub register_of-rolled : (b : List ℕ) (x y : ℕ)
     → register_of (b ++ y ∷ []) ≡ rolled_register (length b) (register_of (x ∷ b)) x y
 unfolding rolled_register
 register_of-rolled b x y =
     register_of-push b y ∙ ap (λ r. register_after r y) (register_of-removal_of b x)
 
--- the register moves with the content
+-- when a byte is pushed, the register is again the register of the content
 pub register_moves : (items : List ℕ) (cap n y : ℕ) → length items ≤ cap → cap ≡ n + 1
     → pushed_register n (register_of items) (ring_answer items cap y) y
     ≡ register_of (keep_last cap (items ++ y ∷ []))

@@ -1,4 +1,4 @@
--- A full window takes bytes after none of which it is at a slice.
+-- Bytes are pushed into a full window that is at a slice after none of them.
 use Rattle.std.proofs.Common.{◌≡◌, ℕ, ◌-◌, ◌<◌, ◌≤◌, false, IsTrue, List, [], ◌∷◌, ◌++◌, length, drop, inl, inr, refl, sym, ap, ◌∙◌, arith, length-append}
 use Rattle.std.specs.Prelude.{All}
 use Rattle.std.specs.List.{list_any}
@@ -17,7 +17,7 @@ use Rattle.parwindow.specs.declared.rolling.roll.Roll.{Roll}
 use Rattle.parwindow.specs.declared.tails.tail.Tail.{Tail}
 use Rattle.parwindow.proofs.tail_laws.TailContentLaws.{tail_crc_is}
 
--- what the ring makes of it
+-- the ring buffer has the pushed content after it took all bytes at once
 pub pushed_all : (items bytes : List ℕ) (cap : ℕ) → length items ≡ cap
     → keep_last cap (items ++ bytes) ≡ pushed_content items bytes (length bytes)
 pushed_all items bytes cap full =
@@ -26,7 +26,7 @@ pushed_all items bytes cap full =
     rw gone (ap (λ l. drop (length bytes) (items ++ l))
     (sym (take_all (length bytes) bytes (omega arith))))
 
--- a roll that passed all places stopped at none
+-- a roll that passed all bytes stopped at no register
 pub all_passed : (Has : ℕ → Type 0) (at : ℕ → ℕ) (n : ℕ) (s : Roll) → StopsAt Has at n s
     → n ≤ passed_of s
     → (s.register ≡ at n) × ((k : ℕ) → 0 < k → k ≤ n → ¬ Has (at k))
@@ -52,7 +52,7 @@ pub are_ahead : (set : SliceSet) (content bytes : List ℕ) (tails : List Tail)
     → All (IsAhead (pushed_content content bytes (length bytes))) tails
 are_ahead set content bytes tails past k d below = (past k d below).ahead
 
--- no tail is at a slice
+-- if all tails have passed the bytes, no tail is at a slice after any of them
 pub no_tail : (set : SliceSet) (size k : ℕ) (content bytes : List ℕ) (tails : List Tail)
     → All (IsTail size content) tails → All (HasPassed set content bytes) tails
     → 0 < k → k ≤ length bytes
@@ -69,7 +69,7 @@ no_tail set size k content bytes (t ∷ ts) are past some few =
     rw no (no_tail set size k content bytes ts (All-tail (IsTail size content) t ts are)
     (All-tail (HasPassed set content bytes) t ts past) some few)
 
--- nor is the window
+-- so the window isn't at a slice either
 pub not_at_slice : (set : SliceSet) (w : WindowState) (bytes : List ℕ) (k : ℕ)
     → ¬ IsTrue (some_tail_slice set w.capacity (pushed_content w.content bytes k) w.tails)
     → ¬ HasRegister set (register_of (pushed_content w.content bytes k))

@@ -1,4 +1,4 @@
--- Where pushes into a full window stop.
+-- The point at which pushes into a full window stop.
 use Rattle.std.proofs.Common.{◌≡◌, ℕ, ◌+◌, ◌<◌, ◌≤◌, true, false, List, [], length, ◌++◌, take, drop, get_or, append_assoc, ◌-◌, refl, sym, ap, ◌∙◌, inl, inr, arith, IsTrue, length-append, length-drop, length-take}
 use Rattle.std.proofs.lemmas.Bool.{cases_Bool, cases_lt}
 use Rattle.std.proofs.lemmas.List.{drop-append-le, drop-drop}
@@ -17,7 +17,7 @@ use Rattle.parwindow.proofs.rolling_laws.RollOverLaws.{pushes_one_by_one}
 pub no_tails : NoTails
 no_tails set w none = rw none refl
 
--- what a full ring keeps once it takes the first k bytes at once
+-- the content of a full ring buffer after it took the first k bytes at once
 pub keep_last-some : (items bytes : List ℕ) (cap k : ℕ) → length items ≡ cap → k ≤ length bytes
     → keep_last cap (items ++ take k bytes) ≡ pushed_content items bytes k
 keep_last-some items bytes cap k full few =
@@ -25,7 +25,7 @@ keep_last-some items bytes cap k full few =
     omega (arith, length-append items (take k bytes), length-take k bytes) in
     rw gone refl
 
--- what a roll says of a window without tails
+-- the pushes into a window without tails stop at the point at which the roll stops
 pub pushes_until : (set : SliceSet) (w : WindowState) (bytes : List ℕ) (s : Roll) → w.tails ≡ []
     → StopsAt (HasRegister set) (λ k. register_of (pushed_content w.content bytes k)) (length bytes) s
     → PushesUntil set w bytes s.count
@@ -39,7 +39,7 @@ pushes_until set w bytes s none stops = record {
   ];
 }
 
--- one byte after another: the window after k of them, which stopped at none so far
+-- the window after k bytes were pushed one after another, if it was at a slice after none of them
 pub record PushedSoFar (set : SliceSet) (w : WindowState) (bytes : List ℕ) (k : ℕ)
     (now : WindowState) : Type 0 where
   pub here : now ≡ pushed_window w bytes k
@@ -70,7 +70,7 @@ module _ (set : SliceSet) (w : WindowState) (bytes : List ℕ) (k : ℕ) (now af
   pushed_full =
       rw pushed_here (length_pushed w.content bytes (k + 1) (omega (arith, less)) ∙ full)
 
-  -- it stopped at none of the places before, and is at a slice now
+  -- it was at a slice after no byte before, and is at one now
   pub pushed_until : is_at_slice set after ≡ true → PushesUntil set w bytes (k + 1)
   pushed_until hit = record {
     within = omega (arith, less);
@@ -78,7 +78,7 @@ module _ (set : SliceSet) (w : WindowState) (bytes : List ℕ) (k : ℕ) (now af
     stops = λ early. (omega arith, rw pushed_here at hit);
   }
 
-  -- it isn't
+  -- it isn't at a slice
   pub pushed_more : is_at_slice set after ≡ false → PushedSoFar set w bytes (k + 1) after
   pushed_more miss = record {
     here = pushed_here;
@@ -92,7 +92,7 @@ module _ (set : SliceSet) (w : WindowState) (bytes : List ℕ) (k : ℕ) (now af
     ];
   }
 
--- a piece of the bytes, behind the first ones
+-- pushing the first bytes and then some of a piece after them is pushing them all
 more_pushed : (content bytes piece : List ℕ) (done n : ℕ) → done ≤ length bytes
     → piece ≡ take (length piece) (drop done bytes) → n ≤ length piece
     → pushed_content (pushed_content content bytes done) piece n ≡ pushed_content content bytes (done + n)
@@ -106,7 +106,7 @@ more_pushed content bytes piece done n few is within =
     ∙ ap (drop (done + n)) (append_assoc content (take done bytes) (take n piece)
     ∙ ap (λ l. content ++ l) (ap (λ l. take done bytes ++ l) front ∙ sym (take-add done n bytes)))
 
--- all of a piece is pushed, and after none of its bytes the window is at a slice
+-- all bytes of a piece were pushed, and the window was at a slice after none of them
 pub pushed_past : (set : SliceSet) (w now after : WindowState) (bytes piece : List ℕ) (done : ℕ)
     → length w.content ≡ w.capacity → PushedSoFar set w bytes done now
     → done + length piece ≤ length bytes → piece ≡ take (length piece) (drop done bytes)
@@ -134,7 +134,7 @@ pushed_past set w now after bytes piece done full so_far within is past =
       ];
     }
 
--- the first of the bytes that are left
+-- the first m of the bytes that are left are a piece of them
 pub piece_of : (bytes : List ℕ) (done m : ℕ) → m ≤ length bytes - done
     → (length (take m (take (length bytes - done) (drop done bytes))) ≡ m)
     × (take m (take (length bytes - done) (drop done bytes))

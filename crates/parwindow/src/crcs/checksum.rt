@@ -6,7 +6,7 @@ use crate::crcs::far_table::{
 };
 use crate::crcs::table::{STEPPED_BYTES, STEPPED_TWICE};
 
-/// The CRC-32 of the bytes.
+/// Computes the CRC-32 of the bytes.
 #[tactic(auto, unfolding(crate::specs::Crc32::crc_of, crate::specs::Crc32::register_of))]
 pub fn crc32(bytes: &[u8]) -> u32
     ensures { result ≡ crc_of bytes.now }
@@ -14,7 +14,7 @@ pub fn crc32(bytes: &[u8]) -> u32
     after_bytes(0xFFFF_FFFF, bytes) ^ 0xFFFF_FFFF
 }
 
-/// The register after more bytes: eight of them a turn, and the rest one at a time.
+/// Returns the register after more bytes: it takes eight at a time, and the rest one at a time.
 pub fn after_bytes(register: u32, bytes: &[u8]) -> u32
     ensures { result ≡ fold register_after register bytes.now }
 {
@@ -22,7 +22,7 @@ pub fn after_bytes(register: u32, bytes: &[u8]) -> u32
     after_each(after_eights(register, eights), rest)
 }
 
-// The register after eight bytes a turn.
+// Returns the register after these groups of eight bytes.
 fn after_eights(register: u32, eights: &[[u8; 8]]) -> u32
     ensures { result ≡ fold (fold register_after) register eights.now }
 {
@@ -31,7 +31,7 @@ fn after_eights(register: u32, eights: &[[u8; 8]]) -> u32
         .fold(register, |register, eight| after_eight(register, eight))
 }
 
-// The register after one byte at a time.
+// Returns the register after these bytes, which it takes one at a time.
 fn after_each(register: u32, bytes: &[u8]) -> u32
     ensures { result ≡ fold register_after register bytes.now }
 {
@@ -40,7 +40,7 @@ fn after_each(register: u32, bytes: &[u8]) -> u32
         .fold(register, |register, &byte| after_byte(register, byte))
 }
 
-// The register after eight more bytes, by a look-up for each that waits for no other.
+// Returns the register after eight more bytes, with one look-up for each; none waits for another.
 fn after_eight(register: u32, bytes: &[u8; 8]) -> u32
     ensures { result ≡ fold register_after register bytes.now }
 {
@@ -55,7 +55,7 @@ fn after_eight(register: u32, bytes: &[u8; 8]) -> u32
         ^ STEPPED_64[(word & 0xFF) as usize]
 }
 
-/// The register after one more byte, by one look-up in place of eight steps.
+/// Returns the register after one more byte, with one look-up instead of eight steps.
 #[tactic(auto, using(crate::proofs::crc_laws::TableLaws::look_up))]
 pub fn after_byte(register: u32, byte: u8) -> u32
     ensures { result ≡ register_after register byte }
@@ -63,7 +63,7 @@ pub fn after_byte(register: u32, byte: u8) -> u32
     (register >> 8) ^ STEPPED_BYTES[((register ^ u32::from(byte)) & 0xFF) as usize]
 }
 
-/// The register after two more bytes, by two look-ups that don't wait for one another.
+/// Returns the register after two more bytes, with two look-ups that don't wait for one another.
 pub fn after_two(register: u32, first: u8, second: u8) -> u32
     ensures { result ≡ register_after (register_after register first) second }
 {

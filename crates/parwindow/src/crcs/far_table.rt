@@ -1,5 +1,4 @@
-/// The register after the twenty-four steps that follow each value of its low byte, the rest being
-/// zeros.
+/// Entry x is the register x after 24 steps of a CRC-32.
 pub static STEPPED_24: [u32; 256] = [
     0x00000000, 0x01c26a37, 0x0384d46e, 0x0246be59, 0x0709a8dc, 0x06cbc2eb, 0x048d7cb2, 0x054f1685,
     0x0e1351b8, 0x0fd13b8f, 0x0d9785d6, 0x0c55efe1, 0x091af964, 0x08d89353, 0x0a9e2d0a, 0x0b5c473d,
@@ -35,8 +34,7 @@ pub static STEPPED_24: [u32; 256] = [
     0xbbd72268, 0xba15485f, 0xb853f606, 0xb9919c31, 0xbcde8ab4, 0xbd1ce083, 0xbf5a5eda, 0xbe9834ed,
 ];
 
-/// The register after the thirty-two steps that follow each value of its low byte, the rest being
-/// zeros.
+/// Entry x is the register x after 32 steps of a CRC-32.
 pub static STEPPED_32: [u32; 256] = [
     0x00000000, 0xb8bc6765, 0xaa09c88b, 0x12b5afee, 0x8f629757, 0x37def032, 0x256b5fdc, 0x9dd738b9,
     0xc5b428ef, 0x7d084f8a, 0x6fbde064, 0xd7018701, 0x4ad6bfb8, 0xf26ad8dd, 0xe0df7733, 0x58631056,
@@ -72,7 +70,7 @@ pub static STEPPED_32: [u32; 256] = [
     0x43d23e48, 0xfb6e592d, 0xe9dbf6c3, 0x516791a6, 0xccb0a91f, 0x740cce7a, 0x66b96194, 0xde0506f1,
 ];
 
-/// The register after the forty steps that follow each value of its low byte, the rest being zeros.
+/// Entry x is the register x after 40 steps of a CRC-32.
 pub static STEPPED_40: [u32; 256] = [
     0x00000000, 0x3d6029b0, 0x7ac05360, 0x47a07ad0, 0xf580a6c0, 0xc8e08f70, 0x8f40f5a0, 0xb220dc10,
     0x30704bc1, 0x0d106271, 0x4ab018a1, 0x77d03111, 0xc5f0ed01, 0xf890c4b1, 0xbf30be61, 0x825097d1,
@@ -108,8 +106,7 @@ pub static STEPPED_40: [u32; 256] = [
     0x78441b9c, 0x4524322c, 0x028448fc, 0x3fe4614c, 0x8dc4bd5c, 0xb0a494ec, 0xf704ee3c, 0xca64c78c,
 ];
 
-/// The register after the forty-eight steps that follow each value of its low byte, the rest being
-/// zeros.
+/// Entry x is the register x after 48 steps of a CRC-32.
 pub static STEPPED_48: [u32; 256] = [
     0x00000000, 0xcb5cd3a5, 0x4dc8a10b, 0x869472ae, 0x9b914216, 0x50cd91b3, 0xd659e31d, 0x1d0530b8,
     0xec53826d, 0x270f51c8, 0xa19b2366, 0x6ac7f0c3, 0x77c2c07b, 0xbc9e13de, 0x3a0a6170, 0xf156b2d5,
@@ -145,8 +142,7 @@ pub static STEPPED_48: [u32; 256] = [
     0xf9c19b74, 0x329d48d1, 0xb4093a7f, 0x7f55e9da, 0x6250d962, 0xa90c0ac7, 0x2f987869, 0xe4c4abcc,
 ];
 
-/// The register after the fifty-six steps that follow each value of its low byte, the rest being
-/// zeros.
+/// Entry x is the register x after 56 steps of a CRC-32.
 pub static STEPPED_56: [u32; 256] = [
     0x00000000, 0xa6770bb4, 0x979f1129, 0x31e81a9d, 0xf44f2413, 0x52382fa7, 0x63d0353a, 0xc5a73e8e,
     0x33ef4e67, 0x959845d3, 0xa4705f4e, 0x020754fa, 0xc7a06a74, 0x61d761c0, 0x503f7b5d, 0xf64870e9,
@@ -182,8 +178,7 @@ pub static STEPPED_56: [u32; 256] = [
     0x579174be, 0xf1e67f0a, 0xc00e6597, 0x66796e23, 0xa3de50ad, 0x05a95b19, 0x34414184, 0x92364a30,
 ];
 
-/// The register after the sixty-four steps that follow each value of its low byte, the rest being
-/// zeros.
+/// Entry x is the register x after 64 steps of a CRC-32.
 pub static STEPPED_64: [u32; 256] = [
     0x00000000, 0xccaa009e, 0x4225077d, 0x8e8f07e3, 0x844a0efa, 0x48e00e64, 0xc66f0987, 0x0ac50919,
     0xd3e51bb5, 0x1f4f1b2b, 0x91c01cc8, 0x5d6a1c56, 0x57af154f, 0x9b0515d1, 0x158a1232, 0xd92012ac,

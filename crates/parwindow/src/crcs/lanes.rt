@@ -4,7 +4,7 @@ ghost use Rattle.parwindow.specs.Lanes.{HasLanes};
 
 use std::simd::prelude::*;
 
-/// The sixteen bytes from a place on.
+/// Returns sixteen bytes, from index `at` on.
 #[inline(always)]
 pub fn bytes_at(bytes: &[u8], at: usize) -> u8x16
     requires { at + 16 ≤ length bytes.now }
@@ -13,7 +13,7 @@ pub fn bytes_at(bytes: &[u8], at: usize) -> u8x16
     u8x16::from_slice(&bytes[at..])
 }
 
-/// The low bytes of the sixteen registers from a place on.
+/// Returns the low bytes of sixteen registers, from index `at` on.
 #[inline(always)]
 pub fn low_bytes_at(registers: &[u32], at: usize) -> u8x16
     requires { at + 16 ≤ length registers.now }
@@ -22,7 +22,7 @@ pub fn low_bytes_at(registers: &[u32], at: usize) -> u8x16
     (u32x16::from_slice(&registers[at..]) & u32x16::splat(0xFF)).cast::<u8>()
 }
 
-/// The bytes of a table at sixteen places.
+/// Returns the bytes of a table at sixteen indices.
 #[inline(always)]
 pub fn looked_up(table: u8x16, places: u8x16) -> u8x16
     requires { (i : ℕ) → i < 16 → slice_index places i < 16 }
@@ -31,7 +31,7 @@ pub fn looked_up(table: u8x16, places: u8x16) -> u8x16
     table.swizzle_dyn(places)
 }
 
-/// Lane by lane.
+/// Returns the xor of two vectors, byte by byte.
 #[inline(always)]
 pub fn xored(a: u8x16, b: u8x16) -> u8x16
     ensures { HasLanes result (λ i. bit_xor (slice_index a i) (slice_index b i)) }
@@ -39,7 +39,7 @@ pub fn xored(a: u8x16, b: u8x16) -> u8x16
     a ^ b
 }
 
-/// A bit for each lane, which is set if the two bytes share a bit.
+/// Returns a bit for each byte, which is set if the two bytes there have a bit in common.
 #[inline(always)]
 pub fn shared(a: u8x16, b: u8x16) -> u64
     ensures { (i : ℕ) → i < 16 → bit_and (slice_index a i) (slice_index b i) ≢ 0
@@ -48,7 +48,7 @@ pub fn shared(a: u8x16, b: u8x16) -> u64
     (a & b).simd_ne(u8x16::splat(0)).to_bitmask()
 }
 
-/// The low nibbles of sixteen bytes.
+/// Returns the low nibbles of sixteen bytes.
 #[inline(always)]
 pub fn low_nibbles(bytes: u8x16) -> u8x16
     ensures { HasLanes result (λ i. slice_index bytes i % 16) }
@@ -56,7 +56,7 @@ pub fn low_nibbles(bytes: u8x16) -> u8x16
     bytes & u8x16::splat(15)
 }
 
-/// The high nibbles of sixteen bytes.
+/// Returns the high nibbles of sixteen bytes.
 #[inline(always)]
 pub fn high_nibbles(bytes: u8x16) -> u8x16
     ensures { HasLanes result (λ i. slice_index bytes i / 16) }

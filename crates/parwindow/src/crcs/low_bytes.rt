@@ -8,22 +8,22 @@ use crate::crcs::nibbles::Nibbles;
 use crate::crcs::zero_run::ZeroRun;
 use std::simd::prelude::*;
 
-/// A run of zero bytes, by what it makes of each nibble of a register. A register is the xor of its
-/// nibbles, and so is what the run makes of it.
+/// A run of zero bytes, given by the register that it makes of each nibble of a register. A
+/// register is the xor of its nibbles, and so the register after the run is the xor of these.
 #[derive(Drop)]
 pub struct LowBytes {
-    /// How many bytes it has.
+    /// The number of bytes in the run.
     pub len: usize,
-    /// For each of eight nibbles, what the run makes of each of its values there.
+    /// The register after the run, for each of the sixteen values of each of the eight nibbles.
     pub words: [u32; 128],
-    /// The low bytes of these.
+    /// The low bytes of these registers.
     pub table: [u8; 128],
     ghost by_nibble: { IsNibbleTable words len },
     ghost low: { AreLowBytes words table },
 }
 
 impl LowBytes {
-    /// The run of this length.
+    /// Makes the run that has this number of bytes.
     pub fn new(len: usize) -> LowBytes
         ensures { result.len ≡ len }
     {
@@ -32,7 +32,7 @@ impl LowBytes {
         LowBytes { len, words, table }
     }
 
-    /// The register once the run has followed.
+    /// Returns the register after the run.
     pub fn apply(&self, register: u32) -> u32
         ensures { result ≡ crc_steps (8 * self.now.len) register }
     {
@@ -44,7 +44,8 @@ impl LowBytes {
         out
     }
 
-    /// The low bytes of what the run makes of the inverses of sixteen registers, from a place on.
+    /// Returns the low bytes of sixteen registers after the run, from index `at` on. Before the run
+    /// they are the inverses of the registers in `nibbles`.
     #[inline(always)]
     pub fn after(&self, nibbles: &Nibbles, at: usize) -> u8x16
         requires { at + 16 ≤ 528 }
@@ -60,7 +61,7 @@ impl LowBytes {
     }
 }
 
-// The words of a run: each value of each nibble once the run has followed.
+// Makes the words of a run: the register after the run for each value of each nibble.
 fn nibble_words(run: &ZeroRun) -> [u32; 128]
     ensures { IsNibbleTable result run.now.len }
 {
@@ -72,7 +73,7 @@ fn nibble_words(run: &ZeroRun) -> [u32; 128]
     words
 }
 
-// The low byte of each.
+// Returns the low byte of each word.
 fn low_bytes(words: &[u32; 128]) -> [u8; 128]
     ensures { AreLowBytes words.now result }
 {

@@ -1,19 +1,19 @@
 ghost use Rattle.std.specs.Prelude.{◌≡◌, ℕ, ◌/◌, ◌%◌, ◌^◌, ◌<◌, bit_xor, length, slice_index};
 ghost use Rattle.parwindow.specs.Nibbles.{AreNibbles};
 
-/// Registers, and the eight nibbles of the inverse of each, by which bytes are looked up for
-/// sixteen at a time.
+/// Registers, and the eight nibbles of the inverse of each. By nibbles, sixteen bytes are
+/// looked up at a time.
 #[derive(Drop)]
 pub struct Nibbles {
     pub registers: [u32; 528],
-    /// From the lowest nibbles on.
+    /// The nibbles in eight lists, the lowest ones first.
     pub nibbles: [[u8; 528]; 8],
     ghost small: { (i : ℕ) → slice_index registers i < 2 ^ 32 },
     ghost are: { AreNibbles registers nibbles },
 }
 
 impl Nibbles {
-    /// Those of these registers.
+    /// Makes the nibbles of these registers.
     pub fn of(registers: [u32; 528]) -> Nibbles
         ensures { result.registers ≡ registers }
     {
@@ -33,7 +33,7 @@ impl Nibbles {
     }
 }
 
-// The nibble of the inverse of each register that follows `bits` low bits.
+// Returns the nibble of the inverse of each register that comes after `bits` low bits.
 fn nibbles_at(registers: &[u32; 528], bits: u32) -> [u8; 528]
     requires { bits < 32 }
     ensures { (i : ℕ) → i < 528

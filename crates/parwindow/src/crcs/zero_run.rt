@@ -4,18 +4,19 @@ ghost use Rattle.parwindow.specs.Tables.{IsRemovalTable, MapsBits};
 
 use crate::crcs::checksum::after_byte;
 
-/// A run of zero bytes, kept by what it makes of each bit of the register.
+/// A run of zero bytes, by what it does to a register. That is linear over xor, so it is enough to
+/// know what becomes of each single bit.
 #[derive(Drop)]
 pub struct ZeroRun {
-    /// How many bytes it has.
+    /// The number of bytes in the run.
     pub len: usize,
-    /// What it makes of each bit, from the lowest on.
+    /// The register after the run, for each single bit, the lowest bit first.
     pub columns: [u32; 32],
     ghost by_bit: { MapsBits columns len },
 }
 
 impl ZeroRun {
-    /// The run of this length, from that of half of it.
+    /// Makes the run that has this number of bytes, from a run of half the length.
     pub fn new(len: usize) -> Self
         ensures { result.len ≡ len }
     {
@@ -30,7 +31,7 @@ impl ZeroRun {
         }
     }
 
-    // No byte, which changes nothing.
+    // Makes the run of no byte, which changes nothing.
     fn empty() -> Self
         ensures { result.len ≡ 0 }
     {
@@ -41,7 +42,7 @@ impl ZeroRun {
         ZeroRun { len: 0, columns }
     }
 
-    /// The run and then itself again.
+    /// Makes the run that is this one twice.
     pub fn twice(&self) -> Self
         requires { 2 * self.now.len < 2 ^ 64 }
         ensures { result.len ≡ 2 * self.now.len }
@@ -56,7 +57,7 @@ impl ZeroRun {
         }
     }
 
-    // The run and one byte more.
+    // Makes the run that is this one and one byte more.
     fn with_one(&self) -> Self
         requires { self.now.len + 1 < 2 ^ 64 }
         ensures { result.len ≡ self.now.len + 1 }
@@ -71,20 +72,21 @@ impl ZeroRun {
         }
     }
 
-    /// The register once the run has followed.
+    /// Returns the register after the run.
     pub fn apply(&self, register: u32) -> u32
         ensures { result ≡ crc_steps (8 * self.now.len) register }
     {
         let mut out = 0;
         for i in 0..32usize {
-            // No branch, since bits of registers go either way.
+            // No branch, since it could not be predicted: bits of registers are 0 as often as 1.
             out ^= self.columns[i] * ((register >> i) & 1);
         }
         out
     }
 }
 
-/// What each first byte has changed in the register once `len` bytes have followed it.
+/// Makes a table: for each first byte, the bits of the register that differ because of it, after
+/// `len` bytes have followed it.
 pub fn removal_table(len: usize) -> [u32; 256]
     ensures { IsRemovalTable result len }
 {

@@ -5,7 +5,7 @@ ghost use Rattle.parwindow.specs.Powers.{ArePowers};
 use crate::crcs::zero_run::ZeroRun;
 use std::alloc::{AllocError, Global};
 
-/// Runs of 1 zero byte, of 2, of 4, and so on up to 2^31.
+/// The runs of 1, 2, 4 zero bytes and so on, up to 2^31.
 #[derive(Drop)]
 pub struct ZeroRuns {
     pub runs: Vec<ZeroRun>,
@@ -13,7 +13,7 @@ pub struct ZeroRuns {
 }
 
 impl ZeroRuns {
-    /// All of them, each from the one before.
+    /// Makes all of them, each from the one before. Fails if memory is refused.
     pub fn new(alloc: Global) -> Result<ZeroRuns, AllocError> {
         let mut runs = Vec::with_capacity(alloc, 32)?;
         let mut run = ZeroRun::new(1);
@@ -25,8 +25,8 @@ impl ZeroRuns {
         Ok(ZeroRuns { runs })
     }
 
-    /// The register from which so many zero bytes made this one, since 2^32 - 1 zero bytes in all
-    /// change nothing.
+    /// Returns the register that becomes this one after `zeros` zero bytes. It appends the zero
+    /// bytes that are missing to 2^32 - 1, since 2^32 - 1 zero bytes in all change nothing.
     #[tactic(auto, using(crate::proofs::crc_laws::TakenBackLaws::taken_back))]
     pub fn before(&self, zeros: u32, register: u32) -> u32
         ensures { (r : ℕ) → r < 2 ^ 32 → crc_steps (8 * zeros) r ≡ register → result ≡ r }
@@ -34,7 +34,7 @@ impl ZeroRuns {
         self.apply(0xFFFF_FFFF - zeros, register)
     }
 
-    // The register once so many zero bytes have followed.
+    // Returns the register after `count` zero bytes.
     fn apply(&self, count: u32, register: u32) -> u32
         ensures { result ≡ crc_steps (8 * count) register }
     {

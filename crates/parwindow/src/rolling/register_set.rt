@@ -2,10 +2,10 @@ ghost use Rattle.std.specs.Prelude.{◌≡◌, ℕ, Bool};
 
 /// The registers at which a roll stops.
 pub trait RegisterSet {
-    /// Whether a register is one of these.
+    /// The registers of the set: whether a register is one of them.
     ghost has: { Self → ℕ → Bool };
 
-    /// Whether this register is one of them.
+    /// Whether this register is in the set.
     fn has(&self, register: u32) -> bool
         ensures { result ≡ has self.now register };
 }

@@ -1,8 +1,8 @@
 ghost use Rattle.std.specs.Prelude.{◌≡◌, ◌+◌, ◌^◌, ◌<◌, true, false};
 ghost use Rattle.parwindow.specs.Ahead.{passed_of};
 
-/// How far a register rolled, what it is there, and whether it stopped there since it is one of
-/// those that are looked for.
+/// How far a register rolled (the number of bytes), its value there, and whether it stopped there
+/// because it is one of those that are looked for (a hit).
 #[derive(Clone, Copy, Drop)]
 pub struct Roll {
     pub count: usize,
@@ -11,7 +11,7 @@ pub struct Roll {
 }
 
 impl Roll {
-    /// How many places it passed: all that it came to, but the one where it hit.
+    /// Returns how many bytes it rolled without a hit: all of them, or all but the last one.
     pub fn passed(&self) -> usize
         ensures { result ≡ passed_of self.now }
     {
@@ -22,7 +22,7 @@ impl Roll {
         }
     }
 
-    /// This roll and the next one, as one.
+    /// Returns this roll and the one after it, as one roll.
     pub fn then(self, next: Roll) -> Roll
         requires { self.count + next.count < 2 ^ 64 }
         ensures { result ≡ record next { count = self.count + next.count } }
@@ -33,7 +33,7 @@ impl Roll {
         }
     }
 
-    /// A roll that hit at this register.
+    /// Makes a roll that stopped with a hit, at this register.
     pub fn hit(count: usize, register: u32) -> Roll
         ensures { result ≡ record { count = count; register = register; hit = true } }
     {
@@ -44,7 +44,7 @@ impl Roll {
         }
     }
 
-    /// A roll that went to the end without a hit.
+    /// Makes a roll that went to the end without a hit.
     pub fn missed(count: usize, register: u32) -> Roll
         ensures { result ≡ record { count = count; register = register; hit = false } }
     {

@@ -7,19 +7,20 @@ use crate::index::Index;
 use crate::rolling::register_set::RegisterSet;
 use crate::rolling::roll::Roll;
 
-/// The tables by which a register rolls, side by side: with one base address for all four, two
-/// bytes a turn are a seventh faster.
+/// The tables by which a register rolls, side by side in memory: since all four have one base
+/// address, rolling two bytes at a time is a seventh faster.
 #[derive(Drop)]
 pub struct RollTables {
-    /// How many bytes a full window has beside its first one.
+    /// The number of bytes of a full window after its first one.
     pub others: usize,
-    /// What eight steps make of each byte.
+    /// Entry x is the register x after eight steps of a CRC-32.
     pub bytes: [u32; 256],
-    /// What sixteen steps make of each byte.
+    /// Entry x is the register x after sixteen steps of a CRC-32.
     pub two_bytes: [u32; 256],
-    /// What each first byte has changed in the register once a whole window has followed it.
+    /// For each first byte, the bits of the register that differ because of it, after a whole
+    /// window has followed it.
     pub once: [u32; 256],
-    /// What each first byte has changed in the register once one byte more has followed it.
+    /// For each first byte, the same after a whole window and one byte more have followed it.
     pub twice: [u32; 256],
     ghost steps: { IsStepTable bytes 8 },
     ghost two_steps: { IsStepTable two_bytes 16 },
@@ -32,7 +33,8 @@ impl RollTables {
     ghost use Rattle.parwindow.specs.Rolling.{rolled_register, pushed_register, rolled_over, with_two, HasRegister, StopsAt};
     ghost use Rattle.parwindow.specs.Until.{pushed_content};
 
-    /// The tables for a window of `size` bytes, by squaring: no byte runs through it.
+    /// Makes the tables for a window of `size` bytes. No byte runs through them: they
+    /// are made by squaring.
     pub fn new(size: usize) -> RollTables
         requires some { 0 < size }
         requires within { size ≤ slice_size_limit }
@@ -47,7 +49,7 @@ impl RollTables {
         }
     }
 
-    /// The register once a byte is pushed, and one falls out if there is such a one.
+    /// Returns the register after a byte is pushed, and one falls out if `fallen` is one.
     pub fn pushed(&self, register: u32, fallen: Option<u8>, come: u8) -> u32
         ensures { result ≡ pushed_register self.now.others register fallen come }
     {
@@ -57,7 +59,7 @@ impl RollTables {
         }
     }
 
-    /// The register once one byte goes and one comes.
+    /// Returns the register after one byte leaves and one comes.
     pub fn rolled(&self, register: u32, gone: u8, come: u8) -> u32
         ensures { result ≡ rolled_register self.now.others register gone come }
     {
@@ -66,15 +68,15 @@ impl RollTables {
             ^ self.once[gone as usize]
     }
 
-    // A register with two bytes that come xored into it, the first one into its low byte.
+    // Returns a register with two bytes that come xored into it, the first one into its low byte.
     fn with_two(register: u32, come: u8, next: u8) -> u32
         ensures { result ≡ with_two register come next }
     {
         register ^ u32::from(u16::from_le_bytes([come, next]))
     }
 
-    // The register once one byte goes and one comes. `both` is the register with two bytes that
-    // come, of which this is the first.
+    // Returns the register after one byte leaves and one comes. `both` is the register with two
+    // bytes that come xored into it; this one is the first of them.
     fn rolled_once(&self, register: u32, both: u32, gone: u8) -> u32
         ensures { (come next : ℕ) → come < 256 → next < 256 → both ≡ with_two register come next
             → result ≡ rolled_register self.now.others register gone come }
@@ -82,7 +84,7 @@ impl RollTables {
         (register >> 8) ^ self.bytes[(both & 0xFF) as usize] ^ self.once[gone as usize]
     }
 
-    // The register once two bytes go and both come. It doesn't wait for the register in between.
+    // Returns the register after two bytes leave and both come, without the register in between.
     fn rolled_twice(&self, register: u32, both: u32, gone: u8, next_gone: u8) -> u32
         ensures { (come next : ℕ) → come < 256 → next < 256 → both ≡ with_two register come next
             → result ≡ rolled_register self.now.others
@@ -94,9 +96,9 @@ impl RollTables {
             ^ self.bytes[((both >> 8) & 0xFF) as usize]
     }
 
-    /// Rolls a register over bytes that go and bytes that come, as long as there are both, up to
-    /// the first that is in the set. Not inlined, so that the loop is compiled once for each type
-    /// of set, and not once for each call.
+    /// Rolls a register over bytes that leave and bytes that come, as long as there are both, up to
+    /// the first register that is in the set. Not inlined, so that the loop is compiled once for
+    /// each type of set and not once for each call.
     #[inline(never)]
     pub fn roll_until<S: RegisterSet>(&self, set: &S, gone: &[u8], come: &[u8], start: u32) -> Roll
         ensures { StopsAt (λ register. IsTrue (S.has set.now register))
@@ -131,7 +133,7 @@ impl RollTables {
     }
 
     /// Rolls the register of a full window, whose content is in two parts, over the bytes that
-    /// come: what goes is the content, and after it the bytes themselves.
+    /// come. The bytes that leave are the content, and after it the bytes that came themselves.
     pub fn roll_over(
         &self,
         index: &Index,

@@ -3,16 +3,16 @@ ghost use Rattle.parwindow.specs.KeyBits.{word_count, HasBit};
 
 use std::alloc::{AllocError, Global};
 
-/// A set of bits, one for each 20 bits of a key: its top 14 and its low 6.
+/// A set of bits, in which 20 bits of a key choose a bit: its top 14 and its low 6.
 #[derive(Drop)]
 pub struct BitSet {
-    /// The words that hold the bits.
+    /// The words of 64 bits that have the bits.
     pub words: Vec<u64>,
     ghost size: { vec_len words ≡ word_count },
 }
 
 impl BitSet {
-    /// A set in which no bit is set.
+    /// Makes a set in which no bit is set.
     pub fn new(alloc: Global) -> Result<BitSet, AllocError>
         ensures { IfOk result (λ set. set.words.items ≡ replicate word_count 0) }
     {

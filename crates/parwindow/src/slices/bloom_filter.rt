@@ -7,19 +7,19 @@ use crate::slices::bit_set::BitSet;
 use parset::SetSlice;
 use std::alloc::{AllocError, Global};
 
-/// Bits that say of nearly all registers that they are no slice's.
+/// Bits that for nearly all registers show that no slice has them.
 #[derive(Drop)]
 pub struct BloomFilter {
-    /// The bits of the registers as they are.
+    /// The bits that registers choose as they are.
     pub plain: BitSet,
-    /// The bits of the registers, scattered.
+    /// The bits that registers choose after they are scattered.
     pub scattered: BitSet,
 }
 
 impl BloomFilter {
     ghost use Rattle.parwindow.specs.FilterBits.{MayHave, HasSlices, HasTails};
 
-    /// A filter that has the register of each slice.
+    /// Makes a filter that has the register of each slice.
     pub fn of(alloc: Global, slices: &[SetSlice]) -> Result<BloomFilter, AllocError>
         ensures { IfOk result (HasSlices slices.now) }
     {
@@ -35,8 +35,8 @@ impl BloomFilter {
         Ok(filter)
     }
 
-    /// A filter that has the register of the own bytes of each slice that is shorter than this
-    /// size, before the zeros that fill it.
+    /// Makes a filter that has, for each slice shorter than this size, the register
+    /// of its unpadded bytes.
     pub fn of_tails(
         alloc: Global,
         runs: &ZeroRuns,
@@ -83,7 +83,7 @@ impl BloomFilter {
     }
 }
 
-// All bits of a register, mixed into the upper ones.
+// Returns a product whose upper bits depend on all bits of the register.
 fn scattered_key(register: u32) -> u32
     ensures { result ≡ scattered_key register }
 {

@@ -6,10 +6,10 @@ ghost use Rattle.parwindow.specs.Entries.{entry_cmp};
 use crate::slices::entries::Entry;
 use std::alloc::{AllocError, Global};
 
-// How many keys there are: each is the top bits of a CRC-32.
+// The number of keys: a key is the top bits of a CRC-32.
 const KEYS: u32 = 8_192;
 
-/// Lists the number of the first entry of each key, and at the end how many entries there are.
+/// Lists the index of the first entry of each key, and at the end the number of entries.
 pub fn starts_of(alloc: Global, entries: &[Entry]) -> Result<Vec<u16>, AllocError>
     requires sorted { IsSorted entry_cmp entries.now }
     requires few { length entries.now ≤ slice_limit }
@@ -25,7 +25,7 @@ pub fn starts_of(alloc: Global, entries: &[Entry]) -> Result<Vec<u16>, AllocErro
     Ok(starts)
 }
 
-/// Takes the entries whose CRC-32s have the key of this one.
+/// Returns the entries whose CRC-32s have the same key as this one.
 pub fn part_of<'a>(entries: &'a [Entry], starts: &[u16], crc: u32) -> &'a [Entry]
     requires sorted { IsSorted entry_cmp entries.now }
     requires starts { AreStarts entries.now starts.now }
@@ -51,7 +51,7 @@ fn end_of(entries: &[Entry], from: usize, key: u32) -> usize
     entries.len()
 }
 
-// Takes the top 13 bits of a CRC-32, which are its key.
+// Returns the key of a CRC-32: its top 13 bits.
 fn key_of(crc: u32) -> u32
     ensures key { result ≡ key_of crc }
     ensures few { result < key_count }

@@ -13,7 +13,7 @@ use parfield::Hash16;
 use parset::SetSlice;
 use std::alloc::{AllocError, Global};
 
-/// Both sums of a slice, and its number behind them.
+/// Both checksums of a slice, and its number last. Entries are compared in this order.
 #[derive(Clone, Copy, PartialEq, Eq, PartialOrd, Ord)]
 pub struct Entry {
     pub crc: u32,
@@ -21,11 +21,11 @@ pub struct Entry {
     pub slice: u32,
 }
 
-/// The slices with sums, in the order of their entries.
+/// The entries of the slices with known checksums, in their order.
 #[derive(Drop)]
 pub struct Entries {
     pub list: Vec<Entry>,
-    /// The number of the first entry of each key.
+    /// The index of the first entry of each key.
     pub starts: Vec<u16>,
     ghost rises: { IsSorted entry_cmp list.items },
     ghost parts: { AreStarts list.items starts.items },
@@ -33,7 +33,7 @@ pub struct Entries {
 }
 
 impl Entries {
-    /// The entries of these slices.
+    /// Makes the entries of these slices.
     pub fn of(alloc: Global, slices: &[SetSlice]) -> Result<Entries, AllocError>
         requires { length slices.now ≤ slice_limit }
         ensures { IfOk result (λ entries. IsIndexOf slices.now entries.list.items) }
@@ -44,8 +44,8 @@ impl Entries {
         Ok(Entries { list, starts })
     }
 
-    /// Takes the entries of the slices that aren't found. `found` has a flag for each slice, by
-    /// number.
+    /// Returns the entries of the slices that aren't found. `found` has a flag for
+    /// each slice, by number.
     pub fn missing(&self, alloc: Global, found: &[bool]) -> Result<Entries, AllocError>
         requires { All (λ e. e.slice < length found.now) self.now.list.items }
         ensures { IfOk result (λ entries.
@@ -64,8 +64,8 @@ impl Entries {
         with_crc_in(part_of(&self.list, &self.starts, crc), crc)
     }
 
-    /// Whether some slice has this CRC-32. Nearly no register comes so far, so it stays out of the
-    /// loop that rolls.
+    /// Whether some slice has this CRC-32. The filter lets nearly no register come here, so this
+    /// isn't inlined into the loop that rolls.
     #[inline(never)]
     pub fn has_crc(&self, crc: u32) -> bool
         ensures { (slices : List SetSlice) → IsIndexOf slices self.now.list.items
@@ -74,7 +74,7 @@ impl Entries {
         self.count_crc(crc) > 0
     }
 
-    /// The first slice from a number on that has this CRC-32.
+    /// Returns the first slice, from number `from` on, that has this CRC-32.
     pub fn next_crc(&self, crc: u32, from: u32) -> Option<u32>
         ensures { (slices : List SetSlice) → IsIndexOf slices self.now.list.items
             → IsLeastFrom (slice_passes slices (has_known_crc crc)) from result }
@@ -82,7 +82,7 @@ impl Entries {
         least_from(self.with_crc(crc), from)
     }
 
-    /// How many slices have this CRC-32.
+    /// Returns the number of slices that have this CRC-32.
     pub fn count_crc(&self, crc: u32) -> usize
         ensures { (slices : List SetSlice) → IsIndexOf slices self.now.list.items
             → result ≡ length (filter (has_known_crc crc) slices) }
@@ -90,7 +90,7 @@ impl Entries {
         self.with_crc(crc).len()
     }
 
-    /// The first slice from a number on that has both sums.
+    /// Returns the first slice, from number `from` on, that has both checksums.
     pub fn next_match(&self, crc: u32, digest: Hash16, from: u32) -> Option<u32>
         ensures { (slices : List SetSlice) → IsIndexOf slices self.now.list.items
             → IsLeastFrom (slice_passes slices (has_sums (digest, crc))) from result }
@@ -98,7 +98,8 @@ impl Entries {
         next_match_in(self.with_crc(crc), crc, digest, from)
     }
 
-    /// Whether some slice that isn't found has this CRC-32 and at most so many bytes of its file.
+    /// Whether some slice that isn't found has this CRC-32 and an unpadded length of
+    /// at most `left` bytes.
     pub fn is_missing(&self, slices: &[SetSlice], crc: u32, left: u64, found: &[bool]) -> bool
         requires indexed { IsIndexOf slices.now self.now.list.items }
         requires each { length found.now ≡ length slices.now }
@@ -108,7 +109,7 @@ impl Entries {
         has_open(self.with_crc(crc), slices, 0, left, found)
     }
 
-    /// Whether `is_missing` holds of the slices with so many bytes of their files alone.
+    /// Whether the same holds for some slice whose unpadded length is `own`.
     pub fn is_missing_of(
         &self,
         slices: &[SetSlice],
@@ -126,7 +127,7 @@ impl Entries {
     }
 }
 
-// The entries of these slices, in the order of the slices.
+// Lists the entries of these slices, in the order of the slices.
 fn listed(alloc: Global, slices: &[SetSlice]) -> Result<Vec<Entry>, AllocError>
     requires { length slices.now ≤ slice_limit }
     ensures index { IfOk result (λ list. IsIndexOf slices.now list.items) }
@@ -146,7 +147,7 @@ fn listed(alloc: Global, slices: &[SetSlice]) -> Result<Vec<Entry>, AllocError>
     Ok(list)
 }
 
-// Takes the entries of the slices that aren't found, in their order.
+// Returns the entries of the slices that aren't found, in their order.
 fn unfound(alloc: Global, entries: &[Entry], found: &[bool]) -> Result<Vec<Entry>, AllocError>
     requires { All (λ e. e.slice < length found.now) entries.now }
     ensures { IfOk result (λ list. list.items ≡ filter (is_unfound found.now) entries.now) }
@@ -160,7 +161,7 @@ fn unfound(alloc: Global, entries: &[Entry], found: &[bool]) -> Result<Vec<Entry
     Ok(list)
 }
 
-// The place of the first entry that is not below the wanted one.
+// Finds the index of the first entry that is not below the wanted one.
 fn first_not_below(entries: &[Entry], wanted: &Entry) -> usize
     requires { IsSorted entry_cmp entries.now }
     ensures { IsFloor entries.now wanted.now result }
@@ -171,7 +172,7 @@ fn first_not_below(entries: &[Entry], wanted: &Entry) -> usize
     }
 }
 
-// The first slice of these entries from a number on that has both sums.
+// Finds the first slice of these entries, from number `from` on, that has both checksums.
 fn next_match_in(entries: &[Entry], crc: u32, digest: Hash16, from: u32) -> Option<u32>
     requires { IsSorted entry_cmp entries.now }
     ensures { (slices : List SetSlice) → HasAllOf slices crc digest.0 entries.now
@@ -198,7 +199,7 @@ fn with_crc_in(entries: &[Entry], crc: u32) -> &[Entry]
     &rest[..rest.partition_point(|entry| entry.crc == crc)]
 }
 
-// The least number of these entries from a number on.
+// Returns the least slice number of these entries, from `from` on.
 fn least_from(entries: &[Entry], from: u32) -> Option<u32>
     ensures { IsLeastOf entries.now from result }
 {
@@ -209,7 +210,8 @@ fn least_from(entries: &[Entry], from: u32) -> Option<u32>
     least
 }
 
-// The lesser one of a number and of another, if that is at or above `from`.
+// Returns the smaller one of a number and the least so far, if the number is `from` or greater;
+// else the least so far.
 fn lesser(from: u32, least: Option<u32>, number: u32) -> Option<u32>
     ensures { result ≡ lesser from least number }
 {
@@ -220,7 +222,8 @@ fn lesser(from: u32, least: Option<u32>, number: u32) -> Option<u32>
     }
 }
 
-// Whether the slice of one of these entries isn't found and has so many bytes of its file.
+// Whether the slice of one of these entries isn't found, and its unpadded length is from
+// `least` to `most` bytes.
 fn has_open(entries: &[Entry], slices: &[SetSlice], least: u64, most: u64, found: &[bool]) -> bool
     requires there { All (λ e. e.slice < length slices.now) entries.now }
     requires each { length found.now ≡ length slices.now }

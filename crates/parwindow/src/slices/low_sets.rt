@@ -6,8 +6,9 @@ use crate::crcs::ZeroRuns;
 use parset::SetSlice;
 use std::alloc::{AllocError, Global};
 
-/// A set of low bytes of registers, by their nibbles. A register has one of eight bits, and sets it
-/// for both nibbles of its low byte: few bytes have a bit for both that are not in the set.
+/// A set of low bytes of registers, kept by their nibbles (groups of four bits). The second byte of
+/// a register chooses one of eight bits, which is set for both nibbles of the low byte. Of the
+/// bytes that aren't in the set, few have a bit that is set for both nibbles.
 #[derive(Clone, Copy, Drop)]
 pub struct LowSet {
     pub low: [u8; 16],
@@ -17,7 +18,7 @@ pub struct LowSet {
 impl LowSet {
     ghost use Rattle.parwindow.specs.LowSets.{HasLow};
 
-    // Adds the low byte of a register.
+    // Puts the low byte of a register into the set.
     fn insert(&mut self, register: u32)
         ensures has { HasLow self.new register }
         ensures keeps { (other : ℕ) → HasLow self.old other → HasLow self.new other }
@@ -28,8 +29,8 @@ impl LowSet {
     }
 }
 
-/// For each length below the slice size a set of the low bytes of the registers of its slices,
-/// before the zeros that fill them. A few lengths may share one.
+/// For each short-slice length, a set of the low bytes of the registers that its slices have before
+/// their padding. A few lengths may share a set.
 #[derive(Drop)]
 pub struct LowSets {
     pub sets: Vec<LowSet>,
@@ -40,7 +41,7 @@ impl LowSets {
     ghost use Rattle.std.specs.Prelude.{get_or};
     ghost use Rattle.parwindow.specs.LowSets.{HasLow, HaveLows};
 
-    /// Those of these slices.
+    /// Makes the sets of these slices.
     pub fn of(
         alloc: Global,
         runs: &ZeroRuns,
@@ -69,7 +70,7 @@ impl LowSets {
         Ok(lows)
     }
 
-    // Adds a register to the set of a length.
+    // Puts a register into the set of a length.
     fn insert(&mut self, own: u32, register: u32)
         ensures has { (set : LowSet) → HasLow (get_or self.new.sets.items (set_of own) set) register }
         ensures keeps { (k other : ℕ) (set : LowSet) → k < 1024
@@ -79,7 +80,7 @@ impl LowSets {
         self.sets[set_of(own)].insert(register);
     }
 
-    /// The set of a length.
+    /// Lends the set of a length.
     pub fn of_length(&self, own: u32) -> &LowSet
         ensures { (set : LowSet) → result.now ≡ get_or self.now.sets.items (set_of own) set }
     {
@@ -87,7 +88,8 @@ impl LowSets {
     }
 }
 
-// Which set is that of a length. Lengths that are multiples of one number are spread over all.
+// Returns the number of the set of a length. Lengths that are multiples of one number are
+// spread over all sets.
 fn set_of(own: u32) -> usize
     ensures set { result ≡ set_of own }
     ensures within { result < 1024 }

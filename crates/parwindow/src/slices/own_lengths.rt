@@ -8,14 +8,14 @@ ghost use Rattle.parwindow.specs.Missing.{has_fit_crc_of};
 use parset::SetSlice;
 use std::alloc::{AllocError, Global};
 
-/// The CRC-32 of a slice, and how many of its bytes are its file's.
+/// The CRC-32 of a slice, and its unpadded length in bytes.
 #[derive(Clone, Copy, PartialEq, Eq, PartialOrd, Ord)]
 pub struct OwnLength {
     pub crc: u32,
     pub length: u64,
 }
 
-/// The CRC-32s of the slices with sums, in order, the shortest slice of each first.
+/// The CRC-32s of the slices with known checksums in order, and for each the shortest slice first.
 #[derive(Drop)]
 pub struct OwnLengths {
     pub list: Vec<OwnLength>,
@@ -23,7 +23,7 @@ pub struct OwnLengths {
 }
 
 impl OwnLengths {
-    /// Those of these slices.
+    /// Makes the list of these slices.
     pub fn of(alloc: Global, slices: &[SetSlice]) -> Result<OwnLengths, AllocError>
         ensures within { IfOk result (λ lengths. AreLengthsOf slices.now lengths.list.items) }
         ensures exactly { IfOk result (λ lengths. AreExactlyOf slices.now lengths.list.items) }
@@ -33,7 +33,7 @@ impl OwnLengths {
         Ok(OwnLengths { list })
     }
 
-    /// Whether some slice has this CRC-32 and at most so many bytes of its file.
+    /// Whether some slice has this CRC-32 and an unpadded length of at most `left` bytes.
     pub fn has(&self, crc: u32, left: u64) -> bool
         ensures { (slices : List SetSlice) → AreLengthsOf slices self.now.list.items
             → result ≡ list_any (has_fit_crc_of crc left) slices }
@@ -41,7 +41,7 @@ impl OwnLengths {
         has_within(&self.list, crc, left)
     }
 
-    /// Whether some slice has this CRC-32 and so many bytes of its file.
+    /// Whether some slice has this CRC-32 and this unpadded length.
     pub fn has_exactly(&self, crc: u32, length: u64) -> bool
         ensures { (slices : List SetSlice) → AreExactlyOf slices self.now.list.items
             → result ≡ list_any (has_own length (has_known_crc crc)) slices }
@@ -50,7 +50,7 @@ impl OwnLengths {
     }
 }
 
-// Those of these slices, in the order of the slices.
+// Lists the CRC-32s and lengths of these slices, in the order of the slices.
 fn listed(alloc: Global, slices: &[SetSlice]) -> Result<Vec<OwnLength>, AllocError>
     ensures within { IfOk result (λ list. AreLengthsOf slices.now list.items) }
     ensures exactly { IfOk result (λ list. AreExactlyOf slices.now list.items) }
@@ -67,7 +67,7 @@ fn listed(alloc: Global, slices: &[SetSlice]) -> Result<Vec<OwnLength>, AllocErr
     Ok(list)
 }
 
-// Whether one of them has this CRC-32 and at most this length.
+// Whether one of these has this CRC-32 and a length of at most `left`.
 fn has_within(lengths: &[OwnLength], crc: u32, left: u64) -> bool
     requires { IsSorted length_cmp lengths.now }
     ensures { result ≡ list_any (is_within crc left) lengths.now }
@@ -78,7 +78,7 @@ fn has_within(lengths: &[OwnLength], crc: u32, left: u64) -> bool
     }
 }
 
-// Whether one of them has this CRC-32 and this length.
+// Whether one of these has this CRC-32 and this length.
 fn has_exact(lengths: &[OwnLength], crc: u32, length: u64) -> bool
     requires { IsSorted length_cmp lengths.now }
     ensures { result ≡ list_any (is_exactly crc length) lengths.now }

@@ -6,7 +6,8 @@ ghost use Rattle.parwindow.specs.TailLengths.{AreShortOf};
 use parset::SetSlice;
 use std::alloc::{AllocError, Global};
 
-/// The own lengths of slices with sums that are below the slice size, rising.
+/// Returns the short-slice lengths: the unpadded lengths below the slice size of slices with known
+/// checksums, in increasing order.
 pub fn tail_lengths(alloc: Global, size: u64, slices: &[SetSlice]) -> Result<Vec<usize>, AllocError>
     requires size { size ≤ slice_size_limit }
     requires own { All (λ slice. 0 < slice.length) slices.now }
@@ -18,7 +19,7 @@ pub fn tail_lengths(alloc: Global, size: u64, slices: &[SetSlice]) -> Result<Vec
     Ok(lengths)
 }
 
-// Those lengths in the order of the slices.
+// Returns these lengths in the order of the slices, with repeats.
 fn short_lengths(alloc: Global, size: u64, slices: &[SetSlice]) -> Result<Vec<usize>, AllocError>
     requires { size ≤ slice_size_limit }
     ensures { IfOk result (λ lengths. AreShortOf size slices.now lengths.items) }

@@ -13,12 +13,13 @@ use crate::tails::stream::Stream;
 use crate::tails::tail::Tail;
 use crate::tails::tail_slices::TailSlices;
 
-// From how many bytes for all tails on a running register saves more than its places cost.
+// From this number of bytes on, counted for all tails together, a running register saves more time
+// than it costs to compute its places.
 const LEAST_WORK: usize = 1024;
 
-/// Moves each tail past all bytes of a stream, if the limit is as many, and at no place a tail has
-/// the CRC-32 of a slice of its length. Otherwise no register moves, and the answer is fewer: how
-/// many places all tails passed.
+/// Moves each tail past all bytes of a stream and returns their number, if `limit` is that number
+/// and after none of the bytes a tail has the CRC-32 of a slice of its length. Otherwise moves no
+/// tail, and returns a smaller number: all tails pass that many bytes without such a slice.
 pub fn pass_tails(
     tails: &mut [Tail],
     running: &mut Option<Running>,
@@ -60,8 +61,8 @@ pub fn pass_tails(
     passed
 }
 
-// How many places all tails pass, as below. If these are all places, the running register goes past
-// them too. Not inlined, since its places take much room on the stack.
+// Looks ahead as `look_ahead` does. If all tails pass all bytes, the running register goes past
+// them too. Not inlined, since its places take much space on the stack.
 #[inline(never)]
 fn look_and_run(
     tails: &mut [Tail],
@@ -102,9 +103,9 @@ fn look_and_run(
     passed
 }
 
-// How many places all tails pass, up to a limit. If these are all places of a stream, `ahead` is
-// the register of each tail after them. A running register takes the place of a register for each
-// tail, if there is one.
+// Returns how many bytes all tails pass without a slice of their length, up to a limit. If these
+// are all bytes of a stream, `ahead` is the register of each tail after them. If there is a running
+// register, it replaces the registers of the tails.
 fn look_ahead(
     tails: &mut [Tail],
     index: &Index,
@@ -132,7 +133,7 @@ fn look_ahead(
     passed
 }
 
-// Notes a register that is ahead of a tail.
+// Notes the register of tail `k` after the bytes ahead.
 fn set_ahead(tails: &mut [Tail], k: usize, register: u32)
     requires { k < length tails.old }
     ensures lengths { tail_lengths_of tails.new ≡ tail_lengths_of tails.old }
@@ -143,7 +144,7 @@ fn set_ahead(tails: &mut [Tail], k: usize, register: u32)
     tails[k].ahead = register;
 }
 
-// Each tail takes the register that is ahead.
+// Moves each tail: its register is the one that was noted as ahead.
 fn go_ahead(tails: &mut [Tail])
     ensures lengths { tail_lengths_of tails.new ≡ tail_lengths_of tails.old }
     ensures each { (size : ℕ) (before after : List ℕ) → All (IsTail size before) tails.old

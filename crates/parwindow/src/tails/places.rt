@@ -4,8 +4,8 @@ ghost use Rattle.parwindow.specs.Places.{registers_of, AreFronts};
 use crate::crcs::Nibbles;
 use crate::tails::stream::Stream;
 
-/// The running registers before the bytes of a full window, in two parts, and before those that
-/// come.
+/// The running registers of a stream: the ones before the bytes of a full window, in two parts, and
+/// the ones before the bytes that come next.
 #[derive(Clone, Copy, Drop)]
 pub struct RegisterStream<'a> {
     pub front: &'a [u32],
@@ -14,7 +14,8 @@ pub struct RegisterStream<'a> {
 }
 
 impl<'a> RegisterStream<'a> {
-    /// The registers from a place on, up to the end of a part.
+    /// Returns the registers from an offset of the stream on, up to the end of
+    /// the part that it is in.
     pub fn piece_from(&self, place: usize) -> &'a [u32]
         requires { place < length (registers_of self.now) }
         ensures piece { result.now ≡ take (length result.now) (drop place (registers_of self.now)) }
@@ -30,7 +31,8 @@ impl<'a> RegisterStream<'a> {
         &self.come[behind - self.back.len()..]
     }
 
-    /// The registers from a place on in one part, as many as there are.
+    /// Copies the registers from an offset of the stream on, up to 528 of them. After the last
+    /// register, the entries may have any value.
     pub fn copied(&self, from: usize) -> [u32; 528]
         requires { from < 2 ^ 32 }
         ensures { (i : ℕ) → i < 528 → from + i < length (registers_of self.now)
@@ -51,19 +53,19 @@ impl<'a> RegisterStream<'a> {
     }
 }
 
-/// The places of a stream, by the running registers there: at each place the bytes of all tails
-/// begin.
+/// A stream with its running registers. The bytes of all tails begin at the same
+/// offset of the stream.
 #[derive(Drop)]
 pub struct Places<'s, 'r> {
     pub stream: Stream<'s>,
     pub registers: RegisterStream<'r>,
-    /// The registers at the places after the first one.
+    /// The running registers after the first one.
     pub fronts: Nibbles,
     ghost are: { AreFronts (registers_of registers) fronts.registers },
 }
 
 impl<'s, 'r> Places<'s, 'r> {
-    /// Those of a stream, by the registers before each of its bytes.
+    /// Makes the places of a stream, from the running registers before each of its bytes.
     pub fn new(stream: Stream<'s>, registers: RegisterStream<'r>) -> Places<'s, 'r>
         ensures stream { result.stream ≡ stream.entry }
         ensures registers { result.registers ≡ registers.entry }

@@ -7,13 +7,15 @@ use crate::crcs::{after_byte, after_two};
 use circular_buffer::HeapCircularBuffer;
 use std::alloc::{AllocError, Global};
 
-// From how many tails on one running register takes the place of a register for each.
+// From this number of tails on, one running register replaces a register for each.
 const SEVERAL: usize = 6;
 
-// The size of the longest window that has one: its registers take four bytes for each byte.
+// The size of the longest window that has a running register: its registers take four
+// bytes for each byte.
 const LONGEST_WINDOW: usize = 8_388_608;
 
-/// One register over the bytes of a window, out of which no byte is taken as it falls out.
+/// A running register over the bytes of a window: it takes in all bytes, and
+/// none is taken out of it.
 #[derive(Drop)]
 pub struct Running {
     /// The register before each byte of the window.
@@ -23,7 +25,7 @@ pub struct Running {
 }
 
 impl Running {
-    // Takes a byte.
+    // Takes in a byte.
     fn push(&mut self, byte: u8)
         ensures { (size : ℕ) (content : List ℕ) → IsRun size content self.old
             → IsRun size (keep_last size (content ++ byte ∷ [])) self.new }
@@ -32,7 +34,7 @@ impl Running {
         self.last = after_byte(self.last, byte);
     }
 
-    /// Takes bytes, before each of which the register is known, and after the last one too.
+    /// Takes in bytes. The register before each of them is known, and the one after the last too.
     pub fn extend(&mut self, registers: &[u32], last: u32)
         ensures { (size : ℕ) (content bytes : List ℕ) → IsRun size content self.old
             → RunsOver self.old.last bytes registers.now
@@ -43,8 +45,8 @@ impl Running {
         self.last = last;
     }
 
-    /// The registers before bytes that come, and after the last one: two bytes a turn, since no
-    /// register then waits for the one before it.
+    /// Computes the running register before each of these bytes and after the last one. It takes
+    /// two bytes at a time, since then no register waits for the one before it.
     pub fn coming(&self, bytes: &[u8]) -> Coming
         requires { length bytes.now ≤ 512 }
         ensures before { RunsOver self.now.last bytes.now
@@ -70,15 +72,15 @@ impl Running {
     }
 }
 
-/// The running register before each byte that comes, and after the last one.
+/// The running register before each of some bytes that come, and after the last one.
 #[derive(Drop)]
 pub struct Coming {
     pub registers: [u32; 512],
     pub last: u32,
 }
 
-/// The running register of a window of this size without bytes, for this number of tails: only
-/// several tails have one, in a window that isn't too long.
+/// Makes the running register of an empty window of this size, for this number of tails; `None` if
+/// there are too few tails or the window is too long.
 pub fn running_for(alloc: Global, size: usize, tails: usize) -> Result<Option<Running>, AllocError>
     ensures { IfOk result (λ running. IfSome running (IsRun size [])) }
 {
@@ -89,7 +91,7 @@ pub fn running_for(alloc: Global, size: usize, tails: usize) -> Result<Option<Ru
     Ok(Some(Running { before, last: 0 }))
 }
 
-/// A byte is pushed.
+/// Takes in a byte that is pushed, if there is a running register.
 pub fn push_running(running: &mut Option<Running>, byte: u8)
     ensures { (size : ℕ) (content : List ℕ) → IfSome running.old (IsRun size content)
         → IfSome running.new (IsRun size (keep_last size (content ++ byte ∷ []))) }
@@ -99,7 +101,7 @@ pub fn push_running(running: &mut Option<Running>, byte: u8)
     }
 }
 
-/// No byte is left.
+/// Removes all bytes, if there is a running register.
 pub fn clear_running(running: &mut Option<Running>)
     ensures { (size : ℕ) (content : List ℕ) → IfSome running.old (IsRun size content)
         → IfSome running.new (IsRun size []) }
@@ -109,7 +111,7 @@ pub fn clear_running(running: &mut Option<Running>)
     }
 }
 
-/// A running register, if there are enough tails for one.
+/// Returns the running register if there are enough tails for one.
 pub fn for_several(running: Option<Running>, tails: usize) -> Option<Running>
     ensures { (size : ℕ) (content : List ℕ) → IfSome running (IsRun size content)
         → IfSome result (IsRun size content) }

@@ -1,7 +1,7 @@
 ghost use Rattle.std.specs.Prelude.{◌≡◌, ◌<◌, drop, length, take};
 ghost use Rattle.parwindow.specs.Ahead.{window_bytes, stream_of};
 
-/// The bytes of a full window, in two parts, and those that come.
+/// A stream: the bytes of a full window, in two parts, and those that come next.
 #[derive(Clone, Copy, Drop)]
 pub struct Stream<'a> {
     pub front: &'a [u8],
@@ -10,8 +10,8 @@ pub struct Stream<'a> {
 }
 
 impl<'a> Stream<'a> {
-    /// The bytes from a place on, up to the end of a part. Not inlined, since a check counts in the
-    /// built program how often it is called.
+    /// Returns the bytes from an offset of the stream on, up to the end of the part that it is in.
+    /// Not inlined, since a check counts in the built program how often it is called.
     #[inline(never)]
     pub fn piece_from(&self, place: usize) -> &'a [u8]
         requires { place < length (stream_of self.now) }

@@ -6,19 +6,19 @@ use crate::index::Index;
 use crate::rolling::RollTables;
 use circular_buffer::HeapCircularBuffer;
 
-/// A length that is shorter than a window, and the register of as many first bytes of it.
+/// A short-slice length, and the register of that many first bytes of a window.
 #[derive(Drop)]
 pub struct Tail {
     pub length: usize,
     pub register: u32,
-    /// The register at a place ahead, up to which no slice was met. It means nothing but between a
-    /// look ahead and the move that takes it.
+    /// The register after bytes ahead, among which no slice was met. It has a meaning only between
+    /// a look ahead and the move that takes it.
     pub ahead: u32,
     /// The tables of a window of this length.
     pub tables: RollTables,
-    /// What fills the window behind these bytes.
+    /// The zeros that fill up the window after these bytes.
     pub zeros: ZeroRun,
-    /// A run of zeros of the same length.
+    /// A run of zeros of this length.
     pub lows: LowBytes,
     ghost short: { length ≤ slice_size_limit },
     ghost own: { tables.others + 1 ≡ length },
@@ -32,7 +32,8 @@ impl Tail {
     ghost use Rattle.parwindow.specs.Crc32.{register_of};
     ghost use Rattle.parwindow.specs.Tails.{is_tail_slice, IsTail};
 
-    /// The register once a byte is pushed into a ring, full or not.
+    /// Returns the register after a byte is pushed into a ring (the buffer of a
+    /// window), full or not.
     pub fn pushed(&self, ring: &HeapCircularBuffer<u8>, byte: u8) -> u32
         requires tail { IsTail ring.now.capacity ring.now.items self.now }
         requires within { length ring.now.items ≤ ring.now.capacity }
@@ -48,7 +49,7 @@ impl Tail {
         self.rolled(ring, first_of(ring))
     }
 
-    // The register once any byte is pushed into a full ring, whose first byte this is.
+    // Returns the register after any byte is pushed into a full ring, whose first byte is `gone`.
     fn rolled(&self, ring: &HeapCircularBuffer<u8>, gone: u8) -> u32
         requires tail { IsTail ring.now.capacity ring.now.items self.now }
         requires full { length ring.now.items ≡ ring.now.capacity }
@@ -60,8 +61,9 @@ impl Tail {
         self.tables.rolled(self.register, gone, come)
     }
 
-    /// Rolls once any byte is pushed into a full ring, whose first byte this is. Whether the tail's
-    /// bytes and zeros then have the CRC-32 of a slice of this own length.
+    /// Rolls the register as when any byte is pushed into a full ring, whose first byte is
+    /// `gone`. Returns whether the tail's bytes and zeros then have the CRC-32 of a slice of
+    /// this unpadded length.
     pub fn roll(&mut self, ring: &HeapCircularBuffer<u8>, index: &Index, gone: u8) -> bool
         requires tail { IsTail ring.now.capacity ring.now.items self.old }
         requires full { length ring.now.items ≡ ring.now.capacity }
@@ -77,8 +79,8 @@ impl Tail {
         self.is_slice(self.register, index)
     }
 
-    /// Whether bytes with this register and the tail's zeros have the CRC-32 of a slice of this own
-    /// length.
+    /// Whether bytes with this register, followed by the tail's zeros, have the CRC-32 of a slice
+    /// of this unpadded length.
     pub fn is_slice(&self, register: u32, index: &Index) -> bool
         requires shorter { 0 < self.now.zeros.len }
         requires sized { self.now.length + self.now.zeros.len ≡ index.now.slice_size }
@@ -88,7 +90,7 @@ impl Tail {
     }
 }
 
-/// The first byte of a ring that has one.
+/// Returns the first byte of a ring that has one.
 pub fn first_of(ring: &HeapCircularBuffer<u8>) -> u8
     requires { 0 < length ring.now.items }
     ensures { result ≡ slice_index ring.now.items 0 }

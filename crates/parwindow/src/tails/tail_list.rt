@@ -11,7 +11,7 @@ use crate::tails::tail::{Tail, first_of};
 use circular_buffer::HeapCircularBuffer;
 use std::alloc::{AllocError, Global};
 
-/// The tails of these lengths, in an empty window of this size.
+/// Makes the tails of these lengths, in an empty window of this size.
 pub fn tails_for(alloc: Global, size: usize, lengths: &[usize]) -> Result<Vec<Tail>, AllocError>
     requires within { size ≤ slice_size_limit }
     requires tails { AreTails size lengths.now }
@@ -32,7 +32,7 @@ pub fn tails_for(alloc: Global, size: usize, lengths: &[usize]) -> Result<Vec<Ta
     Ok(tails)
 }
 
-/// A byte is pushed into a ring, full or not: each tail takes its register after that.
+/// Updates each tail for a byte that is pushed into a ring (the buffer of a window), full or not.
 pub fn push_tails(tails: &mut [Tail], ring: &HeapCircularBuffer<u8>, byte: u8)
     requires tails { All (IsTail ring.now.capacity ring.now.items) tails.old }
     requires within { length ring.now.items ≤ ring.now.capacity }
@@ -46,8 +46,8 @@ pub fn push_tails(tails: &mut [Tail], ring: &HeapCircularBuffer<u8>, byte: u8)
     }
 }
 
-/// Any byte is pushed into a full ring: each tail takes its register after that. Whether some tail
-/// then has the CRC-32 of a slice of its length.
+/// Updates each tail for any byte that is pushed into a full ring. Returns whether some tail then
+/// has the CRC-32 of a slice of its length.
 pub fn roll_tails(tails: &mut [Tail], ring: &HeapCircularBuffer<u8>, index: &Index) -> bool
     requires tails { All (IsTail ring.now.capacity ring.now.items) tails.old }
     requires full { length ring.now.items ≡ ring.now.capacity }
@@ -67,7 +67,7 @@ pub fn roll_tails(tails: &mut [Tail], ring: &HeapCircularBuffer<u8>, index: &Ind
     hit
 }
 
-/// No byte is left.
+/// Updates each tail for a window whose bytes are all removed.
 pub fn clear_tails(tails: &mut [Tail])
     ensures lengths { tail_lengths_of tails.new ≡ tail_lengths_of tails.old }
     ensures each { (size : ℕ) (content : List ℕ) → All (IsTail size content) tails.old

@@ -9,7 +9,7 @@ use crate::tails::places::Places;
 use crate::tails::stream::Stream;
 use crate::tails::tail::Tail;
 
-/// The slices of a tail's length, by the registers of the tail.
+/// The slices of a tail's length, which are found by the registers of the tail.
 #[derive(Drop)]
 pub struct TailSlices<'a> {
     pub index: &'a Index,
@@ -27,7 +27,7 @@ impl<'a> TailSlices<'a> {
     ghost use Rattle.parwindow.specs.Rolling.{StopsAt};
     ghost use Rattle.parwindow.specs.Tails.{IsTail};
 
-    /// The slices of an index of this tail's length.
+    /// Takes the slices of this tail's length from an index.
     pub fn new(index: &'a Index, tail: &'a Tail) -> TailSlices<'a>
         requires shorter { 0 < tail.now.zeros.len }
         requires fills { tail.now.length + tail.now.zeros.len ≡ index.now.slice_size }
@@ -37,8 +37,8 @@ impl<'a> TailSlices<'a> {
         TailSlices { index, tail }
     }
 
-    /// Rolls the tail's register along a stream, up to a place or to the first one where it is one
-    /// of them: by the running registers at its places, if there are any.
+    /// Rolls the tail's register along a stream, up to `limit` bytes or to the first register of
+    /// such a slice. If the running registers of the stream are given, it uses these.
     pub fn roll_ahead(
         &self,
         stream: &Stream<'_>,
@@ -61,7 +61,7 @@ impl<'a> TailSlices<'a> {
         }
     }
 
-    // The same by the tail's register alone.
+    // Does the same with only the tail's register.
     fn roll_along(&self, stream: &Stream<'_>, limit: usize) -> Roll
         requires tail { IsTail (length (window_bytes stream.now)) (window_bytes stream.now)
             self.now.tail.now }
@@ -88,7 +88,7 @@ impl<'a> TailSlices<'a> {
         roll
     }
 
-    // The same by the running registers at the places of the stream.
+    // Does the same with the running registers of the stream.
     fn roll_by(&self, places: &Places<'_, '_>, limit: usize) -> Roll
         requires tail { IsTail (length (window_bytes places.now.stream))
             (window_bytes places.now.stream) self.now.tail.now }
@@ -111,7 +111,7 @@ impl<'a> TailSlices<'a> {
         }
     }
 
-    // The same by the running registers before the tail's bytes, and those after them.
+    // Does the same with the running registers before the tail's bytes and those after them.
     fn roll_to(&self, fronts: &Nibbles, ends: &[u32], limit: usize) -> Roll
         requires some { 0 < limit }
         requires within { limit ≤ 512 }
@@ -138,8 +138,8 @@ impl<'a> TailSlices<'a> {
         Roll::missed(limit, self.register_at(fronts, ends, limit - 1))
     }
 
-    // A bit for each of sixteen places, which is set if the low byte of the register there is that
-    // of a slice's: nearly always none.
+    // Returns a bit for each of sixteen registers, which is set if the register's low byte may
+    // belong to a slice; nearly always no bit is set.
     #[inline(always)]
     fn marks(&self, fronts: &Nibbles, ends: &[u32], at: usize) -> u64
         requires fronts { at + 16 ≤ 528 }
@@ -157,8 +157,8 @@ impl<'a> TailSlices<'a> {
         )
     }
 
-    // The first of some places that is marked and has the register of a slice, or their end. Nearly
-    // no places come so far, so it stays out of the loop.
+    // Returns the index of the first register, from `at` up to `to`, that is marked and belongs to
+    // a slice, or `to` if there is none. It is called rarely, so it isn't inlined into the loop.
     #[inline(never)]
     fn first_marked(
         &self,
@@ -198,7 +198,8 @@ impl<'a> TailSlices<'a> {
         to
     }
 
-    // The register of the tail's bytes, by the running registers before and after them.
+    // Returns the register of the tail's bytes, computed from the running registers
+    // before and after them.
     fn register_at(&self, fronts: &Nibbles, ends: &[u32], i: usize) -> u32
         requires fronts { i < 528 }
         requires ends { i < length ends.now }

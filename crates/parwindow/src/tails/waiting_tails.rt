@@ -13,7 +13,7 @@ use crate::tails::tail_list::tails_for;
 use std::alloc::{AllocError, Global};
 use std::marker::Model;
 
-/// The tails of a window of some size that doesn't look by them yet.
+/// The tails of a window that doesn't look for short slices yet.
 #[derive(Drop)]
 pub struct WaitingTails {
     size: usize,
@@ -34,7 +34,8 @@ impl Model for WaitingTails {
 }
 
 impl WaitingTails {
-    /// Up to 256 lengths, for a window of `size` bytes. No other call takes memory.
+    /// Makes the tails of up to 256 lengths, for a window of `size` bytes. No
+    /// other call takes memory.
     pub fn new(alloc: Global, size: usize, lengths: &[usize]) -> Result<WaitingTails, AllocError>
         requires within { size ≤ slice_size_limit }
         requires few { length lengths.now ≤ tail_limit }
@@ -50,7 +51,7 @@ impl WaitingTails {
         })
     }
 
-    /// Leaves out each length that no slice with sums of this index has.
+    /// Removes each length that isn't a short-slice length of this index.
     pub fn keep_those_of(&mut self, index: &Index)
         ensures { self.new ≡ record self.old {
           lengths
@@ -60,7 +61,7 @@ impl WaitingTails {
         self.list.retain(|tail| index.has_tail(tail.length));
     }
 
-    /// The tails themselves, and a running register if there are several.
+    /// Returns the tails themselves, and the running register if there are several tails.
     pub(crate) fn into_parts(self) -> (Vec<Tail>, Option<Running>)
         ensures lengths { tail_lengths_of result.0.items ≡ self.lengths }
         ensures each { All (IsTail self.size []) result.0.items }

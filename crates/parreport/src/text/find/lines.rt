@@ -27,7 +27,7 @@ pub fn write_sighting<W: Sink>(
     Ok(write_text(out, line.as_bytes())?)
 }
 
-/// Writes the line after the last sighting.
+/// Writes `end`, the line after the last sighting.
 #[tactic(auto, unfolding(crate::specs::Lines::end_line))]
 pub fn write_end<W: Sink>(out: &mut W) -> Result<(), RunFault>
     ensures { WritesLine end_line result (W.state out.old) (W.state out.new) }
@@ -35,8 +35,8 @@ pub fn write_end<W: Sink>(out: &mut W) -> Result<(), RunFault>
     Ok(write_text(out, b"end\n")?)
 }
 
-/// Writes the line of the cursor to go on from, in a search for the slices of this set in the list of
-/// files with this mark.
+/// Writes the line of the cursor to continue from, in a search for the slices of this set in the
+/// list of files with this mark.
 pub fn write_cursor<W: Sink>(
     alloc: Global,
     set: Hash16,
@@ -51,7 +51,7 @@ pub fn write_cursor<W: Sink>(
     Ok(write_text(out, &line)?)
 }
 
-// The line of a sighting.
+// Returns the line of a sighting.
 #[tactic(auto, unfolding(crate::specs::Lines::sighting_line))]
 fn line_of(
     alloc: Global,
@@ -70,7 +70,7 @@ fn line_of(
     }
 }
 
-// The line of the cursor to go on from.
+// Returns the line of the cursor to continue from.
 #[tactic(auto, unfolding(crate::specs::Lines::cursor_line))]
 fn cursor_line(alloc: Global, set: Hash16, list: Hash16, at: Cursor) -> Result<Vec<u8>, AllocError>
     ensures { IfOk result (λ line. line.items

@@ -1,12 +1,12 @@
 use parfind::CursorText;
 
-/// What `find` is asked for.
+/// The options of `find`.
 #[derive(Clone, Copy)]
 pub(crate) struct Query {
-    /// How many lines at most, where there is a limit.
+    /// The greatest number of lines, if there is a limit.
     pub limit: Option<u64>,
-    /// Where to begin, and the set and the list of files in which a search stood there.
+    /// The place to begin at, with the set and the list of files that the search was over.
     pub cursor: Option<CursorText>,
-    /// Whether short slices are seen whatever bytes come behind them.
+    /// Whether short slices are found whatever bytes come after them.
     pub tails: bool,
 }

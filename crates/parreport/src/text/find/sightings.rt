@@ -24,7 +24,7 @@ use parwindow::Index;
 use std::alloc::Global;
 
 /// Writes a line for each sighting from a cursor on, each before the next is looked for; then
-/// `end`, or the cursor to go on from, once as many lines are written as the limit allows.
+/// `end`, or, if the limit is reached, the cursor to continue from.
 pub fn write_sightings<Q: Shelf, W: Sink>(
     alloc: Global,
     files: &[Scanned],
@@ -37,7 +37,7 @@ pub fn write_sightings<Q: Shelf, W: Sink>(
     requires limit { query.limit ≢ Some 0 }
     requires scanned { length (Q.state shelf.old).lengths ≡ length files.now }
 
-    // The text is that of any files of which that was read.
+    // The text is that of any files that are consistent with the reads.
     ensures text { (contents : List (List ℕ)) → ReadsAs (Q.state shelf.new) contents
         → Answers (search_report (find_search_of files.now contents set.now at query))
         (listing_of result) (W.state out.old) (W.state out.new) }
@@ -46,7 +46,7 @@ pub fn write_sightings<Q: Shelf, W: Sink>(
         WritesLinesBefore (find_search_of files.now contents set.now at query)
         file (W.state out.old) (W.state out.new))) }
 
-    // Whatever was read: the answer tells what failed.
+    // Whatever the reads returned: the result says what failed.
     ensures fault { IfErr result IsFindFault }
     ensures unopened { IfErr result (λ fault. fault ≡ run_fault.TooManyTails
         → W.state out.new ≡ W.state out.old) }
@@ -62,7 +62,7 @@ pub fn write_sightings<Q: Shelf, W: Sink>(
     write_from(alloc, files, set, &index, &mut finder, query, shelf, out)
 }
 
-// Writes these lines from where a finder stands.
+// Writes these lines, from a finder's cursor on.
 fn write_from<Q: Shelf, W: Sink>(
     alloc: Global,
     files: &[Scanned],
@@ -101,7 +101,7 @@ fn write_from<Q: Shelf, W: Sink>(
                 write_sighting(alloc, files, set, sighting, out)?;
                 left = limit_left(left);
             }
-            // `next` has no budget to spend, so this answer never comes.
+            // `next` has no budget to spend, so it never returns this.
             Ok(Step::Spent) => {}
             Ok(Step::Done) => return write_end(out),
             Err(fault) => {
@@ -118,7 +118,7 @@ fn write_from<Q: Shelf, W: Sink>(
     write_cursor(alloc, set.id(), list, finder.cursor(), out)
 }
 
-// How many lines are left once one more is written, where there is a limit.
+// Returns how many lines are left of a limit after one more is written, if there is a limit.
 fn limit_left(left: Option<u64>) -> Option<u64>
     requires { left ≢ Some 0 }
     ensures { result ≡ limit_left left }

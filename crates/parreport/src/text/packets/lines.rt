@@ -26,7 +26,7 @@ pub fn write_packets_text<W: Sink>(
     write_count(count, writer)
 }
 
-// Writes the lines of the packets that are asked for; gives their number.
+// Writes the lines of the packets that are asked for, and returns their number.
 fn write_chosen<W: Sink>(
     names: &[Text],
     choice: Option<Hash16>,
@@ -77,7 +77,7 @@ fn append_packet(text: &mut String, name: &[u8], packet: &Kept) -> Result<(), Al
     )
 }
 
-// Writes the line after those of all packets.
+// Writes the last line, with the number of packets.
 fn write_count<W: Sink>(count: u64, writer: &mut BlockWriter<'_, W>) -> Result<(), RunFault>
     ensures { Writes W.state writer.old writer.new (count_line count) result }
 {
@@ -86,7 +86,7 @@ fn write_count<W: Sink>(count: u64, writer: &mut BlockWriter<'_, W>) -> Result<(
     writer.put_back(text)
 }
 
-// Appends that line.
+// Appends the last line, with the number of packets.
 #[tactic(auto, unfolding(crate::specs::Lines::count_line))]
 fn append_count(text: &mut String, count: u64) -> Result<(), AllocError>
     ensures { OnOk result (string_bytes text.new ≡ string_bytes text.old ++ count_line count) }
@@ -94,7 +94,7 @@ fn append_count(text: &mut String, count: u64) -> Result<(), AllocError>
     writeln!(text, "packets {count}")
 }
 
-// The word of a kind.
+// Returns the word for the kind of a packet.
 fn kind_word(kind: Kind) -> &'static str
     ensures { result.now ≡ kind_word kind }
 {

@@ -13,7 +13,7 @@ use parset::{RecoverySet, SetAside, SetFile};
 use parshelf::Sink;
 use std::alloc::AllocError;
 
-/// Writes the text of `set`, over packet files of these names.
+/// Writes the text of `set`; `names` are those of the packet files.
 pub fn write_set_text<W: Sink>(
     names: &[Text],
     set: &RecoverySet,
@@ -77,7 +77,7 @@ fn yes_if(known: bool) -> &'static str
     if known { "yes" } else { "no" }
 }
 
-// Writes the lines between those of the files and those of the packets that are put aside.
+// Writes the lines between those of the files and those of the rejected packets.
 fn write_counts<W: Sink>(set: &RecoverySet, writer: &mut BlockWriter<'_, W>) -> Result<(), RunFault>
     ensures { Writes W.state writer.old writer.new (counts_lines set.now) result }
 {
@@ -86,7 +86,7 @@ fn write_counts<W: Sink>(set: &RecoverySet, writer: &mut BlockWriter<'_, W>) -> 
     writer.put_back(text)
 }
 
-// Appends the lines between those of the files and those of the packets that are put aside.
+// Appends the lines between those of the files and those of the rejected packets.
 fn append_counts(text: &mut String, set: &RecoverySet) -> Result<(), AllocError>
     ensures { OnOk result (string_bytes text.new
         ≡ string_bytes text.old ++ counts_lines set.now) }
@@ -96,7 +96,7 @@ fn append_counts(text: &mut String, set: &RecoverySet) -> Result<(), AllocError>
     append_creator(text, set.creator())
 }
 
-// Appends how many non-recovery files there are.
+// Appends the number of non-recovery files.
 #[tactic(auto, unfolding(crate::specs::Lines::others_line))]
 fn append_others(text: &mut String, count: u32) -> Result<(), AllocError>
     ensures { OnOk result (string_bytes text.new ≡ string_bytes text.old ++ others_line count) }
@@ -104,7 +104,7 @@ fn append_others(text: &mut String, count: u32) -> Result<(), AllocError>
     writeln!(text, "others {count}")
 }
 
-// Appends how many exponents there are.
+// Appends the number of exponents of recovery slices.
 #[tactic(auto, unfolding(crate::specs::Lines::have_line))]
 fn append_have(text: &mut String, count: u32) -> Result<(), AllocError>
     ensures { OnOk result (string_bytes text.new ≡ string_bytes text.old ++ have_line count) }
@@ -112,7 +112,7 @@ fn append_have(text: &mut String, count: u32) -> Result<(), AllocError>
     writeln!(text, "have {count}")
 }
 
-// Appends the line of the client, where its text is known.
+// Appends the `creator` line, if the client's text is known.
 #[tactic(auto, unfolding(crate::specs::Lines::creator_line))]
 fn append_creator(text: &mut String, creator: Option<&[u8]>) -> Result<(), AllocError>
     ensures { OnOk result (string_bytes text.new
@@ -124,7 +124,7 @@ fn append_creator(text: &mut String, creator: Option<&[u8]>) -> Result<(), Alloc
     }
 }
 
-// Writes a line for each packet that is put aside.
+// Writes a line for each rejected packet.
 fn write_asides<W: Sink>(
     names: &[Text],
     asides: &[SetAside],
@@ -139,7 +139,7 @@ fn write_asides<W: Sink>(
     Ok(())
 }
 
-// Writes the line of a packet that is put aside.
+// Writes the line of a rejected packet.
 fn write_aside<W: Sink>(
     name: &[u8],
     aside: &SetAside,
@@ -152,7 +152,7 @@ fn write_aside<W: Sink>(
     writer.put_back(text)
 }
 
-// Appends the line of a packet that is put aside.
+// Appends the line of a rejected packet.
 #[tactic(auto, unfolding(crate::specs::Lines::aside_line))]
 fn append_aside(text: &mut String, name: &[u8], aside: &SetAside) -> Result<(), AllocError>
     ensures { OnOk result (string_bytes text.new

@@ -9,7 +9,8 @@ use parset::SetSlice;
 use std::alloc::{AllocError, Global};
 use std::collections::BTreeMap;
 
-/// How many slices of each file are found, by its ID; none where it has no count.
+/// Returns how many slices of each file are found, by the file's ID. A file of which none is found
+/// has no count.
 pub fn found_counts(
     alloc: Global,
     slices: &[SetSlice],
@@ -39,7 +40,7 @@ fn count_if(counts: &mut BTreeMap<Hash16, u64>, id: Hash16, found: bool) -> Resu
     Ok(())
 }
 
-/// The count at an ID.
+/// Returns the count at an ID, or 0 if it has none.
 pub fn count_at(counts: &BTreeMap<Hash16, u64>, id: Hash16) -> u64
     ensures { result ≡ unwrap_or (get id_cmp counts.now id) 0 }
 {

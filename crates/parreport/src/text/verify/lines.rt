@@ -109,7 +109,7 @@ fn write_file<W: Sink>(
     writer.put_back(text)
 }
 
-// Appends the line of a file of this name, of whose slices so many are found.
+// Appends the line of a file of this name and state; `found` of its `all` slices are found.
 fn append_file(
     text: &mut String,
     names: &[Scanned],
@@ -138,7 +138,7 @@ fn append_complete(text: &mut String, name: &[u8]) -> Result<(), AllocError>
     writeln!(text, "complete {}", Shown(name))
 }
 
-// Appends the line of a file that another has the content of.
+// Appends the line of a renamed file, with the name of the scanned file that has its content.
 #[tactic(auto, unfolding(crate::specs::VerifyText::renamed_line))]
 fn append_renamed(text: &mut String, name: &[u8], other: &[u8]) -> Result<(), AllocError>
     ensures { OnOk result (string_bytes text.new
@@ -196,7 +196,7 @@ fn append_results(
     append_result(text, status)
 }
 
-// Appends how many slices are needed, and how many exponents there are.
+// Appends how many slices are needed, and how many recovery slices there are.
 #[tactic(auto, unfolding(crate::specs::VerifyText::need_line))]
 fn append_need(text: &mut String, need: usize, have: u32) -> Result<(), AllocError>
     ensures { OnOk result (string_bytes text.new
@@ -213,7 +213,7 @@ fn append_result(text: &mut String, status: Status) -> Result<(), AllocError>
     writeln!(text, "result {}", status_word(status))
 }
 
-// The word of a status.
+// Returns the word of a status.
 fn status_word(status: Status) -> &'static str
     ensures { result.now ≡ status_word status }
 {

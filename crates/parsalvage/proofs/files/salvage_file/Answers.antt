@@ -14,7 +14,7 @@ returns-clause-kept g c = λ files reads.
 pub returns-clause-inside : goal.returns-clause-inside
 returns-clause-inside g c = found_inside _ _ _ _ c.in_ok-found.ensures.lies c.in_ok-keep_found.ensures.kept
 
--- memory for the list was refused, so there is a packet
+-- memory is taken only if there is a packet, so if it was refused there is one
 
 pub returns-in_err-keep_found-clause-empty : goal.returns-in_err-keep_found-clause-empty
 returns-in_err-keep_found-clause-empty g c = λ files reads none _.

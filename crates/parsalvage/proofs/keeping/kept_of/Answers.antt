@@ -10,7 +10,7 @@ use Rattle.parsalvage.specs.declared.kept.Kept.{Kept}
 use Rattle.parsalvage.specs.declared.kept.KeptBody.{KeptBody}
 use Rattle.parsalvage.proofs.keeping.kept_of.Goals as goal
 
--- a packet as it is kept with this body
+-- a packet as it is kept, with this body
 abbrev kept_with : ℕ → Packet → KeptBody → Kept
 kept_with file packet body = record {
   file = file;
@@ -21,7 +21,7 @@ kept_with file packet body = record {
   body = body;
 }
 
--- one more packet is kept
+-- the kept packets and those that are left stay the same list after one more packet is kept
 one_more : (file : ℕ) (before : List Kept) (packets : List Packet) (i : ℕ) (d : Packet)
     (body : KeptBody) (new all : List Kept)
     → i < length packets

@@ -7,7 +7,7 @@ use Rattle.parsalvage.proofs.FileLaws.{FileSearched-start, FileSearched-read, Fi
 use borrow.Rule.Slice.PartMut.{same_len_mid}
 use Rattle.parsalvage.proofs.searching.search_file.Goals as goal
 
--- a part of the window that lies within it
+-- the length of a part of the window
 part_length : (window : List ℕ) (held size : ℕ) → length window ≡ 65536 → held ≤ size → size ≤ 65536
     → length (take (size - held) (drop held window)) ≡ size - held
 part_length window held size whole low high =

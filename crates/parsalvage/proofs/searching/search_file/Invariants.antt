@@ -2,7 +2,7 @@ use Rattle.std.proofs.Common.{◌+◌, ◌-◌, ◌≤◌, ◌≡◌, length}
 use Rattle.parsalvage.proofs.FileLaws.{FileSearched}
 use Rattle.parsalvage.proofs.searching.search_file.Given as goal
 
--- the places below `base` were searched; at most seven bytes of the next piece are read already
+-- the offsets below `base` were searched; at most seven bytes of the next chunk are read already
 abbrev pub invariant-loop-base : goal.invariant-loop-base
 invariant-loop-base g l = record {
   within : l.base + l.held ≤ l.end;

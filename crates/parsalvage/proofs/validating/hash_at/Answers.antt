@@ -6,7 +6,7 @@ use Rattle.parsalvage.proofs.HandLaws.{Hands-from, FaultsAfter-within}
 use Rattle.parsalvage.proofs.PieceLaws.{front_then_rest}
 use Rattle.parsalvage.proofs.validating.hash_at.Goals as goal
 
--- the front is hashed from the piece, and the rest behind it
+-- the front is hashed from the chunk, and then the rest from the file
 pub returns-clause-digest : goal.returns-clause-digest
 returns-clause-digest g c = λ files reads.
     let file : List ℕ = file_of files c.args.piece.now.file in

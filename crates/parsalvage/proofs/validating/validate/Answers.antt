@@ -46,7 +46,7 @@ returns-else-eq-clause-leaves g c =
     (λ files reads. rw c.in-Some.is at (c.in_ok-head.ensures.fields files reads))
     c.in_ok-head.ensures.leaves _ c.in_ok-hash-in-Some.ensures.leaves
 
--- what is read to hash the packet stands behind the piece
+-- only the bytes of the packet that come after the chunk are read to be hashed
 
 pub returns-in_err-head-clause-rest : goal.returns-in_err-head-clause-rest
 returns-in_err-head-clause-rest g c = λ begins.

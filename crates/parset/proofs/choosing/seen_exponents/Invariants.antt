@@ -4,7 +4,7 @@ use Rattle.parset.specs.Choosing.{has_exponent}
 use Rattle.parset.specs.Limits.{exponent_limit}
 use Rattle.parset.proofs.choosing.seen_exponents.Given as goal
 
--- the exponents of the packets so far are seen
+-- the flags are set of the exponents that the packets before this one have
 abbrev pub invariant-loop-kept : goal.invariant-loop-kept
 invariant-loop-kept l = record {
   all : vec_len l.seen ≡ exponent_limit + 1;

@@ -6,7 +6,7 @@ use Rattle.parset.proofs.SharedNameLaws.{repeated_from}
 use Rattle.parset.specs.SharedNames.{has_name, repeated_name}
 use Rattle.parset.proofs.describing.repeated_name.Given as goal
 
--- the names are those of the files before, of which none has one twice
+-- the set has the names of the files before this one, and no two of these files have the same name
 abbrev pub invariant-loop-file : goal.invariant-loop-file
 invariant-loop-file l = record {
   names : (name : List ℕ) → contains_by (λ k. slice_cmp nat_cmp name k.now) l.names ≡ list_any (has_name name) (take l.file-index l.files);

@@ -3,6 +3,6 @@ use Rattle.std.specs.Fmt.{HasWritten, IsPlainFormatter}
 use Rattle.hex.specs.Hex.{encode_lower}
 use Rattle.parfield.proofs.hash16.Hash16Display.fmt.Given as goal
 
--- the digits of the bytes so far are written
+-- the digits of the bytes before this one are written
 abbrev pub invariant-loop-byte : goal.invariant-loop-byte
 invariant-loop-byte g l = IsPlainFormatter l.initial.f → HasWritten g.W.Write.write_str_gives l.initial.f (encode_lower (take l.byte-index l.byte-items)) l.f

@@ -4,7 +4,7 @@ use Rattle.std.specs.Result.{MatchResult, result_ok}
 use Rattle.parfind.proofs.cursor_laws.NumberLaws.{IsUtf8-canonical}
 use Rattle.parfind.proofs.cursors.cursor_text.canonical.Goals as goal
 
--- canonical decimal is always read as text
+-- canonical decimal is valid UTF-8, so converting it to text always succeeds
 text_read : {T E : Type 0} (F : Type 0) (r : Result T E) (P : T → Type 0) (Q : Type 0)
     (R : E → Type 0) → Q → MatchResult r P (λ e. ¬ Q × R e) → IfNone (result_ok r) F
 text_read F (Ok x) P Q R h told = tt

@@ -24,7 +24,7 @@ use Rattle.parfind.specs.declared.drives.calls.Call.TheVariants as call
 use Rattle.parfind.specs.declared.drives.calls.Answer.TheVariants as answer
 use Rattle.parfind.proofs.drives.laws.calls_law.Goals as goal
 
--- what a call leaves of a shelf, where so many reads failed
+-- after a call, the shelf has the same files, and the number of its failed reads grew by `failed`
 pub record Leaves (old new : ShelfState) (failed : ℕ) : Type 0 where
   pub lengths_are : new.lengths ≡ old.lengths
   pub each : length new.failures ≡ length old.failures
@@ -55,7 +55,7 @@ step_leaves scan budget old new (Ok step) h = leaves_read old.shelf new.shelf h.
 step_leaves scan budget old new (Err Failed) h = leaves_failed old.shelf new.shelf new.cursor.file h.counts
 step_leaves scan budget old new (Err Ended) h = absurd h.counts
 
--- a call goes on over exactly the sighting of its answer
+-- a call doesn't go back, and passes exactly the sighting of its answer
 abbrev HandsOut : Scan → Cursor → Cursor → List Sighting → Type 0
 HandsOut scan c d xs = IsTrue (is_from c d) × (sightings_between scan c d ≡ xs)
 

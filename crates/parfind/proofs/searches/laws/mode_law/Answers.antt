@@ -1,4 +1,4 @@
--- In the plain mode what is compared of a window is all of it.
+-- In the plain mode, the compared bytes of a window are all of them.
 use Rattle.std.proofs.Common.{◌≡◌, ℕ, ◌+◌, ◌-◌, Bool, cond, List, [], ◌∷◌, filter, length, nat_lt, nat_le, ◌&&◌, refl, sym, ap, ◌∙◌, arith, inl, inr}
 use Rattle.std.specs.List.{list_any, sum_by}
 use Rattle.std.proofs.lemmas.Bool.{cases_Bool, eq-eqb}
@@ -19,14 +19,14 @@ use Rattle.parfind.specs.Sought.{has_compared_crc, is_compared, compared_window,
 use Rattle.parfind.proofs.track_laws.NextBytesLaws.{length-window_at}
 use Rattle.parfind.proofs.searches.laws.mode_law.Goals as goal
 
--- all of a window is compared
+-- a window that is filled up to its own length stays as it is
 whole_compared : (size : ℕ) (file : List ℕ) (offset : ℕ) → zero_filled (length (window_at size file offset)) size (window_at size file offset)
     ≡ window_at size file offset
 whole_compared size file offset =
     let n : length (window_at size file offset) ≡ size = length-window_at file size offset in
     ap (λ (k : ℕ). zero_filled k size (window_at size file offset)) n ∙ zeros_fill.whole size (window_at size file offset) n
 
--- by its length too
+-- so the compared window of each slice is the whole window
 whole_window_compared : (size : ℕ) (file : List ℕ) (offset : ℕ) (slice : SetSlice)
     → compared_window Plain (window_at size file offset) slice ≡ window_at size file offset
 whole_window_compared size file offset slice =
@@ -46,7 +46,7 @@ modes_agree size file offset slice zeros =
     ap (λ (bytes : List ℕ). nat_lt offset (length file) && (nat_le (offset + slice.length) (length file) && has_sums (sums_of bytes) slice))
     (own ∙ sym (whole_window_compared size file offset slice))
 
--- a sum of ones
+-- 1 or 0, so that a filter's length is a sum
 abbrev one_of : Bool → ℕ
 one_of b = cond b 1 0
 
@@ -67,7 +67,7 @@ one_passes p n = elim (cases_Bool (p n)) [
   | inr h ↦ rw h refl
 ]
 
--- each slice is looked for by the whole window
+-- the whole window is compared for each slice
 same_compared : (set : SliceSet) (test : SetSlice → Bool) → is_compared (sought_of set Plain) set.slice_size test ≡ test
 same_compared set test = ap {B = SetSlice → Bool} (λ (b : Bool) (slice : SetSlice). b && test slice) (eq-eqb set.slice_size set.slice_size refl)
 

@@ -21,6 +21,6 @@ invariant-places g l = record {
   files : l.waits ≡ true → set_has_fit (missing_set l.fn.short.set l.fn.found) l.fn.short.set.slice_size ≡ true;
 }
 
--- files that are left, and offsets of this one: none is as great as 2 ^ 63
+-- the files that are left, and the bytes of this one: no file has 2 ^ 63 bytes or more
 abbrev pub decreases-places : goal.decreases-places
 decreases-places g l = (length (g.H.Shelf.state l.shelf).lengths - l.track.file) * 9223372036854775808 - l.track.window_offset

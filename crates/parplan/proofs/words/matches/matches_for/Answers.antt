@@ -16,12 +16,12 @@ memory_or_usage : (k : ErrorKind) → (plan_fault_of k ≡ Memory) ⊎ (plan_fau
 memory_or_usage OutOfMemory = inl refl
 memory_or_usage _ = inr refl
 
--- where a kind is among the faults, there is one
+-- if an error is one of the faults, the arguments are refused as wrong usage
 refused_by : (k : ErrorKind) (kinds : Kinds) (rows : List Row) → IsAmong k kinds → taken_rows kinds rows ≡ Err Usage
 refused_by k [] rows among = absurd among
 refused_by k (x ∷ xs) rows among = refl
 
--- what clap's clauses say of a command that is the verb's
+-- facts that clap's contracts give about an app that is the verb's command line
 module _ (verb : Verb) (words : List Text) (a : App) (is : a ≡ grammar_of verb) where
   simple : is_simple a ≡ true
   simple = ap is_simple is ∙ is_simple-grammar_of verb

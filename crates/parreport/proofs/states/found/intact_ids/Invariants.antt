@@ -9,7 +9,7 @@ use Rattle.parreport.specs.declared.states.state.State.{State}
 use Rattle.parreport.specs.States.{is_intact}
 use Rattle.parreport.proofs.states.found.intact_ids.Given as goal
 
--- an ID is there, or is that of a whole file among those that are left
+-- a whole file has an ID exactly if it is in the set, or if a whole file that is left has it
 abbrev pub invariant-loop-index : goal.invariant-loop-index
 invariant-loop-index l =
     (state_at : SetFile → State) → l.states ≡ map state_at l.files → (id : Hash16)

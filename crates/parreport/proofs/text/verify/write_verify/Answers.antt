@@ -25,7 +25,7 @@ use Rattle.parreport.proofs.text.verify.write_verify.Goals as goal
 abbrev report : List ℕ → Status → Report
 report text status = record { text = text; answer = Ok status }
 
--- the report by the findings of files is that over them
+-- the report that is made from the findings is the report over the files
 report_is : (quiet : ℕ) (mode : Mode) (plan : Plan) (set : SetView) (findings : Findings) (contents : List (List ℕ)) → length contents ≡ length plan.scanned
     → HasFewTails (set_sought_of set mode) → findings ≡ findings_of set mode (named_files plan.scanned contents)
     → report (findings_text quiet set (names_of plan.scanned) findings) (status_of set findings) ≡ verify_report plan quiet mode contents set
@@ -35,7 +35,7 @@ report_is quiet mode plan set findings contents sized few is =
     (status_of set (findings_of set mode (named_files plan.scanned contents)))) (sym (map-name plan.scanned contents sized))
     ∙ sym (report_of_few (set_sought_of set mode) _ few))
 
--- what holds of a fault in either mode holds of it in this one
+-- if something is true of an error in either mode, it is true in this one
 holds_for : (Holds : Bool → RunFault → Type 0) (result : Result Status RunFault) (tails : Bool) → IfErr result (λ fault. (either : Bool) → Holds either fault)
     → IfErr result (Holds tails)
 holds_for Holds (Ok status) tails h = tt

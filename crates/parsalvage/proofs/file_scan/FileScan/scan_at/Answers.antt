@@ -22,7 +22,8 @@ returns-then-length-at-lt64-clause-found g c = λ files reads.
 pub returns-then-length-at-lt64-clause-leaves : goal.returns-then-length-at-lt64-clause-leaves
 returns-then-length-at-lt64-clause-leaves g c = Hands-none _ _ _
 
--- what its header and its hash cost, and then its body
+-- the bound on bytes read: 64 for the header and one length for the hash, and then
+-- one length for the body
 
 costs : (bytes : List ℕ) (at : ℕ) (head : Header) → head ≡ header_of (drop at bytes) → true ≡ is_packet_at bytes at
     → (64 + framed_size (drop at bytes)) + head.length ≤ 64 + 2 * framed_size (drop at bytes)

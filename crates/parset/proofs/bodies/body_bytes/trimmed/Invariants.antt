@@ -2,7 +2,7 @@ use Rattle.std.proofs.Common.{◌≡◌, ◌+◌, ◌≤◌, ◌==◌, length, t
 use Rattle.std.specs.List.{suffix_len}
 use Rattle.parset.proofs.bodies.body_bytes.trimmed.Given as goal
 
--- only zero bytes stand after the end
+-- after `end`, there are only zero bytes
 abbrev pub invariant-loop-end : goal.invariant-loop-end
 invariant-loop-end l =
     (l.end ≤ length l.bytes)

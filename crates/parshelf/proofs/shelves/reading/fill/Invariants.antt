@@ -3,7 +3,7 @@ use Rattle.parshelf.specs.Shelf.{ReadsAs, bytes_at}
 use Rattle.parshelf.specs.Reads.{ReadsOnly, HandsOver}
 use Rattle.parshelf.proofs.shelves.reading.fill.Given as goal
 
--- the front of the buffer is filled, and this much was handed over
+-- the first `done` bytes of the buffer are filled, and `done` bytes were counted as read
 abbrev pub invariant-loop-done : goal.invariant-loop-done
 invariant-loop-done g l = record {
   within : l.done ≤ length l.buf;

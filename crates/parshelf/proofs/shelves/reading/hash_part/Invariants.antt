@@ -4,7 +4,7 @@ use Rattle.parshelf.specs.Shelf.{ReadsAs, bytes_at}
 use Rattle.parshelf.specs.Reads.{ReadsOnly, HandsOver}
 use Rattle.parshelf.proofs.shelves.reading.hash_part.Given as goal
 
--- the front of the part is hashed, and this much was handed over
+-- the first `done` bytes of the part are hashed, and `done` bytes were counted as read
 abbrev pub invariant-loop-done : goal.invariant-loop-done
 invariant-loop-done g l = record {
   within : l.done ≤ l.size;

@@ -1,4 +1,4 @@
--- A finder that is opened belongs to its slices and files.
+-- A finder that was just opened belongs to its set and shelf.
 use Rattle.std.proofs.Common.{◌≡◌, ◌<◌, ◌≤◌, ◌^◌, List, length, replicate, refl, ap, ◌∙◌, arith, Option, None, rules, ℕ, sym, subst}
 use Rattle.parfield.specs.declared.hash16.Hash16.{Hash16}
 use Rattle.parset.specs.Limits.{slice_size_limit}
@@ -18,7 +18,7 @@ use Rattle.parfind.proofs.place_laws.CursorOrderLaws.{is_from-true}
 use Rattle.parfind.proofs.track_laws.NextBytesLaws.{no_bytes}
 use Rattle.parfind.proofs.searches.finder.Finder.open.Goals as goal
 
--- the window is empty, nothing is read and no digest is kept
+-- it belongs, since its window is empty, nothing is read and no digest is kept
 pub opens_belongs : (set : SliceSet) (s : ShelfState) (at : Cursor) (mode : Mode) (t : Track) (kept : List (Option Hash16))
     → at.offset < 2 ^ 64 → set.slice_size ≤ slice_size_limit → HasFewTails (sought_of set mode) → IsUnread at.file at.offset t
     → kept ≡ replicate (length (compared_lengths (sought_of set mode))) None

@@ -10,7 +10,7 @@ use Rattle.parreport.specs.declared.text.block_writer.BlockWriter.{BlockWriter}
 use Rattle.parreport.proofs.WriterLaws.{WritesBut, writes_none, writes_part, stops_part, writes_last}
 use Rattle.parreport.proofs.text.set.lines.write_set_text.Goals as goal
 
--- the parts of the text that are written one after the other
+-- the parts of the text of `set`, which are written one after the other
 module _ {W : Type 0} (state : W → SinkState) (names : List (List ℕ)) (set : SetView) (old first second third : BlockWriter W) where
   abbrev files : List ℕ
   files = flat_map (file_line set.size) set.files

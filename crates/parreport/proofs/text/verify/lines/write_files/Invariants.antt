@@ -7,7 +7,7 @@ use Rattle.parreport.specs.VerifyText.{counted_line}
 use Rattle.parreport.proofs.WriterLaws.{WritesBut}
 use Rattle.parreport.proofs.text.verify.lines.write_files.Given as goal
 
--- all is written but the lines that are left
+-- all is written except the lines that are left
 abbrev pub invariant-loop-index : goal.invariant-loop-index
 invariant-loop-index g l =
     WritesBut g.W.Sink.state l.fn.writer l.writer

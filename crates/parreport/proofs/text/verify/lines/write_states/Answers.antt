@@ -15,7 +15,7 @@ use Rattle.parreport.specs.Writers.{Writes}
 use Rattle.parreport.proofs.WriterLaws.{stops_before, writes_none, writes_part, stops_part, writes_last}
 use Rattle.parreport.proofs.text.verify.lines.write_states.Goals as goal
 
--- with the counts of the slices that are found
+-- the lines with the counts that were taken are those of the text
 states_are : (set : SetView) (names : List (List ℕ)) (findings : Findings) (count_of : Hash16 → ℕ)
     → ((id : Hash16) → count_of id ≡ found_count_of set.slices findings.found id)
     → set_line set ++ flat_map (counted_line set.size names count_of) (zip set.files findings.states) ≡ states_text set names findings

@@ -1,7 +1,7 @@
 use Rattle.std.proofs.Common.{◌≡◌, ◌<◌, ◌^◌, All, length, map, take}
 use Rattle.parshelf.proofs.shelves.disk.DiskShelf.open.Given as goal
 
--- one file is open for each path so far, opened at that path
+-- the files opened so far are at the paths before this one, one at each
 abbrev pub invariant-loop-index : goal.invariant-loop-index
 invariant-loop-index g l = record {
   one_each : length l.files.items ≡ l.index;

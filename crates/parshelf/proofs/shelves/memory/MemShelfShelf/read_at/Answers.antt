@@ -52,7 +52,7 @@ returns-clause-same_piece c = grind (arith, common_steps) steps 100000
 pub returns-clause-same_failing : goal.returns-clause-same_failing
 returns-clause-same_failing c = grind (arith, common_steps) steps 100000
 
--- what was given stands in the file
+-- the file has the bytes that the read returned, at its offset
 pub invariant_of-self-2-clause-told : goal.invariant_of-self-2-clause-told
 invariant_of-self-2-clause-told c =
     let files : List (List ℕ) = map (λ (file : Vec ℕ Global). file.items) c.args.self.now.files.items in

@@ -6,7 +6,7 @@ use Rattle.parwindow.specs.Powers.{ArePowers}
 use Rattle.parwindow.specs.declared.crcs.zero_run.ZeroRun.{ZeroRun}
 use Rattle.parwindow.proofs.crcs.zero_runs.ZeroRuns.new.Goals as goal
 
--- one run more
+-- after n runs, the next one is twice as long as the last
 pub powers_more : (runs : List ZeroRun) (i : ℕ) (run : ZeroRun) (twice : ℕ) → ArePowers i runs
     → run.len ≡ 2 ^ i → twice ≡ 2 * run.len
     → ArePowers (i + 1) (runs ++ run ∷ []) × (twice ≡ 2 ^ (i + 1))

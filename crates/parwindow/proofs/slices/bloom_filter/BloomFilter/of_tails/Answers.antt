@@ -5,7 +5,7 @@ use Rattle.parwindow.proofs.slice_laws.ShortSliceLaws.{short_none, short_some, s
 use Rattle.parwindow.proofs.slices.bloom_filter.BloomFilter.of_tails.Goals.{in-Some+then-slice-size, in-Some+else-slice-size, in_default}
 use Rattle.parwindow.proofs.slices.bloom_filter.BloomFilter.of_tails.Goals as goal
 
--- whatever the length
+-- the filter has a register, whatever the length is
 abbrev Marked : BloomFilter → ℕ → ℕ → Type 0
 Marked filter own register = MayHave filter register
 

@@ -8,7 +8,7 @@ use Rattle.parwindow.specs.Tails.{IsTail, tail_lengths_of}
 use Rattle.parwindow.specs.declared.tails.tail.Tail.{Tail}
 use Rattle.parwindow.proofs.tails.waiting_tails.WaitingTails.keep_those_of.Goals as goal
 
--- the lengths of those that pass, from a test of lengths
+-- filtering tails by a test of their lengths filters the lengths
 lengths-filter : (test : ℕ → Bool) (tails : List Tail)
     → tail_lengths_of (filter (λ (t : Tail). test t.length) tails) ≡ filter test (tail_lengths_of tails)
 lengths-filter test [] = refl
