@@ -1,5 +1,5 @@
-//! Tests of `parsalvage` and `parset`. A check of tests proves their crate anew, so they stand in a
-//! crate of their own.
+//! Tests of `parsalvage` and `parset`. They are in a crate of their own, because a check of tests
+//! proves each function of their crate again.
 #![tactic(auto)]
 
 #[cfg(test)]

@@ -1,3 +1,4 @@
+mod readme;
 mod salvage;
 mod set;
 mod texts;
@@ -7,32 +8,32 @@ use std::fmt::Debug;
 use std::panic::Expect;
 use std::process::Abort;
 
-// The value of a result; ends the test where it is a fault.
+// Returns the value of a result, or ends the test if it is an error.
 fn must<T, E: Debug>(rt: &impl Abort, got: Result<T, E>) -> T {
     got.expect(rt, "error")
 }
 
-// Wants that this holds, in this row.
+// Ends the test, and names the row, unless this holds.
 fn holds(rt: &impl Abort, row: &impl Debug, is_so: bool) {
     assert!(rt; is_so, "{row:?}");
 }
 
-// Wants that a value is this one, in this row.
+// Ends the test, and names the row, unless the values are equal.
 fn is<R: Debug, T: Debug + PartialEq>(rt: &impl Abort, row: &R, got: &T, wanted: &T) {
     holds(rt, &(row, got, wanted), got == wanted);
 }
 
-// These bytes, one after another.
+// Returns these bytes, one after another.
 fn join(rt: &(impl Abort + AllocGlobal), parts: &[&[u8]]) -> Vec<u8> {
     must(rt, joined(rt.alloc(), parts))
 }
 
-// Puts more bytes behind these.
+// Appends bytes.
 fn extend(rt: &impl Abort, bytes: &mut Vec<u8>, more: &[u8]) {
     must(rt, bytes.extend_from_slice(more));
 }
 
-// Puts a packet behind these bytes.
+// Appends a packet.
 fn put(
     rt: &(impl Abort + AllocGlobal),
     bytes: &mut Vec<u8>,

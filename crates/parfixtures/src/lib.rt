@@ -1,6 +1,6 @@
-//! What the tests of several crates are made over: packets in bytes, recovery sets of one file, and
-//! files in memory. What is read or made here is written from the standard, and by no code of the
-//! crates that are tested but their types, `build` and `MemShelf::new`.
+//! The fixtures that the tests of several crates share: packets in bytes, recovery sets of one
+//! file, and files in memory. They are written from the standard. Of the crates under test they use
+//! only types, `build` and `MemShelf::new`.
 #![tactic(auto)]
 
 mod bytes;

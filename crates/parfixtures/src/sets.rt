@@ -6,13 +6,13 @@ use parsalvage::{Kept, KeptBody, Part};
 use parset::{RecoverySet, SetFault, build};
 use std::alloc::{AllocError, Global};
 
-// The body of the Main packet.
+// The body of the Main packet of the set.
 const MAIN: [u8; 28] = *b"\x04\0\0\0\0\0\0\0\x01\0\0\0ffffffffffffffff";
 
 // The MD5 of that body, as Python's `hashlib` has it.
 const SET: Hash16 = Hash16(*b"\x20\xa7\xc3\x3f\xa4\x10\x7d\x0a\x46\xc2\x84\x3a\x68\x0b\xe5\x12");
 
-// Puts a packet of the set, whose body is these bytes and held whole, behind others.
+// Appends a packet of the set, whose body is these bytes and is kept whole.
 fn put(
     alloc: Global,
     packets: &mut Vec<Kept>,
@@ -31,7 +31,7 @@ fn put(
     Ok(())
 }
 
-// The packets of the set.
+// Returns the packets of the set.
 fn packets(alloc: Global, length: u64, pairs: &[u8]) -> Result<Vec<Kept>, AllocError> {
     let mut all = Vec::new(alloc);
     put(alloc, &mut all, Kind::Main, &[&MAIN])?;
@@ -46,14 +46,14 @@ fn packets(alloc: Global, length: u64, pairs: &[u8]) -> Result<Vec<Kept>, AllocE
     Ok(all)
 }
 
-/// The set of one file of this length, in slices of four, with these bytes as their sums, which are
-/// known where there are as many as the slices need.
+/// Returns the set of one file of this length, in slices of four bytes, with these bytes as its
+/// checksums. The checksums are known if their number is that of the slices.
 pub fn set_with(alloc: Global, length: u64, pairs: &[u8]) -> Result<RecoverySet, SetFault> {
     let packets = packets(alloc, length, pairs)?;
     build(alloc, &packets, None)
 }
 
-/// The set of one file of these bytes, in slices of four, whose sums are known.
+/// Returns the set of one file of these bytes, in slices of four bytes, with known checksums.
 pub fn set_of(alloc: Global, content: &[u8]) -> Result<RecoverySet, SetFault> {
     let pairs = pairs_of(alloc, content)?;
     set_with(alloc, content.len() as u64, &pairs)

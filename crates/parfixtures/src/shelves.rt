@@ -2,8 +2,8 @@
 use parshelf::MemShelf;
 use std::alloc::{AllocError, Global};
 
-/// Files in memory, of which the first nine count, that are read `piece` bytes at a time, and at
-/// least one; the reads of these numbers fail, which count from 1.
+/// Returns a shelf of the first nine of these files. A read gives at most `piece` bytes, or one if
+/// that is 0. The reads with these numbers, counted from 1, fail.
 pub fn shelf_of(
     alloc: Global,
     files: &[&[u8]],
@@ -18,8 +18,8 @@ pub fn shelf_of(
     Ok(MemShelf::new(all, piece.max(1), Vec::from_slice(alloc, failing)?))
 }
 
-/// One file in memory that is read `piece` bytes at a time, and at least one; the reads of these
-/// numbers fail, which count from 1.
+/// Returns a shelf of one file. A read gives at most `piece` bytes, or one if that is 0. The reads
+/// with these numbers, counted from 1, fail.
 pub fn file_of(
     alloc: Global,
     file: &[u8],

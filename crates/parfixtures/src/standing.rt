@@ -1,10 +1,10 @@
-// Packets of bytes as their definition has them, tried at each offset: with the hash of the bytes
-// from there on, and nothing is skipped, searched for or remembered.
+// The packets of bytes, by their definition. Each offset is tried on its own, with the hash of the
+// bytes from there on. Nothing is skipped, searched for or remembered.
 use crate::bytes::joined;
 use crate::sums::digest_of;
 use std::alloc::{AllocError, Global};
 
-/// A packet as it stands in bytes.
+/// A packet in some bytes.
 #[derive(Clone, Copy)]
 pub struct Standing<'a> {
     pub at: usize,
@@ -14,7 +14,7 @@ pub struct Standing<'a> {
     pub body: &'a [u8],
 }
 
-/// The bytes of a field, which are zeros where the bytes end before it does.
+/// Returns the bytes of a field, or zeros if the bytes end before it does.
 pub fn field<const N: usize>(bytes: &[u8], at: usize) -> [u8; N] {
     let mut found = [0; N];
     if at < bytes.len() && N <= bytes.len() - at {
@@ -23,7 +23,7 @@ pub fn field<const N: usize>(bytes: &[u8], at: usize) -> [u8; N] {
     found
 }
 
-// The packet that the bytes begin with, which stand at this offset.
+// Returns the packet that these bytes begin with, if any. `at` is their own offset.
 fn packet_in_front(bytes: &[u8], at: usize) -> Option<Standing<'_>> {
     let length = u64::from_le_bytes(field(bytes, 8));
     if field(bytes, 0) != *b"PAR2\0PKT"
@@ -46,7 +46,7 @@ fn packet_in_front(bytes: &[u8], at: usize) -> Option<Standing<'_>> {
     })
 }
 
-/// The packets that stand in the bytes, by offset.
+/// Returns the packets of the bytes, by offset.
 pub fn all_standing(alloc: Global, bytes: &[u8]) -> Result<Vec<Standing<'_>>, AllocError> {
     let mut found = Vec::new(alloc);
     for at in 0..bytes.len() {
@@ -57,7 +57,7 @@ pub fn all_standing(alloc: Global, bytes: &[u8]) -> Result<Vec<Standing<'_>>, Al
     Ok(found)
 }
 
-/// A packet with the length and the hash that its fields ask for.
+/// Returns the bytes of a packet, whose length and hash are right.
 pub fn packet_of(
     alloc: Global,
     set: [u8; 16],

@@ -1,13 +1,13 @@
-// The sums of slices, byte by byte.
+// The checksums of slices, byte by byte.
 use md5::{Digest, Md5};
 use std::alloc::{AllocError, Global};
 
-/// The MD5 of bytes.
+/// Returns the MD5 of bytes.
 pub fn digest_of(bytes: &[u8]) -> [u8; 16] {
     Md5::digest(bytes)
 }
 
-// What a CRC-32 register becomes by eight bits of zero.
+// Returns a CRC-32 register after eight zero bits.
 fn after_eight(register: u32) -> u32 {
     let mut after = register;
     for _ in 0..8 {
@@ -21,7 +21,7 @@ fn after_eight(register: u32) -> u32 {
     after
 }
 
-// The CRC-32 of bytes.
+// Returns the CRC-32 of bytes.
 fn crc32_of(bytes: &[u8]) -> u32 {
     let mut register = u32::MAX;
     for byte in bytes {
@@ -30,12 +30,13 @@ fn crc32_of(bytes: &[u8]) -> u32 {
     !register
 }
 
-// A slice of four, of which these bytes are the file's.
+// Returns a slice of four bytes: these, and then zeros.
 fn filled(own: &[u8]) -> [u8; 4] {
     [0, 1, 2, 3].map(|at| own.get(at).copied().unwrap_or(0))
 }
 
-/// The sums of the slices of four of a file of these bytes, each an MD5 and a CRC-32.
+/// Returns the checksums of the slices of a file of these bytes, which have four bytes each: for
+/// each slice the MD5 and the CRC-32.
 pub fn pairs_of(alloc: Global, content: &[u8]) -> Result<Vec<u8>, AllocError> {
     let mut pairs = Vec::new(alloc);
     for own in content.chunks(4) {

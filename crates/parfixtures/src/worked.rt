@@ -1,8 +1,8 @@
 // A worked packet file.
 
-/// The set of one file `g.bin` of the bytes `abcdefgh`, in slices of 4 bytes, as `tools/make/vectors.py`
-/// writes it: a Main packet of 92 bytes, a FileDesc packet of 128, an IFSC packet of 120 and a
-/// RecvSlic packet of 76.
+/// The packet file of a set of one file `g.bin` with the bytes `abcdefgh`, in slices of 4 bytes, as
+/// `tools/make/vectors.py` writes it: a Main packet of 92 bytes, a FileDesc packet of 128, an IFSC
+/// packet of 120 and a RecvSlic packet of 76.
 pub static WORKED: [u8; 416] =
     *b"PAR2\0PKT\x5c\0\0\0\0\0\0\0\x09S\xb6\xbb\xb6a\xc5Nb\xb0-\xa9<\xff\xde\xb4a|\xdcr\xbaS\
       \xd9O\xe7\x13\xfe\xa2\xae\x18\xf7vPAR\x202.0\0Main\0\0\0\0\x04\0\0\0\0\0\0\0\x01\0\0\0\

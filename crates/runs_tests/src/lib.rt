@@ -1,6 +1,6 @@
-//! Tests of the plans of words, and of `packets`, `set`, `find` and `verify` over files in memory, of
-//! reads and writes that fail in turn, of long texts, of files on disk and of ends; those of
-//! `parfield` and `parshelf`; and public calls of the libraries by the path at which each is found.
+//! Tests of the plans of arguments; of `packets`, `set`, `find` and `verify` over files in memory
+//! and on disk, with long texts and with reads and writes that fail in turn; of the ends of runs;
+//! of `parfield` and `parshelf`; and of the public calls of all libraries, by their paths.
 #![tactic(auto)]
 
 #[cfg(test)]

@@ -8,6 +8,7 @@ mod listing;
 mod many_tails;
 mod own_files;
 mod parts;
+mod readme;
 mod reads;
 mod resuming;
 mod surface;

@@ -1,5 +1,5 @@
-//! Tests of `parwindow` and `parfind`. A check of tests proves their crate anew, so they stand in a
-//! crate of their own.
+//! Tests of `parwindow` and `parfind`. They are in a crate of their own, because a check of tests
+//! proves each function of their crate again.
 #![tactic(auto)]
 
 #[cfg(test)]

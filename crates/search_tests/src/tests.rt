@@ -3,6 +3,7 @@ mod drives;
 mod fixtures;
 mod many_lengths;
 mod places;
+mod readme;
 mod searches;
 mod sets;
 mod windows;

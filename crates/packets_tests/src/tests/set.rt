@@ -11,8 +11,8 @@ use parfixtures::{CREATOR_TYPE, DESC_TYPE, IFSC_TYPE, MAIN_TYPE, SLICE_TYPE};
 use parset::*;
 use std::process::Abort;
 
-// The set of one file `g.bin` of the bytes `abcdefgh`, in slices of 4 bytes, as `tools/make/vectors.py`
-// writes it.
+// The ID of the set of one file `g.bin` with the bytes `abcdefgh`, in slices of 4 bytes.
+// `tools/make/vectors.py` writes the set.
 const SET: Hash16 = Hash16(*b"a|\xdcr\xbaS\xd9O\xe7\x13\xfe\xa2\xae\x18\xf7v");
 
 const FILE: Hash16 = Hash16(*b"\xe3E\xea\xcb\xe6V\xc0\xe6\xfd \xedc\xcb{\x06,");
@@ -24,23 +24,23 @@ const MAIN: &[u8] = b"\x04\0\0\0\0\0\0\0\x01\0\0\0\xe3E\xea\xcb\xe6V\xc0\xe6\xfd
 const DESC: &[u8] =
     b"\xe3E\xea\xcb\xe6V\xc0\xe6\xfd \xedc\xcb{\x06,\xe8\xdc@\x81\xb144\xb4Q\x89\xa7 \xb7{h\x18\xe8\xdc@\x81\xb144\xb4Q\x89\xa7 \xb7{h\x18\x08\0\0\0\0\0\0\0g.bin\0\0\0";
 
-// The description of a file `l.bin` of 16,385 letters `a`, whose first 16,384 bytes have another
-// MD5, as Python's `hashlib` has them.
+// The description of a file `l.bin` of 16,385 letters `a`. The first 16,384 bytes have another MD5
+// than the whole file. Both are as Python's `hashlib` computes them.
 const LONG_DESC: &[u8] =
     b"\x10\xa1\xa0\xe8\xa38\x16\xd0RjVdEU\xa3\xe7\x8d\x07_r5V\xe7v\xf6\xf5\xdc\xf2\x8eh\x89\xa7\t\xb4|\xf0|\x9d\x0e\xa5\x89\xe0\xe2\xaa}\r5P\x01@\0\0\0\0\0\0l.bin\0\0\0";
 
 const IFSC: &[u8] =
     b"\xe3E\xea\xcb\xe6V\xc0\xe6\xfd \xedc\xcb{\x06,\xe2\xfcqLG'\xee\x93\x95\xf3$\xcd.\x7f3\x1f\x11\xcd\x82\xed\x1fv\x90\xeb\xdd\x9bL\xaf\x8f\xabI\xca\x17W\xbf'\xb5{3\x08";
 
-// The MD5 of bytes.
+// Returns the MD5 of bytes.
 fn digest_of(bytes: &[u8]) -> Hash16 {
     Hash16(Md5::digest(bytes))
 }
 
-// Runs of bytes: of each a byte, and how often it stands.
+// Runs of equal bytes: the byte of each, and its length.
 type Runs = &'static [(u8, usize)];
 
-// The bytes of these runs.
+// Returns the bytes of these runs.
 fn bytes_of(rt: &(impl Abort + AllocGlobal), runs: Runs) -> Vec<u8> {
     let mut bytes = Vec::new(rt.alloc());
     for (byte, count) in runs {
@@ -49,10 +49,10 @@ fn bytes_of(rt: &(impl Abort + AllocGlobal), runs: Runs) -> Vec<u8> {
     bytes
 }
 
-// A slice size, recovery IDs and others.
+// A slice size, the recovery IDs and the other IDs.
 type MainFields<'a> = (u64, &'a [Hash16], &'a [Hash16]);
 
-// Main bodies and their MD5s, with their fields.
+// Main bodies, their MD5s and their fields.
 static MAINS: [(&[u8], Hash16, MainFields<'static>); 2] = [
     (MAIN, SET, (4, &[FILE], &[])),
     (
@@ -69,7 +69,7 @@ fn is_main(main: &Main, fields: &MainFields<'_>) -> bool {
         && main.others.as_slice() == fields.2
 }
 
-// The fields of a Main body of a set of this ID are these.
+// Checks the fields of a Main body, in a packet with this set ID.
 fn has_main(rt: &(impl Abort + AllocGlobal), body: &[u8], set: Hash16, fields: &MainFields<'_>) {
     let main = must(rt, main_body(rt.alloc(), body, set));
     holds(rt, &set, is_main(&main, fields));
@@ -82,10 +82,10 @@ fn the_fields_of_main_bodies_are_read(rt: HostRuntime) {
     }
 }
 
-// An ID, the MD5s of a whole file and of its front, its length and its name.
+// A file ID, the MD5s of the whole file and of its front, its length and its name.
 type DescFields<'a> = ([Hash16; 3], u64, &'a [u8]);
 
-// Descriptions, with their fields.
+// Bodies of FileDesc packets, and their fields.
 static DESCS: [(&[u8], DescFields<'static>); 2] = [
     (DESC, ([FILE, CONTENT, CONTENT], 8, b"g.bin")),
     (
@@ -109,7 +109,7 @@ fn is_desc(desc: &Desc, fields: &DescFields<'_>) -> bool {
         && desc.name.as_slice() == fields.2
 }
 
-// The fields of a FileDesc body are these.
+// Checks the fields of a FileDesc body.
 fn has_desc(rt: &(impl Abort + AllocGlobal), body: &[u8], fields: &DescFields<'_>) {
     let desc = must(rt, desc_body(rt.alloc(), body));
     holds(rt, &fields.2, is_desc(&desc, fields));
@@ -138,7 +138,7 @@ fn are_sums(ifsc: &Ifsc, id: Hash16, sums: &[(Hash16, u32)]) -> bool {
     ifsc.id == id && ifsc.sums.as_slice() == sums
 }
 
-// The fields of an IFSC body are these.
+// Checks the fields of an IFSC body.
 fn has_sums(rt: &(impl Abort + AllocGlobal), body: &[u8], id: Hash16, sums: &[(Hash16, u32)]) {
     let ifsc = must(rt, ifsc_body(rt.alloc(), body));
     holds(rt, &sums, are_sums(&ifsc, id, sums));
@@ -156,7 +156,7 @@ static TEXTS: [(&[u8], &[u8]); 3] = [
     (b"\0\0\0\0", b""),
 ];
 
-// A Creator body has this text.
+// Checks the text of a Creator body.
 fn is_text(rt: &(impl Abort + AllocGlobal), body: &[u8], text: &[u8]) {
     let found = must(rt, creator_body(rt.alloc(), body));
     holds(rt, &body, found.as_slice() == text);
@@ -169,7 +169,8 @@ fn the_texts_of_creator_bodies_are_read(rt: HostRuntime) {
     }
 }
 
-// The first four bytes of a recovery slice's body, its length, the slice size, and the answer.
+// The first four bytes of a recovery slice's body, the length of the body, the slice size, and the
+// exponent or the reason.
 static SLICES: [([u8; 4], u64, u64, Result<u32, Aside>); 15] = [
     ([0, 0, 0, 0], 12, 8, Ok(0)),
     ([1, 2, 0, 0], 8, 4, Ok(513)),

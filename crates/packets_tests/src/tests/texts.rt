@@ -1,4 +1,4 @@
-// What formats of a text make of public types: no contract speaks of `{:#}` and `{:?}`.
+// The texts of public types in formats for which there is no contract: `{:#}` and `{:?}`.
 
 use super::{holds, is, must};
 use parfield::{Hash16, Header, HeaderFault, Kind, Shown, header};
@@ -9,10 +9,10 @@ use std::fmt::{Debug, Display};
 use std::process::Abort;
 use std::rc::RcSlice;
 
-// The ID of the worked set, whose bytes are 97, 124, 220 and so on.
+// The ID of the worked set. Its bytes are 97, 124, 220 and so on.
 const SET: Hash16 = Hash16(*b"a|\xdcr\xbaS\xd9O\xe7\x13\xfe\xa2\xae\x18\xf7v");
 
-// Wants this text of a value, plain, as an alternative and with a width that it already has.
+// Checks the text of a value: plain, in the alternative form, and with a width of 1.
 fn is_shown(rt: &(impl Abort + AllocGlobal), value: &impl Display, wanted: &str) {
     let plain = must(rt, format!(in rt.alloc(); "{value}"));
     is(rt, &"{}", &plain.as_str(), &wanted);
@@ -22,7 +22,7 @@ fn is_shown(rt: &(impl Abort + AllocGlobal), value: &impl Display, wanted: &str)
     is(rt, &"{:1}", &wide.as_str(), &wanted);
 }
 
-// Wants this text of a value for who looks for a fault, on one line.
+// Checks what `{:?}` makes of a value.
 fn is_debugged(rt: &(impl Abort + AllocGlobal), value: &impl Debug, wanted: &str) {
     let shown = must(rt, format!(in rt.alloc(); "{value:?}"));
     is(rt, &"{:?}", &shown.as_str(), &wanted);

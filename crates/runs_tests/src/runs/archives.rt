@@ -1,4 +1,4 @@
-// Packet files by their names.
+// Packet files by name.
 use crate::runs::checks::{must, there};
 use crate::runs::packet_edges::PACKET_EDGES;
 use crate::runs::packet_files::PACKET_FILES;
@@ -6,10 +6,10 @@ use crate::runs::packet_sets::PACKET_SETS;
 use crate::runs::rows::{cut, number};
 use std::process::Abort;
 
-// More than an archive has files.
+// A number above that of the files of an archive.
 const MOST: u32 = 100;
 
-// A file of an archive, and what stands behind it.
+// A file of an archive, and the bytes after it.
 #[derive(Clone, Copy)]
 struct Member {
     name: &'static str,
@@ -17,7 +17,7 @@ struct Member {
     behind: &'static [u8],
 }
 
-// How many bytes the line has that an archive begins with.
+// Returns the length of the first line of an archive.
 fn line_of(archive: &[u8]) -> usize {
     let mut end = 0usize;
     for byte in archive {
@@ -29,12 +29,13 @@ fn line_of(archive: &[u8]) -> usize {
     end
 }
 
-// The bytes before and behind an offset.
+// Returns the bytes before and after an offset.
 fn cut_at(rt: &impl Abort, bytes: &'static [u8], at: usize) -> (&'static [u8], &'static [u8]) {
     there(rt, "bytes", bytes.split_at_checked(at))
 }
 
-// The first file of an archive: a line with its name and how many bytes it has, and then those.
+// Returns the first file of an archive. It is a line with its name and its number of bytes, and
+// then the bytes.
 fn first_member(rt: &impl Abort, archive: &'static [u8]) -> Member {
     let (line, rest) = cut_at(rt, archive, line_of(archive));
     let (_, rest) = cut_at(rt, rest, 1);
@@ -47,7 +48,7 @@ fn first_member(rt: &impl Abort, archive: &'static [u8]) -> Member {
     }
 }
 
-// The bytes of the file of this name in an archive, where it has one.
+// Returns the bytes of the file with this name in an archive, if there is one.
 fn found_in(rt: &impl Abort, archive: &'static [u8], name: &str) -> Option<&'static [u8]> {
     let mut rest = archive;
     for _ in 0..MOST {
@@ -63,7 +64,7 @@ fn found_in(rt: &impl Abort, archive: &'static [u8], name: &str) -> Option<&'sta
     None
 }
 
-/// The bytes of the packet file of this name.
+/// Returns the bytes of the packet file with this name.
 pub fn packet_file(rt: &impl Abort, name: &str) -> &'static [u8] {
     if let Some(bytes) = found_in(rt, PACKET_FILES, name) {
         return bytes;

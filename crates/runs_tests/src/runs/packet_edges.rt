@@ -1,6 +1,6 @@
 // Packets and sets at both sides of limits, as tools/make/packet_files.py writes them.
 
-/// Of each packet file a line with its name and how many bytes it has, and then those.
+/// For each packet file a line with its name and its number of bytes, and then the bytes.
 pub static PACKET_EDGES: &[u8] = b"\
 behind_wrong_lengths 576\n\
     PAR2\0PKT\0\0\0\0\0\0\0\0\xd4\x1d\x8c\xd9\x8f\0\xb2\x04\xe9\x80\x09\x98\xec\xf8B~\0\0\0\

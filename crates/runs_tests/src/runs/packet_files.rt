@@ -1,6 +1,6 @@
 // Packets, and the set of g.bin, as tools/make/packet_files.py writes them.
 
-/// Of each packet file a line with its name and how many bytes it has, and then those.
+/// For each packet file a line with its name and its number of bytes, and then the bytes.
 pub static PACKET_FILES: &[u8] = b"\
 empty 0\n\
 creator 64\n\

@@ -1,6 +1,6 @@
 // Sets of other files, as tools/make/packet_files.py writes them.
 
-/// Of each packet file a line with its name and how many bytes it has, and then those.
+/// For each packet file a line with its name and its number of bytes, and then the bytes.
 pub static PACKET_SETS: &[u8] = b"\
 no_files 76\n\
     PAR2\0PKTL\0\0\0\0\0\0\0~\xfc\x07\x14N\xc6\xab*W_\x9cP\xbb0C\xa5H\xbbpQ\xaa\xab\xc4\xedN\

@@ -1,4 +1,4 @@
-// Command lines and how they end, as the rows of a text.
+// Command lines and their ends, as rows of a text.
 use crate::runs::checks::{holds, must, there};
 use std::fmt::Debug;
 use std::process::Abort;
@@ -6,12 +6,12 @@ use std::str::FromStr;
 
 /// A command line over files, and how it ends. In a table it has these lines:
 ///
-/// - `$ `, the words, `|`, the names of the packet files, `|`, and what the scanned files hold, with
-///   a space between two. In a word `~` stands for a line end; `''` is a file of no bytes.
+/// - `$ `, the arguments, `|`, the names of the packet files, `|`, and the contents of the scanned
+///   files, separated by spaces. In an argument `~` is a line end. `''` is a file without bytes.
 /// - The text that is written, or the line for standard error, which begins with `parv: `.
-/// - `= ` and the exit status. Behind a bar may stand what else a test wants of the row.
+/// - `= ` and the exit status. After a bar there may be something else that a test needs.
 ///
-/// Before a row may stand empty lines, and a remark, which begins with `#`.
+/// Before a row there may be empty lines and a remark, which begins with `#`.
 #[derive(Clone, Copy)]
 pub struct Row<'t> {
     pub words: &'t str,
@@ -23,17 +23,17 @@ pub struct Row<'t> {
     pub beside: &'t str,
 }
 
-/// What stands before and behind a mark in a text.
+/// Returns the parts of a text before and after a mark.
 pub fn cut<'t>(rt: &impl Abort, text: &'t str, mark: &str) -> (&'t str, &'t str) {
     there(rt, mark, text.split_once(mark))
 }
 
-/// What stands before the first bar of a text, and what stands behind it.
+/// Returns the parts of a text before and after its first bar.
 pub fn parted(text: &str) -> (&str, &str) {
     text.split_once('|').unwrap_or((text, ""))
 }
 
-/// The number that a text has.
+/// Returns the number that a text names.
 pub fn number<N: FromStr>(rt: &impl Abort, text: &str) -> N
 where
     N::Err: Debug,
@@ -41,7 +41,7 @@ where
     must(rt, text.trim().parse::<N>())
 }
 
-// What is written to standard output, and to standard error.
+// Returns what is written to standard output and to standard error.
 fn streams(written: &str) -> (&str, &str) {
     if written.starts_with("parv: ") {
         ("", written)
@@ -50,13 +50,13 @@ fn streams(written: &str) -> (&str, &str) {
     }
 }
 
-// Wants that this is empty lines, with a remark or none.
+// Checks that these lines are empty, or a remark.
 fn is_remark(rt: &impl Abort, lines: &str) {
     let remark = lines.trim();
     holds(rt, &remark, remark.is_empty() || remark.starts_with('#'));
 }
 
-// The first row of a table, and what stands behind it.
+// Returns the first row of a table, and the rest of the table.
 fn first_row<'t>(rt: &impl Abort, table: &'t str) -> (Row<'t>, &'t str) {
     let (remark, lines) = cut(rt, table, "$ ");
     is_remark(rt, remark);
@@ -66,7 +66,7 @@ fn first_row<'t>(rt: &impl Abort, table: &'t str) -> (Row<'t>, &'t str) {
     (row_of(rt, head, written, end), behind)
 }
 
-// The row of a command line with its files that writes this and ends so.
+// Returns the row of a command line with its files, the text or line that it writes, and its end.
 fn row_of<'t>(rt: &impl Abort, head: &'t str, written: &'t str, end: &'t str) -> Row<'t> {
     let (words, files) = parted(head);
     let (packets, scanned) = parted(files);
@@ -83,7 +83,7 @@ fn row_of<'t>(rt: &impl Abort, head: &'t str, written: &'t str, end: &'t str) ->
     }
 }
 
-/// The rows of a table, which has so many.
+/// Returns the rows of a table, of which there have to be `count`.
 pub fn rows_of<'t>(rt: &(impl Abort + AllocGlobal), table: &'t str, count: usize) -> Vec<Row<'t>> {
     let mut rest = table;
     let mut rows = Vec::new(rt.alloc());
@@ -96,7 +96,8 @@ pub fn rows_of<'t>(rt: &(impl Abort + AllocGlobal), table: &'t str, count: usize
     rows
 }
 
-// What a word stands for: `''` has no letter, and `_1` and `1_` a space in place of the dash.
+// Returns the argument that a word stands for. `''` is an empty argument, and in `_1` and `1_` the
+// underscore is a space.
 fn meant_word(word: &str) -> &str {
     match word {
         "''" => "",
@@ -106,12 +107,12 @@ fn meant_word(word: &str) -> &str {
     }
 }
 
-/// Text with this in place of each mark.
+/// Returns a text in which each mark is replaced.
 pub fn replaced(rt: &(impl Abort + AllocGlobal), text: &str, mark: &str, by: &str) -> String {
     must(rt, text.replace(rt.alloc(), mark, by))
 }
 
-/// The words of a command line, in which `~` stands for a line end.
+/// Returns the arguments of a command line, in which `~` is a line end.
 pub fn words_of(rt: &(impl Abort + AllocGlobal), words: &str) -> Vec<String> {
     let mut all = Vec::new(rt.alloc());
     for word in words.split_whitespace() {

@@ -12,7 +12,7 @@ use parshelf::{MemShelf, Shelf};
 use std::panic::Expect;
 use std::process::Abort;
 
-/// How a command line ended: the fault of its run, its exit status, what it wrote, and the line for
+/// The end of a command line: the error of its run, its exit status, its output, and the line for
 /// standard error.
 #[derive(Drop)]
 pub struct Outcome {
@@ -22,8 +22,8 @@ pub struct Outcome {
     pub line: Vec<u8>,
 }
 
-/// How many bytes a read gives at most, and the numbers of the reads of packet files and of scanned
-/// files that fail; no read has the number 0.
+/// The greatest number of bytes of a read, and the number of the read of packet files and that of
+/// the read of scanned files that fail. No read has the number 0.
 #[derive(Clone, Copy)]
 pub struct Reads {
     pub piece: usize,
@@ -31,15 +31,15 @@ pub struct Reads {
     pub failing_scanned: u64,
 }
 
-/// Reads of at most 64 bytes, none of which fails.
+/// Reads of at most 64 bytes, of which none fails.
 pub const READS: Reads = Reads {
     piece: 64,
     failing_packet: 0,
     failing_scanned: 0,
 };
 
-/// The room of a sink in memory, how many bytes it takes at once, and whether it takes none then or
-/// fails.
+/// How many bytes fit into a sink in memory, how many it takes at once, and whether it takes none
+/// or fails when it is full.
 #[derive(Clone, Copy)]
 pub struct Room {
     pub bytes: usize,
@@ -47,14 +47,15 @@ pub struct Room {
     pub takes_zero: bool,
 }
 
-/// All the room that a test needs.
+/// A sink that is large enough for most tests.
 pub const ROOMY: Room = Room {
     bytes: 4096,
     piece: 4096,
     takes_zero: false,
 };
 
-// What a word stands for: a packet file of this name, or the bytes of a scanned file.
+// Returns the bytes that a word stands for: those of a packet file with this name, or of a scanned
+// file.
 fn bytes_of<'t>(rt: &impl Abort, word: &'t str, packet: bool) -> &'t [u8] {
     if packet {
         packet_file(rt, word)
@@ -65,7 +66,7 @@ fn bytes_of<'t>(rt: &impl Abort, word: &'t str, packet: bool) -> &'t [u8] {
     }
 }
 
-// The files that words stand for.
+// Returns the files that words stand for.
 fn files_of<'t>(rt: &(impl Abort + AllocGlobal), words: &'t str, packet: bool) -> Vec<&'t [u8]> {
     let mut files = Vec::new(rt.alloc());
     for word in words.split_whitespace() {
@@ -74,28 +75,28 @@ fn files_of<'t>(rt: &(impl Abort + AllocGlobal), words: &'t str, packet: bool) -
     files
 }
 
-// The packet files of a row in memory.
+// Returns the packet files of a row in memory.
 fn packets_in(rt: &(impl Abort + AllocGlobal), row: &Row<'_>, reads: Reads) -> MemShelf {
     let files = files_of(rt, row.packets, true);
     let failing = [reads.failing_packet];
     must(rt, shelf_of(rt.alloc(), &files, reads.piece, &failing))
 }
 
-/// The scanned files of a row in memory.
+/// Returns the scanned files of a row in memory.
 pub fn scanned_in(rt: &(impl Abort + AllocGlobal), row: &Row<'_>, reads: Reads) -> MemShelf {
     let files = files_of(rt, row.scanned, false);
     let failing = [reads.failing_scanned];
     must(rt, shelf_of(rt.alloc(), &files, reads.piece, &failing))
 }
 
-/// The plan of words, which are one.
+/// Returns the plan of arguments, or ends the test if they have none.
 pub fn plan_of(rt: &(impl Abort + AllocGlobal), words: &str) -> Plan
     ensures { LimitIsNotZero result.command }
 {
     plan(rt.alloc(), &words_of(rt, words)).expect(rt, "error")
 }
 
-// A sink in memory with this room.
+// Returns a sink in memory with this capacity.
 fn sink_with(rt: &(impl Abort + AllocGlobal), room: Room) -> MemSink {
     let piece = room.piece.max(1);
     must(
@@ -104,7 +105,7 @@ fn sink_with(rt: &(impl Abort + AllocGlobal), room: Room) -> MemSink {
     )
 }
 
-// Runs a plan over as many files as it has.
+// Runs a plan over files. Ends the test if it names another number of files.
 fn answer_of(
     rt: &(impl Abort + AllocGlobal),
     plan: &Plan,
@@ -123,7 +124,7 @@ fn answer_of(
     run(rt.alloc(), plan, packets, scanned, out)
 }
 
-// The argument that an end is about, or nothing.
+// Returns the argument that an end is about, or an empty text.
 fn text_of(argument: Option<&Text>) -> &str {
     match argument {
         Some(argument) => argument.as_str(),
@@ -131,7 +132,7 @@ fn text_of(argument: Option<&Text>) -> &str {
     }
 }
 
-// How a run of a plan ended that wrote to a sink.
+// Returns how the run of a plan ended that wrote to this sink.
 fn outcome_of(
     rt: &(impl Abort + AllocGlobal),
     plan: &Plan,
@@ -148,7 +149,7 @@ fn outcome_of(
     }
 }
 
-/// Runs a command line over files, with a sink of some room.
+/// Runs a command line over files, with a sink of this capacity.
 pub fn ran(
     rt: &(impl Abort + AllocGlobal),
     words: &str,

@@ -1,4 +1,4 @@
-// Texts of more than a block of 65,536 bytes.
+// Texts that are longer than a block of 65,536 bytes.
 use crate::runs::{
     Outcome, READS, Room, Row, holds, is_same, must, packet_file, ran, replaced, scanned_in, there,
 };
@@ -6,19 +6,19 @@ use parfixtures::file_of;
 use parreport::RunFault;
 use std::process::Abort;
 
-// How many packets are listed; the Creator packet of g has 68 bytes.
+// The number of packets that are listed. The Creator packet of g has 68 bytes.
 const PACKETS: usize = 1300;
 
-// How many packets are put aside behind the set of g, the first of them at 340.
+// The number of rejected packets after the set of g. The first of them is at 340.
 const ASIDES: usize = 3200;
 
-// How many bytes the name of a scanned file has, so that a line with it is longer than a block.
+// The length of the name of a scanned file. A line with it is longer than a block.
 const NAME: usize = 70_000;
 
-// So many bytes of a text are taken, and then the sink fails.
+// The number of bytes that a sink takes before it fails.
 static ROOMS: [usize; 8] = [0, 1, 65_535, 65_536, 65_600, 66_500, 70_100, 1_000_000];
 
-// The fault of a run that writes so many bytes where there is room for these.
+// Returns the error of a run that writes `size` bytes to a sink that takes `room` bytes, if any.
 fn fault_in(room: usize, size: usize) -> Option<RunFault> {
     if room < size {
         Some(RunFault::Write)
@@ -27,14 +27,15 @@ fn fault_in(room: usize, size: usize) -> Option<RunFault> {
     }
 }
 
-// Wants as many bytes of the list as there was room for, and a fault where it was less.
+// Checks that the sink got all bytes of the list that it can take, and that the run failed if the
+// list has more.
 fn shows(rt: &impl Abort, ran: &Outcome, list: &[u8], room: usize) {
     let size = room.min(list.len());
     is_same(rt, &room, &ran.fault, &fault_in(room, list.len()));
     holds(rt, &room, list.get(..size) == Some(ran.out.text()));
 }
 
-// Wants the list of a row over one packet file where there is so much room.
+// Checks the list of a row over one packet file, with a sink that takes this number of bytes.
 fn lists_in(rt: &(impl Abort + AllocGlobal), row: &Row<'_>, packets: &[u8], bytes: usize) {
     let mut packets = must(rt, file_of(rt.alloc(), packets, 65_536, &[]));
     let mut scanned = scanned_in(rt, row, READS);
@@ -47,7 +48,8 @@ fn lists_in(rt: &(impl Abort + AllocGlobal), row: &Row<'_>, packets: &[u8], byte
     shows(rt, &ran, row.text.as_bytes(), bytes);
 }
 
-// Wants that words over one packet file and scanned files write this text into sinks of each room.
+// Checks that arguments over one packet file and scanned files write this text, for each of these
+// sinks.
 fn lists(rt: &(impl Abort + AllocGlobal), words: &str, packets: &[u8], scanned: &str, text: &str) {
     holds(rt, &words, text.len() > 66_500);
     let row = Row {
@@ -64,7 +66,7 @@ fn lists(rt: &(impl Abort + AllocGlobal), words: &str, packets: &[u8], scanned: 
     }
 }
 
-// Puts a line for each of so many packets of one size behind a text, the first of them at this
+// Appends a line to a text for each of `count` packets of one size, of which the first has this
 // offset.
 fn put_lines(
     rt: &impl Abort,
@@ -82,7 +84,7 @@ fn put_lines(
     }
 }
 
-// Wants the list of so many Creator packets.
+// Checks the list of many Creator packets.
 fn many_packets_are_listed(rt: &(impl Abort + AllocGlobal)) {
     let packets = must(
         rt,
@@ -100,7 +102,7 @@ fn packets_writes_each_block_once(rt: HostRuntime) {
     many_packets_are_listed(&rt);
 }
 
-// The text of `set` over g in front of the packets that are put aside.
+// The text of `set` over g, before the rejected packets.
 const SET: &str = "\
 set 617cdc72ba53d94fe713fea2ae18f776 size 4 slices 2
 file e345eacbe656c0e6fd20ed63cb7b062c 8 2 yes g.bin
@@ -108,7 +110,7 @@ others 0
 have 0
 ";
 
-// The set of g, and its packet that is put aside so many times in place of once.
+// Returns the set of g, in which the packet that is rejected occurs `ASIDES` times.
 fn with_asides(rt: &(impl Abort + AllocGlobal)) -> Vec<u8> {
     let set = packet_file(rt, "g");
     let (front, aside) = there(rt, "packet", set.split_at_checked(340));
@@ -118,7 +120,7 @@ fn with_asides(rt: &(impl Abort + AllocGlobal)) -> Vec<u8> {
     packets
 }
 
-// Wants that `set` over those tells of each packet that is put aside.
+// Checks that `set` over these packets lists each rejected packet.
 fn many_asides_are_listed(rt: &(impl Abort + AllocGlobal)) {
     let packets = with_asides(rt);
     let mut text = must(rt, String::from_str(rt.alloc(), SET));
@@ -131,7 +133,7 @@ fn set_writes_each_block_once(rt: HostRuntime) {
     many_asides_are_listed(&rt);
 }
 
-// The text of `verify` where a.bin and b.bin are there under the names X and Y.
+// The text of `verify` if a.bin and b.bin have the names X and Y.
 const RENAMED: &str = "\
 set bfbb8cc347c88c9b3dd072ec0e2f6a1d size 4 slices 3
 renamed a.bin from X
@@ -140,7 +142,7 @@ need 0 have 0
 result possible
 ";
 
-// A text in which the names X and Y are longer than a block.
+// Returns a text in which the names X and Y are longer than a block.
 fn with_names(rt: &(impl Abort + AllocGlobal), text: &str) -> String {
     let first = must(rt, "x".repeat(rt.alloc(), NAME));
     let second = must(rt, "y".repeat(rt.alloc(), NAME));
@@ -148,7 +150,7 @@ fn with_names(rt: &(impl Abort + AllocGlobal), text: &str) -> String {
     replaced(rt, text.as_str(), "Y", second.as_str())
 }
 
-// Wants that `verify` over files of such names tells of them.
+// Checks that `verify` lists files with such names.
 fn long_names_are_listed(rt: &(impl Abort + AllocGlobal)) {
     let words = with_names(rt, "verify v.par2 X Y");
     let text = with_names(rt, RENAMED);

@@ -1,6 +1,6 @@
 use crate::runs::all_end_so;
 
-// Packets, and the set that they describe, or why there is none.
+// Packets, and the set that they describe or the cause why there is none.
 const SETS: &str = r"
 $ set p.par2 | g
 set 617cdc72ba53d94fe713fea2ae18f776 size 4 slices 2

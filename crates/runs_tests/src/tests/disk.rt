@@ -8,7 +8,7 @@ use std::fs::{File, Files};
 use std::process::Abort;
 use std::{fs, process};
 
-// Packet files, in place of whose name stands a path on disk, in the words and in the text.
+// Packet files. A path on disk takes the place of their names in the arguments and in the text.
 const LISTED: &str = r"
 $ packets p.par2 | creator
 p.par2 0 64 creator 00000000000000000000000000000000
@@ -30,7 +30,7 @@ packets 4
 = 0
 ";
 
-// The packet file at a path, which is written first and taken away again.
+// Opens the packet file at a path. It is written first, and removed once it is open.
 fn written_first(
     rt: &(impl Abort + AllocGlobal + Files<File = File>),
     path: &str,
@@ -42,12 +42,12 @@ fn written_first(
     must(rt, shelf)
 }
 
-// The path of a file of the process that has this number.
+// Returns a path that no other process uses, with the number of this process.
 fn path_for(rt: &(impl Abort + AllocGlobal), number: u32, name: &str) -> String {
     must(rt, format!(in rt.alloc(); "/tmp/parv_{number}_{name}.par2"))
 }
 
-// Runs a row over its packet file, which is at this path; wants the end that it has.
+// Runs a row over its packet file, which is at this path, and checks its end.
 fn is_listed(rt: &(impl Abort + AllocGlobal), row: &Row<'_>, path: &str, packets: &mut DiskShelf) {
     let words = replaced(rt, row.words, "p.par2", path);
     let text = replaced(rt, row.text, "p.par2", path);
@@ -60,7 +60,7 @@ fn is_listed(rt: &(impl Abort + AllocGlobal), row: &Row<'_>, path: &str, packets
     has_ended(rt, &ran(rt, row.words, packets, &mut scanned, ROOMY), &row);
 }
 
-// Runs the rows over files of the process that has this number.
+// Runs the rows over files whose paths have this number.
 fn are_listed(rt: &(impl Abort + AllocGlobal + Files<File = File>), number: u32) {
     for row in rows_of(rt, LISTED, 3).as_slice() {
         let name = row.packets.trim();
@@ -75,7 +75,7 @@ fn packets_lists_the_packets_of_files_on_disk(rt: HostRuntime) {
     are_listed(&rt, process::id(rt.process()));
 }
 
-// Wants that this file is not there, and that this line tells that it can't be opened.
+// Checks that a file couldn't be opened, and the line that says so.
 fn is_not_opened(
     rt: &(impl Abort + AllocGlobal),
     path: &str,

@@ -9,7 +9,7 @@ const READ: RunFault = RunFault::Read {
     fault: ReadFault::Failed,
 };
 
-// An end, and its exit status and line where the argument is a, a line end and b.
+// An end, its exit status, and its line if the argument is a, a line end and b.
 type Ending = (End, u8, &'static str);
 
 static ENDINGS: [Ending; 16] = [
@@ -51,7 +51,7 @@ static ENDINGS: [Ending; 16] = [
     ),
 ];
 
-// Wants that an end has its exit status and line.
+// Checks the exit status and the line of an end.
 fn is_told(rt: &(impl Abort + AllocGlobal), (end, status, line): &Ending) {
     let (found, told) = must(rt, ending(rt.alloc(), end, "a\nb"));
     is_same(rt, end, &found, status);
@@ -65,7 +65,7 @@ fn each_end_has_its_exit_status_and_line(rt: HostRuntime) {
     }
 }
 
-// Puts three parts into a sink over bytes: how many of each it takes.
+// Puts three parts into a sink over bytes. Returns how many bytes of each it takes.
 fn taken(bytes: &mut Vec<u8>) -> [Result<usize, Failed>; 3] {
     let mut out = WriteSink::new(bytes);
     [out.put(b""), out.put(b"abc"), out.put(b"d")]

@@ -1,6 +1,6 @@
 use crate::runs::all_end_so;
 
-// Files, and where slices of a set are seen in them.
+// Files, and the matches of a set's slices in them.
 const SEARCHES: &str = r"
 $ find v.par2 x.bin | g | XXabcdefgh
 x.bin 2 e345eacbe656c0e6fd20ed63cb7b062c 0

@@ -5,8 +5,8 @@ use crate::runs::{
 use parfixtures::shelf_of;
 use std::process::Abort;
 
-// Runs a row over packet files that hold these bytes and are read by so many; wants the end that it
-// has.
+// Runs a row over packet files with these bytes, and checks its end. A read gives at most `piece`
+// bytes.
 fn ends_over(rt: &(impl Abort + AllocGlobal), row: &Row<'_>, files: &[&[u8]], piece: usize) {
     let mut packets = must(rt, shelf_of(rt.alloc(), files, piece, &[]));
     let mut scanned = scanned_in(rt, row, READS);
@@ -14,10 +14,10 @@ fn ends_over(rt: &(impl Abort + AllocGlobal), row: &Row<'_>, files: &[&[u8]], pi
     has_ended(rt, &ran, row);
 }
 
-// Packets with large bodies. The front of a packet; then the bytes behind it, as `120*4096` for 4,096
-// bytes of the value 120; and the number for which `set` puts the packet aside, 0 where it is usable:
-// 1 where it ends within a field, 3 where it has an ID twice, 5 where it has a wrong name, and 7
-// where it is above a limit.
+// Packets with large bodies: the first bytes of a packet; the bytes after them, with `120*4096` for
+// 4,096 bytes of the value 120; and the number of the reason for which `set` rejects the packet, or
+// 0 if it is usable. The reason is 1 if the body ends within a field, 3 if an ID occurs twice, 5 if
+// the name is wrong, and 7 if the body is above a limit.
 const LARGE: &str = "\
 front_of_creator_at_limit 0*1048576 = 0
 large_creator_front 0*1048580 = 7
@@ -34,8 +34,8 @@ front_of_32768_ids 7*524288 = 3
 front_of_32769_ids 7*524304 = 7
 ";
 
-// The text of `set` over the set of g.bin in one file and such a packet in another, and at its end
-// the line that may tell of that packet.
+// The text of `set` over the set of g.bin in one file and such a packet in another. Its last line
+// is there if that packet is rejected.
 const TOLD: &str = "\
 set 617cdc72ba53d94fe713fea2ae18f776 size 4 slices 2
 file e345eacbe656c0e6fd20ed63cb7b062c 8 2 yes g.bin
@@ -44,14 +44,14 @@ have 0
 aside g.par2 340 1
 LINE";
 
-// Puts a byte behind others so often as a text says.
+// Appends a byte as often as a text says.
 fn put_bytes(rt: &impl Abort, packet: &mut Vec<u8>, bytes: &str) {
     let (byte, count) = cut(rt, bytes, "*");
     let size = packet.len().saturating_add(number(rt, count));
     must(rt, packet.resize(size, number(rt, byte)));
 }
 
-// The packet of a front and the bytes behind it.
+// Returns the packet that has these first bytes and these bytes after them.
 fn large_packet(rt: &(impl Abort + AllocGlobal), front: &str, behind: &str) -> Vec<u8> {
     let mut packet = must(rt, Vec::from_slice(rt.alloc(), packet_file(rt, front)));
     for bytes in behind.split_whitespace() {
@@ -60,7 +60,7 @@ fn large_packet(rt: &(impl Abort + AllocGlobal), front: &str, behind: &str) -> V
     packet
 }
 
-// The text of `set` where such a packet is put aside for this, or is usable.
+// Returns the text of `set` if such a packet is rejected for this reason, or is usable.
 fn large_text(rt: &(impl Abort + AllocGlobal), aside: &str) -> String {
     let line = if aside == "0" {
         ""
@@ -71,7 +71,7 @@ fn large_text(rt: &(impl Abort + AllocGlobal), aside: &str) -> String {
     replaced(rt, text.as_str(), "REASON", aside)
 }
 
-// Wants that a line of the table is right. A base, which `set` does not ask for, names the packet.
+// Checks a line of the table. `set` takes no notice of the option -B, which names the packet here.
 fn is_right(rt: &(impl Abort + AllocGlobal), line: &str) {
     let (packet, aside) = cut(rt, line, " = ");
     let (front, behind) = cut(rt, packet, " ");
@@ -100,7 +100,7 @@ fn bodies_are_usable_up_to_their_limits(rt: HostRuntime) {
     is_same(&rt, &"rows", &count, &13);
 }
 
-// Command lines over the set of g.bin behind 1,001 Creator packets.
+// Command lines over the set of g.bin after 1,001 Creator packets.
 const BEHIND: &str = r"
 $ set v.par2
 set 617cdc72ba53d94fe713fea2ae18f776 size 4 slices 2
@@ -125,7 +125,7 @@ result possible
 = 1
 ";
 
-// These bytes, so many times, and those of a packet file behind them.
+// Returns `times` copies of these bytes, followed by those of a packet file.
 fn behind_many(
     rt: &(impl Abort + AllocGlobal),
     before: &[u8],
@@ -137,7 +137,7 @@ fn behind_many(
     all
 }
 
-// Wants that a row of this table is right.
+// Checks a row of this table.
 fn is_right_behind(rt: &(impl Abort + AllocGlobal), row: &Row<'_>) {
     let many = behind_many(rt, packet_file(rt, "creator_of_g"), 1001, "g");
     ends_over(rt, row, &[&many], 65_536);
@@ -150,8 +150,8 @@ fn a_set_behind_more_than_a_thousand_packets_is_found(rt: HostRuntime) {
     }
 }
 
-// Packets behind so many bytes; beside the exit status their value, how many there are and by how
-// many a read gives them.
+// Packets after many equal bytes. After the exit status come the value of these bytes, their
+// number, and the greatest number of bytes of a read.
 const FAR: &str = r"
 $ packets p.par2 | creator
 p.par2 65533 64 creator 00000000000000000000000000000000
@@ -165,7 +165,7 @@ packets 2
 = 0 | 0 | 70000 | 7
 ";
 
-// Wants that a row of this table is right.
+// Checks a row of this table.
 fn is_right_so_far(rt: &(impl Abort + AllocGlobal), row: &Row<'_>) {
     let (byte, beside) = parted(row.beside);
     let (times, piece) = parted(beside);

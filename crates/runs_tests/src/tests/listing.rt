@@ -1,6 +1,6 @@
 use crate::runs::all_end_so;
 
-// Packets and what stands between them; several files; a chosen set.
+// Packets and the bytes between them; several files; a wanted set.
 const LISTINGS: &str = r"
 $ packets p.par2 | empty
 packets 0

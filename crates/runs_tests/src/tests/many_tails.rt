@@ -1,33 +1,33 @@
-// Sets whose slices are shorter than the slice size by more and more lengths.
+// Sets with more and more lengths of short slices.
 use crate::runs::{ROOMY, Row, has_ended, holds, must, number, ran, replaced, rows_of};
 use md5::{Digest, Md5};
 use parfixtures::{DESC_TYPE, IFSC_TYPE, MAIN_TYPE, joined, packet_of, shelf_of};
 use parshelf::MemShelf;
 use std::process::Abort;
 
-// More files than there may be short lengths.
+// The number of files, one more than there may be lengths of short slices.
 const MOST: usize = 257;
 
-// Slices are longer than each of them.
+// The slice size, which is above each of these lengths.
 const SLICE_SIZE: u64 = 260;
 
-// The content of the file of this length.
+// Returns the content of the file of this length.
 fn content_of(rt: &(impl Abort + AllocGlobal), length: usize) -> Vec<u8> {
     must(rt, b"\0".repeat(rt.alloc(), length))
 }
 
-// Its name, which has four letters.
+// Returns the name of that file, which has four letters.
 fn name_of(rt: &(impl Abort + AllocGlobal), length: usize) -> String {
     let number = length.saturating_add(1000);
     must(rt, format!(in rt.alloc(); "{number}"))
 }
 
-// Its ID, which is the MD5 of its content too.
+// Returns the ID of that file, which is also the MD5 of its content.
 fn id_of(rt: &(impl Abort + AllocGlobal), length: usize) -> [u8; 16] {
     Md5::digest(&content_of(rt, length))
 }
 
-// The names of the files of so many lengths, from 1 on, each behind a space.
+// Returns the names of `count` files of lengths from 1 on, with a space before each.
 fn names_of(rt: &(impl Abort + AllocGlobal), count: usize) -> String {
     let mut names = String::new(rt.alloc());
     for length in 1..count.min(MOST).saturating_add(1) {
@@ -37,7 +37,7 @@ fn names_of(rt: &(impl Abort + AllocGlobal), count: usize) -> String {
     names
 }
 
-// These files.
+// Returns these files.
 fn files_of(rt: &(impl Abort + AllocGlobal), count: usize) -> MemShelf {
     let mut files = Vec::new(rt.alloc());
     for length in 1..count.min(MOST).saturating_add(1) {
@@ -47,7 +47,7 @@ fn files_of(rt: &(impl Abort + AllocGlobal), count: usize) -> MemShelf {
     MemShelf::new(files, 64, Vec::new(rt.alloc()))
 }
 
-// The body of the Main packet of a set of these files.
+// Returns the body of the Main packet of a set of these files.
 fn main_body(rt: &(impl Abort + AllocGlobal), count: usize) -> Vec<u8> {
     let recovery = (count.min(MOST) as u32).to_le_bytes();
     let mut body = must(
@@ -60,7 +60,7 @@ fn main_body(rt: &(impl Abort + AllocGlobal), count: usize) -> Vec<u8> {
     body
 }
 
-// Puts a packet behind others.
+// Appends a packet.
 fn put(
     rt: &(impl Abort + AllocGlobal),
     packets: &mut Vec<u8>,
@@ -73,7 +73,7 @@ fn put(
     must(rt, packets.extend_from_slice(&packet));
 }
 
-// The packets of the set, with sums that no bytes have here.
+// Returns the packets of the set. Their checksums are those of no bytes here.
 fn set_of(rt: &(impl Abort + AllocGlobal), count: usize) -> Vec<u8> {
     let main = main_body(rt, count);
     let set = Md5::digest(&main);
@@ -90,8 +90,8 @@ fn set_of(rt: &(impl Abort + AllocGlobal), count: usize) -> Vec<u8> {
     packets
 }
 
-// Command lines over the packet file of a set of so many short lengths. Where FILES stands, all its
-// files are scanned, and each is complete.
+// Command lines over the packet file of a set with this number of lengths. FILES stands for all its
+// files, which are complete.
 const REFUSED: &str = r"
 $ find --tails v.par2 | 257
 parv: no usable set: too many tails
@@ -157,7 +157,7 @@ result complete
 = 0
 ";
 
-// Runs a row; wants its end, and that no file is read where the row says so.
+// Runs a row and checks its end, and with `unread` that no file is read.
 fn ends_so(rt: &(impl Abort + AllocGlobal), row: &Row<'_>, unread: bool) {
     let count = number(rt, row.packets);
     let names = names_of(rt, count);

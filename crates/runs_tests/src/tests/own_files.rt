@@ -1,4 +1,4 @@
-// Files in memory: whatever was read of them stands in them, so a run tells of them as they are.
+// Files in memory. Reads always return what they contain, so a run reports on these very files.
 ghost use Rattle.std.specs.Prelude.{◌≡◌, length, IsTrue};
 ghost use Rattle.parshelf.specs.Memory.{shelf_state_of, files_of};
 ghost use Rattle.parshelf.specs.MemorySink.{memory_sink_state};
@@ -13,8 +13,8 @@ use parshelf::{MemShelf, Shelf};
 use std::alloc::Global;
 use std::process::Abort;
 
-// Runs a plan over files in memory. Its text and its answer are those of the files that the shelves
-// had at the call.
+// Runs a plan over files in memory. The text and the result are those of the files as they were at
+// the call.
 fn run_in_memory(
     alloc: Global,
     plan: &Plan,

@@ -9,7 +9,7 @@ use parreport::RunFault;
 use parshelf::ReadFault;
 use std::process::Abort;
 
-// The number beside the exit status is that of the read of the scanned files that fails.
+// After the exit status comes the number of the read of the scanned files that fails.
 const FAULTY: &str = r"
 # Without a set no scanned file is read.
 $ find v.par2 x.bin | empty | XXabcdefgh
@@ -76,15 +76,15 @@ result possible
 = 1 | 3
 ";
 
-// The reads of a row of which one fails: of packet files, or else of scanned files, by pieces of so
-// many bytes.
+// The reads of which one fails: those of packet files, or else of scanned files. Each gives at most
+// `piece` bytes.
 #[derive(Clone, Copy)]
 struct Turn {
     packet: bool,
     piece: usize,
 }
 
-// Runs a row where the read of a number fails.
+// Runs a row in which the read with this number fails.
 fn ran_failing(rt: &(impl Abort + AllocGlobal), row: &Row<'_>, turn: Turn, number: u64) -> Outcome {
     let reads = Reads {
         piece: turn.piece,
@@ -94,7 +94,7 @@ fn ran_failing(rt: &(impl Abort + AllocGlobal), row: &Row<'_>, turn: Turn, numbe
     ran_row(rt, row, reads, ROOMY)
 }
 
-// Runs a row of the table of faults.
+// Runs a row of the table of errors.
 fn is_faulty(rt: &(impl Abort + AllocGlobal), row: &Row<'_>) {
     let turn = Turn {
         packet: false,
@@ -111,7 +111,8 @@ fn scanned_files_are_read_no_more_than_is_needed(rt: HostRuntime) {
     }
 }
 
-// The name, without its ending, of the file of a number among those with this ending in the words.
+// Returns the name of a file without its ending: of the arguments with this ending, the one with
+// this number.
 fn name_of<'t>(rt: &impl Abort, words: &'t str, ending: &str, file: u32) -> &'t str {
     let mut rest = words;
     for _ in 0..file {
@@ -122,7 +123,7 @@ fn name_of<'t>(rt: &impl Abort, words: &'t str, ending: &str, file: u32) -> &'t 
     there(rt, "name", front.rsplit_once(' ')).1
 }
 
-// The line that tells of a read fault in the packet file, or else the scanned file, of a number.
+// Returns the line for a read error in the packet file, or else the scanned file, with this number.
 fn fault_line(rt: &(impl Abort + AllocGlobal), words: &str, packet: bool, file: u32) -> String {
     let (ending, line) = if packet {
         (".par2", "parv: read fault in NAME.par2\n")
@@ -132,13 +133,13 @@ fn fault_line(rt: &(impl Abort + AllocGlobal), words: &str, packet: bool, file: 
     replaced(rt, line, "NAME", name_of(rt, words, ending, file))
 }
 
-// Whether the text is that of the first lines of the whole one, or of none.
+// Whether a text is the first lines of the whole text, or empty.
 fn is_front(text: &[u8], whole: &str) -> bool {
     whole.as_bytes().starts_with(text) && (text.is_empty() || text.ends_with(b"\n"))
 }
 
-// Wants that a run of a row ended with the fault of a read of this file, after a beginning of the
-// text in whole lines.
+// Checks that the run of a row ended with a read error in this file, after some first lines of the
+// text.
 fn has_failed(
     rt: &(impl Abort + AllocGlobal),
     ran: &Outcome,
@@ -159,8 +160,9 @@ fn has_failed(
     holds(rt, &row.words, is_front(ran.out.text(), text));
 }
 
-// The reads of a packet file of a row, so many behind others, failing in turn: the fault of that
-// file, and no text. Gives the number of the last.
+// Checks that a run ends with the error of a packet file, and without a text, for each of its
+// `count` reads, which come after `others` reads of other files. Returns the number of the last
+// read.
 fn file_reads_fail(
     rt: &(impl Abort + AllocGlobal),
     row: &Row<'_>,
@@ -178,8 +180,8 @@ fn file_reads_fail(
     read
 }
 
-// Each read of the packet files of a row failing in turn, where each file has so many; the next read
-// isn't made.
+// Checks this for each packet file of a row. `reads` has the number of reads of each. There is no
+// further read.
 fn packet_reads_fail(rt: &(impl Abort + AllocGlobal), row: &Row<'_>, piece: usize, reads: &str) {
     let turn = Turn {
         packet: true,
@@ -195,8 +197,9 @@ fn packet_reads_fail(rt: &(impl Abort + AllocGlobal), row: &Row<'_>, piece: usiz
     has_ended(rt, &ran, row);
 }
 
-// Wants that a further read of a scanned file leaves no less of the text than those before it, of
-// which the last left so many bytes, and that the first read leaves none. Gives how many it leaves.
+// Checks that the failure of a read leaves at least as much of the text as that of the read before
+// it, which left `left` bytes, and that the failure of the first read leaves none. Returns the
+// number of bytes that are left.
 fn left_by(rt: &impl Abort, text: &[u8], read: u64, left: usize) -> usize {
     let bytes = text.len();
     holds(rt, &read, bytes >= left);
@@ -204,8 +207,9 @@ fn left_by(rt: &impl Abort, text: &[u8], read: u64, left: usize) -> usize {
     bytes
 }
 
-// Each read of the one scanned file of a row failing in turn, the last of which leaves so many bytes
-// of the text: how many are made.
+// Checks that a run ends with the error of the only scanned file of a row, for each of its reads.
+// The failure of the last read leaves this number of bytes of the text. Returns the number of
+// reads.
 fn scanned_reads(
     rt: &(impl Abort + AllocGlobal),
     row: &Row<'_>,
@@ -230,8 +234,8 @@ fn scanned_reads(
     rt.panic("reads without end")
 }
 
-// Each read of the scanned file failing in turn, by 1 byte and by 64: as many bytes are read as the
-// text needs at least, and as are ahead at most.
+// Checks this with reads of 1 byte and of 64. At least the bytes that the text needs are read, and
+// at most those that are ahead.
 fn scanned_reads_fail(rt: &(impl Abort + AllocGlobal), row: &Row<'_>, needs: &str, bytes: &str) {
     let (least, rest) = cut(rt, needs.trim(), " ");
     let (most, times) = rest.split_once(' ').unwrap_or((rest, "1"));
@@ -239,12 +243,12 @@ fn scanned_reads_fail(rt: &(impl Abort + AllocGlobal), row: &Row<'_>, needs: &st
     let made = scanned_reads(rt, row, 1, number(rt, bytes));
     holds(rt, &row.words, least <= made);
     holds(rt, &row.words, made <= most);
-    // One read gives the whole scanned file then, so its failing leaves no text.
+    // One read gives the whole scanned file, so its failure leaves no text.
     let made = scanned_reads(rt, row, 64, 0);
     is_same(rt, &row.words, &made, &most.min(number(rt, times)));
 }
 
-// Each read of both shelves of a row failing in turn, by 1 byte and by 64.
+// Checks each read of both shelves of a row, with reads of 1 byte and of 64.
 fn both_fail_in_turn(rt: &(impl Abort + AllocGlobal), row: &Row<'_>) {
     let (by_1, beside) = parted(row.beside);
     let (by_64, beside) = parted(beside);
@@ -254,7 +258,7 @@ fn both_fail_in_turn(rt: &(impl Abort + AllocGlobal), row: &Row<'_>) {
     packet_reads_fail(rt, row, 64, by_64);
 }
 
-// Each read of each row of a table failing in turn.
+// Checks each read of each row of a table.
 fn all_fail_in_turn(rt: &(impl Abort + AllocGlobal), table: &str, count: usize) {
     for row in rows_of(rt, table, count).as_slice() {
         both_fail_in_turn(rt, row);
@@ -276,8 +280,9 @@ fn each_failing_read_is_told_behind_whole_lines_with_options(rt: HostRuntime) {
     all_fail_in_turn(&rt, WITH_OPTIONS, OPTIONS_COUNT);
 }
 
-// A file with both slices of the set of g.bin, and one into which a slice fits at a single place,
-// whose one read comes after all reads of the first: the text that is left where it fails.
+// A file with both slices of the set of g.bin, and one into which a slice fits only at one offset.
+// The only read of the second file comes after all reads of the first. If it fails, this text is
+// left.
 const TWO_FILES: &str = r"
 $ find v.par2 x.bin y.bin | g | XXabcdefgh yyyy
 x.bin 2 e345eacbe656c0e6fd20ed63cb7b062c 0
@@ -285,12 +290,13 @@ x.bin 6 e345eacbe656c0e6fd20ed63cb7b062c 1
 = 6
 ";
 
-// Whether a run told of a read fault in the second file.
+// Whether a run ended with a read error in the second file.
 fn second_failed(ran: &Outcome) -> bool {
     ran.line.as_slice() == b"parv: read fault in y.bin\n".as_slice()
 }
 
-// Wants that a read of the second file of a row fails, and leaves the lines of the first.
+// Checks that a read of the second file of a row can fail, and that the lines of the first file are
+// left.
 fn second_fails(rt: &(impl Abort + AllocGlobal), row: &Row<'_>) {
     let turn = Turn {
         packet: false,

@@ -4,7 +4,8 @@ use crate::runs::{
 use parreport::RunFault;
 use std::process::Abort;
 
-// Searches that go on where one has stopped. The marks of lists are as Python's `hashlib` has them.
+// Searches that go on at the cursor of another one. The fingerprints of lists are as Python's
+// `hashlib` computes them.
 const RESUMED: &str = r"
 $ find --limit 1 v.par2 x.bin | g | XXabcdefgh
 x.bin 2 e345eacbe656c0e6fd20ed63cb7b062c 0
@@ -84,7 +85,7 @@ fn a_search_goes_on_in_its_list_of_files(rt: HostRuntime) {
     all_end_so(&rt, RESUMED, 14);
 }
 
-// Cursors of other files: a length, a name, the order or the number of the files is another.
+// Cursors of other files, with another length, name, order or number of files.
 const OTHER_FILES: &str = r"
 $ find --cursor 2:617cdc72ba53d94fe713fea2ae18f776:53e12607a1d11cab6b927147969fc38c:0:2:1 v.par2 x.bin | g | XXabcdefghY
 parv: cursor of other files
@@ -131,7 +132,7 @@ parv: cursor of other files
 = 3
 ";
 
-// Cursors of another set, which is told whatever the list is.
+// Cursors of another set, which is reported for any list.
 const OTHER_SETS: &str = r"
 $ find --cursor 2:00000000000000000000000000000000:53e12607a1d11cab6b927147969fc38c:0:2:1 v.par2 x.bin | g | XXabcdefgh
 parv: cursor of another set
@@ -150,8 +151,8 @@ parv: cursor of another set
 = 3
 ";
 
-// Wants that a row ends with a fault where the first read of a scanned file would fail, and where
-// there is room for no byte.
+// Checks that a row ends with this error, although the first read of a scanned file would fail and
+// the sink takes no byte.
 fn is_foreign(rt: &(impl Abort + AllocGlobal), row: &Row<'_>, fault: RunFault) {
     let reads = Reads {
         failing_scanned: 1,

@@ -1,5 +1,5 @@
-// What the libraries offer, by the path at which each call, type and field is found: a caller sees here
-// where to look. Calls that serve other libraries alone are left out, and laws, which do nothing.
+// The public calls, types and fields of the libraries, by their paths, so that a caller sees where
+// to look. Calls that only other libraries use are left out, and so are laws, which do nothing.
 
 mod searches;
 
@@ -14,17 +14,17 @@ use std::process::Abort;
 use std::test::Fail;
 use std::{fs, process};
 
-// The ID of the worked set, and that of its file.
+// The ID of the worked set, and the ID of its file.
 const SET: parfield::Hash16 = parfield::Hash16(*b"a|\xdcr\xbaS\xd9O\xe7\x13\xfe\xa2\xae\x18\xf7v");
 
 const FILE: parfield::Hash16 = parfield::Hash16(*b"\xe3E\xea\xcb\xe6V\xc0\xe6\xfd \xedc\xcb{\x06,");
 
-// The mark of `x.bin` of ten bytes alone, as Python's `hashlib` has it.
+// The fingerprint of the list of one file, `x.bin` of ten bytes, as Python's `hashlib` computes it.
 const LIST: parfield::Hash16 = parfield::Hash16(
     *b"S\xe1&\x07\xa1\xd1\x1c\xabk\x92qG\x96\x9f\xc3\x8c",
 );
 
-// Wants that a value is this one.
+// Checks that a value is this one.
 fn is<T: Debug + Drop + PartialEq>(rt: &impl Abort, got: T, wanted: T) {
     is_same(rt, &"a value", &got, &wanted);
 }
@@ -111,7 +111,8 @@ fn of_parshelf_files_on_disk(rt: HostRuntime) -> Result<(), Fail> {
     Ok(())
 }
 
-// Wants the four packets of the worked file, of which the last is kept by its front.
+// Checks that these are the four packets of the worked file. Only the front of the last one is
+// kept.
 fn are_kept(rt: &impl Abort, kept: &[parsalvage::Kept]) {
     is(rt, kept.len(), 4);
     for (packet, at) in kept.iter().zip([0, 92, 220, 340]) {
@@ -171,7 +172,7 @@ fn of_parset_bodies(rt: HostRuntime) -> Result<(), Fail> {
     Ok(())
 }
 
-// The packets of the worked file.
+// Returns the packets of the worked file.
 fn worked(rt: &(impl Abort + AllocGlobal)) -> Vec<parsalvage::Kept> {
     let packets = must(rt, parsalvage::salvage(rt.alloc(), &WORKED));
     must(rt, parsalvage::kept_of(rt.alloc(), 0, &packets))
@@ -203,13 +204,13 @@ fn of_parset_sets(rt: HostRuntime) {
     is(&rt, none.err(), Some(parset::SetFault::NoMain));
 }
 
-// Wants the MD5 of the worked file's content, and that it has checksums.
+// Checks the MD5 of the worked file's content, and that its checksums are known.
 fn holds_content(rt: &impl Abort, file: &parset::SetFile) {
     let whole = parfield::Hash16(*b"\xe8\xdc@\x81\xb144\xb4Q\x89\xa7 \xb7{h\x18");
     is(rt, (file.whole, file.known), (whole, true));
 }
 
-// The slices of the worked set.
+// Returns an index of the slices of the worked set.
 fn index(rt: &(impl Abort + AllocGlobal)) -> parwindow::Index {
     let set = must(rt, parset::build(rt.alloc(), &worked(rt), None));
     must(rt, parwindow::Index::new(rt.alloc(), &set))
@@ -244,7 +245,7 @@ fn of_parwindow(rt: HostRuntime) {
     is(&rt, index.next_crc(crc, 1), None);
 }
 
-// These words.
+// Returns these arguments.
 fn words_of(rt: &(impl Abort + AllocGlobal), words: &[&str]) -> Vec<String> {
     let mut all = Vec::new(rt.alloc());
     for word in words {

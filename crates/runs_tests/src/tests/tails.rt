@@ -1,7 +1,7 @@
 use crate::runs::all_end_so;
 
-// Files in which short slices are looked for by their own bytes. The files of each set have IDs of
-// ones, of twos, and so on.
+// Files in which short slices are searched for by their own bytes. The files of each set have IDs
+// of ones, of twos, and so on.
 const SEARCHES: &str = "\
 # Other bytes behind a short slice, before a file's end and before more bytes.
 $ find --tails v.par2 x.bin | ij | ijk
@@ -63,7 +63,7 @@ fn find_sees_short_slices_before_other_bytes(rt: HostRuntime) {
     all_end_so(&rt, SEARCHES, 10);
 }
 
-// Searches that go on in the midst of a place, in the same mode and in the other.
+// Searches that go on between two slices of one position, in the same mode and in the other.
 const RESUMED: &str = "\
 $ find --tails --limit 1 v.par2 x.bin | ab_abcd_a | abcd
 x.bin 0 01010101010101010101010101010101 0

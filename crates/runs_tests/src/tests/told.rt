@@ -6,7 +6,7 @@ use parshelf::ReadFault;
 use std::fmt::Display;
 use std::process::Abort;
 
-// Wants this text of a fault, plain and as an alternative.
+// Checks the text of an error, plain and in the alternative form.
 fn is_told(rt: &(impl Abort + AllocGlobal), fault: &impl Display, wanted: &str) {
     let plain = must(rt, format!(in rt.alloc(); "{fault}"));
     is_same(rt, &"{}", &plain.as_str(), &wanted);
@@ -42,7 +42,7 @@ fn faults_of_runs_have_their_own_texts(rt: HostRuntime) {
     );
 }
 
-// Tests compare values, so values have to differ.
+// Tests compare values, so different values have to be unequal.
 #[test]
 fn values_are_told_apart(rt: HostRuntime) {
     let (one, two) = (Hash16([1; 16]), Hash16([2; 16]));

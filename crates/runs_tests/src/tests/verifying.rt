@@ -1,6 +1,6 @@
 use crate::runs::all_end_so;
 
-// What of a set is there.
+// Sets, and how much of each is there.
 const VERDICTS: &str = r"
 $ verify v.par2 g.bin | g | abcdefgh
 set 617cdc72ba53d94fe713fea2ae18f776 size 4 slices 2

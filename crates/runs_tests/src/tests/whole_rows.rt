@@ -1,9 +1,10 @@
 // Command lines whose reads and writes fail in turn.
 
-/// Beside the exit status: how many reads of 1 byte each packet file has; how many of 64; how many
-/// bytes of the scanned file the text needs, how many of them are ahead, and, if it is gone over
-/// more than once, how often; how many bytes of the text the last of the failing reads of the
-/// scanned file leaves.
+/// After the exit status come, separated by bars: the number of reads of each packet file, if a
+/// read gives 1 byte; the same if it gives 64; the number of bytes of the scanned file that the
+/// text needs, the number that is ahead, and the number of passes over the file if there are
+/// several; and the number of bytes of the text that are left if the last read of the scanned file
+/// fails.
 pub const WHOLE: &str = r"
 $ packets v.par2 | g
 v.par2 0 92 main 617cdc72ba53d94fe713fea2ae18f776
@@ -44,7 +45,7 @@ packets 5
 = 0 | 64 416 | 1 7 | 0 0 | 0
 ";
 
-/// How many there are.
+/// The number of these rows.
 pub const WHOLE_COUNT: usize = 5;
 
 /// The same with limits and cursors.
@@ -82,7 +83,7 @@ end
 = 0 | 416 | 7 | 0 0 | 0
 ";
 
-/// How many there are.
+/// The number of these rows.
 pub const CURSORS_COUNT: usize = 6;
 
 /// The same with other options.
@@ -131,5 +132,5 @@ result possible
 = 1 | 340 | 6 | 7 14 2 | 0
 ";
 
-/// How many there are.
+/// The number of these rows.
 pub const OPTIONS_COUNT: usize = 8;

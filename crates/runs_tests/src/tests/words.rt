@@ -3,7 +3,7 @@ use parplan::{Plan, plan};
 use std::fmt::Debug;
 use std::process::Abort;
 
-// What a table tells of the plans of words.
+// The part of a plan that a table gives.
 #[derive(Clone, Copy)]
 enum Part {
     Command,
@@ -11,9 +11,9 @@ enum Part {
     Files,
 }
 
-// The tables have a row a line: words with a space between them; ` = `; and what the table tells of
-// their plan, or the fault by which they are none. The word `''` has no letter, and `_1` and `1_` a
-// space in place of the dash.
+// A row of these tables is a line with the arguments, separated by spaces, ` = `, and the part of
+// their plan, or the error if they have none. `''` is an empty argument, and in `_1` and `1_` the
+// underscore is a space.
 
 const NO_PLANS: &str = "\
 frobnicate v.par2 = Usage
@@ -51,7 +51,7 @@ v.par2 find = Usage
 v.par2 verify = Usage
 ";
 
-// A request for help or the version.
+// Requests for help or the version.
 const NO_HELP: &str = "\
 help v.par2 = Usage
 help = Usage
@@ -65,7 +65,7 @@ packets -V v.par2 = Usage
 find --help = Usage
 ";
 
-// An option that stands twice, and may stand once.
+// Options that occur twice and may occur once.
 const TWICE: &str = "\
 find --set 00000000000000000000000000000000 --set 00000000000000000000000000000000 v.par2 = Usage
 find --set 00000000000000000000000000000000 --set=Z v.par2 = Usage
@@ -76,7 +76,7 @@ find --tails --tails v.par2 = Usage
 verify --tails v.par2 --tails = Usage
 ";
 
-// A cursor that can't be read, and a base that is empty.
+// Cursors that can't be read, and an empty base.
 const NO_VALUES: &str = "\
 find --cursor bad v.par2 = Value
 find --cursor bad = Usage
@@ -157,8 +157,8 @@ packets --set Z v.par2 = Value
 packets --set '' v.par2 = Value
 ";
 
-// A lone hyphen is a file, and so is each word behind two. Of a file to be scanned its path is told,
-// and the name that it goes by.
+// A lone hyphen is a file, and so is each argument after `--`. For a file to be scanned the table
+// has its path and its name.
 const FILES: &str = "\
 find v.par2 d/x.bin = v.par2|d/x.bin as d/x.bin|
 find -B d v.par2 d/x.bin = v.par2|d/x.bin as x.bin|
@@ -176,13 +176,13 @@ packets x.bin .par2 b.PaR2 par2 a.par2 = .par2|b.PaR2|a.par2|x.bin as x.bin|par2
 packets - v.par2 -- -q -- = v.par2|- as -|-q as -q|-- as --|
 ";
 
-// Puts a file behind a text, and this behind it.
+// Appends a file, and then this text.
 fn put(rt: &impl Abort, text: &mut String, file: &str, behind: &str) {
     must(rt, text.push_str(file));
     must(rt, text.push_str(behind));
 }
 
-// The packet files of a plan and the files that it scans, with a bar behind each.
+// Returns the packet files of a plan and the files that it scans, with a bar after each.
 fn files_of(rt: &(impl Abort + AllocGlobal), plan: &Plan) -> String {
     let mut text = String::new(rt.alloc());
     for file in plan.packets.as_slice() {
@@ -195,12 +195,12 @@ fn files_of(rt: &(impl Abort + AllocGlobal), plan: &Plan) -> String {
     text
 }
 
-// A value as a table shows it.
+// Returns a value as a table shows it.
 fn shown(rt: &(impl Abort + AllocGlobal), value: &impl Debug) -> String {
     must(rt, format!(in rt.alloc(); "{value:?}"))
 }
 
-// What a table tells of a plan.
+// Returns this part of a plan, as a table shows it.
 fn part_of(rt: &(impl Abort + AllocGlobal), plan: &Plan, part: Part) -> String {
     match part {
         Part::Command => shown(rt, &plan.command),
@@ -209,7 +209,7 @@ fn part_of(rt: &(impl Abort + AllocGlobal), plan: &Plan, part: Part) -> String {
     }
 }
 
-// What a table tells of words.
+// Returns what a table has for arguments.
 fn told(rt: &(impl Abort + AllocGlobal), words: &str, part: Part) -> String {
     match plan(rt.alloc(), &words_of(rt, words)) {
         Ok(plan) => part_of(rt, &plan, part),
@@ -217,14 +217,14 @@ fn told(rt: &(impl Abort + AllocGlobal), words: &str, part: Part) -> String {
     }
 }
 
-// Wants that a row is right.
+// Checks a row.
 fn is_right(rt: &(impl Abort + AllocGlobal), row: &str, part: Part) {
     let (words, wanted) = there(rt, " = ", row.rsplit_once(" = "));
     let found = told(rt, words, part);
     is_text(rt, &row, found.as_bytes(), wanted);
 }
 
-// Wants that each row of a table is right, and that it has so many.
+// Checks each row of a table, of which there have to be `count`.
 fn are_right(rt: &(impl Abort + AllocGlobal), table: &str, part: Part, count: usize) {
     let mut rows = 0usize;
     for row in table.lines() {
@@ -262,7 +262,7 @@ fn files_are_told_by_their_ending_and_named_under_the_base(rt: HostRuntime) {
     are_right(&rt, FILES, Part::Files, 14);
 }
 
-// Wants this of the command of `packets` over one packet file and so many other files.
+// Checks the command of `packets` over one packet file and this number of other files.
 fn is_told_over(rt: &(impl Abort + AllocGlobal), others: usize, wanted: &str) {
     let files = must(rt, "x ".repeat(rt.alloc(), others));
     let words = replaced(rt, "packets a.par2 FILES", "FILES", files.as_str());

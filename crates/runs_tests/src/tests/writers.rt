@@ -5,7 +5,7 @@ use crate::tests::whole_rows::{
 use parreport::RunFault;
 use std::process::Abort;
 
-// The row that has only so much room for its text.
+// Returns the end of a row whose text doesn't fit into a sink of this capacity.
 fn row_in<'t>(rt: &impl Abort, row: &Row<'t>, room: usize) -> Row<'t> {
     Row {
         text: there(rt, "text", row.text.get(..room)),
@@ -15,8 +15,8 @@ fn row_in<'t>(rt: &impl Abort, row: &Row<'t>, room: usize) -> Row<'t> {
     }
 }
 
-// Wants that a run of a row got as much of the text as there was room for, and that it ended with a
-// fault of writing unless that was all.
+// Checks that a run of a row wrote as much of the text as fits into the sink, and that it ended
+// with a write error unless that was the whole text.
 fn is_written(rt: &impl Abort, ran: &Outcome, row: &Row<'_>, room: usize) {
     if room < row.text.len() {
         is_same(rt, &room, &ran.fault, &Some(RunFault::Write));
@@ -26,8 +26,8 @@ fn is_written(rt: &impl Abort, ran: &Outcome, row: &Row<'_>, room: usize) {
     }
 }
 
-// Runs a row with a writer with room for so many bytes, which are taken in pieces; then no byte is
-// taken, or the writer fails.
+// Runs a row with a sink that takes this number of bytes, in pieces. After that it takes no byte,
+// or fails.
 fn writes(
     rt: &(impl Abort + AllocGlobal),
     row: &Row<'_>,
@@ -43,8 +43,8 @@ fn writes(
     is_written(rt, &ran_row(rt, row, READS, room), row, bytes);
 }
 
-// Runs a row with some writers, and then, for each number of bytes of its text, with two with room
-// for so many.
+// Runs a row with some sinks, and then with two for each number of bytes up to the length of its
+// text.
 fn writes_in_rooms(rt: &(impl Abort + AllocGlobal), row: &Row<'_>) {
     writes(rt, row, 10, 4096, false);
     writes(rt, row, 10, 4096, true);
@@ -57,7 +57,7 @@ fn writes_in_rooms(rt: &(impl Abort + AllocGlobal), row: &Row<'_>) {
     }
 }
 
-// Runs each row of a table with all those writers.
+// Runs each row of a table with all those sinks.
 fn all_write(rt: &(impl Abort + AllocGlobal), table: &str, count: usize) {
     for row in rows_of(rt, table, count).as_slice() {
         writes_in_rooms(rt, row);

@@ -15,19 +15,19 @@ const SET: Hash16 = Hash16([
     0x61, 0x7c, 0xdc, 0x72, 0xba, 0x53, 0xd9, 0x4f, 0xe7, 0x13, 0xfe, 0xa2, 0xae, 0x18, 0xf7, 0x76,
 ]);
 
-// The mark of `x.bin` of ten bytes alone, as Python's `hashlib` has it.
+// The fingerprint of the list of one file, `x.bin` of ten bytes, as Python's `hashlib` computes it.
 const LIST: Hash16 = Hash16([
     0x53, 0xe1, 0x26, 0x07, 0xa1, 0xd1, 0x1c, 0xab, 0x6b, 0x92, 0x71, 0x47, 0x96, 0x9f, 0xc3, 0x8c,
 ]);
 
-// The cursor that most texts here tell.
+// The cursor of most texts here.
 const AT: Cursor = Cursor {
     file: 0,
     offset: 2,
     slice: 1,
 };
 
-// Its texts in the set, with the list and without.
+// The texts of that cursor in the set, with the fingerprint and without.
 const LISTED: &[u8] = b"2:617cdc72ba53d94fe713fea2ae18f776:53e12607a1d11cab6b927147969fc38c:0:2:1";
 
 const UNLISTED: &[u8] = b"617cdc72ba53d94fe713fea2ae18f776:0:2:1";
@@ -45,7 +45,7 @@ const GREATEST_LISTED: &[u8; 110] =
 const GREATEST_UNLISTED: &[u8; 75] =
     b"617cdc72ba53d94fe713fea2ae18f776:4294967295:18446744073709551615:4294967295";
 
-// Wants that this is the text of a cursor of the set and the list.
+// Checks the text of a cursor of the set and the list.
 fn is_written(rt: &(impl Abort + AllocGlobal), at: Cursor, wanted: &[u8]) -> Result<(), Fail> {
     let text = at.text(rt.alloc(), SET, LIST)?;
     is(rt, &text.as_slice(), &wanted);
@@ -62,7 +62,7 @@ fn the_greatest_cursor_has_110_bytes(rt: HostRuntime) -> Result<(), Fail> {
     is_written(&rt, GREATEST, GREATEST_LISTED)
 }
 
-// Texts of both versions, and what they tell.
+// Texts of both versions, and what they say.
 static TOLD: [(&[u8], CursorText); 6] = [
     (
         GREATEST_LISTED,
@@ -121,8 +121,9 @@ fn a_text_of_either_version_tells_its_cursor(rt: HostRuntime) {
     }
 }
 
-// Texts, the ID of a set and the mark of a list, and of what other than these the cursor is. Another
-// set is told before another list, and a text without a mark is one of every list.
+// A text, the ID of a set, the fingerprint of a list, and whether the cursor is one of another set
+// or another list. A wrong set is reported before a wrong list. A text without a fingerprint fits
+// every list.
 static READ: [(&[u8], Hash16, Hash16, Option<Foreign>); 10] = [
     (LISTED, SET, LIST, None),
     (LISTED, ZEROS, LIST, Some(Foreign::OtherSet)),
@@ -136,7 +137,7 @@ static READ: [(&[u8], Hash16, Hash16, Option<Foreign>); 10] = [
     (UNLISTED, LIST, SET, Some(Foreign::OtherSet)),
 ];
 
-// What a text is read as that has no fault but this.
+// Returns the result of reading a text that has only this mismatch, if any.
 fn read_with(other: Option<Foreign>) -> Result<Cursor, CursorFault> {
     match other {
         None => Ok(AT),
@@ -152,7 +153,7 @@ fn a_cursor_is_read_for_its_set_and_its_list(rt: HostRuntime) {
     }
 }
 
-// What a text tells is a cursor for, where nothing but this is against it.
+// Returns the cursor, or this mismatch.
 fn answer_with(other: Option<Foreign>) -> Result<Cursor, Foreign> {
     match other {
         None => Ok(AT),
@@ -160,7 +161,8 @@ fn answer_with(other: Option<Foreign>) -> Result<Cursor, Foreign> {
     }
 }
 
-// Whether what a text tells is a cursor for a set and a list, where it tells one.
+// Returns the cursor of a text for a set and a list, or the mismatch. Returns nothing if the text
+// isn't a cursor's.
 fn told_for(text: &[u8], set: Hash16, list: Hash16) -> Option<Result<Cursor, Foreign>> {
     Some(split_cursor(text)?.cursor_for(set, list))
 }

@@ -1,4 +1,4 @@
-// Drives of a search: lists of calls, and what they answer.
+// Scripts of calls to a search, and their results.
 ghost use Rattle.std.specs.Prelude.{All, IfOk};
 ghost use Rattle.parfind.specs.Runs.{HasBudget};
 
@@ -18,10 +18,10 @@ use std::process::Abort;
 
 const FAILED: Answer = Answer::Step(Err(ReadFault::Failed));
 
-// A script has a call on each line, which is the budget of a step, `next` or `reopen`, a space, and
-// what the call answers.
+// A script has a call on each line: the budget of a step, `next` or `reopen`, a space, and the
+// result of the call.
 
-// The call on a line.
+// Returns the call on a line.
 fn call_on(line: &str) -> Call
     ensures { HasBudget result }
 {
@@ -33,7 +33,7 @@ fn call_on(line: &str) -> Call
     }
 }
 
-// The calls of a script.
+// Returns the calls of a script.
 fn calls_of(alloc: Global, script: &str) -> Result<Vec<Call>, AllocError>
     ensures { IfOk result (λ calls. All HasBudget calls.items) }
 {
@@ -44,7 +44,7 @@ fn calls_of(alloc: Global, script: &str) -> Result<Vec<Call>, AllocError>
     Ok(calls)
 }
 
-// The answer on a line.
+// Returns the result on a line.
 fn answer_on(line: &str) -> Answer {
     let answer = part(line, ' ', 1);
     if answer == "reopened" {
@@ -53,7 +53,7 @@ fn answer_on(line: &str) -> Answer {
     Answer::Step(step_named(answer))
 }
 
-// Wants the answers of a script, as far as there are any.
+// Checks these results, which are those of the first calls of a script.
 fn are_told(rt: &impl Abort, answers: &[Answer], script: &str) {
     let mut lines = script.lines();
     for answer in answers {
@@ -61,14 +61,14 @@ fn are_told(rt: &impl Abort, answers: &[Answer], script: &str) {
     }
 }
 
-// Wants all answers of a script, and gives the cursor behind them.
+// Checks the results of all calls of a script, and returns the cursor after them.
 fn behind(rt: &impl Abort, done: &Drive, script: &str) -> Cursor {
     are_told(rt, done.answers.as_slice(), script);
     is(rt, &done.answers.len(), &script.lines().count());
     done.cursor
 }
 
-/// Makes the calls of a script over files; wants its answers, and gives the cursor behind them.
+/// Makes the calls of a script over files and checks their results. Returns the cursor after them.
 pub fn driven<H: Shelf>(
     rt: &(impl Abort + AllocGlobal),
     index: &Index,
@@ -82,19 +82,19 @@ pub fn driven<H: Shelf>(
     behind(rt, &done, script)
 }
 
-// A row has bars between: the bytes of the file whose slices are looked for, the files with commas
-// between, where the search begins, where it stands at last, and how many bytes were handed over, if
-// that is wanted.
+// A row has bars between its fields: the bytes of the file whose slices are searched for; the
+// files, separated by commas; the cursor at which the search begins; the cursor at its end; and the
+// number of bytes read, if that has to be checked.
 
-// Wants as many bytes handed over as a text names, or any number where there is no text.
+// Checks the number of bytes read, if a text gives it.
 fn has_handed(rt: &impl Abort, bytes: u64, wanted: &str) {
     if !wanted.is_empty() {
         is(rt, &bytes, &number_of(wanted));
     }
 }
 
-// Makes the calls of a script in a mode over the files of a row, which are read `piece` bytes at a
-// time, some reads failing; wants what the row says.
+// Makes the calls of a script in a mode over the files of a row, and checks the results and the
+// row. A read gives at most `piece` bytes, and some reads fail.
 fn drives_in(
     rt: &(impl Abort + AllocGlobal),
     row: &str,
@@ -111,7 +111,7 @@ fn drives_in(
     drop(search);
 }
 
-// Makes them in the plain mode.
+// Makes the calls in the plain mode.
 fn drives(rt: &(impl Abort + AllocGlobal), row: &str, piece: usize, failing: &[u64], script: &str) {
     drives_in(rt, row, piece, failing, Mode::Plain, script);
 }
@@ -136,7 +136,7 @@ fn a_search_goes_on_after_two_faults_and_two_reopenings(rt: HostRuntime) {
     drives(&rt, row, 1, &[2, 3], TWO_FAULTS);
 }
 
-// A call that failed isn't made again in the place of the next one.
+// A call that failed isn't repeated in place of the next one.
 #[test]
 fn a_fault_is_the_answer_of_the_call_that_met_it(rt: HostRuntime) {
     let row = "\0\0\0\0\0\0\0\0|\0\0\0\0\0\0|0:0:0|0:0:1";
@@ -211,22 +211,22 @@ fn each_read_that_fails_is_told_once(rt: HostRuntime) {
     }
 }
 
-// The window goes with the finder that is given up, and the next one reads its bytes again.
+// The window is dropped with its finder, and the next finder reads the bytes of the window again.
 #[test]
 fn a_reopening_reads_its_window_again(rt: HostRuntime) {
     let script = "next 0:2:0\nreopen reopened\nnext 0:6:1\n";
     drives(&rt, "abcdefgh|XXabcdefgh|0:0:0|0:6:2|18", 64, &[], script);
 }
 
-// A call for the next sighting gives no finder up, so what was read once isn't read again.
+// The call `next` drops no finder, so nothing is read twice.
 #[test]
 fn no_call_reopens_unasked(rt: HostRuntime) {
     let script = "next 0:2:0\nnext 0:6:1\nreopen reopened\n";
     drives(&rt, "abcdefgh|XXabcdefgh|0:0:0|0:6:2|10", 64, &[], script);
 }
 
-// Under a limit on memory that has room for one window and a half this sees that a reopening gives
-// its window up first.
+// If memory is limited to one and a half windows, this test shows that a reopening drops the window
+// first.
 #[test]
 fn a_reopening_holds_one_window(rt: HostRuntime) {
     let index = must(&rt, index_of_files(rt.alloc(), 4_194_304, &[b"abcd"]));

@@ -1,5 +1,5 @@
-// What tests of searches share: rows of tables that are texts, indexes of the slices of one file, files
-// in memory, and how values are compared.
+// Fixtures and checks that tests of searches share: rows of tables that are texts, indexes of the
+// slices of a file, files in memory, and comparisons of values.
 ghost use Rattle.std.specs.Prelude.{◌≡◌, Ok};
 
 use crate::tests::places::{Spot, cursor, sighting};
@@ -14,45 +14,46 @@ use std::fmt::Debug;
 use std::panic::Expect;
 use std::process::Abort;
 
-/// The value of a result; the test ends where it is a fault.
+/// Returns the value of a result, or ends the test if it is an error.
 pub fn must<T, E: Debug>(rt: &impl Abort, got: Result<T, E>) -> T
     ensures { got ≡ Ok result }
 {
     got.expect(rt, "error")
 }
 
-/// Wants that a value is this one.
+/// Ends the test unless the values are equal.
 pub fn is<T: Debug + PartialEq>(rt: &impl Abort, got: &T, wanted: &T) {
     assert_eq!(rt; got, wanted);
 }
 
-/// Wants that this holds.
+/// Ends the test unless this holds.
 pub fn holds(rt: &impl Abort, is_so: bool) {
     assert!(rt; is_so);
 }
 
-/// What stands at a place of a text, with this character between, or no text.
+/// Returns a part of a text that has this character between its parts, or an empty text.
 pub fn part(text: &str, between: char, place: usize) -> &str {
     text.split(between).nth(place).unwrap_or("")
 }
 
-/// What stands at a place of a row that has bars between, or no text.
+/// Returns a field of a row that has bars between its fields, or an empty text.
 pub fn field(row: &str, place: usize) -> &str {
     part(row, '|', place)
 }
 
-/// Whether a line of a table is a row, and not one that begins with `#`, which tells of those
-/// behind it.
+/// Whether a line of a table is a row. A line that begins with `#` is a remark on the rows after
+/// it.
 pub fn is_row(line: &str) -> bool {
     !line.starts_with('#')
 }
 
-/// The number that a text names, or 0.
+/// Returns the number that a text names, or 0.
 pub fn number_of(text: &str) -> u64 {
     text.parse::<u64>().unwrap_or(0)
 }
 
-/// Wants no more bytes handed over than a text names, or any number where there is no text.
+/// Checks that at most the number of bytes that a text names was read. An empty text allows any
+/// number.
 pub fn is_at_most(rt: &impl Abort, bytes: u64, most: &str) {
     if !most.is_empty() {
         let most = number_of(most);
@@ -60,24 +61,24 @@ pub fn is_at_most(rt: &impl Abort, bytes: u64, most: &str) {
     }
 }
 
-/// The number that a text names, or the greatest.
+/// Returns the number that a text names, or the greatest.
 pub fn small_number_of(text: &str) -> u32 {
     text.parse::<u32>().unwrap_or(u32::MAX)
 }
 
-// The spot that a text names: a file, an offset and a slice, with colons between.
+// Returns the spot that a text names: a file, an offset and a slice, with colons between.
 fn spot_of(text: &str) -> Spot {
     let offset = part(text, ':', 1).parse::<u64>().unwrap_or(u64::MAX);
     let file = small_number_of(part(text, ':', 0));
     (file, offset, small_number_of(part(text, ':', 2)))
 }
 
-/// The cursor at a spot that a text names.
+/// Returns the cursor at a spot that a text names.
 pub fn cursor_of(text: &str) -> Cursor {
     cursor(spot_of(text))
 }
 
-/// What a step gives by the name of it: a word, or the spot of a sighting.
+/// Returns the result of a step by its name: a word, or the spot of a match.
 pub fn step_named(text: &str) -> Result<Step, ReadFault> {
     match text {
         "spent" => Ok(Step::Spent),
@@ -88,12 +89,12 @@ pub fn step_named(text: &str) -> Result<Step, ReadFault> {
     }
 }
 
-// A file of a text that has commas between.
+// Returns a file of a text that has commas between its files.
 fn file_at(files: &str, place: usize) -> &[u8] {
     part(files, ',', place).as_bytes()
 }
 
-// How many files such a text names; `-` is none.
+// Returns the number of files of such a text. For `-` it is 0.
 fn file_count(files: &str) -> usize {
     if files == "-" {
         return 0;
@@ -101,7 +102,7 @@ fn file_count(files: &str) -> usize {
     files.split(',').count()
 }
 
-// The first four files of such a text, those that it doesn't name empty.
+// Returns the first four files of such a text. Those that it doesn't have are empty.
 fn four_files(files: &str) -> [&[u8]; 4] {
     [
         file_at(files, 0),
@@ -111,8 +112,8 @@ fn four_files(files: &str) -> [&[u8]; 4] {
     ]
 }
 
-/// The files of a text that has commas between, of which the first four count, or `-` for none.
-/// They are read `piece` bytes at a time, and the reads of these numbers fail, which count from 1.
+/// Returns a shelf of the first four files of such a text, or of none for `-`. A read gives at most
+/// `piece` bytes, and the reads with these numbers, counted from 1, fail.
 pub fn files_in(
     alloc: Global,
     files: &str,
@@ -124,44 +125,47 @@ pub fn files_in(
     shelf_of(alloc, named, piece, failing)
 }
 
-/// A file of this length: these bytes, and `x` behind them.
+/// Returns a file of this length: these bytes, followed by `x`.
 pub fn long_file(rt: &(impl Abort + AllocGlobal), front: &[u8], length: usize) -> Vec<u8> {
     let mut bytes = must(rt, Vec::from_slice(rt.alloc(), front));
     must(rt, bytes.resize(length, b'x'));
     bytes
 }
 
-// An index of the slices of a set.
+// Returns an index of the slices of a set.
 fn index_in(alloc: Global, set: RecoverySet) -> Result<Index, AllocError> {
     Index::new(alloc, &set)
 }
 
-/// An index of the slices of a file of this length, of four each, with these sums, if they are all.
+/// Returns an index of the slices of a file of this length, of four bytes each, with these
+/// checksums if their number is right.
 pub fn index_with(alloc: Global, length: u64, pairs: &[u8]) -> Result<Index, SetFault> {
     Ok(index_in(alloc, set_with(alloc, length, pairs)?)?)
 }
 
-/// An index of the slices of a file of these bytes, of four each, whose sums are known.
+/// Returns an index of the slices of a file of these bytes, of four bytes each, with known
+/// checksums.
 pub fn index_of(alloc: Global, content: &[u8]) -> Result<Index, SetFault> {
     Ok(index_in(alloc, set_of(alloc, content)?)?)
 }
 
-/// An index of the slices of the files of such a text, of four bytes each, whose sums are known.
+/// Returns an index of the slices of the files of such a text, of four bytes each, with known
+/// checksums.
 pub fn index_of_all(alloc: Global, files: &str) -> Result<Index, SetFault> {
     let all = four_files(files);
     index_of_files(alloc, 4, all.get(..file_count(files)).unwrap_or(&all))
 }
 
-/// The slices that are looked for, and the files that are searched. Who holds one, or an index, ends
-/// it by `drop`: where a scope ends it, each of its parts is proved there once more.
+/// The slices that are searched for, and the scanned files. A function that has one, or an index,
+/// ends it by `drop`. If a scope ends it, the drop of each of its parts is proved there again.
 #[derive(Drop)]
 pub struct Search {
     pub index: Index,
     pub shelf: MemShelf,
 }
 
-/// The search of a row: for the slices of the files that stand first, in the files behind them,
-/// which are read `piece` bytes at a time, the reads of these numbers failing.
+/// Returns the search of a row, for the slices of the files in its first field and over the files
+/// in its second. A read gives at most `piece` bytes, and the reads with these numbers fail.
 pub fn search_of(
     rt: &(impl Abort + AllocGlobal),
     row: &str,

@@ -1,4 +1,4 @@
-// Searches for slices of as many own lengths as may be looked for, and of one more.
+// Searches for slices of 256 unpadded lengths, which are allowed, and of one length more.
 use crate::tests::drives::driven;
 use crate::tests::fixtures::{holds, is, must};
 use crate::tests::places::{START, cursor};
@@ -13,10 +13,10 @@ use std::alloc::{AllocError, Global};
 use std::process::Abort;
 use std::test::Fail;
 
-// The size of a slice.
+// The slice size.
 const SIZE: usize = 260;
 
-// The bytes of a slice, of which the first 256 differ.
+// Returns the bytes of a slice. The first 256 of them all differ.
 fn bytes() -> [u8; SIZE] {
     let mut bytes = [0; SIZE];
     for at in 0..SIZE {
@@ -25,7 +25,8 @@ fn bytes() -> [u8; SIZE] {
     bytes
 }
 
-// The first byte, the first two and so on up to 256, and so many behind all of these.
+// Returns 257 files: the first byte, the first two bytes, and so on up to 256, and then the first
+// `last` bytes.
 fn files_of(alloc: Global, bytes: &[u8], last: usize) -> Result<Vec<&[u8]>, AllocError> {
     let mut files = Vec::new(alloc);
     for length in 1..=256 {
@@ -35,14 +36,14 @@ fn files_of(alloc: Global, bytes: &[u8], last: usize) -> Result<Vec<&[u8]>, Allo
     Ok(files)
 }
 
-// An index of the slices of these 257 files.
+// Returns an index of the slices of these 257 files.
 fn index_with_last(alloc: Global, last: usize) -> Result<Index, SetFault> {
     let bytes = bytes();
     let files = files_of(alloc, &bytes, last)?;
     index_of_files(alloc, SIZE, &files)
 }
 
-// A file that has two bytes, the first 256, and these behind them.
+// Returns a file of two other bytes, the first 256 bytes of a slice, and these bytes.
 fn file_with(alloc: Global, behind: &[u8]) -> Result<MemShelf, AllocError> {
     let bytes = bytes();
     let first = bytes.get(..256).unwrap_or(&[]);
@@ -50,7 +51,8 @@ fn file_with(alloc: Global, behind: &[u8]) -> Result<MemShelf, AllocError> {
     file_of(alloc, &file, 64, &[])
 }
 
-// A search for each of 256 slices by `next`, with this between, and for no further one.
+// Returns a script that finds each of 256 slices with `next`, and then no further one. This text
+// comes between two calls.
 fn all_found(alloc: Global, between: &str) -> Result<String, AllocError> {
     let mut text = String::new(alloc);
     for number in 0..256 {
@@ -60,8 +62,8 @@ fn all_found(alloc: Global, between: &str) -> Result<String, AllocError> {
     Ok(text)
 }
 
-// Whether memory is refused from here on, as `tools/checks/refused_tests.sh` does it: at one of so
-// many allocations that it comes to one of them.
+// Whether memory is refused from now on, as `tools/checks/refused_tests.sh` does it. This allocates
+// often enough to meet the refusal.
 fn is_refused(alloc: Global) -> bool {
     for _ in 0..200 {
         if Vec::<u8>::with_capacity(alloc, 64).is_err() {
@@ -71,7 +73,7 @@ fn is_refused(alloc: Global) -> bool {
     false
 }
 
-// Ends a test that went on where memory was refused.
+// Ends a test that passed although memory was refused, so that the check sees that.
 fn told(refused: bool, what: &'static str) -> Result<(), Fail> {
     if refused {
         return Err(what.into());
@@ -79,7 +81,7 @@ fn told(refused: bool, what: &'static str) -> Result<(), Fail> {
     Ok(())
 }
 
-// Finds all slices at one place, also where memory is refused once the search is open.
+// Finds all slices at one position, also if memory is refused once the search is open.
 fn finds_all(
     rt: &(impl Abort + AllocGlobal),
     index: &Index,
@@ -103,7 +105,7 @@ fn a_search_for_256_lengths_takes_no_memory_once_it_is_open(rt: HostRuntime) -> 
     told(found?, "all found without Memory")
 }
 
-// Finds all slices, also where memory is refused once there is a window.
+// Finds all slices, also if memory is refused once there is a window.
 fn found_all(
     rt: &(impl Abort + AllocGlobal),
     index: &Index,
@@ -131,7 +133,7 @@ fn a_survey_for_256_lengths_takes_no_memory_once_it_has_a_window(
     told(marked?, "all marked without Memory")
 }
 
-// Surveys for no slice, also where memory is refused.
+// Surveys with no slice to find, also if memory is refused.
 fn found_none(
     rt: &(impl Abort + AllocGlobal),
     index: &Index,
@@ -167,7 +169,7 @@ fn a_drive_finds_slices_of_256_lengths(rt: HostRuntime) -> Result<(), Fail> {
     Ok(())
 }
 
-// Opens a search of no files.
+// Opens a search over an empty file. Returns why it can't be opened, if so.
 fn opens(rt: &(impl Abort + AllocGlobal), last: usize, mode: Mode) -> Option<StartFault> {
     let index = must(rt, index_with_last(rt.alloc(), last));
     let shelf = must(rt, file_of(rt.alloc(), b"", 1, &[]));
@@ -176,8 +178,8 @@ fn opens(rt: &(impl Abort + AllocGlobal), last: usize, mode: Mode) -> Option<Sta
     fault
 }
 
-// A slice of another own length than the first 256 is one too many, and no slice of one of these or
-// of all bytes.
+// A slice with another unpadded length than the first 256 makes one length too many. A slice with
+// one of these lengths doesn't, and a slice without padding doesn't either.
 #[test]
 fn a_search_opens_for_256_lengths(rt: HostRuntime) {
     is(&rt, &opens(&rt, 0, Mode::Tails), &None);
@@ -188,8 +190,8 @@ fn a_search_opens_for_256_lengths(rt: HostRuntime) {
     is(&rt, &opens(&rt, 257, Mode::Tails), &too_many);
 }
 
-// By whole windows lengths don't count. The last of the first 256 bytes is a zero, so with zeros
-// behind it that slice is the one of a byte less.
+// In the plain mode the number of lengths doesn't matter. The last of the first 256 bytes is a
+// zero, so with padding that slice is equal to the slice with one byte less.
 #[test]
 fn a_search_by_whole_windows_finds_slices_of_257_lengths(rt: HostRuntime) -> Result<(), Fail> {
     let index = must(&rt, index_with_last(rt.alloc(), 257));
@@ -201,7 +203,7 @@ fn a_search_by_whole_windows_finds_slices_of_257_lengths(rt: HostRuntime) -> Res
     Ok(())
 }
 
-// A survey of slices of too many lengths, which finds none.
+// Surveys for slices with too many lengths, and checks that none is found.
 fn surveys_none(rt: &(impl Abort + AllocGlobal), index: &Index, shelf: &mut MemShelf) {
     assert!(rt; index.slices() == 257);
     let mut marks = [false; 257];
@@ -210,7 +212,7 @@ fn surveys_none(rt: &(impl Abort + AllocGlobal), index: &Index, shelf: &mut MemS
     holds(rt, !marks.contains(&true));
 }
 
-// Each way to search says that there are too many lengths, and reads nothing.
+// Checks that each way to search reports too many lengths, and reads nothing.
 fn says_too_many(rt: &(impl Abort + AllocGlobal), index: &Index, shelf: &mut MemShelf) {
     let (start, too_many) = (cursor(START), Some(StartFault::TooManyTails));
     let fault = opened(rt.alloc(), index, &*shelf, start, Mode::Tails).err();

@@ -1,13 +1,13 @@
-// Places in files.
+// Positions in files.
 use parfind::{Cursor, Sighting};
 
-/// A file, an offset in it and a slice: those of a cursor or of a sighting.
+/// A file, an offset in it and a slice, as of a cursor or of a match.
 pub type Spot = (u32, u64, u32);
 
-/// The first place.
+/// The first position.
 pub const START: Spot = (0, 0, 0);
 
-/// The cursor at a spot.
+/// Returns the cursor at a spot.
 pub fn cursor((file, offset, slice): Spot) -> Cursor {
     Cursor {
         file,
@@ -16,7 +16,7 @@ pub fn cursor((file, offset, slice): Spot) -> Cursor {
     }
 }
 
-/// The sighting at a spot.
+/// Returns the match at a spot.
 pub fn sighting((file, offset, slice): Spot) -> Sighting {
     Sighting {
         file,

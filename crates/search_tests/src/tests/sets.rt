@@ -7,19 +7,19 @@ use parset::{SetFault, build};
 use parwindow::{Index, crc32};
 use std::alloc::{AllocError, Global};
 
-// The ID of the file of a number; files are in the order of their numbers.
+// Returns the ID of the file with a number. The IDs are in the order of the numbers.
 fn id_of(number: u32) -> [u8; 16] {
     let mut id = [b'f'; 16];
     id[12..].copy_from_slice(&number.to_le_bytes());
     id
 }
 
-// A letter for the last digit of a number.
+// Returns a letter for the last digit of a number.
 fn letter_of(number: u32) -> u8 {
     b'a' + (number % 10) as u8
 }
 
-// The name of the file of a number below 1,000.
+// Returns the name of the file with a number below 1,000.
 fn name_of(number: u32) -> [u8; 4] {
     let (tens, hundreds) = (number / 10, number / 100);
     [
@@ -30,7 +30,7 @@ fn name_of(number: u32) -> [u8; 4] {
     ]
 }
 
-// The body of the Main packet of so many files.
+// Returns the body of the Main packet of a set of `count` files.
 fn main_of(alloc: Global, size: usize, count: u32) -> Result<Vec<u8>, AllocError> {
     let size = size as u64;
     let mut body = joined(alloc, &[&size.to_le_bytes(), &count.to_le_bytes()])?;
@@ -40,7 +40,7 @@ fn main_of(alloc: Global, size: usize, count: u32) -> Result<Vec<u8>, AllocError
     Ok(body)
 }
 
-// A packet of a set.
+// Returns a packet of a set.
 fn kept(set: Hash16, kind: Kind, body: Vec<u8>) -> Result<Kept, AllocError> {
     Ok(Kept {
         file: 0,
@@ -52,7 +52,7 @@ fn kept(set: Hash16, kind: Kind, body: Vec<u8>) -> Result<Kept, AllocError> {
     })
 }
 
-// Puts the description of a file behind other packets.
+// Appends the description of a file.
 fn put_description(
     alloc: Global,
     packets: &mut Vec<Kept>,
@@ -69,7 +69,7 @@ fn put_description(
     Ok(())
 }
 
-// The MD5 and the CRC-32 of each slice, one after another.
+// Returns the MD5 and the CRC-32 of each slice, one after another.
 fn sums_of(alloc: Global, size: usize, content: &[u8]) -> Result<Vec<u8>, AllocError> {
     let mut sums = Vec::new(alloc);
     for own in content.chunks(size.max(1)) {
@@ -81,7 +81,7 @@ fn sums_of(alloc: Global, size: usize, content: &[u8]) -> Result<Vec<u8>, AllocE
     Ok(sums)
 }
 
-// Puts the sums of a file behind other packets.
+// Appends the checksums of a file.
 fn put_sums(
     alloc: Global,
     packets: &mut Vec<Kept>,
@@ -96,7 +96,7 @@ fn put_sums(
     Ok(())
 }
 
-// The packets of a set of files, fewer than 1,000.
+// Returns the packets of a set of fewer than 1,000 files.
 fn packets_of(alloc: Global, size: usize, files: &[&[u8]]) -> Result<Vec<Kept>, AllocError> {
     let main = main_of(alloc, size, u32::try_from(files.len()).unwrap_or(u32::MAX))?;
     let set = Hash16(Md5::digest(&main));
@@ -111,7 +111,7 @@ fn packets_of(alloc: Global, size: usize, files: &[&[u8]]) -> Result<Vec<Kept>, 
     Ok(packets)
 }
 
-/// An index of the slices of files, fewer than 1,000, whose sums are known.
+/// Returns an index of the slices of fewer than 1,000 files, with known checksums.
 pub fn index_of_files(alloc: Global, size: usize, files: &[&[u8]]) -> Result<Index, SetFault> {
     let packets = packets_of(alloc, size, files)?;
     let set = build(alloc, &packets, None)?;

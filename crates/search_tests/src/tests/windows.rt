@@ -1,4 +1,4 @@
-// Checksums, and the windows that have them.
+// Checksums, and windows and their checksums.
 ghost use Rattle.std.specs.Prelude.{◌<◌, ◌≤◌};
 
 mod missing;
@@ -28,8 +28,8 @@ fn crc32_gives_the_sums_of_standard_vectors(rt: HostRuntime) {
     }
 }
 
-// Each byte, what it makes fall out of a window of four, and the CRC-32 and the MD5 of the content
-// then, the MD5 as the number that its text is in base 16.
+// A byte; the byte that then falls out of a window of four; and the CRC-32 and the MD5 of the
+// content after that. The MD5 is the number that its text is in base 16.
 static SLIDES: [(u8, Option<u8>, u32, u128); 6] = [
     (b'a', None, 0xE8B7_BE43, 0x0cc175b9c0f1b6a831c399e269772661),
     (b'b', None, 0x9E83_486D, 0x187ef4436122d1cc2f40dc2b92f0eba0),
@@ -49,7 +49,7 @@ static SLIDES: [(u8, Option<u8>, u32, u128); 6] = [
     ),
 ];
 
-// Takes each byte, and has what stands there.
+// Pushes each byte, and checks what the row says.
 fn slides(rt: &impl Abort, window: &mut Window) {
     for (byte, fallen, crc, digest) in &SLIDES {
         is(rt, &window.push(*byte), fallen);
@@ -64,7 +64,8 @@ fn a_window_of_four_slides_over_six_bytes(rt: HostRuntime) {
     slides(&rt, &mut window);
 }
 
-// The CRC-32 of a window of this size is that of its content after each of these bytes.
+// Checks that the CRC-32 of a window of this size is that of its content, after each of these
+// bytes.
 fn follows(rt: &impl Abort, window: &mut Window, size: usize, bytes: &[u8]) {
     for (last, &byte) in bytes.iter().enumerate() {
         let _ = window.push(byte);
@@ -73,7 +74,7 @@ fn follows(rt: &impl Abort, window: &mut Window, size: usize, bytes: &[u8]) {
     }
 }
 
-// A new window of this size does so.
+// Checks that for a new window of this size.
 fn has_crcs(rt: &(impl Abort + AllocGlobal), size: usize)
     requires some { 0 < size }
     requires within { size ≤ 268435456 }
@@ -97,13 +98,13 @@ fn the_crc_follows_windows_of_any_size(rt: HostRuntime) {
     has_crcs(&rt, 64);
 }
 
-// The window holds so many bytes, and has this CRC-32.
+// Checks the number of bytes in a window and its CRC-32.
 fn has(rt: &impl Abort, window: &Window, len: usize, crc: u32) {
     is(rt, &window.len(), &len);
     is(rt, &window.crc(), &crc);
 }
 
-// A window of one byte that holds none is full with one, and empty once it is cleared.
+// Checks that an empty window of one byte is full after one byte, and empty again after `clear`.
 fn is_cleared(rt: &impl Abort, window: &mut Window) {
     is(rt, &window.is_full(), &false);
     let _ = window.push(b'x');

@@ -2,12 +2,13 @@ use super::*;
 use md5::{Digest, Md5};
 use parfixtures::{WORKED, inverted};
 
-// Bytes, and a file of them, have so many packets, which are those of the model.
+// Checks that bytes, and a file of them, have the packets of the model, and that there are `count`
+// of them.
 fn has_packets(rt: &(impl Abort + AllocGlobal), row: &impl Debug, bytes: &[u8], count: usize) {
     is(rt, row, &agrees(rt, row, bytes, &[50]), &count);
 }
 
-// How many packets a beginning of the worked file of this size has: those that end in it.
+// Returns the number of packets that end in the first `size` bytes of the worked file.
 fn ends_in(size: usize) -> usize {
     match size {
         0..92 => 0,
@@ -25,7 +26,8 @@ fn packets_agree_with_the_model_at_each_cut(rt: HostRuntime) {
     }
 }
 
-// Where this byte of the worked file is inverted, the packet that has it is gone.
+// Checks that the worked file has three packets if this byte is inverted: the packet with the byte
+// is gone.
 fn has_others(rt: &(impl Abort + AllocGlobal), at: usize) {
     let bytes = must(rt, inverted(rt.alloc(), at));
     has_packets(rt, &at, &bytes, 3);
@@ -38,8 +40,9 @@ fn packets_agree_with_the_model_for_each_inverted_byte(rt: HostRuntime) {
     }
 }
 
-// Length fields, of how many bytes behind the hash field that is the MD5, and how many packets
-// there are: the one at 128 alone, or one with this header at 64 too.
+// A length field; the number of bytes after the hash field whose MD5 the hash field has; and the
+// number of packets. There is always a packet at 128. If there are two, the one at 64 has this
+// header.
 static LENGTHS: [(u64, usize, usize); 24] = [
     (0, 0, 1),
     (4, 0, 1),
@@ -67,12 +70,12 @@ static LENGTHS: [(u64, usize, usize); 24] = [
     (0xFFFF_FFFF_FFFF_FFFF, 31, 1),
 ];
 
-// What stands behind the hash field of a Creator packet, and that packet.
+// The bytes of a Creator packet after its hash field, followed by that packet.
 const REST: [u8; 96] =
     *b"\0\0\0\0\0\0\0\0\0\0\0\0\0\0\0\0PAR 2.0\0Creator\0PAR2\0PKT\x40\0\0\0\0\0\0\0\x90\xb7\x2c\x62\xf3\xda\xe9\x4b\x3d\xe0\x28\xf3\x1e\x19\x95\x02\0\0\0\0\0\0\0\0\0\0\0\0\0\0\0\0PAR 2.0\0Creator\0";
 
-// Behind 64 bytes stand a header with this length field and the hash of so many bytes behind that
-// field, and then a Creator packet; there are so many packets.
+// Checks the number of packets of these bytes: 64 other bytes, then a header with the length field
+// of the row and the MD5 of the `hashed` bytes after its hash field, and then a Creator packet.
 fn has_with_length(rt: &(impl Abort + AllocGlobal), row: &(u64, usize, usize)) {
     let (length, hashed, count) = *row;
     let hash = Md5::digest(&REST[..hashed.min(96)]);
@@ -96,7 +99,7 @@ fn headers_of_each_length_agree_with_the_model(rt: HostRuntime) {
     }
 }
 
-// A Creator packet stands behind the first so many bytes of another.
+// Checks that a Creator packet is found after the first `size` bytes of another one.
 fn behind_beginning(rt: &(impl Abort + AllocGlobal), size: usize) {
     let bytes = join(rt, &[&CREATOR[..size.min(64)], &CREATOR]);
     agrees_at(rt, &bytes, &[50], &[(Kind::Creator, size)]);
@@ -109,8 +112,8 @@ fn a_packet_behind_each_beginning_of_one_is_found(rt: HostRuntime) {
     }
 }
 
-// A mebibyte of magics: each is refused by its header, and what lies behind it isn't hashed, which
-// would be 32 GiB and more.
+// A mebibyte of magic sequences. The header at each of them is refused, so the bytes after it
+// aren't hashed. Otherwise 32 GiB or more would be hashed.
 #[test]
 fn magics_alone_are_not_hashed(rt: HostRuntime) {
     let mut bytes = Vec::new(rt.alloc());

@@ -1,9 +1,9 @@
-// The packets of bytes, and what is kept of them, as their definitions have them.
+// The packets of bytes and what is kept of them, by their definitions.
 use parfield::{Hash16, Kind, Packet};
 use parfixtures::{CREATOR_TYPE, DESC_TYPE, IFSC_TYPE, MAIN_TYPE, SLICE_TYPE, Standing, field};
 
-/// What is kept of a packet: its file, its offset, length, set ID and kind; its body, where that is
-/// held whole; and the first four bytes and the length of its body.
+/// The part of a packet that is kept: its file; its offset, length, set ID and kind; its body, if
+/// that is kept whole; and the first four bytes and the length of its body.
 pub type Held<'a> = (
     u32,
     (u64, u64, Hash16, Kind),
@@ -11,7 +11,7 @@ pub type Held<'a> = (
     ([u8; 4], u64),
 );
 
-// The five kinds, by the sixteen bytes of the type field.
+// The five kinds, with the 16 bytes of their type fields.
 static KINDS: [([u8; 16], Kind); 5] = [
     (MAIN_TYPE, Kind::Main),
     (DESC_TYPE, Kind::FileDesc),
@@ -20,7 +20,7 @@ static KINDS: [([u8; 16], Kind); 5] = [
     (CREATOR_TYPE, Kind::Creator),
 ];
 
-// The kind that these bytes of a type field name.
+// Returns the kind of a type field.
 fn kind_of(field: [u8; 16]) -> Kind {
     for (bytes, kind) in &KINDS {
         if *bytes == field {
@@ -30,7 +30,7 @@ fn kind_of(field: [u8; 16]) -> Kind {
     Kind::Other(field)
 }
 
-// A packet as it is shown.
+// Returns a packet as `salvage` returns it.
 fn packet_of<'a>(standing: &Standing<'a>) -> Packet<'a> {
     Packet {
         at: standing.at,
@@ -41,7 +41,7 @@ fn packet_of<'a>(standing: &Standing<'a>) -> Packet<'a> {
     }
 }
 
-/// Whether packets are these.
+/// Whether packets are those of the model.
 pub fn are_packets(packets: &[Packet<'_>], wanted: &[Standing<'_>]) -> bool {
     if packets.len() != wanted.len() {
         return false;
@@ -54,8 +54,8 @@ pub fn are_packets(packets: &[Packet<'_>], wanted: &[Standing<'_>]) -> bool {
     true
 }
 
-/// What is kept of a packet of file 0, whose body is not longer than those that are held. As the
-/// length is a multiple of four, a body has four bytes or none.
+/// Returns what is kept of a packet of file 0 whose body is short enough to be kept whole. A
+/// packet's length is a multiple of four, so a body that isn't empty has at least four bytes.
 pub fn held_of<'a>(packet: &Standing<'a>) -> Held<'a> {
     let body = packet.body;
     let kind = kind_of(packet.kind);

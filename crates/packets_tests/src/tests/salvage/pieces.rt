@@ -3,23 +3,23 @@ use parfixtures::{SLICE_TYPE, WORKED, packet_of};
 
 const UNKNOWN: [u8; 16] = *b"PAR 2.0\0Unknown\0";
 
-/// A packet of set ID zeros.
+/// Returns a packet with a set ID of zeros.
 pub fn packet(rt: &(impl Abort + AllocGlobal), kind: [u8; 16], body: &[u8]) -> Vec<u8> {
     must(rt, packet_of(rt.alloc(), [0; 16], kind, body))
 }
 
-// Bytes, and files of them that are read by pieces, have these packets.
+// Checks that bytes, and files of them that are read in pieces, have these packets.
 fn found_at(rt: &(impl Abort + AllocGlobal), bytes: &[u8], wanted: &[(Kind, usize)]) {
     agrees_at(rt, bytes, &[1, 7, 65_536], wanted);
 }
 
-// How many bytes stand before a packet: its magic, its header or its body goes over the end of the
-// first piece, or all of it is behind that.
+// Numbers of bytes before a packet. With them the magic sequence, the header or the body of the
+// packet crosses the end of the first chunk, or the packet begins after that end.
 static BEFORE: [usize; 8] = [
     65_465, 65_472, 65_500, 65_528, 65_529, 65_530, 65_533, 65_536,
 ];
 
-// They are there where so many times this byte stands before these bytes.
+// Checks that the packets are found if `before` copies of a byte come before the bytes.
 fn found_behind(
     rt: &(impl Abort + AllocGlobal),
     before: (u8, usize),
@@ -39,8 +39,8 @@ fn packets_across_pieces_are_found(rt: HostRuntime) {
     found_behind(&rt, (0, 70_000), &AROUND, &around);
 }
 
-// A packet of this type whose body is 100,000 bytes, a packet, and 100,000 other bytes; it is
-// found, the one in its body, and one behind.
+// Checks that three packets are found: one of this type, whose body is 100,000 bytes, a packet and
+// 100,000 other bytes; the packet in that body; and one after it.
 fn found_around(rt: &(impl Abort + AllocGlobal), field: [u8; 16], kind: Kind) {
     let mut body = must(rt, behind(rt.alloc(), 5, 100_000, &CREATOR));
     must(rt, body.resize(200_064, 6));
@@ -64,7 +64,7 @@ fn bodies_longer_than_a_piece_are_hashed_whole(rt: HostRuntime) {
     found_around(&rt, UNKNOWN, Kind::Other(UNKNOWN));
 }
 
-// Forty packets are found, of which each is the body of the one before it.
+// Checks that forty packets are found, of which each is the body of the one before.
 fn forty_are_found(rt: &(impl Abort + AllocGlobal)) {
     let mut bytes = Vec::new(rt.alloc());
     let mut wanted = Vec::new(rt.alloc());
@@ -80,7 +80,8 @@ fn packets_within_packets_are_found(rt: HostRuntime) {
     forty_are_found(&rt);
 }
 
-// A packet whose body is the header of another, which has its own body behind it.
+// Returns a packet whose body is the header of another packet. The body of the other one comes
+// after both.
 fn overlapping(rt: &(impl Abort + AllocGlobal)) -> Vec<u8> {
     let second = packet(rt, CREATOR_TYPE, b"abcd");
     let mut bytes = packet(rt, CREATOR_TYPE, second.get(..64).unwrap_or(&[]));
@@ -88,7 +89,7 @@ fn overlapping(rt: &(impl Abort + AllocGlobal)) -> Vec<u8> {
     bytes
 }
 
-// The two packets, and two more that nothing overlaps.
+// These two packets, and two more that overlap none.
 static OVERLAPPING: [(Kind, usize); 4] = [
     (Kind::Creator, 0),
     (Kind::Creator, 64),
@@ -96,7 +97,7 @@ static OVERLAPPING: [(Kind, usize); 4] = [
     (Kind::Creator, 200),
 ];
 
-// The two are found, and then all four.
+// Checks that the first two are found, and then that all four are.
 fn all_are_found(rt: &(impl Abort + AllocGlobal)) {
     let mut bytes = overlapping(rt);
     found_at(rt, &bytes, &OVERLAPPING[..2]);
@@ -110,11 +111,11 @@ fn overlapping_packets_are_found(rt: HostRuntime) {
     all_are_found(&rt);
 }
 
-// A Creator packet whose length is no multiple of four,
+// A Creator packet whose length isn't a multiple of four.
 const ODD: [u8; 66] =
     *b"PAR2\0PKT\x42\0\0\0\0\0\0\0\x90\xb7\x2c\x62\xf3\xda\xe9\x4b\x3d\xe0\x28\xf3\x1e\x19\x95\x02\0\0\0\0\0\0\0\0\0\0\0\0\0\0\0\0PAR 2.0\0Creator\0\0\0";
 
-// and one with another type, so that its hash is wrong.
+// A packet with another type than a Creator packet, but its hash, which is wrong here.
 const CHANGED: [u8; 64] =
     *b"PAR2\0PKT\x40\0\0\0\0\0\0\0\x90\xb7\x2c\x62\xf3\xda\xe9\x4b\x3d\xe0\x28\xf3\x1e\x19\x95\x02\0\0\0\0\0\0\0\0\0\0\0\0\0\0\0\0PAR 2.0\0Creator\x01";
 
@@ -151,8 +152,8 @@ fn is_nothing(answer: &Result<Vec<Kept>, SalvageFault>) -> bool {
     }
 }
 
-// A file of these bytes has no packet. No memory is taken, so the answer is the same where an
-// allocation of the call would be refused.
+// Checks that a file of these bytes has no packet. That takes no memory, so the result is the same
+// if an allocation of the call would be refused.
 fn nothing_in(rt: &(impl Abort + AllocGlobal), bytes: &[u8]) -> Result<(), AllocError> {
     let mut shelf = file_of(rt.alloc(), bytes, 65_536, &[])?;
     let answer = salvaged(rt, &mut shelf);
@@ -160,7 +161,7 @@ fn nothing_in(rt: &(impl Abort + AllocGlobal), bytes: &[u8]) -> Result<(), Alloc
     Ok(())
 }
 
-// Files in which no packet begins that is whole.
+// Files without a whole packet.
 static NOTHING: [&[u8]; 3] = [&ODD, &CHANGED, &[]];
 
 #[test]
@@ -171,13 +172,13 @@ fn no_packet_is_found_where_none_begins(rt: HostRuntime) -> Result<(), AllocErro
     Ok(())
 }
 
-// The next of a row of numbers that look like chance.
+// Returns the next of a series of numbers that look random.
 fn next_number(seed: u64) -> u64 {
     let mixed = seed ^ (seed >> 29);
     mixed.wrapping_mul(0xBF58_476D_1CE4_E5B9) ^ (mixed >> 32)
 }
 
-// A packet that such a number makes, with a body of up to 196 equal bytes.
+// Returns a packet that depends on such a number, with a body of up to 196 equal bytes.
 fn any_packet(rt: &(impl Abort + AllocGlobal), number: u64) -> Vec<u8> {
     let size = ((number >> 8) % 50) as usize * 4;
     let body = must(rt, vec![in rt.alloc(); ((number >> 16) % 256) as u8; size]);
@@ -189,7 +190,7 @@ fn any_packet(rt: &(impl Abort + AllocGlobal), number: u64) -> Vec<u8> {
     packet(rt, kind, &body)
 }
 
-// Of a packet: its magic, another part, its body, or all of it.
+// Returns a part of a packet: its magic sequence, another part, its body, or the whole packet.
 fn part_of(packet: &[u8], number: u64) -> &[u8] {
     match number {
         0 => packet.get(..20),
@@ -201,8 +202,8 @@ fn part_of(packet: &[u8], number: u64) -> &[u8] {
     .unwrap_or(packet)
 }
 
-// Puts what such a number makes behind bytes: a packet or a part of one, in one form with another
-// packet around it, and in one with a further byte.
+// Appends bytes that depend on such a number: a packet or a part of one, in one case inside another
+// packet, and in one case with one byte more.
 fn add(rt: &(impl Abort + AllocGlobal), bytes: &mut Vec<u8>, number: u64) {
     let form = (number >> 32) % 8;
     let made = any_packet(rt, number);
@@ -213,7 +214,7 @@ fn add(rt: &(impl Abort + AllocGlobal), bytes: &mut Vec<u8>, number: u64) {
     extend(rt, bytes, if form == 1 { &[1] } else { &[] });
 }
 
-// Packets, parts of packets and other bytes in a row, up to about this length.
+// Returns packets, parts of packets and other bytes, one after another, up to about this length.
 fn mixed_bytes(rt: &(impl Abort + AllocGlobal), seed: u64, length: usize) -> Vec<u8> {
     let mut bytes = Vec::new(rt.alloc());
     let mut number = seed;
@@ -226,7 +227,7 @@ fn mixed_bytes(rt: &(impl Abort + AllocGlobal), seed: u64, length: usize) -> Vec
     bytes
 }
 
-// The file of this number and about this length has more than five packets.
+// Checks that the file of this number and about this length has more than five packets.
 fn has_more_than_five(rt: &(impl Abort + AllocGlobal), seed: u64, length: usize) {
     let bytes = mixed_bytes(rt, seed.wrapping_mul(7_919), length);
     let count = agrees(rt, &seed, &bytes, &[1, 7, 65_536]);

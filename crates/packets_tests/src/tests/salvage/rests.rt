@@ -1,35 +1,38 @@
-// How much of a packet that goes over the end of a piece is read for its hash.
+// How many bytes of a packet are read for its hash, if it crosses the end of a chunk.
 use super::*;
 use crate::tests::salvage::pieces::packet;
 use parfixtures::SLICE_TYPE;
 
-// How many bytes stand before a Creator packet of 264 bytes that ends a file, and how many are
-// handed over. The first piece of the search ends at 65,536. It is the file, once, but for a last
-// piece of fewer than 64 bytes; the 64 bytes of the header where it goes over that end; of what is
-// hashed, the part behind that end; and the 200 bytes of the body where it goes over that end.
+// The number of bytes before a Creator packet of 264 bytes that ends a file, and the number of
+// bytes read. The first chunk of the search ends at 65,536. The sum has up to four terms: the file,
+// once, without a last chunk of fewer than 64 bytes; the 64 bytes of the header, if it crosses that
+// end; the part of the hashed bytes that comes after that end; and the 200 bytes of the body, if it
+// crosses that end.
 static OVER: [(usize, u64); 10] = [
-    // The packet ends with the piece.
+    // The packet ends with the chunk.
     (65_272, 65_536),
-    // Its last byte stands behind it: 65,536 + 1 + 200.
+    // Its last byte comes after the chunk: 65,536 + 1 + 200.
     (65_273, 65_737),
-    // The last 56; a second piece would have 63 bytes, and isn't looked at: 65,536 + 56 + 200.
+    // Its last 56 bytes do. A second chunk would have 63 bytes and isn't searched: 65,536 + 56 +
+    // 200.
     (65_328, 65_792),
-    // The last 57, and a second piece of 64 bytes: 65,593 + 57 + 200.
+    // Its last 57 bytes do, and a second chunk of 64 bytes is searched: 65,593 + 57 + 200.
     (65_329, 65_850),
-    // All of the body: 65,736 + 200 + 200.
+    // Its whole body does: 65,736 + 200 + 200.
     (65_472, 66_136),
-    // The header's last byte too: 65,737 + 64 + 201 + 200.
+    // The last byte of the header does too: 65,737 + 64 + 201 + 200.
     (65_473, 66_202),
-    // All that is hashed, and then a byte before it too: 65,768 + 64 + 232 + 200, and one more.
+    // All hashed bytes do, and in the next row one byte before them too: 65,768 + 64 + 232 + 200,
+    // and one more.
     (65_504, 66_264),
     (65_505, 66_265),
-    // All but the magic: 65,792 + 64 + 232 + 200.
+    // All bytes after the magic sequence do: 65,792 + 64 + 232 + 200.
     (65_528, 66_288),
-    // The packet stands in the second piece.
+    // The whole packet is in the second chunk.
     (65_529, 65_793),
 ];
 
-// Whether this one packet is kept, by kind and offset.
+// Whether exactly this packet is kept, by kind and offset.
 fn is_one(kept: &[Kept], wanted: (Kind, u64)) -> bool {
     match kept {
         [one] => (one.kind, one.at) == wanted,
@@ -37,8 +40,8 @@ fn is_one(kept: &[Kept], wanted: (Kind, u64)) -> bool {
     }
 }
 
-// A file of so many bytes `x` and this packet, read so many bytes at a time, has this packet alone,
-// and so many bytes are handed over.
+// Checks that a file has only this packet, after `before` bytes `x`, if a read gives at most
+// `piece` bytes, and that the search reads the wanted number of bytes.
 fn hands_over(
     rt: &(impl Abort + AllocGlobal),
     piece: usize,
@@ -63,8 +66,8 @@ fn of_a_packet_over_the_end_of_a_piece_the_rest_is_read(rt: HostRuntime) {
     }
 }
 
-// A RecvSlic packet of 100,064 bytes, of which 34,528 stand behind the first piece and are handed
-// over once more; the first four bytes of its body stand in it.
+// A RecvSlic packet of 100,064 bytes. 34,528 of them come after the first chunk and are read once
+// more, for the hash. The first four bytes of its body are in the chunk, so they aren't read again.
 #[test]
 fn of_a_packet_longer_than_a_piece_the_rest_is_read(rt: HostRuntime) {
     let body = must(&rt, vec![in rt.alloc(); 7; 100_000]);

@@ -6,14 +6,14 @@ use super::*;
 use parfixtures::{WORKED, all_standing, inverted, packet_of};
 use parsalvage::{kept_of, salvage};
 
-// Whether a file is that of the model.
+// Whether a file of a set is this file of the model.
 fn is_file(found: &SetFile, wanted: &File<'_>) -> bool {
     let fields = (found.id, found.whole, found.length, found.known);
     let sums = wanted.sums.is_some();
     fields == (wanted.id, wanted.whole, wanted.length, sums) && found.name.as_slice() == wanted.name
 }
 
-// Whether the files are those of the model.
+// Whether the files of a set are those of the model.
 fn are_files(found: &[SetFile], wanted: &[File<'_>]) -> bool {
     if found.len() != wanted.len() {
         return false;
@@ -26,7 +26,7 @@ fn are_files(found: &[SetFile], wanted: &[File<'_>]) -> bool {
     true
 }
 
-// Whether a set has the numbers and the text that the model has.
+// Whether a set has the numbers and the text of the model.
 fn has_numbers(built: &RecoverySet, own: &Own<'_>) -> bool {
     let files = built.files().len() + built.others() as usize;
     built.id() == Hash16(own.main.set)
@@ -36,7 +36,7 @@ fn has_numbers(built: &RecoverySet, own: &Own<'_>) -> bool {
         && built.creator() == first_text(own)
 }
 
-// A set has these files and the slices that the model has of them.
+// Checks that a set has these files and the slices that the model makes of them.
 fn has_files(
     rt: &(impl Abort + AllocGlobal),
     built: &RecoverySet,
@@ -49,14 +49,14 @@ fn has_files(
     holds(rt, &("slices", of), built.slices() == slices.as_slice());
 }
 
-// A set has the rest that the model has.
+// Checks everything else of a set: its numbers, its text and the rejected packets.
 fn has_rest(rt: &(impl Abort + AllocGlobal), built: &RecoverySet, own: &Own<'_>, of: usize) {
     holds(rt, &("numbers", of), has_numbers(built, own));
     let aside = all_aside(rt, own);
     holds(rt, &("aside", of), built.aside() == aside.as_slice());
 }
 
-// Why there is no set, if so.
+// Returns the cause why there is no set, if there is none.
 fn fault_of(built: &Result<RecoverySet, SetFault>) -> Option<SetFault> {
     match built {
         Ok(_) => None,
@@ -64,7 +64,7 @@ fn fault_of(built: &Result<RecoverySet, SetFault>) -> Option<SetFault> {
     }
 }
 
-// What was built is what the model has of a set.
+// Checks that the result of `build` is the one that the model has for a set.
 fn is_answer(
     rt: &(impl Abort + AllocGlobal),
     built: &Result<RecoverySet, SetFault>,
@@ -79,7 +79,7 @@ fn is_answer(
     }
 }
 
-// What was built of bytes is what the model has.
+// Checks that the result of `build` is the one that the model has for these bytes.
 fn is_answer_of(
     rt: &(impl Abort + AllocGlobal),
     built: &Result<RecoverySet, SetFault>,
@@ -94,7 +94,7 @@ fn is_answer_of(
     }
 }
 
-/// What is built of bytes.
+/// Builds the set of the packets of bytes.
 pub fn built_of(
     rt: &(impl Abort + AllocGlobal),
     bytes: &[u8],
@@ -105,7 +105,8 @@ pub fn built_of(
     build(rt.alloc(), &kept, choice)
 }
 
-/// The packets of bytes give what the model has: the set, or why there is none, which is returned.
+/// Checks that the packets of bytes give the result that the model has. Returns the cause if there
+/// is no set.
 pub fn agrees(
     rt: &(impl Abort + AllocGlobal),
     bytes: &[u8],
@@ -117,7 +118,8 @@ pub fn agrees(
     fault_of(&built)
 }
 
-// The place of an answer among the counts: no Main packet, no description, many slices, a set.
+// Returns the place of a result among the counts of a row: no Main packet, no description, too many
+// slices, a set.
 fn place_of(fault: Option<SetFault>) -> usize {
     if fault.is_none() {
         3
@@ -130,23 +132,23 @@ fn place_of(fault: Option<SetFault>) -> usize {
     }
 }
 
-// Where the packets of the worked file begin and end.
+// The offsets at which the packets of the worked file begin and end.
 static PLACES: [(usize, usize); 4] = [(0, 92), (92, 220), (220, 340), (340, 416)];
 
-// What becomes of the worked file at a place.
+// A change to the worked file at an offset.
 #[derive(Clone, Copy)]
 enum Change {
-    // It is cut.
+    // The file ends there.
     Cut,
-    // A byte is inverted,
+    // The byte is inverted.
     Inverted,
-    // and each packet gets the hash of its bytes,
+    // The byte is inverted, and each packet gets the hash of its bytes.
     Hashes,
-    // and before that the set ID that the Main body has.
+    // The same, but first each packet gets the set ID of the Main body.
     SetAndHashes,
 }
 
-// Puts a packet behind others, with its hash made anew, and with this set ID, or else with its own.
+// Appends a packet with a new hash, and with this set ID if there is one.
 fn put_anew(
     rt: &(impl Abort + AllocGlobal),
     bytes: &mut Vec<u8>,
@@ -158,7 +160,7 @@ fn put_anew(
     put(rt, bytes, set.0, id_at(packet, 48).0, body);
 }
 
-// The packets of bytes that are as long as those of the worked file, made anew so.
+// Returns the packets of bytes, each with a new hash. They have the lengths of the worked file's.
 fn with_hashes(rt: &(impl Abort + AllocGlobal), bytes: &[u8], set: Option<Hash16>) -> Vec<u8> {
     let mut made = Vec::new(rt.alloc());
     for (from, end) in &PLACES {
@@ -167,15 +169,15 @@ fn with_hashes(rt: &(impl Abort + AllocGlobal), bytes: &[u8], set: Option<Hash16
     made
 }
 
-// The worked file with a byte inverted and its packets made anew, where that is wanted with the set
-// ID that the Main body has.
+// Returns the worked file with a byte inverted and with new hashes. With `with_set` each packet
+// also gets the set ID of the Main body.
 fn anew(rt: &(impl Abort + AllocGlobal), at: usize, with_set: bool) -> Vec<u8> {
     let bytes = must(rt, inverted(rt.alloc(), at));
     let set = digest_of(bytes.get(64..92).unwrap_or(&[]));
     with_hashes(rt, &bytes, with_set.then_some(set))
 }
 
-// The worked file with this change.
+// Returns the worked file with this change.
 fn changed(rt: &(impl Abort + AllocGlobal), at: usize, change: Change) -> Vec<u8> {
     match change {
         Change::Cut => must(rt, Vec::from_slice(rt.alloc(), &WORKED[..at.min(416)])),
@@ -185,35 +187,39 @@ fn changed(rt: &(impl Abort + AllocGlobal), at: usize, change: Change) -> Vec<u8
     }
 }
 
-// Places of the worked file and what is changed there, and how many files then have which answer.
+// A change is made at each offset from the first number up to the second, in a file of its own. The
+// last numbers say how many of these files give each result.
 static CHANGED: [(usize, usize, Change, [usize; 4]); 10] = [
     // The Main packet ends at 92 and the description at 220.
     (0, 417, Change::Cut, [92, 128, 0, 197]),
-    // A packet with a byte that is inverted is none.
+    // A packet with an inverted byte isn't a packet.
     (0, 92, Change::Inverted, [92, 0, 0, 0]),
     (92, 220, Change::Inverted, [0, 128, 0, 0]),
     (220, 416, Change::Inverted, [0, 0, 0, 196]),
-    // A Main packet of another set, kind or body has another ID than its set.
+    // If the set ID, the type or the body of a Main packet changes, its set ID isn't the MD5 of its
+    // body.
     (32, 92, Change::Hashes, [60, 0, 0, 0]),
-    // In a description set, kind, file ID, the greatest byte of the length and the last two of the
-    // name count; the five bytes before the greatest make the file too long.
+    // If a byte of the set ID, the type or the file ID of a description changes, or the highest
+    // byte of the length, or one of the last two bytes of the name, the file has no description. If
+    // one of the five bytes before the highest changes, the file has too many slices.
     (124, 220, Change::Hashes, [0, 51, 5, 40]),
     (252, 340, Change::Hashes, [0, 0, 0, 88]),
     (372, 416, Change::Hashes, [0, 0, 0, 44]),
-    // Slice size and count of a Main packet, of which two bytes may be others; and the file ID.
+    // The slice size and the count of a Main packet, of which only two bytes can change in a usable
+    // set, and then the file ID.
     (64, 76, Change::SetAndHashes, [10, 0, 0, 2]),
     (76, 92, Change::SetAndHashes, [0, 16, 0, 0]),
 ];
 
-// The worked file with this change gives what the model has, by its first Main packet and as the
-// set of the worked file; the place of the answer by the first.
+// Checks that the worked file with this change gives the results that the model has: with its first
+// Main packet, and for the ID of the worked set. Returns the place of the first result.
 fn answer_to(rt: &(impl Abort + AllocGlobal), at: usize, change: Change) -> usize {
     let bytes = changed(rt, at, change);
     agrees(rt, &bytes, Some(SET), at);
     place_of(agrees(rt, &bytes, None, at))
 }
 
-// How many of the files with this change have which answer.
+// Returns the number of files with each result, for this change.
 fn counts_of(
     rt: &(impl Abort + AllocGlobal),
     from: usize,
@@ -237,12 +243,12 @@ fn sets_agree_with_the_model_at_each_cut_and_inverted_byte(rt: HostRuntime) {
     }
 }
 
-// The letter of a file, by its place.
+// Returns the letter of a file, by its number.
 fn letter(place: usize) -> u8 {
     b'a' + (place % 8) as u8
 }
 
-// Puts the packet of a description of a file of this length, which has its ID as name, behind bytes.
+// Appends the description of a file of this length, whose name is its ID.
 fn put_desc(
     rt: &(impl Abort + AllocGlobal),
     bytes: &mut Vec<u8>,
@@ -254,7 +260,7 @@ fn put_desc(
     put(rt, bytes, set.0, DESC_TYPE, &body);
 }
 
-// The Main body of a set of so many files, in slices of 4 bytes.
+// Returns the Main body of a set of `count` files, in slices of 4 bytes.
 fn main_of(rt: &(impl Abort + AllocGlobal), count: usize) -> Vec<u8> {
     let number = (count as u64).to_le_bytes();
     let mut main = join(rt, &[b"\x04\0\0\0\0\0\0\0", &number[..4]]);
@@ -264,7 +270,7 @@ fn main_of(rt: &(impl Abort + AllocGlobal), count: usize) -> Vec<u8> {
     main
 }
 
-// The packets of a set of files of these lengths.
+// Returns the packets of a set of files of these lengths.
 fn set_of_lengths(rt: &(impl Abort + AllocGlobal), lengths: &[u64]) -> Vec<u8> {
     let main = main_of(rt, lengths.len());
     let set = digest_of(&main);
@@ -277,8 +283,8 @@ fn set_of_lengths(rt: &(impl Abort + AllocGlobal), lengths: &[u64]) -> Vec<u8> {
 
 const MANY: Option<SetFault> = Some(SetFault::TooManySlices);
 
-// Lengths of files, and whether they have too many slices: more than 32,768, also where their
-// number or the sum of them is a multiple of 2^32 or of 2^64.
+// Lengths of files, and the cause if they have more than 32,768 slices. In some rows the number of
+// slices of a file, or the sum of these numbers, is a multiple of 2^32 or 2^64.
 static LENGTHS: [(&[u64], Option<SetFault>); 14] = [
     (&[131_068], None),
     (&[131_069], None),
@@ -296,7 +302,7 @@ static LENGTHS: [(&[u64], Option<SetFault>); 14] = [
     (&[9_223_372_036_854_775_807; 8], MANY),
 ];
 
-// Files of the lengths of a row have its fault or none, where the model has that too.
+// Checks that files of these lengths give the cause of the row, if any, and that the model agrees.
 fn has_fault(rt: &(impl Abort + AllocGlobal), row: &(&[u64], Option<SetFault>), of: usize) {
     let bytes = set_of_lengths(rt, row.0);
     is(rt, &of, &agrees(rt, &bytes, None, of), &row.1);

@@ -1,5 +1,5 @@
-// Recovery sets as their definition has them: filters and the first such, over one list of
-// packets. No body here is longer than those that are held.
+// Recovery sets, by their definition: filters over one list of packets, and the first packet that
+// meets a condition. Each body here is short enough to be kept whole.
 use super::must;
 use super::packets::{filled_text, id_at, ids_in, long_at, recovery_ids_in, sums_in, word_at};
 use md5::{Digest, Md5};
@@ -8,7 +8,7 @@ use parfixtures::{CREATOR_TYPE, DESC_TYPE, IFSC_TYPE, MAIN_TYPE, SLICE_TYPE, Sta
 use parset::{Aside, SetAside, SetFault, SetSlice};
 use std::process::Abort;
 
-/// A set: its Main packet, its slice size, and the packets that its own are among.
+/// A set: its Main packet, its slice size, and all packets, among which are those of the set.
 #[derive(Clone, Copy)]
 pub struct Own<'a> {
     pub main: Standing<'a>,
@@ -16,8 +16,8 @@ pub struct Own<'a> {
     pub packets: &'a [Standing<'a>],
 }
 
-/// A file of a set, whose name is empty where it is not described; its slices have sums, or none
-/// are known.
+/// A file of a set. Its name is empty if it has no description. `sums` are the checksums of its
+/// slices, if they are known.
 #[derive(Clone, Copy)]
 pub struct File<'a> {
     pub id: Hash16,
@@ -27,7 +27,7 @@ pub struct File<'a> {
     pub sums: Option<&'a [[u8; 20]]>,
 }
 
-// Whether an ID stands again behind its place.
+// Whether an ID occurs twice.
 fn stands_twice(ids: &[[u8; 16]]) -> bool {
     for place in 0..ids.len() {
         if ids[..place].contains(&ids[place]) {
@@ -37,7 +37,7 @@ fn stands_twice(ids: &[[u8; 16]]) -> bool {
     false
 }
 
-// The reason of a Main body.
+// Returns the reason to reject a Main body, if any.
 fn main_reason(body: &[u8], set: [u8; 16]) -> Option<Aside> {
     let ids = ids_in(body);
     let size = long_at(body, 0);
@@ -56,7 +56,7 @@ fn main_reason(body: &[u8], set: [u8; 16]) -> Option<Aside> {
     }
 }
 
-// The reason of a FileDesc body.
+// Returns the reason to reject a FileDesc body, if any.
 fn desc_reason(body: &[u8]) -> Option<Aside> {
     let name = filled_text(body, 56);
     if body.len() < 56 || body.len() % 4 != 0 {
@@ -70,7 +70,7 @@ fn desc_reason(body: &[u8]) -> Option<Aside> {
     }
 }
 
-// The reason of an IFSC body.
+// Returns the reason to reject an IFSC body, if any.
 fn ifsc_reason(body: &[u8]) -> Option<Aside> {
     if body.len() < 16 || (body.len() - 16) % 20 != 0 {
         Some(Aside::WrongLength)
@@ -81,7 +81,7 @@ fn ifsc_reason(body: &[u8]) -> Option<Aside> {
     }
 }
 
-// The reason of a RecvSlic body in a set of this slice size.
+// Returns the reason to reject a RecvSlic body in a set of this slice size, if any.
 fn slice_reason(body: &[u8], size: u64) -> Option<Aside> {
     if body.len() < 4 || (body.len() - 4) as u64 != size {
         Some(Aside::WrongLength)
@@ -92,7 +92,8 @@ fn slice_reason(body: &[u8], size: u64) -> Option<Aside> {
     }
 }
 
-// The reason of a packet in a set of this slice size; there is none for other kinds.
+// Returns the reason to reject a packet in a set of this slice size, if any. Packets of other kinds
+// are never rejected.
 fn reason(packet: &Standing<'_>, size: u64) -> Option<Aside> {
     let body = packet.body;
     if packet.kind == SLICE_TYPE {
@@ -108,13 +109,13 @@ fn reason(packet: &Standing<'_>, size: u64) -> Option<Aside> {
     }
 }
 
-// Whether a packet is a usable Main, and of the chosen set if one is.
+// Whether a packet is a usable Main packet, and of the wanted set if there is one.
 fn is_chosen(packet: &Standing<'_>, choice: Option<Hash16>) -> bool {
     let set = Hash16(packet.set);
     packet.kind == MAIN_TYPE && choice.unwrap_or(set) == set && reason(packet, 0).is_none()
 }
 
-// The first usable Main, or the first one of a chosen set.
+// Returns the first usable Main packet, or the first of the wanted set.
 fn first_main<'a>(packets: &[Standing<'a>], choice: Option<Hash16>) -> Option<Standing<'a>> {
     for packet in packets {
         if is_chosen(packet, choice) {
@@ -124,7 +125,7 @@ fn first_main<'a>(packets: &[Standing<'a>], choice: Option<Hash16>) -> Option<St
     None
 }
 
-/// The set that is chosen, or else that of the first usable Main.
+/// Returns the wanted set, or the set of the first usable Main packet.
 pub fn own_of<'a>(packets: &'a [Standing<'a>], choice: Option<Hash16>) -> Option<Own<'a>> {
     let main = first_main(packets, choice)?;
     Some(Own {
@@ -134,12 +135,12 @@ pub fn own_of<'a>(packets: &'a [Standing<'a>], choice: Option<Hash16>) -> Option
     })
 }
 
-// Whether a packet is of the set and this kind, and has no reason.
+// Whether a packet is of the set and of this kind, and isn't rejected.
 fn is_usable(own: &Own<'_>, packet: &Standing<'_>, kind: [u8; 16]) -> bool {
     packet.set == own.main.set && packet.kind == kind && reason(packet, own.size).is_none()
 }
 
-// What is put aside of a packet, if it is of the set and has a reason.
+// Returns what a set says of a packet that is rejected, if it is of the set and is rejected.
 fn aside_of(own: &Own<'_>, packet: &Standing<'_>) -> Option<SetAside> {
     if packet.set != own.main.set {
         return None;
@@ -151,7 +152,7 @@ fn aside_of(own: &Own<'_>, packet: &Standing<'_>) -> Option<SetAside> {
     })
 }
 
-/// What is put aside of the packets.
+/// Returns the rejected packets of a set.
 pub fn all_aside(rt: &(impl Abort + AllocGlobal), own: &Own<'_>) -> Vec<SetAside> {
     let mut all = Vec::new(rt.alloc());
     for packet in own.packets {
@@ -162,12 +163,12 @@ pub fn all_aside(rt: &(impl Abort + AllocGlobal), own: &Own<'_>) -> Vec<SetAside
     all
 }
 
-// Whether a packet is a usable recovery slice of this exponent.
+// Whether a packet is a usable recovery slice with this exponent.
 fn is_slice(own: &Own<'_>, packet: &Standing<'_>, exponent: u32) -> bool {
     is_usable(own, packet, SLICE_TYPE) && word_at(packet.body, 0) == exponent
 }
 
-// Whether one of these packets is such a slice.
+// Whether one of these packets is a usable recovery slice with this exponent.
 fn has_slice(own: &Own<'_>, packets: &[Standing<'_>], exponent: u32) -> bool {
     for packet in packets {
         if is_slice(own, packet, exponent) {
@@ -177,7 +178,7 @@ fn has_slice(own: &Own<'_>, packets: &[Standing<'_>], exponent: u32) -> bool {
     false
 }
 
-/// How many exponents the usable recovery slices have: each counts where it stands first.
+/// Returns the number of different exponents of the usable recovery slices.
 pub fn exponent_count(own: &Own<'_>) -> usize {
     let mut count = 0usize;
     for place in 0..own.packets.len() {
@@ -191,7 +192,7 @@ pub fn exponent_count(own: &Own<'_>) -> usize {
     count
 }
 
-/// The first text of a Creator packet that is not empty.
+/// Returns the first text of a Creator packet that isn't empty.
 pub fn first_text<'a>(own: &Own<'a>) -> Option<&'a [u8]> {
     for packet in own.packets {
         let text = filled_text(packet.body, 0);
@@ -202,7 +203,7 @@ pub fn first_text<'a>(own: &Own<'a>) -> Option<&'a [u8]> {
     None
 }
 
-// How many slices so many bytes have.
+// Returns the number of slices of a file of this length.
 fn slice_count(length: u64, size: u64) -> u64 {
     if size == 0 {
         return 0;
@@ -215,7 +216,7 @@ fn is_about(own: &Own<'_>, packet: &Standing<'_>, kind: [u8; 16], id: Hash16) ->
     is_usable(own, packet, kind) && id_at(packet.body, 0) == id
 }
 
-// The first usable sums of a file that are so many.
+// Returns the first usable checksums of a file, of those with this number of slices.
 fn first_sums<'a>(own: &Own<'a>, id: Hash16, count: u64) -> Option<&'a [[u8; 20]]> {
     for packet in own.packets {
         let sums = sums_in(packet.body);
@@ -226,7 +227,7 @@ fn first_sums<'a>(own: &Own<'a>, id: Hash16, count: u64) -> Option<&'a [[u8; 20]
     None
 }
 
-// The first usable description of the file of this ID.
+// Returns the first usable description of a file.
 fn first_desc<'a>(own: &Own<'a>, id: Hash16) -> Option<&'a [u8]> {
     for packet in own.packets {
         if is_about(own, packet, DESC_TYPE, id) {
@@ -236,7 +237,7 @@ fn first_desc<'a>(own: &Own<'a>, id: Hash16) -> Option<&'a [u8]> {
     None
 }
 
-// The file of this ID, by its first description.
+// Returns a file, by its first usable description.
 fn file_of<'a>(own: &Own<'a>, id: Hash16) -> File<'a> {
     let body = first_desc(own, id).unwrap_or(&[]);
     let length = long_at(body, 48);
@@ -249,7 +250,8 @@ fn file_of<'a>(own: &Own<'a>, id: Hash16) -> File<'a> {
     }
 }
 
-// The recovery IDs of a Main body, as numbers whose first byte is the least, in order.
+// Returns the recovery IDs of a Main body in order, each as a number whose first byte is the
+// lowest.
 fn ids_of(rt: &(impl Abort + AllocGlobal), body: &[u8]) -> Vec<u128> {
     let mut numbers = Vec::new(rt.alloc());
     for id in recovery_ids_in(body) {
@@ -259,7 +261,7 @@ fn ids_of(rt: &(impl Abort + AllocGlobal), body: &[u8]) -> Vec<u128> {
     numbers
 }
 
-// The files of these numbers.
+// Returns the files with these numbers as IDs.
 fn files_of<'a>(rt: &(impl Abort + AllocGlobal), own: &Own<'a>, numbers: &[u128]) -> Vec<File<'a>> {
     let mut files = Vec::new(rt.alloc());
     for number in numbers {
@@ -268,12 +270,13 @@ fn files_of<'a>(rt: &(impl Abort + AllocGlobal), own: &Own<'a>, numbers: &[u128]
     files
 }
 
-/// The files of the recovery IDs of a set, by ID.
+/// Returns the files of the recovery IDs of a set, in order.
 pub fn all_files<'a>(rt: &(impl Abort + AllocGlobal), own: &Own<'a>) -> Vec<File<'a>> {
     files_of(rt, own, &ids_of(rt, own.main.body))
 }
 
-// The first file that has no description: a usable one has a name.
+// Returns the cause if a file has no description, for the first such file. A usable description has
+// a name.
 fn not_described(files: &[File<'_>]) -> Option<SetFault> {
     for file in files {
         if file.name.is_empty() {
@@ -293,7 +296,7 @@ fn has_name(files: &[File<'_>], name: &[u8]) -> bool {
     false
 }
 
-// The first file that has the name of one before it.
+// Returns the cause if a file has the name of a file before it, for the first such file.
 fn named_twice(files: &[File<'_>]) -> Option<SetFault> {
     for place in 0..files.len() {
         if has_name(&files[..place], files[place].name) {
@@ -303,7 +306,7 @@ fn named_twice(files: &[File<'_>]) -> Option<SetFault> {
     None
 }
 
-// The cause against files that have too many slices, if they do.
+// Returns the cause if these files have too many slices.
 fn too_many(files: &[File<'_>], size: u64) -> Option<SetFault> {
     let mut total = 0u64;
     for file in files {
@@ -312,21 +315,21 @@ fn too_many(files: &[File<'_>], size: u64) -> Option<SetFault> {
     (total > 32_768).then_some(SetFault::TooManySlices)
 }
 
-/// The first cause against a set of these files, if any: of all the files one that has no
-/// description, then one whose name stands twice, then their slices.
+/// Returns the first cause against a set of these files, if any: a file without a description, then
+/// a name that occurs twice, then too many slices.
 pub fn cause_in(files: &[File<'_>], size: u64) -> Option<SetFault> {
     not_described(files)
         .or(named_twice(files))
         .or(too_many(files, size))
 }
 
-// The sums of a slice.
+// Returns the checksums of the slice of this number, if they are known.
 fn sums_at(sums: &[[u8; 20]], number: u32) -> Option<(Hash16, u32)> {
     let pair = sums.get(number as usize)?;
     Some((id_at(pair, 0), word_at(pair, 16)))
 }
 
-// A slice of a file.
+// Returns the slice of this number of a file.
 fn slice_of(file: &File<'_>, size: u64, number: u32) -> SetSlice {
     let left = file
         .length
@@ -339,14 +342,14 @@ fn slice_of(file: &File<'_>, size: u64, number: u32) -> SetSlice {
     }
 }
 
-// Puts the slices of a file behind others.
+// Appends the slices of a file.
 fn put_slices(rt: &impl Abort, slices: &mut Vec<SetSlice>, file: &File<'_>, size: u64) {
     for number in 0..slice_count(file.length, size).min(32_768) as u32 {
         must(rt, slices.push(slice_of(file, size, number)));
     }
 }
 
-/// The slices of these files.
+/// Returns the slices of these files.
 pub fn all_slices(rt: &(impl Abort + AllocGlobal), files: &[File<'_>], size: u64) -> Vec<SetSlice> {
     let mut slices = Vec::new(rt.alloc());
     for file in files {

@@ -1,46 +1,46 @@
-// The fields of the bodies of packets, as their definition has them.
+// The fields of the bodies of packets, by their definition.
 use parfield::Hash16;
 use parfixtures::field;
 
-/// The number of eight bytes, or 0 where they are not there.
+/// Returns the number in these eight bytes, or 0 if the body ends before.
 pub fn long_at(bytes: &[u8], at: usize) -> u64 {
     u64::from_le_bytes(field(bytes, at))
 }
 
-/// The number of four bytes, or 0 where they are not there.
+/// Returns the number in these four bytes, or 0 if the body ends before.
 pub fn word_at(bytes: &[u8], at: usize) -> u32 {
     u32::from_le_bytes(field(bytes, at))
 }
 
-/// The ID or MD5 of sixteen bytes, or zeros where they are not there.
+/// Returns the ID or MD5 in these 16 bytes, or zeros if the body ends before.
 pub fn id_at(bytes: &[u8], at: usize) -> Hash16 {
     Hash16(field(bytes, at))
 }
 
-// What stands in bytes from a place on.
+// Returns the bytes from an offset on.
 fn rest_from(bytes: &[u8], from: usize) -> &[u8] {
     bytes.get(from..).unwrap_or(&[])
 }
 
-/// The IDs of a Main body.
+/// Returns all IDs of a Main body.
 pub fn ids_in(body: &[u8]) -> &[[u8; 16]] {
     let (ids, _) = rest_from(body, 12).as_chunks::<16>();
     ids
 }
 
-/// The recovery IDs of a Main body.
+/// Returns the recovery IDs of a Main body.
 pub fn recovery_ids_in(body: &[u8]) -> &[[u8; 16]] {
     let ids = ids_in(body);
     ids.get(..word_at(body, 8) as usize).unwrap_or(ids)
 }
 
-/// The sums in an IFSC body, each an MD5 and a CRC-32.
+/// Returns the checksums in an IFSC body, each an MD5 and a CRC-32.
 pub fn sums_in(body: &[u8]) -> &[[u8; 20]] {
     let (sums, _) = rest_from(body, 16).as_chunks::<20>();
     sums
 }
 
-/// The bytes from a place on, without the zeros at their end.
+/// Returns the bytes from an offset on, without the zeros at their end.
 pub fn filled_text(bytes: &[u8], from: usize) -> &[u8] {
     let text = rest_from(bytes, from);
     let mut size = 0;

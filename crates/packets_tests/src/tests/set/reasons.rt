@@ -3,8 +3,8 @@ use parfield::{Kind, Packet};
 use parsalvage::{Kept, kept_of};
 use std::alloc::Global;
 
-// A body: the kind of its packet, the first reason why the body is not usable or that it is, and
-// the runs of its bytes. A Main body is in a packet of its own set.
+// The kind of a packet, the first reason to reject its body, if any, and the body, as runs of
+// bytes. A Main body is in a packet whose set ID is its MD5.
 type Row = (Kind, Option<Aside>, Runs);
 
 const USABLE: Option<Aside> = None;
@@ -19,10 +19,10 @@ const NAME: Option<Aside> = Some(Aside::Name);
 
 const LIMIT: Option<Aside> = Some(Aside::OverLimit);
 
-// A Main body has eight bytes of slice size, four of count, and the IDs. Slice sizes are, behind
-// the small ones, 268,435,456 and 268,435,460, and twice the first; the last Main bodies have 32,769
-// IDs, or are the longest. A FileDesc body has 48 bytes of ID and MD5s, eight of length, and the
-// name; an IFSC body sixteen bytes of ID, and twenty a slice.
+// A Main body has eight bytes of slice size, four of count, and the IDs. After small slice sizes
+// come 268,435,456, 268,435,460 and 536,870,912. The last Main bodies have 32,769 IDs, or are as
+// long as a body can be. A FileDesc body has 48 bytes of ID and MD5s, eight of length, and the
+// name. An IFSC body has 16 bytes of ID, and 20 bytes for each slice.
 static BODIES: [Row; 72] = [
     (Kind::Main, LENGTH, &[]),
     (Kind::Main, LENGTH, &[(4, 1), (0, 10)]),
@@ -170,7 +170,7 @@ static BODIES: [Row; 72] = [
     (Kind::Creator, LIMIT, &[(0, 1_048_577)]),
 ];
 
-// The same of bodies in packets of a set whose slices have four bytes.
+// The same, for bodies in packets of a set whose slices have four bytes.
 static OTHERS: [Row; 6] = [
     (Kind::RecvSlic, USABLE, &[(0, 8)]),
     (Kind::RecvSlic, LENGTH, &[(0, 9)]),
@@ -180,7 +180,7 @@ static OTHERS: [Row; 6] = [
     (Kind::Other([0; 16]), USABLE, &[(0, 1_048_577)]),
 ];
 
-// Why a body in a packet of this kind and set has no fields.
+// Returns why a body in a packet of this kind and set has no fields, if so.
 fn fault_in(alloc: Global, kind: Kind, body: &[u8], set: Hash16) -> Option<BodyFault> {
     match kind {
         Kind::Main => main_body(alloc, body, set).err(),
@@ -190,7 +190,7 @@ fn fault_in(alloc: Global, kind: Kind, body: &[u8], set: Hash16) -> Option<BodyF
     }
 }
 
-// A reason as the readers of bodies have it.
+// Returns a reason as the functions return it that read bodies.
 fn fault_of(reason: Option<Aside>) -> Option<BodyFault> {
     match reason {
         Some(reason) => Some(BodyFault::Aside(reason)),
@@ -198,7 +198,7 @@ fn fault_of(reason: Option<Aside>) -> Option<BodyFault> {
     }
 }
 
-// The reason in a packet of another set.
+// Returns the reason to reject the same body in a packet of another set.
 fn reason_in_another(kind: Kind, reason: Option<Aside>) -> Option<Aside> {
     if kind == Kind::Main && reason.is_none() {
         Some(Aside::SetId)
@@ -207,7 +207,7 @@ fn reason_in_another(kind: Kind, reason: Option<Aside>) -> Option<Aside> {
     }
 }
 
-// A body has its reason in a set of its own and in another.
+// Checks the reason of a body, in a packet of its own set and in one of another set.
 fn has_reason(rt: &(impl Abort + AllocGlobal), row: &Row) {
     let (kind, reason, runs) = *row;
     let body = bytes_of(rt, runs);
@@ -217,7 +217,7 @@ fn has_reason(rt: &(impl Abort + AllocGlobal), row: &Row) {
     is(rt, &runs, &(own, another), &wanted);
 }
 
-// The bodies, and the others. A table is proved again in each function that names it.
+// These two functions return the tables. A table is proved again in each function that names it.
 fn bodies() -> &'static [Row] {
     &BODIES
 }
@@ -233,8 +233,8 @@ fn bodies_have_their_first_reason(rt: HostRuntime) {
     }
 }
 
-// How many recovery IDs and how many IDs a Main body has, of which no two are the same, how many
-// zeros stand behind them, and the reason; an ID of zeros is one of them.
+// The number of recovery IDs and of all IDs of a Main body, which are all different, the number of
+// zeros after them, and the reason. One of the IDs is zeros.
 static LONG_MAINS: [(u32, u32, usize, Option<Aside>); 6] = [
     (0, 32_768, 0, None),
     (0, 32_769, 0, Some(Aside::OverLimit)),
@@ -244,7 +244,7 @@ static LONG_MAINS: [(u32, u32, usize, Option<Aside>); 6] = [
     (0, 32_768, 16, Some(Aside::OverLimit)),
 ];
 
-// A Main body of so many recovery IDs and so many IDs.
+// Returns a Main body with these numbers of recovery IDs and of all IDs.
 fn long_main(rt: &(impl Abort + AllocGlobal), count: u32, ids: u32) -> Vec<u8> {
     let mut body = join(rt, &[b"\x04\0\0\0\0\0\0\0", &count.to_le_bytes()]);
     for id in 0..ids {
@@ -253,7 +253,7 @@ fn long_main(rt: &(impl Abort + AllocGlobal), count: u32, ids: u32) -> Vec<u8> {
     body
 }
 
-// The body of such a row has its reason.
+// Checks the reason of the body of such a row.
 fn has_reason_of(rt: &(impl Abort + AllocGlobal), row: &(u32, u32, usize, Option<Aside>)) {
     let mut body = long_main(rt, row.0, row.1);
     must(rt, body.resize(body.len().saturating_add(row.2), 0));
@@ -268,10 +268,10 @@ fn main_bodies_of_many_ids_have_their_first_reason(rt: HostRuntime) {
     }
 }
 
-// Lengths of usable IFSC bodies of zeros, and how many pairs those have.
+// Lengths of usable IFSC bodies of zeros, and the number of their pairs.
 static PAIRS: [(usize, usize); 3] = [(16, 0), (36, 1), (655_376, 32_768)];
 
-// A usable IFSC body of so many zeros has so many pairs.
+// Checks the number of pairs of such a body.
 fn has_pairs(rt: &(impl Abort + AllocGlobal), row: &(usize, usize)) {
     let body = must(rt, vec![in rt.alloc(); 0; row.0]);
     let ifsc = must(rt, ifsc_body(rt.alloc(), &body));
@@ -285,7 +285,7 @@ fn checksums_have_a_pair_for_each_twenty_bytes(rt: HostRuntime) {
     }
 }
 
-// Puts a packet of the set of `g.bin` behind others, at the offset of its number.
+// Appends a packet of the set of `g.bin`. Its offset is the number of packets before it.
 fn keep(rt: &(impl Abort + AllocGlobal), packets: &mut Vec<Kept>, kind: Kind, body: &[u8]) {
     let packet = Packet {
         at: packets.len(),
@@ -298,7 +298,7 @@ fn keep(rt: &(impl Abort + AllocGlobal), packets: &mut Vec<Kept>, kind: Kind, bo
     must(rt, packets.append(&mut kept));
 }
 
-// The packet of this body is put aside, at this offset, where there is a reason.
+// Appends the entry of a rejected packet with this body, at this offset, if it is rejected.
 fn put_aside(rt: &impl Abort, asides: &mut Vec<SetAside>, at: usize, row: &Row) {
     if let Some(reason) = reason_in_another(row.0, row.1) {
         let aside = SetAside {
@@ -310,7 +310,7 @@ fn put_aside(rt: &impl Abort, asides: &mut Vec<SetAside>, at: usize, row: &Row) 
     }
 }
 
-// Puts a packet of each of these bodies behind others, and what is put aside of them behind that.
+// Appends a packet for each of these bodies, and an entry for each that is rejected.
 fn keep_rows(
     rt: &(impl Abort + AllocGlobal),
     packets: &mut Vec<Kept>,
@@ -323,7 +323,7 @@ fn keep_rows(
     }
 }
 
-// Whether a set has these packets put aside, one file, a recovery slice and no text.
+// Whether a set has these rejected packets, one file, one recovery slice and no text.
 fn has_aside(built: &RecoverySet, asides: &[SetAside]) -> bool {
     built.aside() == asides
         && built.files().len() == 1
@@ -331,14 +331,14 @@ fn has_aside(built: &RecoverySet, asides: &[SetAside]) -> bool {
         && built.creator().is_none()
 }
 
-// The set of these packets is so.
+// Checks that for the set of these packets.
 fn puts_aside(rt: &(impl Abort + AllocGlobal), packets: &[Kept], asides: &[SetAside]) {
     let built = must(rt, build(rt.alloc(), packets, None));
     holds(rt, &asides, has_aside(&built, asides));
 }
 
-// Packets of all those bodies, and then the Main packet of the set of `g.bin` and its description:
-// each is put aside that is not usable.
+// Checks that each unusable body is rejected, in the packets of all these bodies, followed by the
+// Main packet of the set of `g.bin` and its description.
 fn all_put_aside(rt: &(impl Abort + AllocGlobal)) {
     let mut asides = Vec::new(rt.alloc());
     let mut packets = Vec::new(rt.alloc());

@@ -1,13 +1,13 @@
 use super::hostile::{agrees, built_of};
 use super::*;
 
-// A packet: the place of the one whose body has its set ID as MD5, or a place behind all for a set
-// ID of zeros; its type; and the runs of its body.
+// A packet: the number of the row whose body has its set ID as MD5, or a number past all rows for a
+// set ID of zeros; its type; and the runs of its body.
 type Row = (usize, [u8; 16], Runs);
 
 type Rows = &'static [Row];
 
-// The set ID of a packet with that place.
+// Returns the set ID of a packet with that number.
 fn set_id(rt: &(impl Abort + AllocGlobal), rows: Rows, place: usize) -> Hash16 {
     match rows.get(place) {
         Some(row) => digest_of(&bytes_of(rt, row.2)),
@@ -15,13 +15,13 @@ fn set_id(rt: &(impl Abort + AllocGlobal), rows: Rows, place: usize) -> Hash16 {
     }
 }
 
-// Puts the packet of one of these rows behind bytes.
+// Appends the packet of one of these rows.
 fn put_row(rt: &(impl Abort + AllocGlobal), bytes: &mut Vec<u8>, rows: Rows, row: &Row) {
     let set = set_id(rt, rows, row.0);
     put(rt, bytes, set.0, row.1, &bytes_of(rt, row.2));
 }
 
-// The bytes of these packets.
+// Returns the bytes of these packets.
 fn file_of(rt: &(impl Abort + AllocGlobal), rows: Rows) -> Vec<u8> {
     let mut bytes = Vec::new(rt.alloc());
     for row in rows {
@@ -30,20 +30,21 @@ fn file_of(rt: &(impl Abort + AllocGlobal), rows: Rows) -> Vec<u8> {
     bytes
 }
 
-// Main packets of a set, of another, and of the first again; neither set has files.
+// A Main packet of a set, one of another set, and one of the first set again. Neither set has
+// files.
 const NO_FILES: Rows = &[
     (0, MAIN_TYPE, &[(4, 1), (0, 11)]),
     (1, MAIN_TYPE, &[(8, 1), (0, 11), (1, 16)]),
     (0, MAIN_TYPE, &[(4, 1), (0, 11)]),
 ];
 
-// Two Main packets, of which the first has a file without a description.
+// Two Main packets. The set of the first has a file without a description.
 const NOT_DESCRIBED: Rows = &[
     (0, MAIN_TYPE, &[(4, 1), (0, 7), (1, 1), (0, 3), (1, 16)]),
     (1, MAIN_TYPE, &[(4, 1), (0, 11)]),
 ];
 
-// Files 4, 2, 1 and 3, of which 1 and 3 are described.
+// Files 4, 2, 1 and 3. Only 1 and 3 have a description.
 const TWO_DESCRIBED: Rows = &[
     (
         0,
@@ -71,7 +72,7 @@ const TWO_DESCRIBED: Rows = &[
     ),
 ];
 
-// Files 4, 2, 1 and 3, of the names a, b, a and b.
+// Files 4, 2, 1 and 3, with the names a, b, a and b.
 const NAMED_ALIKE: Rows = &[
     (
         0,
@@ -109,7 +110,8 @@ const NAMED_ALIKE: Rows = &[
     ),
 ];
 
-// A file of six bytes, sums of one slice, those of another set, and twice sums of two slices.
+// A file of six bytes, with checksums of one slice, checksums of another set, and twice checksums
+// of two slices.
 const WITH_SUMS: Rows = &[
     (0, MAIN_TYPE, &[(4, 1), (0, 7), (1, 1), (0, 3), (1, 16)]),
     (0, IFSC_TYPE, &[(1, 16), (9, 17), (0, 3)]),
@@ -130,7 +132,8 @@ const ODD_NAMES: Rows = &[
     (0, CREATOR_TYPE, &[(b'a', 1), (10, 1), (b'b', 1), (92, 1)]),
 ];
 
-// A Main packet whose body is not that of its set ID, and then a set with a slice that is too long.
+// A Main packet whose set ID isn't the MD5 of its body, and then a set with a recovery slice that
+// is too long.
 const BEHIND_ANOTHER: Rows = &[
     (9, MAIN_TYPE, &[(4, 1), (0, 11)]),
     (1, MAIN_TYPE, &[(4, 1), (0, 7), (1, 1), (0, 3), (1, 16)]),
@@ -138,7 +141,7 @@ const BEHIND_ANOTHER: Rows = &[
     (1, SLICE_TYPE, &[(0, 12)]),
 ];
 
-// Slices of file 1.
+// The slices of file 1, with the first of its checksums.
 const FIRST_SUMS: &[SetSlice] = &[
     SetSlice {
         id: Hash16([1; 16]),
@@ -175,7 +178,7 @@ const TOO_LONG: &[SetAside] = &[SetAside {
     reason: Aside::WrongLength,
 }];
 
-// A set: its slice size, the name of its first file, its slices, its text and what is put aside.
+// A set: its slice size, the name of its first file, its slices, its text and its rejected packets.
 type Shown<'a> = (
     u64,
     &'a [u8],
@@ -184,17 +187,17 @@ type Shown<'a> = (
     &'a [SetAside],
 );
 
-// Packets, the place of a set that is chosen, and what they give: the place of the set, and the
-// set, or why there is none.
+// Packets, the number of the wanted set, if one is wanted, the number of the set that has to be
+// built, and what it shows, or the cause why there is none.
 type Given = (Rows, Option<usize>, usize, Result<Shown<'static>, SetFault>);
 
 static SETS: [Given; 11] = [
-    // The first Main packet counts, and of a chosen set the first of its ID.
+    // The first Main packet decides, and for a wanted set the first with its ID.
     (NO_FILES, None, 0, Ok((4, b"", &[], None, &[]))),
     (NO_FILES, Some(0), 0, Ok((4, b"", &[], None, &[]))),
     (NO_FILES, Some(1), 1, Ok((8, b"", &[], None, &[]))),
     (NO_FILES, Some(9), 0, Err(SetFault::NoMain)),
-    // It counts though its set has a fault.
+    // It does even if its set has a fault.
     (NOT_DESCRIBED, Some(1), 1, Ok((4, b"", &[], None, &[]))),
     (
         NOT_DESCRIBED,
@@ -202,7 +205,7 @@ static SETS: [Given; 11] = [
         0,
         Err(SetFault::NoDesc(Hash16([1; 16]))),
     ),
-    // The least ID is named that has no description, or whose name a smaller ID has.
+    // The cause names the lowest ID without a description, or whose name a lower ID has.
     (
         TWO_DESCRIBED,
         None,
@@ -215,7 +218,7 @@ static SETS: [Given; 11] = [
         0,
         Err(SetFault::NameTwice(Hash16([3; 16]))),
     ),
-    // The first sums of the right number count.
+    // The first checksums with the right number of slices are taken.
     (WITH_SUMS, None, 0, Ok((4, b"nnnn", FIRST_SUMS, None, &[]))),
     (
         ODD_NAMES,
@@ -231,7 +234,7 @@ static SETS: [Given; 11] = [
     ),
 ];
 
-// The name of the first file, or none.
+// Returns the name of the first file, or none.
 fn first_name(files: &[SetFile]) -> &[u8] {
     match files {
         [file, ..] => file.name.as_slice(),
@@ -239,7 +242,7 @@ fn first_name(files: &[SetFile]) -> &[u8] {
     }
 }
 
-// What a set shows.
+// Returns what a set shows.
 fn shown(built: &RecoverySet) -> Shown<'_> {
     (
         built.size(),
@@ -250,7 +253,7 @@ fn shown(built: &RecoverySet) -> Shown<'_> {
     )
 }
 
-// Whether a set has this ID and shows what is wanted, or why there is none is that.
+// Whether a result is a set with this ID that shows what is wanted, or is the wanted cause.
 fn shows(
     built: &Result<RecoverySet, SetFault>,
     id: Hash16,
@@ -262,7 +265,7 @@ fn shows(
     }
 }
 
-// The ID of the set that is chosen, if one is.
+// Returns the ID of the wanted set, if one is wanted.
 fn choice_of(rt: &(impl Abort + AllocGlobal), rows: Rows, place: Option<usize>) -> Option<Hash16> {
     match place {
         Some(place) => Some(set_id(rt, rows, place)),
@@ -270,7 +273,8 @@ fn choice_of(rt: &(impl Abort + AllocGlobal), rows: Rows, place: Option<usize>) 
     }
 }
 
-// What is built of bytes, or of the set in them that is chosen, has this ID and is what is wanted.
+// Checks that the result of `build` over bytes is the wanted one and has this ID, and that the
+// model agrees.
 fn gives(
     rt: &(impl Abort + AllocGlobal),
     bytes: &[u8],
@@ -283,7 +287,7 @@ fn gives(
     holds(rt, &of, shows(&built, id, wanted));
 }
 
-// That is so of the bytes of these packets.
+// Checks that for the bytes of these packets.
 fn file_gives(rt: &(impl Abort + AllocGlobal), row: &Given, of: usize) {
     let choice = choice_of(rt, row.0, row.1);
     let id = set_id(rt, row.0, row.2);

@@ -9,39 +9,39 @@ use std::cmp::Ordering;
 use std::process::Abort;
 use std::test::Fail;
 
-// A Creator packet of set ID zeros, without a body.
+// A Creator packet with a set ID of zeros and no body.
 const CREATOR: [u8; 64] =
     *b"PAR2\0PKT\x40\0\0\0\0\0\0\0\x90\xb7\x2c\x62\xf3\xda\xe9\x4b\x3d\xe0\x28\xf3\x1e\x19\x95\x02\0\0\0\0\0\0\0\0\0\0\0\0\0\0\0\0PAR 2.0\0Creator\0";
 
-// Wants that these bytes have a header of this length.
+// Checks that these bytes have a header with this length.
 fn has_length(rt: &impl Abort, bytes: &[u8], length: u64) {
     is(rt, &must(rt, header(bytes)).length, &length);
 }
 
-// Wants that these bytes have no header for this fault.
+// Checks that these bytes have no header, and the error that says why.
 fn has_fault(rt: &impl Abort, bytes: &[u8], fault: HeaderFault) {
     is(rt, &header(bytes), &Err(fault));
 }
 
-// Wants that a hash is written with these digits.
+// Checks the digits of a hash.
 fn is_written(rt: &(impl Abort + AllocGlobal), hash: Hash16, digits: &str) {
     let written = must(rt, hash.to_string(rt.alloc()));
     is(rt, &written.as_str(), &digits);
 }
 
-// Wants that a name is shown so.
+// Checks how a name is shown.
 fn is_shown(rt: &(impl Abort + AllocGlobal), name: &[u8], wanted: &[u8]) -> Result<(), Fail> {
     let shown = show_name(rt.alloc(), name)?;
     is(rt, &shown.as_slice(), &wanted);
     Ok(())
 }
 
-// Wants that no packet stands in bytes at an offset.
+// Checks that no packet begins at an offset of bytes.
 fn has_no_packet(rt: &impl Abort, bytes: &[u8], at: usize) {
     is(rt, &packet_at(bytes, at), &None);
 }
 
-// Messages and their MD5s, as RFC 1321 has them.
+// Messages and their MD5s, from RFC 1321.
 static DIGESTS: [(&[u8], &str); 4] = [
     (b"", "d41d8cd98f00b204e9800998ecf8427e"),
     (b"a", "0cc175b9c0f1b6a831c399e269772661"),
@@ -56,7 +56,7 @@ fn md5_gives_the_digests_of_standard_vectors(rt: HostRuntime) {
     }
 }
 
-// A packet's bytes with this length field.
+// Returns the bytes of a packet with this length field.
 fn with_length(field: [u8; 8]) -> [u8; 64] {
     let mut bytes = CREATOR;
     bytes[8..16].copy_from_slice(&field);
@@ -118,7 +118,7 @@ fn a_packet_without_a_body_is_found(rt: HostRuntime) {
     is(&rt, &packet_at(&CREATOR, 0), &Some(packet));
 }
 
-// Length fields of which none fits the hash and the file.
+// Length fields. None of them fits both the hash and the file.
 static LENGTHS: [[u8; 8]; 6] = [
     [0, 0, 0, 0, 0, 0, 0, 0],
     [60, 0, 0, 0, 0, 0, 0, 0],
@@ -147,7 +147,7 @@ fn names_are_shown_in_printable_ascii(rt: HostRuntime) -> Result<(), Fail> {
     is_shown(&rt, b"\x1f ~\x7f\0", b"\\x1f ~\\x7f\\x00")
 }
 
-// Wants that a sequence holds these items.
+// Checks the items of a sequence.
 fn are_items(rt: &impl Abort, items: &Sequence<u32>, wanted: &[u32]) {
     is(rt, &items.as_slice(), &wanted);
     is(rt, &items.len(), &wanted.len());

@@ -1,17 +1,17 @@
-// What `parfind` offers.
+// The public calls of `parfind`.
 use super::{FILE, LIST, SET, index, is};
 use crate::runs::must;
 use parfixtures::shelf_of;
 use std::panic::Expect;
 
-// The beginning of all files.
+// The cursor at the beginning of all files.
 const START: parfind::Cursor = parfind::Cursor {
     file: 0,
     offset: 0,
     slice: 0,
 };
 
-// What the search of `XXabcdefgh` sees first.
+// The first match of the search of `XXabcdefgh`.
 const FIRST: parfind::Sighting = parfind::Sighting {
     file: 0,
     offset: 2,

@@ -1,4 +1,4 @@
-// Texts that are one byte off a cursor's, and beginnings of such texts.
+// Texts that differ from a cursor's text by one byte, and beginnings of such texts.
 use super::refused::is_refused;
 use super::{AT, GREATEST, GREATEST_LISTED, GREATEST_UNLISTED, LIST, SET};
 use crate::tests::fixtures::is;
@@ -7,20 +7,20 @@ use parfind::{Cursor, CursorFault, read_cursor};
 use std::panic::Expect;
 use std::process::Abort;
 
-// A text of the second version, and one of the first, of the cursor 0:2:1.
+// Texts of the cursor 0:2:1, of the second version and of the first.
 const LISTED: [u8; 73] =
     *b"2:617cdc72ba53d94fe713fea2ae18f776:53e12607a1d11cab6b927147969fc38c:0:2:1";
 
 const UNLISTED: [u8; 38] = *b"617cdc72ba53d94fe713fea2ae18f776:0:2:1";
 
-// What stands at each of their places: a digit of the ID, of the mark, or that of the file, the offset
-// or the slice; or else a dash.
+// The kind of each byte of these texts: a digit of the ID (i), of the fingerprint (m), of the file
+// (f), of the offset (o) or of the slice (s), or another byte (-).
 static LISTED_PLACES: [u8; 73] =
     *b"--iiiiiiiiiiiiiiiiiiiiiiiiiiiiiiii-mmmmmmmmmmmmmmmmmmmmmmmmmmmmmmmm-f-o-s";
 
 static UNLISTED_PLACES: [u8; 38] = *b"iiiiiiiiiiiiiiiiiiiiiiiiiiiiiiii-f-o-s";
 
-// What is read from a text where another byte comes to such a place.
+// Returns the result of reading a text if a byte of this kind becomes another byte.
 fn read_with(place: u8, byte: u8) -> Result<Cursor, CursorFault> {
     let digit = byte.saturating_sub(b'0');
     match (place, byte) {
@@ -33,7 +33,7 @@ fn read_with(place: u8, byte: u8) -> Result<Cursor, CursorFault> {
     }
 }
 
-// The bytes with this one at an offset.
+// Returns the bytes with this byte at an offset.
 fn changed<const N: usize>(bytes: &[u8; N], at: usize, byte: u8) -> [u8; N] {
     let mut changed = *bytes;
     if let Some(old) = changed.get_mut(at) {
@@ -42,7 +42,8 @@ fn changed<const N: usize>(bytes: &[u8; N], at: usize, byte: u8) -> [u8; N] {
     changed
 }
 
-// Wants what is read with each byte at an offset, where this stands.
+// Checks the results of reading a text with each byte at an offset, if the byte there is of this
+// kind.
 fn is_read_with_each<const N: usize>(rt: &impl Abort, whole: &[u8; N], at: usize, place: u8) {
     for byte in 0..=255u8 {
         let text = changed(whole, at, byte);
@@ -69,7 +70,7 @@ fn each_byte_of_a_text_without_a_list_counts(rt: HostRuntime) {
     }
 }
 
-// Wants that the greatest cursor is read from its text alone, whatever byte comes to an offset.
+// Checks that no text reads as the greatest cursor if the byte at this offset changes.
 fn is_greatest_alone(rt: &impl Abort, at: usize) {
     for byte in 0..=255u8 {
         let text = changed(GREATEST_LISTED, at, byte);
@@ -89,7 +90,7 @@ fn each_byte_of_the_longest_text_counts(rt: HostRuntime) {
     }
 }
 
-// A text with one byte more at its front, and one with one more at its end.
+// A text with one more byte at its front, and one with one more byte at its end.
 static LONGER: [(usize, [u8; 74]); 2] = [
     (
         0,
@@ -101,8 +102,8 @@ static LONGER: [(usize, [u8; 74]); 2] = [
     ),
 ];
 
-// What is read from a text with this byte more at an offset of it: another slice where it is a digit
-// more at the end.
+// Returns the result of reading a text with one more byte, at this offset. A digit at the end makes
+// another slice.
 fn read_longer(at: usize, byte: u8) -> Result<Cursor, CursorFault> {
     let digit = byte.saturating_sub(b'0') as u32;
     match (at, byte) {
@@ -111,7 +112,7 @@ fn read_longer(at: usize, byte: u8) -> Result<Cursor, CursorFault> {
     }
 }
 
-// Wants what is read with each byte more at that offset.
+// Checks the results of reading a text with each byte inserted at that offset.
 fn is_read_longer(rt: &impl Abort, text: &[u8; 74], at: usize) {
     for byte in 0..=255u8 {
         let read = read_cursor(&changed(text, at, byte), SET, LIST);
@@ -126,12 +127,12 @@ fn a_byte_more_counts(rt: HostRuntime) {
     }
 }
 
-// The first bytes of a text.
+// Returns the first bytes of a text.
 fn front<'t>(rt: &impl Abort, text: &'t [u8], length: usize) -> &'t [u8] {
     text.get(..length).expect(rt, "a front")
 }
 
-// Wants that no text is read from the first bytes of one, where they are fewer than this.
+// Checks that no text is read from the first bytes of one, if there are fewer than `least`.
 fn fronts_are_refused(rt: &impl Abort, text: &[u8], least: usize) {
     for length in 0..least {
         is_refused(rt, front(rt, text, length));
@@ -146,7 +147,7 @@ fn no_beginning_of_a_text_with_one_digit_at_its_end_is_read(rt: HostRuntime) {
     fronts_are_refused(&rt, GREATEST_UNLISTED, 66);
 }
 
-// The slices that first digits of the last number of the longest text are.
+// The slices that the first digits of the last number of the longest text make.
 static SLICES: [u32; 10] = [
     4,
     42,
@@ -160,7 +161,7 @@ static SLICES: [u32; 10] = [
     4_294_967_295,
 ];
 
-// Wants that the first bytes of the longest text are those of its cursor with another slice.
+// Checks that the first bytes of the longest text read as its cursor with another slice.
 fn is_read_to(rt: &impl Abort, text: &[u8], length: usize, slice: u32) {
     let at = Cursor { slice, ..GREATEST };
     is(

@@ -1,4 +1,4 @@
-// Texts that are no cursor's.
+// Texts that aren't a cursor's.
 use super::{SET, ZEROS};
 use crate::tests::fixtures::is;
 use parfind::{CursorFault, read_cursor, split_cursor};
@@ -24,7 +24,7 @@ static UNLISTED: [&[u8]; 17] = [
     b"000000000000000000000000000000000:0:1:1",
 ];
 
-// Those that have something of the second version.
+// Texts with some part of the second version.
 static LISTED: [&[u8]; 44] = [
     b"2",
     b"2:",
@@ -72,7 +72,7 @@ static LISTED: [&[u8]; 44] = [
     b"2:00000000000000000000000000000000:00000000000000000000000000000000:0:0:4294967296",
 ];
 
-/// Wants that no cursor can be read from a text, whatever set and list it is wanted for.
+/// Checks that no cursor can be read from a text, for any set and list.
 pub fn is_refused(rt: &impl Abort, text: &[u8]) {
     is(rt, &split_cursor(text), &None);
     is(

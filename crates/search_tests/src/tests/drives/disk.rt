@@ -1,4 +1,4 @@
-// Drives over a file on a disk.
+// Scripts of calls over a file on disk.
 use crate::tests::drives::driven;
 use crate::tests::fixtures::{index_of, is, must};
 use crate::tests::places::{START, cursor};
@@ -9,7 +9,7 @@ use std::fs::{File, Files};
 use std::process::Abort;
 use std::{fs, process};
 
-// The shelf of a file of ten bytes, of which five are left once it is open.
+// Returns a shelf of a file of ten bytes that is cut to five bytes once it is open.
 fn shortened(rt: &(impl Abort + AllocGlobal + Files<File = File>), path: &str) -> DiskShelf {
     must(rt, fs::write(rt, path, b"XXabcdefgh"));
     let shelf = must(rt, DiskShelf::open(rt, rt.alloc(), &[path]));
@@ -17,13 +17,13 @@ fn shortened(rt: &(impl Abort + AllocGlobal + Files<File = File>), path: &str) -
     shelf
 }
 
-// Writes all ten bytes, and removes the file, which is open.
+// Writes all ten bytes again, and removes the open file.
 fn lengthened(rt: &(impl Abort + Files), path: &str) {
     must(rt, fs::write(rt, path, b"XXabcdefgh"));
     must(rt, fs::remove_file(rt, path));
 }
 
-// Searches a shortened file to its end, and on once it was lengthened.
+// Searches a shortened file up to its end, and goes on after it was lengthened.
 fn resumes(
     rt: &(impl Abort + AllocGlobal + Files),
     path: &str,
@@ -38,7 +38,7 @@ fn resumes(
     is(rt, &end, &cursor((0, 6, 2)));
 }
 
-// Opens the file of the process that has this number, and does so.
+// Opens a file whose name has this number, and searches it so.
 fn goes_on(rt: &(impl Abort + AllocGlobal + Files<File = File>), number: u32) {
     let path = must(rt, format!(in rt.alloc(); "/tmp/parfind_{number}"));
     let mut shelf = shortened(rt, path.as_str());
@@ -47,7 +47,8 @@ fn goes_on(rt: &(impl Abort + AllocGlobal + Files<File = File>), number: u32) {
     drop(index);
 }
 
-// Five of the ten bytes are left when the file is searched first, and all when it is searched on.
+// The file has five of its ten bytes during the first search, and all of them when the search goes
+// on.
 #[test]
 fn a_search_goes_on_where_a_shortened_file_ended(rt: HostRuntime) {
     goes_on(&rt, process::id(rt.process()));

@@ -1,4 +1,4 @@
-// Drives by chance, and what comparing each slice at each offset gives.
+// Random scripts of calls, and the results of comparing each slice at each offset.
 ghost use Rattle.std.specs.Prelude.{All, IfOk};
 ghost use Rattle.parfind.specs.Runs.{HasBudget};
 
@@ -15,7 +15,7 @@ use parshelf::MemShelf;
 use std::alloc::{AllocError, Global};
 use std::process::Abort;
 
-// Contents of the first file of a set, and of a second one.
+// Contents of the first file of a set, and of a second file.
 static CONTENTS: [&[u8]; 5] = [
     b"\0\0\0\0\0\0\0\0",
     b"aaaaa",
@@ -26,7 +26,7 @@ static CONTENTS: [&[u8]; 5] = [
 
 static SHORT: [&[u8]; 4] = [b"", b"ab", b"a\0", b"aaa"];
 
-// One of each.
+// Returns a content of each, chosen by a number.
 fn some_contents(number: u64) -> [&'static [u8]; 2] {
     [
         CONTENTS[(number % 5) as usize],
@@ -34,7 +34,7 @@ fn some_contents(number: u64) -> [&'static [u8]; 2] {
     ]
 }
 
-// One of the modes.
+// Returns a mode, chosen by a number.
 fn some_mode(number: u64) -> Mode {
     if number % 2 == 0 {
         Mode::Plain
@@ -55,19 +55,19 @@ static FILES: [&[u8]; 8] = [
     b"baaaaa\0\0",
 ];
 
-// One of them.
+// Returns a scanned file, chosen by a number.
 fn some_file(number: u64) -> &'static [u8] {
     FILES[(number % 8) as usize]
 }
 
-// The number that follows on another one that isn't 0.
+// Returns the number that follows a number in a random series. Neither is 0.
 fn xorshift(seed: u64) -> u64 {
     let first = seed ^ (seed << 13);
     let second = first ^ (first >> 7);
     second ^ (second << 17)
 }
 
-// A call by chance.
+// Returns a random call.
 fn some_call(number: u64) -> Call
     ensures { HasBudget result }
 {
@@ -78,7 +78,7 @@ fn some_call(number: u64) -> Call
     }
 }
 
-// Eight calls by chance.
+// Returns eight random calls.
 fn some_calls(alloc: Global, seed: u64) -> Result<Vec<Call>, AllocError>
     ensures { IfOk result (λ calls. All HasBudget calls.items) }
 {
@@ -91,7 +91,7 @@ fn some_calls(alloc: Global, seed: u64) -> Result<Vec<Call>, AllocError>
     Ok(calls)
 }
 
-// A cursor by chance.
+// Returns a random cursor.
 fn some_cursor(seed: u64) -> Cursor {
     cursor((
         ((seed >> 31) % 3) as u32,
@@ -100,7 +100,7 @@ fn some_cursor(seed: u64) -> Cursor {
     ))
 }
 
-// What is searched by chance.
+// Returns a random search.
 fn some_case(seed: u64) -> Case {
     Case {
         contents: some_contents(seed >> 3),
@@ -110,14 +110,14 @@ fn some_case(seed: u64) -> Case {
     }
 }
 
-// Its files, of which one read may fail.
+// Returns the files of a search. One read may fail.
 fn some_shelf(alloc: Global, case: &Case, seed: u64) -> Result<MemShelf, AllocError> {
     let piece = 1 + (seed >> 27) as usize % 3;
     shelf_of(alloc, &case.files, piece, &[(seed >> 43) % 10])
 }
 
-// Wants what comparing gives, also up to a reopening that is refused, which ends the test. The
-// answer is whether a read failed.
+// Checks the results against the model. Ends the test if a reopening was refused memory; the
+// results before that are checked too. Returns whether a read failed.
 fn is_told(rt: &impl Abort, case: &Case, calls: &[Call], done: &Drive) -> bool {
     let answers = done.answers.as_slice();
     holds(rt, is_right(case, calls, answers, done.cursor));
@@ -128,7 +128,7 @@ fn is_told(rt: &impl Abort, case: &Case, calls: &[Call], done: &Drive) -> bool {
     answers.contains(&FAILED)
 }
 
-// Makes these calls; wants what comparing gives. The answer is whether a read failed.
+// Makes these calls and checks the results against the model. Returns whether a read failed.
 fn drives_in(
     rt: &(impl Abort + AllocGlobal),
     case: &Case,
@@ -146,7 +146,7 @@ fn drives_in(
     is_told(rt, case, calls, &done)
 }
 
-// Makes calls by chance over files by chance, of which one read may fail.
+// Makes random calls over random files, of which one read may fail. Returns whether it did.
 fn drives_by_chance(rt: &(impl Abort + AllocGlobal), seed: u64) -> bool {
     let case = some_case(seed);
     let calls = must(rt, some_calls(rt.alloc(), seed));

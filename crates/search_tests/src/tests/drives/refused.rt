@@ -1,4 +1,4 @@
-// Memory that is refused to a drive, and how it is told.
+// Scripts of calls that are refused memory, and what they return.
 ghost use Rattle.std.specs.Prelude.{All};
 ghost use Rattle.parfind.specs.Runs.{HasBudget};
 
@@ -13,8 +13,8 @@ use std::panic::Expect;
 use std::process::Abort;
 use std::test::Fail;
 
-// Calls, and the answers where no memory is refused. The call behind a reopening finds a sighting
-// where that one stands.
+// Calls, and their results if no memory is refused. The call after a reopening finds a match at the
+// cursor of that reopening.
 static UNDISTURBED: &str = "\
 next failed
 reopen reopened
@@ -31,13 +31,13 @@ reopen reopened
 next 0:0:0
 ";
 
-// The cursor at the sighting that a call finds.
+// Returns the cursor of the match that a call finds.
 fn sighted(call: &str) -> Cursor {
     cursor_of(part(call, ' ', 1))
 }
 
-// Wants the answers up to a reopening that was refused, its own behind them, and the cursor where
-// the search stood; gives the next call.
+// Checks the results up to a reopening that was refused memory, the result of the reopening, and
+// the cursor, at which the next call finds a match. Returns the next call.
 fn stopped_at<'s>(rt: &impl Abort, done: &Drive, script: &'s str) -> &'s str {
     let (last, before) = done.answers.as_slice().split_last().expect(rt, "no answer");
     is(rt, last, &Answer::NoMemory);
@@ -49,7 +49,7 @@ fn stopped_at<'s>(rt: &impl Abort, done: &Drive, script: &'s str) -> &'s str {
     next
 }
 
-// Wants that another search finds the sighting of the next call from there on.
+// Checks that another search, which begins there, finds the match of the next call.
 fn goes_on(rt: &(impl Abort + AllocGlobal), next: &str, index: &Index, shelf: &mut MemShelf) {
     let at = sighted(next);
     let done = must(
@@ -59,7 +59,7 @@ fn goes_on(rt: &(impl Abort + AllocGlobal), next: &str, index: &Index, shelf: &m
     let _ = behind(rt, &done, next);
 }
 
-// Wants what calls came to, a reopening being refused or none.
+// Checks the results of calls, one of which may be a reopening that was refused memory.
 fn came_to(
     rt: &(impl Abort + AllocGlobal),
     done: &Drive,
@@ -82,8 +82,8 @@ fn came_to(
     Err("NoMemory told at a reopening".into())
 }
 
-// Makes these calls once memory was refused before the first. No read was made, so that one that
-// is to fail still fails.
+// Makes these calls after memory was refused before the first. Nothing was read by then, so a read
+// that has to fail still fails.
 fn comes_again(
     rt: &(impl Abort + AllocGlobal),
     calls: &[Call],
@@ -147,14 +147,14 @@ fn searches_zeros(
     came
 }
 
-// The first read fails. Where memory is refused the test ends by that, once it has seen what was
-// left; `tools/checks/refused_tests.sh` refuses it.
+// The first read fails. If memory is refused, the test ends with an error, after it has checked
+// what was left. `tools/checks/refused_tests.sh` refuses the memory.
 #[test]
 fn refused_memory_is_told_where_it_is_wanted(rt: HostRuntime) -> Result<(), Fail> {
     searches_zeros(&rt, 1, UNDISTURBED, (0, 1, 1))
 }
 
-// Where memory is refused to a reopening before anything was read, that is told in the same way.
+// If a reopening is refused memory before anything was read, it returns the same.
 #[test]
 fn refused_memory_is_told_at_a_first_reopening(rt: HostRuntime) -> Result<(), Fail> {
     searches_zeros(&rt, 0, REOPENED_FIRST, (0, 0, 1))

@@ -1,9 +1,11 @@
-// Drives that look for short slices by their own bytes, and for the same ones by whole windows.
+// Scripts of calls that search for short slices by their own bytes, and for the same slices by
+// whole windows.
 use crate::tests::drives::drives_in;
 use parfind::Mode;
 use std::process::Abort;
 
-// Makes the calls of a script over the files of a row, by pieces of one byte and of many.
+// Makes the calls of a script over the files of a row, which are read in pieces of one byte and of
+// many.
 fn drives_each(rt: &(impl Abort + AllocGlobal), row: &str, mode: Mode, script: &str) {
     drives_in(rt, row, 1, &[], mode, script);
     drives_in(rt, row, 64, &[], mode, script);
@@ -54,7 +56,7 @@ next 0:0:2
 next done
 ";
 
-// From the second of them on.
+// The same, from the second match on.
 static TWO_LENGTHS: &str = "\
 next 0:0:1
 next 0:0:2
@@ -86,7 +88,7 @@ reopen reopened
 next done
 ";
 
-// A search that is opened again keeps its mode, and the window is read once more.
+// A search that is opened again keeps its mode, and reads the window once more.
 #[test]
 fn a_drive_goes_on_at_a_place_of_three_lengths(rt: HostRuntime) {
     let row = "ab,abcd,a|abcd|0:0:0|1:0:0|16";
@@ -109,7 +111,8 @@ next 0:3:0
 next done
 ";
 
-// The window of the short slice ends with the fifth byte, and that of the whole one with the last.
+// The window of the short slice ends with the fifth byte, and the window of the whole slice with
+// the last.
 #[test]
 fn a_drive_for_short_slices_goes_on_after_a_fault(rt: HostRuntime) {
     let row = "abcdef|Xefabcd|0:0:0|1:0:0";

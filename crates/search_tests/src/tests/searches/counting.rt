@@ -1,4 +1,4 @@
-// How many digests may be taken.
+// The number of MD5s that may be computed.
 ghost use Rattle.std.specs.Prelude.{◌≡◌, ◌∷◌, [], true, false};
 ghost use Rattle.parfind.specs.declared.tracks.mode.Mode.TheVariants.{Plain, Tails};
 ghost use Rattle.parfind.specs.Marks.{marks, missing_count};
@@ -6,7 +6,8 @@ ghost use Rattle.parfind.specs.Moves.{end_of};
 ghost use Rattle.parfind.specs.Order.{origin};
 ghost use Rattle.search_tests.specs.Worked.{two_slices, equal_slices, three_lengths};
 
-// What the word counts that bounds the digests of a search. Does nothing.
+// Does nothing. Its clauses give the values of `marks`, which limits the MD5s of a search, for
+// worked searches.
 fn marks_law()
     ensures two { marks two_slices origin (end_of (10 ∷ [])) ≡ 2 }
     ensures equal { marks equal_slices origin (end_of (6 ∷ [])) ≡ 6 }
@@ -20,7 +21,8 @@ fn marks_are_the_lengths_at_places_with_the_crc_of_a_slice(_rt: HostRuntime) {
     marks_law();
 }
 
-// What the word counts that bounds the digests of a survey. Does nothing.
+// Does nothing. Its clauses give the values of `missing_count`, which limits the MD5s of a survey,
+// for worked searches.
 fn missing_law()
     ensures none { missing_count two_slices (false ∷ false ∷ []) ≡ 2 }
     ensures one { missing_count two_slices (true ∷ false ∷ []) ≡ 1 }
@@ -29,7 +31,7 @@ fn missing_law()
     ensures both { missing_count equal_slices (true ∷ true ∷ []) ≡ 0 }
 {}
 
-// The same where slices of three lengths are looked for at one place. Does nothing.
+// Does nothing. Its clauses give the same for slices of three lengths at one position.
 fn missing_lengths_law()
     ensures none { missing_count (three_lengths Tails) (false ∷ false ∷ false ∷ []) ≡ 3 }
     ensures one { missing_count (three_lengths Tails) (true ∷ false ∷ false ∷ []) ≡ 2 }

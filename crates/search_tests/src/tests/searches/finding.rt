@@ -1,4 +1,4 @@
-// Sightings that a search finds.
+// Matches that a search finds.
 use crate::tests::fixtures::must;
 use crate::tests::searches::searching::{walks, walks_each};
 use parfind::{Mode, StartFault};
@@ -38,8 +38,8 @@ fn equal_slices_are_seen_at_every_offset(rt: HostRuntime) -> Result<(), StartFau
     walks(&rt, EQUAL, 64, 0, Mode::Plain)
 }
 
-// A search for two slices in a file where a read fails before the first is seen: it stands no
-// further than that one, and both are found after it.
+// A search for two slices in a file. A read fails before the first match is found. The cursor is
+// then not after that match, and later calls find both matches.
 static FAILING: &str =
     "abcdefgh|XXabcdefgh|0:0:0|next failed ..=0:2:0,next 0:2:0,next 0:6:1,next done";
 

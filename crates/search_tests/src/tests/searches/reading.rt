@@ -20,26 +20,26 @@ fn each_byte_is_read_once(rt: HostRuntime) {
     walks_each(&rt, ONCE, 64, 0, Mode::Plain);
 }
 
-// A file that is read at once.
+// Returns a shelf of a file that one read gives whole.
 fn one_long(rt: &(impl Abort + AllocGlobal)) -> MemShelf {
     let file = long_file(rt, b"", 20_000);
     must(rt, file_of(rt.alloc(), &file, 20_000, &[0]))
 }
 
-// Goes along a walk in it.
+// Makes the steps of a walk in it.
 fn walks_long(rt: &(impl Abort + AllocGlobal), walk: &str) {
     let index = must(rt, index_of(rt.alloc(), b"abcdefgh"));
     let shelf = one_long(rt);
     must(rt, walks_in(rt, Search { index, shelf }, walk, Mode::Plain));
 }
 
-// A step of one place in it.
+// A step of one position in it.
 #[test]
 fn a_step_reads_little_further_than_its_window(rt: HostRuntime) {
     walks_long(&rt, "||0:0:0|1 spent 0:1:0|4101");
 }
 
-// Walks in files whose first read fails, and into which no slice fits, or not into their rest.
+// Walks in files whose first read fails. No slice fits into them, or into the rest of them.
 static NO_FIT: &str = "\
 abcdefgh|abc,,ef|0:0:0|2 spent 0:2:0,2 spent 2:1:0,1 spent 2:2:0,1 done 3:0:0|0
 abcdefgh|abc,,ef|0:0:0|18446744073709551615 done 3:0:0|0
@@ -51,7 +51,8 @@ fn what_no_slice_fits_into_is_not_read(rt: HostRuntime) {
     walks_each(&rt, NO_FIT, 64, 1, Mode::Plain);
 }
 
-// Goes along a walk in two files of which nothing is read, for slices without sums.
+// Makes the steps of a walk for slices without checksums, in two files, and checks that nothing is
+// read.
 fn reads_nothing(rt: &(impl Abort + AllocGlobal), walk: &str) {
     let index = must(rt, index_with(rt.alloc(), 8, b""));
     let shelf = must(rt, files_in(rt.alloc(), "abcdefgh,abcd", 64, &[1]));

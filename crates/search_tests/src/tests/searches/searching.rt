@@ -1,4 +1,4 @@
-// Calls of a search of files in memory.
+// Calls to a search over files in memory.
 ghost use Rattle.std.specs.Prelude.{IfOk};
 ghost use Rattle.parshelf.specs.Memory.{shelf_state_of};
 ghost use Rattle.parfind.specs.Finders.{BelongsTo};
@@ -12,12 +12,13 @@ use parwindow::Index;
 use std::alloc::Global;
 use std::process::Abort;
 
-// A walk is a text with bars between: the bytes of the file whose slices are looked for, the files
-// with commas between, where the search begins, its steps with commas between, and how many bytes
-// are handed over at most, if that is wanted. A step has spaces between: its budget, or `next`, what
-// it gives, and the cursor then, if that is wanted, or the furthest one behind `..=`.
+// A walk is a text with bars between its fields: the bytes of the file whose slices are searched
+// for; the files, separated by commas; the cursor at which the search begins; its steps, separated
+// by commas; and the greatest number of bytes that may be read, if that has to be checked. A step
+// has spaces between its parts: its budget, or `next`; its result; and the cursor after it, if that
+// has to be checked, or after `..=` the greatest cursor that is allowed.
 
-/// A search from a cursor on.
+/// Opens a search from a cursor on.
 pub fn opened(
     alloc: Global,
     index: &Index,
@@ -30,7 +31,7 @@ pub fn opened(
     Finder::open(alloc, index, shelf, at, mode)
 }
 
-// What a search gives by a step with the budget that a text names, or by `next`.
+// Returns the result of a step with the budget that a text names, or of `next`.
 fn gives(
     finder: &mut Finder,
     index: &Index,
@@ -46,8 +47,8 @@ fn gives(
     }
 }
 
-// Wants the cursor that a text names, or one no further than that behind `..=`, or any where there
-// is no text.
+// Checks that a cursor is the one that a text names, or at most the one after `..=`. An empty text
+// allows any cursor.
 fn stands(rt: &impl Abort, at: Cursor, wanted: &str) {
     if let Some((_, most)) = wanted.split_once("..=") {
         holds(rt, at <= cursor_of(most));
@@ -56,7 +57,7 @@ fn stands(rt: &impl Abort, at: Cursor, wanted: &str) {
     }
 }
 
-/// Takes the steps of a walk.
+/// Makes the steps of a walk and checks their results.
 pub fn steps_give(
     rt: &impl Abort,
     finder: &mut Finder,
@@ -73,7 +74,7 @@ pub fn steps_give(
     }
 }
 
-// Goes along a walk in files and for slices that are there already.
+// Makes the steps of a walk over these files and for these slices.
 fn walks_with(
     rt: &(impl Abort + AllocGlobal),
     index: &Index,
@@ -88,7 +89,7 @@ fn walks_with(
     Ok(())
 }
 
-/// Goes along a walk in a search that is there already.
+/// Makes the steps of a walk in this search.
 pub fn walks_in(
     rt: &(impl Abort + AllocGlobal),
     mut search: Search,
@@ -100,8 +101,8 @@ pub fn walks_in(
     walked
 }
 
-/// Goes along a walk in files that are read `piece` bytes at a time, where the read of one number
-/// fails, or none of number 0.
+/// Makes the steps of a walk in its files, which are read `piece` bytes at a time. The read with
+/// this number fails; 0 is no read.
 pub fn walks(
     rt: &(impl Abort + AllocGlobal),
     walk: &str,
@@ -112,7 +113,7 @@ pub fn walks(
     walks_in(rt, search_of(rt, walk, piece, &[failing]), walk, mode)
 }
 
-/// Goes along each walk of a table.
+/// Makes the steps of each walk of a table.
 pub fn walks_each(
     rt: &(impl Abort + AllocGlobal),
     table: &str,

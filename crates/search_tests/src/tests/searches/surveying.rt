@@ -14,12 +14,13 @@ use parwindow::{Index, Window};
 use std::alloc::AllocError;
 use std::process::Abort;
 
-// A row has bars between: the bytes of the file whose slices are looked for, the files with commas
-// between or `-` for none, what is found before and after the survey, a plus or a minus for each slice,
-// the number of the file whose read fails, if one does, and how many bytes are handed over at most,
-// if that is wanted.
+// A row has bars between its fields: the bytes of the file whose slices are searched for; the
+// files, separated by commas, or `-` for none; the slices that are found before the survey, and
+// after it, with a plus or a minus for each; the number of the file whose read fails, if one does;
+// and the greatest number of bytes that may be read, if that has to be checked.
 
-// What a survey gives where the read of the file fails that a text names, or where there is no text.
+// Returns the result of a survey in which a read of the file with this number fails. An empty text
+// means that none fails.
 fn answer_named(file: &str) -> Result<(), SurveyFault> {
     if file.is_empty() {
         return Ok(());
@@ -27,7 +28,7 @@ fn answer_named(file: &str) -> Result<(), SurveyFault> {
     Err(SurveyFault::Read(small_number_of(file), ReadFault::Failed))
 }
 
-// Whether a plus stands at a place.
+// Whether there is a plus at a place of a text.
 fn mark_at(marks: &str, place: usize) -> bool {
     match marks.as_bytes().get(place) {
         Some(mark) => *mark == b'+',
@@ -35,13 +36,13 @@ fn mark_at(marks: &str, place: usize) -> bool {
     }
 }
 
-// Whether a plus stands at each of the first four places.
+// Returns for each of the first four places whether it has a plus.
 fn marks_of(marks: &str) -> [bool; 4] {
     let (first, second) = (mark_at(marks, 0), mark_at(marks, 1));
     [first, second, mark_at(marks, 2), mark_at(marks, 3)]
 }
 
-// A survey in a window that was used before, and is made for both modes.
+// Surveys in a window that was used before and that fits both modes.
 fn surveyed_in(
     rt: &(impl Abort + AllocGlobal),
     index: &Index,
@@ -61,14 +62,14 @@ fn surveyed_in(
     }
 }
 
-// Which window a survey has.
+// Which window a survey uses.
 #[derive(Clone, Copy)]
 enum In {
     OwnWindow,
     UsedWindow,
 }
 
-// Surveys files for the slices of an index, by what a row has as found.
+// Surveys files for the slices of an index. `marks` says which slices are found already.
 fn surveyed(
     rt: &(impl Abort + AllocGlobal),
     index: &Index,
@@ -86,7 +87,7 @@ fn surveyed(
     }
 }
 
-// Surveys files for the slices of an index; wants what the row says.
+// Surveys files for the slices of an index, and checks what the row says.
 fn surveys(
     rt: &(impl Abort + AllocGlobal),
     index: &Index,
@@ -106,7 +107,7 @@ fn surveys(
     Ok(())
 }
 
-// Surveys by a row in a search that is there already.
+// Surveys by a row in this search.
 fn survey_finds(
     rt: &(impl Abort + AllocGlobal),
     mut search: Search,
@@ -119,8 +120,8 @@ fn survey_finds(
     surveyed
 }
 
-// Surveys the files of a row, which are read `piece` bytes at a time; the read of one number fails,
-// or none of number 0.
+// Surveys the files of a row, which are read `piece` bytes at a time. The read with this number
+// fails; 0 is no read.
 fn marks(
     rt: &(impl Abort + AllocGlobal),
     row: &str,
@@ -132,7 +133,7 @@ fn marks(
     survey_finds(rt, search_of(rt, row, piece, &[failing]), row, way, mode)
 }
 
-// Surveys by each row of a table, by pieces of one byte and of many.
+// Surveys by each row of a table, in pieces of one byte and of many.
 fn found_each(rt: &(impl Abort + AllocGlobal), table: &str, mode: Mode) {
     for row in table.lines() {
         if is_row(row) {
@@ -180,14 +181,14 @@ fn nothing_is_read_if_each_slice_is_found(rt: HostRuntime) {
     must(&rt, marks(&rt, row, 64, 1, In::UsedWindow, Mode::Plain));
 }
 
-// A file with two slices near its beginning, and much behind them; behind it another file has both
-// slices.
+// Returns a shelf of two files. The first has two slices near its beginning and many bytes after
+// them. The second has both slices.
 fn long_shelf(rt: &(impl Abort + AllocGlobal), piece: usize) -> MemShelf {
     let long = long_file(rt, b"xxabcdefgh", 20_010);
     must(rt, shelf_of(rt.alloc(), &[&long, b"abcdefgh"], piece, &[]))
 }
 
-// Surveys them.
+// Surveys these files.
 fn stops(rt: &(impl Abort + AllocGlobal), row: &str, piece: usize) {
     let index = must(rt, index_of(rt.alloc(), b"abcdefgh"));
     let shelf = long_shelf(rt, piece);
@@ -198,7 +199,7 @@ fn stops(rt: &(impl Abort + AllocGlobal), row: &str, piece: usize) {
     );
 }
 
-// At most 4,096 bytes are read behind those in front of the last slice and its own four.
+// The survey reads at most 4,096 bytes after those before the last slice and its own four.
 #[test]
 fn reading_stops_once_each_missing_slice_is_found(rt: HostRuntime) {
     stops(&rt, "||--|++||4106", 1);
@@ -206,8 +207,8 @@ fn reading_stops_once_each_missing_slice_is_found(rt: HostRuntime) {
     stops(&rt, "||-+|++||4102", 64);
 }
 
-// How many bytes a read gives at most, the numbers of the first and the last read of which each
-// fails in turn, and what comes of it.
+// The greatest number of bytes of a read, the numbers of the first and the last read of which each
+// fails in turn, and the row.
 static FAILURES: [(usize, u64, u64, &str); 8] = [
     (1, 1, 4, "abcdefghijkl|abcd,XXefghijkl|---|---|0"),
     (1, 5, 10, "abcdefghijkl|abcd,XXefghijkl|---|+--|1"),
@@ -220,7 +221,7 @@ static FAILURES: [(usize, u64, u64, &str); 8] = [
     (1, 9, 9, "abcdefgh|abcdefghX|--|++|"),
 ];
 
-// Surveys by a row, in each run another read failing.
+// Surveys by a row once for each of these reads, which fails.
 fn fails_in_turn(rt: &(impl Abort + AllocGlobal), row: &str, piece: usize, first: u64, last: u64) {
     for failing in first..=last {
         for way in [In::UsedWindow, In::OwnWindow] {
@@ -247,7 +248,7 @@ ij,ij|abX,Xij|+-|++||6
 abcdefghijkl|efgh,XXX|+--|++-||7
 ";
 
-// Surveys in windows of their own by each row of a table.
+// Surveys by each row of a table, in windows that the survey makes.
 fn found_own(rt: &(impl Abort + AllocGlobal), table: &str, mode: Mode) {
     for row in table.lines() {
         if is_row(row) {
@@ -263,7 +264,7 @@ fn a_survey_looks_for_missing_slices(rt: HostRuntime) {
     found_own(&rt, LEFT, Mode::Tails);
 }
 
-// Surveys in windows of their own: of files of which the first read fails, and of others.
+// Surveys in windows that the survey makes, first with a read that fails, then without one.
 #[test]
 fn a_survey_finds_what_a_search_finds(rt: HostRuntime) -> Result<(), AllocError> {
     marks(

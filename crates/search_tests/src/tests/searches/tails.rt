@@ -1,4 +1,4 @@
-// Short slices that a search looks for by their own bytes, and the same ones by whole windows.
+// Searches for short slices by their own bytes, and for the same slices by whole windows.
 use crate::tests::fixtures::{cursor_of, field, is_at_most, is_row, must, search_of};
 use crate::tests::searches::searching::{opened, steps_give, walks_each};
 use parfind::{Cursor, Mode, StartFault};
@@ -58,7 +58,7 @@ ab,bc|abcX|0:0:0|next done 1:0:0|4
 abcdef|Xe,f,efX|0:0:0|next done 3:0:0|5
 ";
 
-// Each byte is handed over once, whatever the number of lengths.
+// Each byte is read once, for any number of lengths.
 #[test]
 fn short_slices_are_seen_by_their_own_bytes(rt: HostRuntime) {
     walks_each(&rt, TAILS, 1, 0, Mode::Tails);
@@ -94,8 +94,9 @@ fn a_search_for_short_slices_goes_on_after_a_failed_read(rt: HostRuntime) {
     walks_each(&rt, FAILING, 1, 4, Mode::Tails);
 }
 
-// A search in one mode, which is given up where it stands and goes on in the other one: the slices
-// and the files of a row, where it begins, its steps in both, and how many bytes are handed over.
+// Searches that begin in one mode, are dropped, and go on in the other mode: the slices and the
+// files, the cursor at which the search begins, its steps in both modes, and the greatest number of
+// bytes read.
 static OVER_TO_WHOLE: &str = "\
 ab,abcd,a|abcd|0:0:0|next 0:0:0 0:0:1|next 0:0:1,next done 1:0:0|8
 ab,abcd,a|abcd|0:0:1|next 0:0:1,next 0:0:2|next done 1:0:0|8
@@ -110,7 +111,7 @@ abcdef|Xefabcdef|0:0:0|1 spent 0:1:0|next 0:1:1,next 0:3:0,next 0:7:1,next done 
 abcdef|Xefabcdef|0:0:0|next 0:3:0|next 0:7:1,next done 1:0:0|15
 ";
 
-// Takes steps from a cursor on in a mode; gives the cursor behind them.
+// Makes steps from a cursor on in a mode. Returns the cursor after them.
 fn goes(
     rt: &(impl Abort + AllocGlobal),
     index: &Index,
@@ -124,7 +125,7 @@ fn goes(
     Ok(finder.cursor())
 }
 
-// Goes along a row in one mode, and on in the other.
+// Makes the steps of a row in one mode, and then in the other.
 fn goes_over(rt: &(impl Abort + AllocGlobal), row: &str, mode: Mode, other: Mode) {
     let mut search = search_of(rt, row, 64, &[]);
     let (index, shelf) = (&search.index, &mut search.shelf);
@@ -135,7 +136,7 @@ fn goes_over(rt: &(impl Abort + AllocGlobal), row: &str, mode: Mode, other: Mode
     drop(search);
 }
 
-// Does so by each row of a table.
+// Makes them for each row of a table.
 fn goes_over_each(rt: &(impl Abort + AllocGlobal), table: &str, mode: Mode, other: Mode) {
     for row in table.lines() {
         if is_row(row) {

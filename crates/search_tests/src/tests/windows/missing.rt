@@ -1,4 +1,4 @@
-// Indexes of the slices that are missing.
+// Indexes of the missing slices.
 use crate::tests::fixtures::{index_with, is, must};
 use crate::tests::windows::told::{
     AB, AB_CRC, ABCD, ABCD_CRC, EQUAL_BYTES, TEN_BYTES, Told, says_first,
@@ -6,7 +6,7 @@ use crate::tests::windows::told::{
 use parwindow::Index;
 use std::process::Abort;
 
-// What is left of an index says all of this, and the index as before all of the other.
+// Checks what an index says, and what the smaller index of its missing slices says.
 fn leaves(
     rt: &(impl Abort + AllocGlobal),
     index: &Index,
@@ -21,7 +21,7 @@ fn leaves(
     drop(missing);
 }
 
-// Slices 0 and 1 of ten bytes are equal; the third one is shorter.
+// Statements about the slices of ten bytes. Slices 0 and 1 are equal, and the third one is shorter.
 static ALL: [Told; 4] = [
     Told::NextMatch(ABCD_CRC, ABCD, 0, Some(0)),
     Told::NextMatch(AB_CRC, AB, 0, Some(2)),
@@ -79,7 +79,8 @@ fn slices_that_are_found_are_looked_for_no_more(rt: HostRuntime) {
     drop(index);
 }
 
-// `ab` and two zeros, and `ab`: equal but for their own lengths.
+// One of these slices is left: `ab` with two zeros, and `ab`. They are equal except for their
+// unpadded lengths.
 static WHOLE_LEFT: [Told; 5] = [
     Told::NextMatch(AB_CRC, AB, 0, Some(0)),
     Told::NextMatchOf(AB_CRC, AB, 4, Some(0)),

@@ -11,7 +11,7 @@ const TEXT_CRC: u32 = 0x414f_a339;
 
 const TEXT_MD5: u128 = 0x9e107d9d372bb6826bd81d3542a419d6;
 
-// How many first bytes of the text there are, and their CRC-32, as zlib tells it.
+// A number of first bytes of the text, and their CRC-32, as zlib computes it.
 static FRONTS: [(usize, u32); 11] = [
     (0, 0),
     (1, 0xbe04_7a60),
@@ -26,17 +26,17 @@ static FRONTS: [(usize, u32); 11] = [
     (43, TEXT_CRC),
 ];
 
-// The first bytes of the text.
+// Returns the first bytes of the text.
 fn front(count: usize) -> &'static [u8] {
     TEXT.get(..count).unwrap_or(TEXT)
 }
 
-// What stands behind these in the text.
+// Returns the bytes after these in the text.
 fn behind(count: usize) -> &'static [u8] {
     TEXT.get(count..).unwrap_or(&[])
 }
 
-// A window takes a piece for which it has room.
+// Extends a window by a piece that fits into it.
 fn takes(rt: &impl Abort, window: &mut Window, piece: &[u8])
     ensures { window.new.tails ≡ window.old.tails }
 {
@@ -51,7 +51,7 @@ fn the_crc_of_a_piece_is_that_of_its_bytes(rt: HostRuntime) {
     }
 }
 
-// A window takes so many bytes of the text and then the others, and has the sums of all.
+// Checks the checksums of a window that takes `count` bytes of the text, and then the rest of it.
 fn takes_both(rt: &impl Abort, window: &mut Window, count: usize) {
     window.clear();
     takes(rt, window, front(count));
@@ -72,7 +72,7 @@ fn a_window_takes_a_text_in_two_pieces_cut_anywhere(rt: HostRuntime) {
     }
 }
 
-// The first byte of a piece is the first that falls out, and a byte behind it counts as ever.
+// The first byte of a piece falls out first, and a byte pushed after the piece counts as always.
 #[test]
 fn a_piece_falls_out_byte_by_byte(rt: HostRuntime) {
     let mut window = must(&rt, Window::new(rt.alloc(), 43));
@@ -82,10 +82,11 @@ fn a_piece_falls_out_byte_by_byte(rt: HostRuntime) {
     is(&rt, &window.crc(), &0x7c87_484e);
 }
 
-// The CRC-32 of the first one, 8, 9 and 15 bytes of the text and of zeros up to 16.
+// The CRC-32s of the first byte of the text, of the first 8, 9 and 15 bytes, each with zeros up to
+// 16 bytes.
 static TAILS: [u32; 4] = [0xf0d3_cfb6, 0xbee2_4d92, 0x3363_f17f, 0xf375_0ab4];
 
-// The CRC-32s that its tails have.
+// Returns the CRC-32s of the tails of a window.
 fn tails_of(window: &Window) -> [u32; 4]
     requires tails { window.now.tails ≡ 1 ∷ 8 ∷ 9 ∷ 15 ∷ [] }
     requires long { 15 ≤ length window.now.content }
@@ -98,7 +99,8 @@ fn tails_of(window: &Window) -> [u32; 4]
     ]
 }
 
-// A window of 16 takes so many bytes of the text and then others up to 16; its tails have their sums.
+// Checks the tails of a window of 16 bytes that takes `count` bytes of the text, and then more up
+// to 16.
 fn has_tails(rt: &impl Abort, window: &mut Window, count: usize)
     requires { window.old.tails ≡ 1 ∷ 8 ∷ 9 ∷ 15 ∷ [] }
 {

@@ -1,4 +1,5 @@
-// Slices of one file, each of 4 bytes, and where a window stops that looks for them.
+// Slices of one file, each of 4 bytes, and the positions at which a window stops that looks for
+// them.
 use crate::tests::fixtures::{index_with, is, must};
 use crate::tests::windows::told::{
     AB, AB_CRC, ABCD, ABCD_CRC, EQUAL_BYTES, SIX_BYTES, TEN_BYTES, Told, says_first,
@@ -6,10 +7,10 @@ use crate::tests::windows::told::{
 use parwindow::{Index, Window};
 use std::process::Abort;
 
-// Fewer bytes than the sums of any of these files have.
+// Fewer bytes than the checksums of any of these files have.
 static TOO_FEW: [u8; 16] = *b"\xe2\xfc\x71\x4c\x47\x27\xee\x93\x95\xf3\x24\xcd\x2e\x7f\x33\x1f";
 
-// An index of the slices of a file of this length with these sums says all of this.
+// Checks what an index of the slices of a file of this length with these checksums says.
 fn index_says(rt: &(impl Abort + AllocGlobal), length: u64, sums: &[u8], rows: &[Told]) {
     let index = must(rt, index_with(rt.alloc(), length, sums));
     is(rt, &says_first(&index, rows), &rows.len());
@@ -151,7 +152,7 @@ fn a_slice_is_missing_that_fits_and_is_not_found(rt: HostRuntime) {
     index_says(&rt, 6, &EQUAL_BYTES, &EQUAL_MISSING);
 }
 
-// Pieces, how many of their bytes are taken, and whether a slice ends there.
+// A piece, the number of its bytes that are pushed, and whether a slice ends there.
 static PIECES: [(&[u8], usize, bool); 7] = [
     (b"cdxx", 2, true),
     (b"", 0, true),
@@ -162,7 +163,8 @@ static PIECES: [(&[u8], usize, bool); 7] = [
     (b"abcd", 4, true),
 ];
 
-// A full window takes so many bytes of each piece, and then has the CRC-32 of a slice or of none.
+// Pushes each piece into a full window. Checks the number of pushed bytes, and whether the window
+// then has the CRC-32 of a slice.
 fn takes(rt: &impl Abort, window: &mut Window, index: &Index) {
     for (bytes, count, seen) in &PIECES {
         assert!(rt; window.is_full());
@@ -172,7 +174,7 @@ fn takes(rt: &impl Abort, window: &mut Window, index: &Index) {
     }
 }
 
-// A window that holds `xyab`.
+// Returns a window of four bytes that contains `xyab`.
 fn window_of_four(rt: &(impl Abort + AllocGlobal)) -> Window {
     let mut window = must(rt, Window::new(rt.alloc(), 4));
     for byte in b"xyab" {
@@ -181,7 +183,7 @@ fn window_of_four(rt: &(impl Abort + AllocGlobal)) -> Window {
     window
 }
 
-// It does that, for slices of six bytes.
+// Pushes the pieces into this window, with the slices of six bytes.
 fn a_full_window_takes(rt: &(impl Abort + AllocGlobal)) {
     let index = must(rt, index_with(rt.alloc(), 6, &SIX_BYTES));
     takes(rt, &mut window_of_four(rt), &index);

@@ -1,12 +1,13 @@
-// Windows whose first bytes are looked at too, with zeros in place of the others.
+// Windows with the checksums of their first bytes, in which zeros take the place of the others.
 ghost use Rattle.std.specs.Prelude.{◌≡◌, ◌∷◌, ◌≤◌, [], length};
 
 use crate::tests::fixtures::{is, must};
 use parwindow::Window;
 use std::process::Abort;
 
-// The CRC-32 and the MD5 of the first one, two and three bytes of `abcd` and of zeros up to four,
-// the MD5 as the number that its text is in base 16; then those of `bcde`.
+// The CRC-32 and the MD5 of the first byte, the first two and the first three bytes of `abcd`, each
+// with zeros up to four bytes. The MD5 is the number that its text is in base 16. Then the same of
+// `bcde`.
 static OF_ABCD: [(u32, u128); 3] = [
     (0xA2DE_4F7A, 0x332ce785e973574a1c5fdaf3eee3f083),
     (0xE98D_5034, 0x66271d2e70372c1b4dc5b46e79a6f001),
@@ -19,7 +20,7 @@ static OF_BCDE: [(u32, u128); 3] = [
     (0xFB6B_3B4E, 0x8abbf31ddb2ec5e91a81059608044583),
 ];
 
-// Both sums of the first bytes, by each of the three lengths.
+// Returns both checksums of the first bytes, for each of the three lengths.
 fn sums_of(window: &mut Window) -> [(u32, u128); 3]
     requires tails { window.old.tails ≡ 1 ∷ 2 ∷ 3 ∷ [] }
     requires long { 3 ≤ length window.old.content }
@@ -51,7 +52,7 @@ fn push_four(window: &mut Window, bytes: [u8; 4])
     let _ = window.push(fourth);
 }
 
-// The first bytes have these sums.
+// Checks these checksums of the first bytes.
 fn has_sums(rt: &impl Abort, window: &mut Window, sums: &[(u32, u128); 3])
     requires { window.old.tails ≡ 1 ∷ 2 ∷ 3 ∷ [] }
 {

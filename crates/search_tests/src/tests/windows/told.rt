@@ -1,4 +1,4 @@
-// What an index says of slices, and the sums of some.
+// Statements of an index about slices, and the checksums of some slices.
 use parfield::Hash16;
 use parwindow::Index;
 
@@ -11,8 +11,8 @@ pub const ABCD_CRC: u32 = 0xed82_cd11;
 
 pub const AB_CRC: u32 = 0xe98d_5034;
 
-/// Both sums of the slices of `abcdabcdab`, as a packet has them, of those of `abcdab`, and of two
-/// that are equal: `ab` with two zeros, and `ab`.
+/// Both checksums of each slice of `abcdabcdab`, as a packet has them; then those of `abcdab`, and
+/// those of two slices that are equal with padding: `ab` with two zeros, and `ab`.
 pub static TEN_BYTES: [u8; 60] =
     *b"\xe2\xfc\x71\x4c\x47\x27\xee\x93\x95\xf3\x24\xcd\x2e\x7f\x33\x1f\x11\xcd\x82\xed\
       \xe2\xfc\x71\x4c\x47\x27\xee\x93\x95\xf3\x24\xcd\x2e\x7f\x33\x1f\x11\xcd\x82\xed\
@@ -26,32 +26,35 @@ pub static EQUAL_BYTES: [u8; 40] =
     *b"\x66\x27\x1d\x2e\x70\x37\x2c\x1b\x4d\xc5\xb4\x6e\x79\xa6\xf0\x01\x34\x50\x8d\xe9\
       \x66\x27\x1d\x2e\x70\x37\x2c\x1b\x4d\xc5\xb4\x6e\x79\xa6\xf0\x01\x34\x50\x8d\xe9";
 
-/// What an index says, the answer last.
+/// Something that an index says. The last value is the result of the call.
 #[derive(Clone, Copy)]
 pub enum Told {
-    // How many bytes each slice has, and how many slices there are.
+    // The slice size, and the number of slices.
     Slices(u64, u32),
-    // How many bytes of a slice are the file's.
+    // The unpadded length of a slice.
     OwnLength(u32, u64),
     // Whether some slice has this CRC-32.
     HasCrc(u32, bool),
-    // The first slice with this CRC-32 from a number on, and with both sums.
+    // The first slice from a number on with this CRC-32, or with both checksums.
     NextCrc(u32, u32, Option<u32>),
     NextMatch(u32, u128, u32, Option<u32>),
-    // How many shorter own lengths there are, and one of them by its number.
+    // The number of unpadded lengths below the slice size, and one of them by its number.
     Tails(u32),
     Tail(u32, u64),
-    // Whether some slice of this own length has this CRC-32, and the first that has both sums.
+    // Whether some slice of this unpadded length has this CRC-32, and the first slice with both
+    // checksums.
     HasCrcOf(u32, u64, bool),
     NextMatchOf(u32, u128, u64, Option<u32>),
-    // Whether a slice fits in where so many bytes are left, and whether one with this CRC-32 does.
+    // Whether some slice has an unpadded length of at most this number of bytes, and whether one
+    // with this CRC-32 has.
     Fits(u64, bool),
     FitsCrc(u32, u64, bool),
-    // Whether a slice with this CRC-32 that fits into so many bytes isn't one of those that are found.
+    // Whether some slice has this CRC-32, isn't marked as found in this list, and has an unpadded
+    // length of at most this number of bytes.
     Misses(u32, &'static [bool], u64, bool),
 }
 
-// The first slice with both sums from a number on.
+// Returns the first slice from a number on with both checksums.
 fn next_match(index: &Index, crc: u32, digest: u128, from: u32) -> Option<u32> {
     index.next_match(crc, Hash16(digest.to_be_bytes()), from)
 }
@@ -80,7 +83,7 @@ fn says(index: &Index, row: Told) -> bool {
     }
 }
 
-/// How many of these the index says up to the first that it doesn't.
+/// Returns the number of rows before the first one that the index doesn't say.
 pub fn says_first(index: &Index, rows: &[Told]) -> usize {
     let mut count: usize = 0;
     for row in rows {

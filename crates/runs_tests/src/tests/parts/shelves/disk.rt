@@ -5,7 +5,7 @@ use std::fs::{File, Files};
 use std::os::unix::fs::FileExt;
 use std::{fs, io, process};
 
-// Writes a file that has the number of a process and a letter in its path, and gives that.
+// Writes a file, and returns its path. The path has the number of a process and a letter.
 fn written(
     rt: &(impl Abort + AllocGlobal + Files),
     own: u32,
@@ -17,7 +17,7 @@ fn written(
     path
 }
 
-// The shelf of files at paths, which are removed once they are open or refused.
+// Opens the files at these paths, and removes them once they are open or refused.
 fn opened(
     rt: &(impl Abort + AllocGlobal + Files<File = File>),
     paths: &[&str],
@@ -31,7 +31,7 @@ fn opened(
     opened
 }
 
-// The shelf of files of three letters, of no byte and of 100,000 bytes.
+// Returns a shelf of three files: of three letters, of no bytes and of 100,000 bytes.
 fn three_files(
     rt: &(impl Abort + AllocGlobal + Files<File = File>),
     own: u32,
@@ -42,12 +42,12 @@ fn three_files(
     opened(rt, &[letters.as_str(), empty.as_str(), long.as_str()])
 }
 
-// The MD5 of the third, as `md5sum` has it.
+// The MD5 of the third file, as `md5sum` computes it.
 const OF_LONG: Hash16 = Hash16(
     *b"\xd5\x81\x6f\x35\x91\x6d\x1d\x94\x82\xfb\x0f\x1e\xc2\x01\x10\x1d",
 );
 
-// Wants that the files are those, and that a part of the second is read.
+// Checks the length and the MD5 of each of these files, and reads a part of the first one.
 fn are_read(rt: &impl Abort, shelf: &mut DiskShelf) {
     is(rt, &digested(rt, shelf, 0), &(3, Ok(OF_ABC)));
     is(rt, &digested(rt, shelf, 1), &(0, Ok(OF_NOTHING)));
@@ -64,7 +64,7 @@ fn files_on_disk_are_read_whole(rt: HostRuntime) -> Result<(), OpenFault> {
     Ok(())
 }
 
-// Reads of two files of one length: the file, the offset, and the two bytes that come.
+// Reads from two files of the same length: the file, the offset, and the two bytes that are read.
 static EACH: [(u32, u64, [u8; 2]); 5] = [
     (0, 1, *b"bc"),
     (1, 1, *b"yz"),
@@ -73,7 +73,7 @@ static EACH: [(u32, u64, [u8; 2]); 5] = [
     (1, 2, *b"zw"),
 ];
 
-// Wants that a read of a file from an offset on gives these bytes.
+// Checks that a read of a file from an offset on gives these bytes.
 fn is_read(rt: &impl Abort, shelf: &mut DiskShelf, file: u32, offset: u64, bytes: [u8; 2]) {
     let mut buf = *b"??";
     assert!(rt; file < shelf.count());
@@ -92,16 +92,17 @@ fn files_on_disk_of_one_length_are_told_apart(rt: HostRuntime) {
     }
 }
 
-// The length of a file of 4 TiB and five bytes, nearly all of them zeros that take no room.
+// The length of a file of 4 TiB and five bytes. Nearly all of it is a hole, which takes no space on
+// the disk.
 const LONG: u64 = (1 << 42) + 5;
 
-// Writes letters at 4 GiB into a file, and lengthens it.
+// Writes letters around 4 GiB into a file, and lengthens the file.
 fn spread(file: &File) -> io::Result<()> {
     file.write_all_at(b"abcdefgh", (1 << 32) - 4)?;
     file.set_len(LONG)
 }
 
-// The shelf of a file of this length with some letters at 4 GiB.
+// Returns a shelf of a file of this length with some letters around 4 GiB.
 fn sparse_file(rt: &(impl Abort + AllocGlobal + Files<File = File>), own: u32) -> DiskShelf {
     let path = written(rt, own, 's', b"first");
     let file = must(rt, File::options().write(true).open(rt, path.as_str()));
@@ -109,8 +110,9 @@ fn sparse_file(rt: &(impl Abort + AllocGlobal + Files<File = File>), own: u32) -
     must(rt, opened(rt, &[path.as_str()]))
 }
 
-// Reads of that file: offsets, the answers, and what is then in a buffer of four. After three of
-// the offsets there is a power of two of bytes. The system refuses the last offset, which is no file's.
+// Reads of that file: the offset, the result, and then the content of a buffer of four bytes. After
+// three of the offsets the rest of the file is a power of two. The system refuses the last offset,
+// which no file can have.
 static SPARSE: [(u64, Result<usize, Failed>, [u8; 4]); 10] = [
     (0, Ok(4), *b"firs"),
     ((1 << 32) - 4, Ok(4), *b"abcd"),
@@ -124,7 +126,7 @@ static SPARSE: [(u64, Result<usize, Failed>, [u8; 4]); 10] = [
     (1 << 63, Err(Failed), *b"????"),
 ];
 
-// Wants that a read has this answer, and that this is then in the buffer.
+// Checks the result of a read, and the content of the buffer after it.
 fn gives(
     rt: &impl Abort,
     shelf: &mut DiskShelf,
@@ -145,8 +147,8 @@ fn a_file_above_4_gib_is_read_at_each_offset(rt: HostRuntime) {
     }
 }
 
-// Reads of a file of three bytes that has grown to six since it was opened: offsets, the answers, and
-// what is then in a buffer of four.
+// Reads of a file of three bytes that has grown to six since it was opened: the offset, the result,
+// and then the content of a buffer of four bytes.
 static GROWN: [(u64, Result<usize, Failed>, [u8; 4]); 5] = [
     (0, Ok(3), *b"abc?"),
     (1, Ok(2), *b"bc??"),
@@ -155,7 +157,7 @@ static GROWN: [(u64, Result<usize, Failed>, [u8; 4]); 5] = [
     (5, Ok(0), *b"????"),
 ];
 
-// The shelf of a file of the letters `abc`, after which `def` is written once it is open.
+// Returns a shelf of a file with the letters `abc`, to which `def` is added once it is open.
 fn grown_file(rt: &(impl Abort + AllocGlobal + Files<File = File>), own: u32) -> DiskShelf {
     let path = written(rt, own, 'g', b"abc");
     let file = must(rt, File::options().write(true).open(rt, path.as_str()));

@@ -2,8 +2,8 @@ use super::*;
 use parfield::Text;
 use parfixtures::shelf_of;
 
-// The names of files, what each holds, where `''` is no byte, and the mark of their list, as Python's
-// `hashlib` has it.
+// The names of files, their contents, of which `''` is none, and the fingerprint of the list, as
+// Python's `hashlib` computes it.
 static LISTS: [(&str, &str, Hash16); 12] = [
     (
         "",
@@ -67,7 +67,7 @@ static LISTS: [(&str, &str, Hash16); 12] = [
     ),
 ];
 
-// The names of a row.
+// Returns the names of a row.
 fn names_of(rt: &(impl Abort + AllocGlobal), words: &str) -> Vec<String> {
     let mut names = Vec::new(rt.alloc());
     for word in words.split_whitespace() {
@@ -76,7 +76,7 @@ fn names_of(rt: &(impl Abort + AllocGlobal), words: &str) -> Vec<String> {
     names
 }
 
-// The same as texts.
+// Returns the same names as texts.
 fn texts_of(rt: &(impl Abort + AllocGlobal), words: &str) -> Vec<Text> {
     let mut texts = Vec::new(rt.alloc());
     for name in names_of(rt, words) {
@@ -85,12 +85,12 @@ fn texts_of(rt: &(impl Abort + AllocGlobal), words: &str) -> Vec<Text> {
     texts
 }
 
-// The bytes that a word stands for.
+// Returns the bytes that a word stands for.
 fn bytes_of(word: &str) -> &[u8] {
     if word == "''" { b"" } else { word.as_bytes() }
 }
 
-// The files of a row.
+// Returns the files of a row.
 fn files_of(rt: &(impl Abort + AllocGlobal), words: &str) -> MemShelf {
     let mut files = Vec::new(rt.alloc());
     for word in words.split_whitespace() {
@@ -99,13 +99,13 @@ fn files_of(rt: &(impl Abort + AllocGlobal), words: &str) -> MemShelf {
     must(rt, shelf_of(rt.alloc(), &files, 64, &[]))
 }
 
-// Wants this mark of the files of a row, which have these names.
+// Checks the fingerprint of files with these names.
 fn is_any_found<N: Named>(rt: &impl Abort, shelf: &MemShelf, names: &[N], mark: &Hash16) {
     assert!(rt; shelf.count() as usize == names.len());
     is(rt, &list_mark(shelf, names), mark);
 }
 
-// The same of names that are strings, and of texts.
+// Checks it for names that are strings, and for texts.
 fn found(rt: &(impl Abort + AllocGlobal), names: &str, files: &str, mark: &Hash16) {
     let shelf = files_of(rt, files);
     is_any_found(rt, &shelf, &names_of(rt, names), mark);

@@ -1,10 +1,10 @@
-// What comparing each slice at each offset gives.
+// The results of comparing each slice at each offset.
 use crate::tests::drives::FAILED;
 use crate::tests::places::{cursor, sighting};
 use parfind::{Answer, Call, Cursor, Mode, Step};
 
-/// What is searched: the two files whose slices are looked for, the files, from where on and in which
-/// mode.
+/// A search: the contents of the two files whose slices are searched for, the scanned files, the
+/// cursor at which it begins, and its mode.
 #[derive(Clone, Copy)]
 pub struct Case {
     pub contents: [&'static [u8]; 2],
@@ -13,7 +13,7 @@ pub struct Case {
     pub mode: Mode,
 }
 
-// The byte at a place, or zero behind the last one.
+// Returns a byte by its place, or zero after the last one.
 fn byte_at(bytes: &[u8], place: usize) -> u8 {
     match bytes.get(place) {
         Some(found) => *found,
@@ -21,14 +21,15 @@ fn byte_at(bytes: &[u8], place: usize) -> u8 {
     }
 }
 
-// Four bytes, the first of these with zeros behind them.
+// Returns the first four of these bytes, or all of them followed by zeros.
 fn padded(bytes: &[u8]) -> [u8; 4] {
     let (first, second) = (byte_at(bytes, 0), byte_at(bytes, 1));
     [first, second, byte_at(bytes, 2), byte_at(bytes, 3)]
 }
 
-// Whether a slice of these bytes stands there: they lie in the file, and are the same there, or with
-// zeros behind both, four bytes are.
+// Whether a slice with these bytes, without padding, matches at an offset. In both modes its bytes
+// lie in the file. In the plain mode the four bytes at the offset are those of the slice, both
+// padded with zeros. With tails only the slice's own bytes are compared.
 fn stands(file: &[u8], offset: usize, own: &[u8], mode: Mode) -> bool {
     match file.get(offset..) {
         Some(rest) => match mode {
@@ -39,7 +40,7 @@ fn stands(file: &[u8], offset: usize, own: &[u8], mode: Mode) -> bool {
     }
 }
 
-// The first slice from a number on that stands there.
+// Returns the first slice from a number on that matches at an offset.
 fn slice_at(case: &Case, file: &[u8], offset: usize, least: u32) -> Option<u32> {
     let mut number: u32 = 0;
     for content in case.contents.iter() {
@@ -53,7 +54,8 @@ fn slice_at(case: &Case, file: &[u8], offset: usize, least: u32) -> Option<u32> 
     None
 }
 
-// A step without faults, by comparing each slice at each offset, and the cursor behind it.
+// Returns the result of a step without errors, by comparing each slice at each offset, and the
+// cursor after it.
 fn step_from(case: &Case, at: Cursor, budget: u64) -> (Step, Cursor) {
     let mut passed: u64 = 0;
     let mut file: u32 = 0;
@@ -79,7 +81,7 @@ fn step_from(case: &Case, at: Cursor, budget: u64) -> (Step, Cursor) {
     (Step::Done, if at < end { end } else { at })
 }
 
-// How many places there are before a cursor's.
+// Returns the number of positions before that of a cursor.
 fn places_before(case: &Case, at: Cursor) -> u64 {
     let [first, second] = case.files;
     let (first, second) = (first.len() as u64, second.len() as u64);
@@ -90,7 +92,8 @@ fn places_before(case: &Case, at: Cursor) -> u64 {
     }
 }
 
-// Whether a fault may leave a step there: it passes no sighting, and no more places than it may.
+// Whether a step that meets an error may stop at `to`: it passes no match, and no more positions
+// than its budget.
 fn may_stop(case: &Case, at: Cursor, budget: u64, to: Cursor) -> bool {
     let none = match step_from(case, at, u64::MAX).0 {
         Step::Hit(x) => cursor((x.file, x.offset, x.slice)) >= to,
@@ -100,7 +103,7 @@ fn may_stop(case: &Case, at: Cursor, budget: u64, to: Cursor) -> bool {
     none && to >= at && passed <= budget
 }
 
-// The budget of a call, if it is a step.
+// Returns the budget of a call, if it is a step.
 fn budget_of(call: Call) -> Option<u64> {
     match call {
         Call::Step(budget) => Some(budget),
@@ -109,7 +112,8 @@ fn budget_of(call: Call) -> Option<u64> {
     }
 }
 
-// Where a call comes to from a cursor, if it gives this answer; a fault leaves the cursor `to`.
+// Returns the cursor after a call with this result, if the call can have it. An error leaves the
+// cursor at `to`.
 fn after(case: &Case, at: Cursor, call: Call, answer: Answer, to: Cursor) -> Option<Cursor> {
     let Some(budget) = budget_of(call) else {
         let reopens = answer == Answer::Reopened || answer == Answer::NoMemory;
@@ -130,8 +134,8 @@ fn after(case: &Case, at: Cursor, call: Call, answer: Answer, to: Cursor) -> Opt
     }
 }
 
-// Where these calls come to, if they give these answers, one fault at most among them, which leaves
-// the cursor `to`.
+// Returns the cursor after these calls, if they can have these results, with at most one error,
+// which leaves the cursor at `to`.
 fn follows(case: &Case, calls: &[Call], answers: &[Answer], to: Cursor) -> Option<Cursor> {
     let mut at = case.start;
     let mut failed = false;
@@ -146,7 +150,8 @@ fn follows(case: &Case, calls: &[Call], answers: &[Answer], to: Cursor) -> Optio
     Some(at)
 }
 
-/// Whether calls may give these answers and come to this end, wherever a fault left them.
+/// Whether calls can have these results and end at this cursor, for some cursor at which an error
+/// stopped.
 pub fn is_right(case: &Case, calls: &[Call], answers: &[Answer], end: Cursor) -> bool {
     for file in 0..4 {
         for offset in 0..10 {

@@ -1,4 +1,4 @@
-// Short slices that are looked for by their own bytes, and the same ones by whole windows.
+// Surveys for short slices by their own bytes, and for the same slices by whole windows.
 use crate::tests::fixtures::must;
 use crate::tests::searches::surveying::{In, found_each, marks};
 use parfind::Mode;
@@ -52,7 +52,8 @@ fn short_slices_are_found_by_whole_windows(rt: HostRuntime) {
     found_each(&rt, WHOLE, Mode::Plain);
 }
 
-// Surveys the file of a row, which is read `piece` bytes at a time, a read failing.
+// Surveys the file of a row, which is read `piece` bytes at a time. The read with this number
+// fails.
 fn fails(rt: &(impl Abort + AllocGlobal), row: &str, piece: usize, failing: u64) {
     must(
         rt,
@@ -60,7 +61,8 @@ fn fails(rt: &(impl Abort + AllocGlobal), row: &str, piece: usize, failing: u64)
     );
 }
 
-// The window of the first place ends with the fourth byte, and that of the last own bytes behind all.
+// The window of the first position ends with the fourth byte. The window of the last own bytes ends
+// after all of them.
 #[test]
 fn after_a_failed_read_the_short_slices_before_it_are_found(rt: HostRuntime) {
     fails(&rt, "abcdef|Xefabcd|--|--|0|3", 1, 4);
@@ -68,7 +70,7 @@ fn after_a_failed_read_the_short_slices_before_it_are_found(rt: HostRuntime) {
     fails(&rt, "abcdef|Xefabcd,ef|--|++||7", 1, 8);
 }
 
-// Surveys in windows of their own.
+// Surveys in windows that the survey makes.
 #[test]
 fn a_survey_of_short_slices_finds_what_a_search_finds(rt: HostRuntime) -> Result<(), AllocError> {
     let row = "ab,abcd,a|XabcdX|---|+++|";

@@ -2,6 +2,6 @@ use Rattle.std.proofs.Common.{All}
 use Rattle.parfind.specs.Runs.{HasBudget}
 use Rattle.search_tests.proofs.tests.drives.model.some_calls.Given as goal
 
--- each budget so far is above 0
+-- every budget so far is above 0
 abbrev pub invariant-loop : goal.invariant-loop
 invariant-loop l = All HasBudget l.calls.items
