@@ -1,4 +1,5 @@
-# One command each. CRATE picks one crate, as in `make plant CRATE=parfield`.
+# Each target below is one command. CRATE names the crate for those that work on one, as in `make
+# plant CRATE=parfield`.
 SHELL = bash
 PREFIX ?= /usr/local
 MANDIR ?= $(PREFIX)/share/man
@@ -16,13 +17,13 @@ PARV = crates/parv/out/parv
 
 .PHONY: demo build test checks faults bench dist deb check try plant mustfail format install uninstall
 
-# Builds the proved program and runs it on a real damaged set. Its log is out/demo.log.
+# Builds the proved program and runs it on a damaged set. The log is out/demo.log.
 demo:
 	@echo "Builds the proved program, then shows it at work on the damaged set in demo/ (a second)."
 	@$(MAKE) --no-print-directory build
 	@tools/demo.sh
 
-# Proves the program with all below it, and leaves it at crates/parv/out/parv. Its log is
+# Proves the program and the libraries below it, and builds it as crates/parv/out/parv. The log is
 # out/build.log.
 build:
 	@mkdir -p out
@@ -32,45 +33,53 @@ build:
 		| sed -un 's/^rt: chose --jobs [0-9]* for \([a-z_]*\)$$/proving \1/p' \
 		|| { tail -n 40 out/build.log; exit 1; }
 
-# The gate: every proof, edit and test, then the checks of the program that they leave. Its log is
-# out/gate.log.
+# Runs the gate: every proof, mutant and test, and then the checks of the program that this leaves.
+# The log is out/gate.log.
 test:
 	@tools/gate.sh
 
-# The program alone against what it must print. Its log is out/checks.log.
+# Runs only the checks, which compare the built program with what it must print. The log is
+# out/checks.log.
 checks: build
 	@echo "Checks the built program, a few minutes. The log is out/checks.log."
 	@set -o pipefail; tools/checks.sh | tee out/checks.log
 
-# Plants each fault of tools/faults in a copy of its own, and runs what must see it: two at a time, a
-# few minutes each. FAULTS names some. It is no test.
+# Injects each bug of tools/faults into a copy of its own, and runs the check or test that must
+# notice it. Two run at a time, a few minutes each. FAULTS names some of them. It isn't part of the
+# gate.
 faults:
 	@PYTHONDONTWRITEBYTECODE=1 tools/faults/run.py $(FAULTS)
 
-# Processor time of the program against that of par2's, case by case, on small sets or, with
-# SIZE=large, on those whose ratios count. It needs Debian's par2, keeps its sets in $PARV_BENCH
-# (/tmp/parv-bench) and is no test. PARV=/path measures another program, and builds none.
-# BEFORE=/path has another parv run in turn with them: it is measured too, and must answer alike.
+# Compares the time and memory of the program with those of par2, case by case: on small sets or,
+# with SIZE=large, on the sets whose ratios count. It needs Debian's par2, keeps its sets in
+# $PARV_BENCH (/tmp/parv-bench), and isn't part of the gate. PARV=/path measures another program,
+# and builds none. BEFORE=/path measures one more program in turn with these, and wants the same
+# answers from both.
 bench: $(if $(filter file,$(origin PARV)),build)
 	@PYTHONDONTWRITEBYTECODE=1 PARV="$(PARV)" BEFORE="$(BEFORE)" tools/bench/bench.py $(SIZE)
 
+# Checks the proofs of all crates.
 check:
 	rt all check
 
+# Runs the tests of CRATE without a proof.
 try:
 	cd crates/$(CRATE) && rt try --test
 
+# Tries wrong bodies in a copy of CRATE, and lists those that its contracts let through.
 plant:
 	cd crates/$(CRATE) && rt plant
 
+# Checks that each mutant of CRATE is refused at the clause that it is for.
 mustfail:
 	rt must-fail $(CRATE)
 
+# Lays out the sources of all crates, and writes missing imports.
 format:
 	for crate in crates/*/; do (cd $$crate && rt fmt && rt check --fix-imports) || exit 1; done
 
-# Installs what is built, and builds nothing: root needs no toolchain. DESTDIR goes before each
-# path.
+# Installs the built program and what belongs to it. It builds nothing, so root needs no toolchain.
+# DESTDIR is put before each path.
 install:
 	@test -x $(PARV) || { echo "There is no program at $(PARV): 'make build' builds it." >&2; exit 1; }
 	install -D -m 755 $(PARV) "$(DESTDIR)$(PREFIX)/bin/parv"
@@ -88,7 +97,8 @@ install:
 	install -d "$(DESTDIR)$(DOCDIR)/examples"
 	install -m 755 $(EXAMPLES:%=examples/%) "$(DESTDIR)$(DOCDIR)/examples"
 
-# Removes these files, and no folder but that of the commands' own modules, if nothing else is in it.
+# Removes the installed files, and the folders of the commands' own modules if nothing else is in
+# them.
 uninstall:
 	for name in parv $(COMMANDS); do \
 		rm -f "$(DESTDIR)$(PREFIX)/bin/$$name" "$(DESTDIR)$(MANDIR)/man1/$$name.1" \
@@ -101,10 +111,10 @@ uninstall:
 	done
 	rm -f "$(DESTDIR)$(DOCDIR)/FORMATS.md" "$(DESTDIR)$(DOCDIR)/GLOSSARY.md" $(EXAMPLES:%="$(DESTDIR)$(DOCDIR)/examples/%")
 
-# The archive that installs without the toolchain, out/dist/parv-VERSION-x86_64-linux.tar.gz.
+# Makes the archive that installs without the toolchain, out/dist/parv-VERSION-x86_64-linux.tar.gz.
 dist: $(if $(filter file,$(origin PARV)),build)
 	@PARV="$(PARV)" tools/dist.sh
 
-# A Debian package with the same files in Debian's places, out/dist/parv_VERSION-1_amd64.deb.
+# Makes a Debian package with the same files in Debian's places, out/dist/parv_VERSION-1_amd64.deb.
 deb: $(if $(filter file,$(origin PARV)),build)
 	@PARV="$(PARV)" tools/deb.sh

@@ -1,7 +1,9 @@
-# Completion of parv and the commands beside it for bash. The package bash-completion loads it once it is installed below
-# share/bash-completion/completions under each of their names; without that package: . completions/parv.bash
+# Completion of parv and the commands around it for bash. If this file is installed under the name of each command below
+# share/bash-completion/completions, the package bash-completion loads it. Without that package, type: .
+# completions/parv.bash
 
-# The IDs of the sets of the packet files that were typed, or that are in a folder that was typed for parv-repair.
+# Prints the IDs of the sets in the packet files that were typed or, for parv-repair, that are in a folder that was
+# typed.
 _parv_sets() {
     local typed program=${COMP_WORDS[0]} files=()
     [[ ${program##*/} != parv-* ]] || program=${PARV:-parv}
@@ -32,7 +34,7 @@ _parv() {
     verify) options+=' -q --tails' ;;
     *) return ;;
     esac
-    # What is given leaves the options: each but -q stands once, and none behind `--`.
+    # Options that were typed aren't offered again, except -q, and none is offered after `--`.
     for ((i = 2; i < COMP_CWORD; i++)); do
         case ${COMP_WORDS[i]} in
         --) ended=1 && break ;;
@@ -41,7 +43,7 @@ _parv() {
         esac
     done
     if [ -z "$ended" ]; then
-        # `--base=DIR` is three words here.
+        # bash splits `--base=DIR` into three words.
         [ "$option" != = ] || option=${COMP_WORDS[COMP_CWORD - 2]}
         case $option in
         -B | --base)
@@ -62,7 +64,7 @@ _parv() {
             ;;
         esac
     fi
-    # Files as bash itself completes them; where no others are read, packet files before all.
+    # Files as bash itself completes them. If the command reads only packet files, these come before all others.
     compopt -o filenames -o default
     case ${COMP_WORDS[1]} in
     packets | set)
@@ -76,7 +78,8 @@ _parv() {
 
 complete -F _parv parv parv-progress
 
-# Completes a command that has these options, of which each stands once, and then words of this kind.
+# _parv_command OPTIONS KIND: completes a command that has these options, each at most once, and then words of this
+# kind.
 _parv_command() {
     local word=${COMP_WORDS[COMP_CWORD]} option=${COMP_WORDS[COMP_CWORD - 1]} options="$1 --help -h" given ended=''
     [ "$option" != = ] || option=${COMP_WORDS[COMP_CWORD - 2]}

@@ -1,5 +1,5 @@
-# Completion of parv and the commands beside it for fish, which loads it from share/fish/vendor_completions.d, where it is
-# under each of their names.
+# Completion of parv and the commands around it for fish, which loads this file from share/fish/vendor_completions.d,
+# where it has the name of each command.
 
 # Whether the command that was typed is one of these.
 function __parv_is
@@ -12,7 +12,7 @@ function __parv_begins
     test (count (commandline -opc)) -eq 1
 end
 
-# The same, and what is typed is a file: no option and no value of one.
+# Whether the command is one of these and a file is being typed: no option, and no value of an option.
 function __parv_file_of
     __parv_is $argv; or return 1
     set -l words (commandline -opc)
@@ -21,13 +21,14 @@ function __parv_file_of
     and not string match -q -- '-*' (commandline -ct)
 end
 
-# What is typed is the value of one of these options.
+# Whether the value of one of these options is being typed.
 function __parv_behind
     set -l words (commandline -opc)
     test (count $words) -gt 1; and contains -- $words[-1] $argv
 end
 
-# The IDs of the sets of the packet files that were typed, or that are in a folder that was typed for parv-repair.
+# Prints the IDs of the sets in the packet files that were typed or, for parv-repair, that are in a folder that was
+# typed.
 function __parv_sets
     set -l files
     set -l program parv
@@ -70,7 +71,7 @@ for name in parv parv-progress
     complete -c $name -n '__parv_file_of find verify' -F
 end
 
-# Whether a name is typed: no option and no value of one.
+# Whether a name is being typed: no option, and no value of an option.
 function __parv_name
     set -l words (commandline -opc)
     contains -- -- $words; and return 0

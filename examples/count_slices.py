@@ -1,5 +1,5 @@
 #!/usr/bin/env python3
-"""Counts for each searched file how many slices of a PAR2 set are in it, by the lines of `parv find`.
+"""Counts for each searched file how many slices of a PAR2 set it contains, from the lines of `parv find`.
 
 usage: count_slices.py FILES        packet files of the set, and files to be searched
 """
@@ -9,7 +9,7 @@ import subprocess
 import sys
 
 parv = os.environ.get("PARV", "parv")
-files = [name for name in sys.argv[1:] if not os.path.isdir(name)]      # parv takes no folder
+files = [name for name in sys.argv[1:] if not os.path.isdir(name)]      # parv accepts no folder
 packet_files = [name for name in files if name.lower().endswith(".par2")]
 first = subprocess.run([parv, "set", "--", *packet_files], stdout=subprocess.PIPE, text=True)
 found = subprocess.run([parv, "find", "--", *files], stdout=subprocess.PIPE, text=True)

@@ -1,8 +1,10 @@
 #!/usr/bin/env bash
 # usage: checks.sh [NAME..]
-# Runs each check of the built program, crates/parv/out/parv: each script of the folder checks, or those that are
-# named. One a processor runs at once, or RT_JOBS. What one says is shown once it has ended; one that says nothing, or
-# can't be run, has failed. The last line counts what they say.
+#
+# Runs the checks of the built program, crates/parv/out/parv: each script in the folder checks, or
+# those that are named. As many run at once as there are processors, or RT_JOBS. The output of a
+# check is shown when it has ended. A check that prints no result, or can't be run, has failed. The
+# last line counts the passed and failed comparisons.
 set -uo pipefail
 cd "$(dirname "$0")/checks" || exit 1
 # These take long, so they begin first.

@@ -1,7 +1,7 @@
 #!/usr/bin/env bash
-# Makes out/dist/parv_VERSION-1_amd64.deb, a Debian package of the built program and what is installed
-# beside it. The same commit and toolchain make the same bytes: times are those of SOURCE_DATE_EPOCH, of
-# the commit, or, without git, of the release.
+# Makes out/dist/parv_VERSION-1_amd64.deb, a Debian package of the built program and the files that
+# belong to it. The same commit and toolchain give the same bytes: the times of files are
+# SOURCE_DATE_EPOCH, or the time of the commit or, without git, of the release.
 . "$(dirname "$0")/staging.sh"
 command -v dpkg-deb > /dev/null || { echo "There is no dpkg-deb, with which Debian makes packages." >&2; exit 1; }
 umask 022
@@ -16,7 +16,7 @@ trap 'rm -rf "$work"' EXIT
 room=$work/room
 docs=$room/usr/share/doc/parv
 
-# Where Debian has other places than `make install`: completions of zsh, and pages that are compressed.
+# Debian has other places than `make install` for the completions of zsh, and compresses pages.
 stage "$room" PREFIX=/usr ZSHDIR=/usr/share/zsh/vendor-completions
 find "$room/usr/share/man" -type f -exec gzip -n9 {} +
 gzip -n9 < CHANGELOG.md > "$docs/changelog.gz"
@@ -45,7 +45,8 @@ parv: initial-upload-closes-no-bugs *
 parv: unusual-interpreter -S *
 OVERRIDES
 
-# What the program needs of the C library, which is all that it needs; Python is that of the commands.
+# The program needs only the C library, in at least the version found here. Python is for the
+# commands.
 library=$(grep -aoE 'GLIBC_[0-9.]+' "$parv" | sed 's/^GLIBC_//' | sort -Vu | tail -n 1)
 size=$(find "$room" -type f -printf '%s\n' | awk '{ sum += int(($1 + 1023) / 1024) } END { print sum }')
 mkdir "$room/DEBIAN"
@@ -71,6 +72,6 @@ Description: verifier of PAR2 sets that is proved to answer right
 CONTROL
 (cd "$room" && find usr -type f | LC_ALL=C sort | xargs md5sum) > "$room/DEBIAN/md5sums"
 find "$room" -exec touch --no-dereference --date="@$SOURCE_DATE_EPOCH" {} +
-# (By gzip: what xz writes depends on the number of its threads.)
+# (It is compressed by gzip because the bytes that xz writes depend on the number of its threads.)
 dpkg-deb --root-owner-group -Zgzip -z9 --build "$room" "$dist/$package" > /dev/null
 (cd "$dist" && sha256sum "$package")

@@ -1,6 +1,6 @@
 #!/usr/bin/env bash
-# Shows the built program at work on the PAR2 set in demo/, of which one volume is damaged. All that
-# it prints stands in out/demo.log.
+# Shows the built program at work on the PAR2 set in demo/, of which one volume is damaged.
+# out/demo.log gets everything that it prints.
 set -euo pipefail
 cd "$(dirname "$0")/.."
 parv=$PWD/crates/parv/out/parv

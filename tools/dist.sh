@@ -1,7 +1,7 @@
 #!/usr/bin/env bash
-# Makes out/dist/parv-VERSION-x86_64-linux.tar.gz of the built program and what is installed beside
-# it, with SHA256SUMS. It holds nothing of the time or the folder in which it is made, so that the
-# same commit and toolchain make the same bytes.
+# Makes out/dist/parv-VERSION-x86_64-linux.tar.gz of the built program and the files that belong to
+# it, with SHA256SUMS. Nothing in it depends on the time or the folder in which it is made, so the
+# same commit and toolchain give the same bytes.
 . "$(dirname "$0")/staging.sh"
 name=parv-$version-x86_64-linux
 dist=${DIST:-out/dist}

@@ -1,7 +1,7 @@
 #!/usr/bin/env bash
-# The gate: rt ci, and then the checks of the program that it leaves at crates/parv/out/parv, whatever
-# came of rt ci. The last two lines count both. All lines are in out/gate.log. What rt ci keeps of an
-# earlier run depends on the toolchain; docs/GATE.md says what.
+# Runs the gate: `rt ci`, and then, whatever that gives, the checks of the program that it leaves at
+# crates/parv/out/parv. The last two lines count both. out/gate.log gets all lines. docs/GATE.md
+# says what `rt ci` keeps of an earlier run, which depends on the toolchain.
 set -uo pipefail
 cd "$(dirname "$0")/.." || exit 1
 mkdir -p out
@@ -11,15 +11,16 @@ The gate: every proof, mutant and test, then checks of the built program.
 The first run takes two to three hours on four processors. The log is $log.
 END
 
-# How many crates `rt ci` works on at once: one a processor, if each can have 5 GB. Without a number
-# it goes by a guess of their memory, which is three times what they take, and then runs two.
+# The number of crates that `rt ci` works on at once: one for each processor, if each can have 5 GB.
+# Without this number, it guesses the memory of a crate three times too high, and then works on only
+# two.
 available=$(awk '/^MemAvailable:/ { print int($2 / 5000000) }' /proc/meminfo)
 most=$(nproc)
 [ "${available:-1}" -lt "$most" ] && most=${available:-1}
 [ "$most" -ge 1 ] || most=1
 export RT_JOBS=${RT_JOBS:-$most}
 
-# What an earlier run left would be taken for what was proved now.
+# Programs that an earlier run left would be taken for those that are proved now.
 rm -f crates/parv/out/parv crates/*/out/*_tests
 rt ci | tee -a "$log"
 proved=${PIPESTATUS[0]}

@@ -17,7 +17,7 @@ import re
 import subprocess
 import sys
 
-# Each pattern, what to write instead, and a sentence that has it.
+# For each pattern: what to write instead, and a sentence that contains it.
 PATTERNS = [
     (r"(?<!place )(?<!places )(?<!offset )(?<!from )\bwhere\b(?! to\b)(?! (?:it|they|you) (?:is|are|was|were|came) (?:from|to)\b)",
      "`if` or `when` for a condition", "It ends with 6 where a file can't be read."),
@@ -56,18 +56,18 @@ def is_heading_or_code(line):
 
 
 def markdown(text):
-    """The lines of a page that are prose, without what is in backticks."""
+    """Yields the lines of a page that are prose, without the text in backticks."""
     fenced = False
     for number, line in enumerate(text.splitlines(), 1):
         if line.startswith("```"):
             fenced = not fenced
         elif not fenced and not is_heading_or_code(line):
-            # What is bold at the beginning is a heading too.
+            # Bold text at the beginning of a paragraph is a heading too.
             yield number, re.sub(r"^[-> ]*(?:\*\*.*?\*\*)?[-* ]*", "", re.sub(r"`[^`]*`", "`", line))
 
 
 def manual(text):
-    """The lines of a manual page that are prose."""
+    """Yields the lines of a manual page that are prose."""
     literal = False
     for number, line in enumerate(text.splitlines(), 1):
         if line.startswith((".Bd", ".Ed")):
@@ -77,19 +77,20 @@ def manual(text):
 
 
 def usage(text):
-    """The lines of a usage text, without the options and exit statuses before their meanings."""
+    """Yields the lines of a usage text, without the options and exit statuses before their
+    meanings."""
     for number, line in enumerate(text.splitlines(), 1):
         yield number, re.sub(r"^  (?:-\S.*?|\d+)(?:  +|$)", "", line).strip()
 
 
 def pages():
-    """The names of pages and of programs that have a usage text."""
+    """Returns the names of pages, and of programs that have a usage text."""
     forms = ("*.md", "docs/*.md", "docs/*.[1-9]", "demo/*.md", "crates/*/README.md", "commands/bin/*")
     return sorted(name for form in forms for name in glob.glob(form) if os.path.isfile(name))
 
 
 def prose(name):
-    """The lines of a page or usage text that are prose."""
+    """Returns the lines of a page or usage text that are prose."""
     if name.startswith("commands/bin/"):
         run = subprocess.run([name, "-h"], stdin=subprocess.DEVNULL, capture_output=True, text=True, timeout=60)
         if run.returncode != 0 or not run.stdout:
@@ -101,10 +102,10 @@ def prose(name):
 
 
 def hits(lines):
-    """Each hit: the number of its line, what to write instead, and the line."""
+    """Yields each hit: the number of its line, what to write instead, and the line."""
     lines = list(lines)
     for at, (number, line) in enumerate(lines):
-        # A phrase may go on in the next line.
+        # A phrase may continue on the next line.
         after = lines[at + 1][1] if at + 1 < len(lines) and lines[at + 1][0] == number + 1 else ""
         text = " ".join([line, *after.split()[:3]])
         for form, instead, _ in PATTERNS:
@@ -119,7 +120,7 @@ def read_ceilings(path):
 
 
 def check(path):
-    """Whether each page has at most as many hits as its ceiling."""
+    """Prints each page that has more hits than its ceiling, and returns whether there is none."""
     ceilings = read_ceilings(path)
     counts = {name: list(hits(prose(name))) for name in pages()}
     too_many = {name: found for name, found in counts.items() if len(found) > ceilings.get(name, 0)}
@@ -147,7 +148,8 @@ def lower(path):
 
 
 def try_patterns():
-    """Whether each pattern has its sentence, and none has one that is good."""
+    """Prints each pattern that misses its sentence or hits a good one, and returns whether there is
+    none."""
     missed = [sentence for form, instead, sentence in PATTERNS
               if instead not in {hit[1] for hit in hits(markdown("- " + sentence))}]
     wrong = [sentence for sentence in GOOD if list(hits(markdown(sentence)))]

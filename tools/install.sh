@@ -13,7 +13,7 @@ case $prefix in
 esac
 CDPATH='' cd -- "$(dirname -- "$0")"
 sha256sum --quiet -c SHA256SUMS
-# (What the sums don't have isn't of the archive.)
+# (A file that isn't in SHA256SUMS doesn't belong to the archive.)
 sed -n 's/^[0-9a-f]\{64\}  \(\(bin\|lib\|share\)\/.*\)$/\1/p' SHA256SUMS | while IFS= read -r file; do
     mode=644
     case $file in bin/* | share/*.sh | share/*.py) mode=755 ;; esac

@@ -1,5 +1,5 @@
-# Read by dist.sh and deb.sh: the files that both of them pack, below a folder, with BUILD, which names the commit and
-# the kit. PARV names the program.
+# Read by dist.sh and deb.sh: installs the files that both pack into a folder, and writes BUILD,
+# which names the commit and the kit. PARV names the program.
 set -euo pipefail
 cd "$(dirname "${BASH_SOURCE[0]}")/.."
 built=crates/parv/out/parv
@@ -7,7 +7,7 @@ parv=${PARV:-$built}
 [ -x "$parv" ] || { echo "There is no program at $parv: 'make build' builds it." >&2; exit 1; }
 version=$(sed -n 's/^## \([0-9.]*\), .*/\1/p' CHANGELOG.md | head -n 1)
 
-# What the program was built from is known only of the one that `make build` leaves.
+# The commit is known only for the program that `make build` leaves.
 if commit=$(git rev-parse HEAD 2> /dev/null); then
     git diff --quiet HEAD || commit+=", with changes"
 else
@@ -16,7 +16,8 @@ fi
 [ "$parv" -ef "$built" ] || commit="unknown: the program was given"
 kit=$(rt version 2> /dev/null | head -n 1) || kit=unknown
 
-# stage ROOM NAME=VALUE..: installs below ROOM, where the Makefile says, with these of its variables.
+# stage ROOM NAME=VALUE..: installs below ROOM as the Makefile does, with these values of its
+# variables.
 stage() {
     local room=$1
     shift

@@ -1,1 +1,1 @@
-"""What the commands beside parv are made of: one module for each subject."""
+"""The code of the commands around parv, with a module for each subject."""

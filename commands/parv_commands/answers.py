@@ -1,4 +1,4 @@
-"""The one reading of what parv writes: each line as the manual page of parv has it, and nothing else."""
+"""Reads what parv writes. Only this module does so, and it accepts each line only in the form of parv's manual page."""
 
 from __future__ import annotations
 
@@ -9,8 +9,8 @@ from .faults import FILES, Fault, NoProgram
 from .names import unshown
 
 _ID = "[0-9a-f]{32}"
-_NUMBER = "[0-9]{1,18}"     # more than any length or offset has
-_SLICES = "[0-9]{1,5}"      # more than any set has
+_NUMBER = "[0-9]{1,18}"     # more digits than any length or offset has
+_SLICES = "[0-9]{1,5}"      # more digits than the number of slices of any set has
 _SET = re.compile(f"set ({_ID}) size ({_NUMBER}) slices ({_SLICES})")
 _FILE = re.compile(f"file ({_ID}) ({_NUMBER}) ({_SLICES}) (yes|no) (.*)")
 _ASIDE = re.compile(f"aside (.*) ({_NUMBER}) {_NUMBER}")
@@ -21,14 +21,14 @@ _SIGHTING = re.compile(f"(.*) ({_NUMBER}) ({_ID}) ({_SLICES})")
 
 
 class NoAnswer(NoProgram):
-    """What was run isn't parv, or its answer was cut."""
+    """The program that was run isn't parv, or its answer was cut."""
 
     def __init__(self, command: str) -> None:
         super().__init__(FILES, f"what parv {command} has written is no answer of it: is PARV another program?")
 
 
 class SetFile(NamedTuple):
-    """A file of a set, by its line; `known` is whether the checksums of its slices are known."""
+    """A file of a set, from its line. `known` is whether its slices have checksums."""
     id: str
     length: int
     slices: int
@@ -38,7 +38,7 @@ class SetFile(NamedTuple):
 
 
 class SetAnswer(NamedTuple):
-    """A set: its first line, its files, how many recovery slices it has, and the packets that parv has rejected."""
+    """A set: its first line, its files, the number of its recovery slices, and the packets that parv has rejected."""
     line: str
     id: str
     size: int
@@ -48,7 +48,7 @@ class SetAnswer(NamedTuple):
 
 
 class PacketLine(NamedTuple):
-    """The place of a packet: the word of its file, its offset and its length; its kind, and the ID of its set."""
+    """The place of a packet (the word for its file, its offset and its length), its kind, and the ID of its set."""
     word: str
     offset: int
     length: int
@@ -57,14 +57,15 @@ class PacketLine(NamedTuple):
 
 
 class State(NamedTuple):
-    """The state of a file of the set, the word of a scanned file that has it whole, and how many slices were found."""
+    """The state of a file of the set, the word for a scanned file with its whole content, and how many slices were
+    found."""
     state: str
     word: Optional[str]
     found: int
 
 
 class Verdict(NamedTuple):
-    """The answer of verify, and `status`, that of parv."""
+    """The answer of verify. `status` is the exit status of parv."""
     status: int
     states: List[State]
     need: int
@@ -76,7 +77,7 @@ class Verdict(NamedTuple):
 
 
 class Sighting(NamedTuple):
-    """The place of a slice: the word of a file, the offset in it, the ID of the slice's file, and its number there."""
+    """A match: the word for a file, the offset in it, the ID of the slice's file, and the slice's number there."""
     word: str
     offset: int
     id: str
@@ -84,7 +85,7 @@ class Sighting(NamedTuple):
 
 
 def lines_of(text: bytes, command: str) -> List[str]:
-    """The lines of an answer, which ends with a line feed."""
+    """Returns the lines of an answer, which must end with a line feed."""
     try:
         lines = text.decode("ascii").split("\n")
     except UnicodeDecodeError as fault:

@@ -1,4 +1,4 @@
-"""Runs of a program side by side, in one process: a job asks for a run, and goes on with its answer."""
+"""Runs a program several times at once, in one process. A job asks for a run, and continues with its answer."""
 
 from __future__ import annotations
 
@@ -14,12 +14,12 @@ from .faults import Fault
 from .programs import MOST_OUTPUT, PIECE, Answer, Program, Said, running, too_much
 from .signals import interruptible
 
-_SOON = 0.01        # seconds after which it is asked again whether a program has ended that writes nothing any more
+_SOON = 0.01        # seconds between two looks whether a program that has closed its outputs has ended
 
 
 class Call(NamedTuple):
-    """A run that a job asks for: the words, the folder in which it runs, and the folders that are kept open for it.
-    `takes` gets what it writes on standard output as it comes; without it, all of that is in the answer."""
+    """A run that a job asks for: the arguments, the folder in which it runs, and the folders that are kept open for it.
+    `takes` gets its standard output as it comes; without it, all of that is in the answer."""
     words: Sequence[bytes]
     place: int
     kept: Tuple[int, ...]
@@ -37,7 +37,7 @@ class _Run:
         self.out, self.said = bytearray(), Said(program)
         self.takes = call.takes or self._keep
         self.read = 0
-        self.over: Optional[float] = None       # when it was seen to have ended, or has written after that
+        self.over: Optional[float] = None       # when it was found to have ended, or has last written after that
         self.stack = contextlib.ExitStack()
         self.process = self.stack.enter_context(running(program, call.words, call.place, call.kept))
         assert self.process.stdout is not None and self.process.stderr is not None
@@ -49,7 +49,7 @@ class _Run:
             raise too_much(self.program)
 
     def take(self, pipe: IO[bytes], piece: bytes) -> None:
-        """Takes a piece of what it writes on one of its outputs."""
+        """Takes a piece of what the program writes on one of its outputs."""
         self.over = self.over and time.monotonic()
         if pipe is self.process.stdout:
             self.takes(piece)
@@ -57,8 +57,8 @@ class _Run:
             self.said.take(piece)
 
     def status(self) -> Optional[int]:
-        """Its exit status once it has ended, and all that it has written was read. What it leaves running isn't waited
-        for."""
+        """Returns the exit status once the program has ended and everything that it wrote was read. It doesn't wait for
+        programs that this one leaves running."""
         status = self.process.poll()
         if status is None or not self.pipes:
             return status
@@ -67,8 +67,8 @@ class _Run:
 
 
 class Pool:
-    """As many runs of a program as may be at once. Jobs begin in the order in which they wait; one that goes on may
-    have others wait, before all or after them."""
+    """Runs of a program, up to a number at once. Jobs begin in the order in which they wait. A job that continues may
+    put others into the queue, before all or after them."""
 
     def __init__(self, program: Program, most: int) -> None:
         self.program, self.most = program, most
@@ -78,7 +78,7 @@ class Pool:
         self._read, self._shown = 0, 0.0
 
     def run(self, each: Callable[[], None]) -> None:
-        """Runs all jobs to their ends. `each` is called whenever some have gone on."""
+        """Runs all jobs to their ends. `each` is called whenever some have continued."""
         try:
             while self._runs or self.waiting:
                 while self.waiting and len(self._runs) < self.most:
@@ -94,7 +94,7 @@ class Pool:
             self._pipes.close()
 
     def _advance(self, job: Job, go_on: Callable[[], Call]) -> None:
-        """Has a job go on until it asks for a run, which is begun, or ends."""
+        """Lets a job continue until it asks for a run, which is then begun, or ends."""
         try:
             call = go_on()
             while True:
@@ -111,7 +111,7 @@ class Pool:
             self._pipes.register(pipe, selectors.EVENT_READ, run)
 
     def _wait(self) -> None:
-        """Waits until something is written or has ended, and has the jobs of what has ended go on."""
+        """Waits until a program writes or ends, and lets the jobs of those that have ended continue."""
         ready: List[Tuple[selectors.SelectorKey, int]] = []
         with interruptible():
             ready = self._pipes.select(progress.EACH if all(run.pipes for run in self._runs) else _SOON)
@@ -136,7 +136,7 @@ class Pool:
             self._go_on(run, fault)
 
     def _go_on(self, run: _Run, end: Union[Answer, Fault]) -> None:
-        """Ends a run, and has its job go on with the answer or the fault."""
+        """Ends a run, and lets its job continue with the answer or the error."""
         for pipe in run.pipes:
             self._pipes.unregister(pipe)
         self._runs.remove(run)
@@ -146,7 +146,7 @@ class Pool:
         self._advance(job, lambda: job.throw(end) if isinstance(end, Fault) else job.send(end))
 
     def _show(self) -> None:
-        """Tells on a terminal how much all runs have read."""
+        """Shows on a terminal how much all runs have read."""
         if time.monotonic() - self._shown >= progress.EACH:
             for run in self._runs:
                 run.read = max(run.read, progress.read_by(run.process.pid))

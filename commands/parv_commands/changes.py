@@ -1,7 +1,7 @@
-"""Each call of a command that changes what is on a disk. No other module makes one; a test sees to that.
+"""Makes each call by which a command changes a disk. No other module makes one; a test checks that.
 
-Names are parts below an opened folder, so no link is followed. Before and after each call the `observer` is called, by
-which tests count the calls, end a run at each of them, and have each of them fail.
+Names are parts below an opened folder, so no link is followed. The `observer` is called before and after each call.
+Tests use it to count the calls, to end a run at each of them, and to make each of them fail.
 """
 
 from __future__ import annotations
@@ -15,7 +15,7 @@ from typing import Callable, Iterator, Optional, Union
 Observer = Callable[[str, str], None]
 observer: Optional[Observer] = None
 
-_MOST = 1 << 30         # bytes that one call writes at most
+_MOST = 1 << 30         # the greatest number of bytes that one call writes
 _NOREPLACE = 1          # the flag RENAME_NOREPLACE
 _libc = ctypes.CDLL(None, use_errno=True)
 Data = Union[bytes, memoryview]
@@ -43,14 +43,14 @@ def remove_folder(place: int, name: bytes) -> None:
 
 
 def make_file(place: int, name: bytes, mode: int = 0o666) -> int:
-    """Makes a file at a name at which nothing is, and opens it."""
+    """Makes a file at a name that isn't used, and opens it."""
     with _change("create"):
         return os.open(name, os.O_RDWR | os.O_CREAT | os.O_EXCL | os.O_NOFOLLOW | os.O_CLOEXEC, mode, dir_fd=place)
 
 
 @contextlib.contextmanager
 def new_file(place: int, name: bytes) -> Iterator[int]:
-    """Such a file while it is written."""
+    """Makes such a file, and keeps it open while it is written."""
     opened = make_file(place, name)
     try:
         yield opened
@@ -59,13 +59,13 @@ def new_file(place: int, name: bytes) -> Iterator[int]:
 
 
 def make_path(path: bytes) -> None:
-    """Makes a folder with those above it, if it isn't there."""
+    """Makes a folder, and those above it, if they aren't there."""
     with _change("mkdir"):
         os.makedirs(path, exist_ok=True)
 
 
 def open_file(place: int, name: bytes, makes: bool = False) -> int:
-    """Opens a file to be changed, which may be made; a link isn't followed, and a FIFO doesn't wait."""
+    """Opens a file for changes, and can make it. It follows no link, and doesn't wait at a FIFO."""
     flags = os.O_RDWR | os.O_NOFOLLOW | os.O_NONBLOCK | os.O_CLOEXEC | (os.O_CREAT if makes else 0)
     with _change("create" if makes else "open"):
         return os.open(name, flags, 0o666, dir_fd=place)
@@ -106,7 +106,7 @@ def set_mode(opened: int, mode: int) -> None:
 
 
 def set_times(opened: int, accessed: int, changed: int) -> None:
-    """Sets both times of a file, in nanoseconds."""
+    """Sets the times of the last access and change of a file, in nanoseconds."""
     with _change("utimens"):
         os.utime(opened, ns=(accessed, changed))
 
@@ -117,7 +117,7 @@ def sync(opened: int) -> None:
 
 
 def sync_all(place: int) -> None:
-    """Brings all of a file system to the disk."""
+    """Writes everything of a file system to the disk."""
     with _change("syncfs"):
         status = _libc.syncfs(place)
         fault = ctypes.get_errno() if status else 0
@@ -126,7 +126,8 @@ def sync_all(place: int) -> None:
 
 
 def sync_folder(place: int) -> None:
-    """Brings the names in a folder to the disk. (An opened way to a folder can't be synced itself.)"""
+    """Writes the names in a folder to the disk. (It opens the folder again, since one opened with O_PATH can't be
+    synced.)"""
     opened = os.open(b".", os.O_RDONLY | os.O_DIRECTORY | os.O_CLOEXEC, dir_fd=place)
     try:
         sync(opened)
@@ -140,7 +141,7 @@ def remove_file(place: int, name: bytes) -> None:
 
 
 def move(place: int, name: bytes, new_place: int, new_name: bytes) -> None:
-    """Gives a file another name, at which nothing may be: whole, or not at all."""
+    """Gives a file another name, which must not be used yet: completely, or not at all."""
     fault = errno.ENOSYS
     if hasattr(_libc, "renameat2"):
         with _change("rename"):
@@ -152,13 +153,13 @@ def move(place: int, name: bytes, new_place: int, new_name: bytes) -> None:
 
 
 def replace(place: int, name: bytes, new_name: bytes) -> None:
-    """Gives a file a name in the same folder, and takes it from the file that has it: at each moment one has it."""
+    """Gives a file the name of another one in the same folder. At each moment, one of the two files has that name."""
     with _change("rename"):
         os.replace(name, new_name, src_dir_fd=place, dst_dir_fd=place)
 
 
 def _move_by_link(place: int, name: bytes, new_place: int, new_name: bytes) -> None:
-    """The same on a file system that can't do it in one call: the file has both names in between."""
+    """Does the same as `move` on a file system that can't do it in one call. In between, the file has both names."""
     with _change("link"):
         os.link(name, new_name, src_dir_fd=place, dst_dir_fd=new_place, follow_symlinks=False)
     remove_file(place, name)

@@ -10,12 +10,12 @@ from .packets import RecoverySet
 SIGNS = "#+?."
 COLOURS = ["\x1b[32m", "\x1b[33m", "\x1b[35m", "\x1b[31m"]
 PLAIN = "\x1b[0m"
-LINES = 4           # that a file has at most
-NARROW = 48         # characters of a line in which the words of all signs have no room
+LINES = 4           # the greatest number of lines for a file
+NARROW = 48         # a line of fewer characters is too short for the words of all signs
 
 
 def spans(length: int, most: int) -> List[Tuple[int, int]]:
-    """The parts, at most this number, into which a list of this length is cut: their beginnings and ends."""
+    """Cuts a list of this length into at most `most` parts, and returns their beginnings and ends."""
     count = min(length, most)
     return [(at * length // count, (at + 1) * length // count) for at in range(count)]
 
@@ -25,7 +25,7 @@ def cut(name: str, most: int) -> str:
 
 
 def _painted(signs: str, colour: bool) -> str:
-    """A line of signs, which may be in colours."""
+    """Returns a line of signs, in colours if these are asked for."""
     if not colour:
         return signs
     text, last = "", ""
@@ -36,7 +36,7 @@ def _painted(signs: str, colour: bool) -> str:
 
 
 def _lines_of_file(each: Map, width: int, colour: bool) -> List[str]:
-    """The lines of a file: its name and how much of it is there, and the signs of its slices."""
+    """Returns the lines of a file: its name and how much of it is there, and the signs of its slices."""
     parts = spans(len(each.states), width * LINES)
     most = max((end - begin for begin, end in parts), default=1)
     about = f": {tally(each.states)}" + (f"; up to {most} slices a sign" if most > 1 else "")
@@ -48,7 +48,7 @@ def _lines_of_file(each: Map, width: int, colour: bool) -> List[str]:
 
 
 def lines_of(found: RecoverySet, maps: Sequence[Map], width: int, colour: bool) -> List[str]:
-    """The lines of the whole picture."""
+    """Returns the lines of the whole picture."""
     states = all_states(maps)
     signs = [f"{_painted(sign, colour)} {word}" for sign, word in zip(SIGNS, WORDS)]
     lines = [found.line, ("  " if width >= NARROW else "\n").join(signs)]

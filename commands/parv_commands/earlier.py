@@ -1,6 +1,6 @@
-"""The folder `.verify_and_repair` that the script of version 0.4.0 has left, which parv-repair takes the place of.
+"""Deals with the folder `.verify_and_repair`, left by the script of version 0.4.0, which parv-repair has replaced.
 
-Its list of moves is finished as a journal is, and what else is in it is kept."""
+Its list of moves is finished like a journal. Everything else in the folder is kept."""
 
 from __future__ import annotations
 
@@ -29,7 +29,8 @@ def is_there(folder: Folder) -> bool:
 
 
 def _identity(text: bytes) -> Identity:
-    """A file as a list has it: its inode, and mostly when it was made, its length and the time of its last change."""
+    """Returns a file as a list has it: its inode and, mostly, when it was made, its length, and the time of its last
+    change."""
     noted = _NOTED.fullmatch(text)
     if noted is None:
         raise Refused("it is no list of moves")
@@ -39,7 +40,8 @@ def _identity(text: bytes) -> Identity:
 
 
 def steps_of(data: bytes) -> List[Step]:
-    """The steps of a list of moves: a file has its identity, its name and its new name; a folder has only the last."""
+    """Returns the steps of a list of moves. A file has its identity, its name and its new name; a folder has only the
+    last."""
     fields = data.split(b"\0")[:-1]
     steps: List[Step] = []
     for at in range(0, len(fields) - 2, 3):
@@ -54,14 +56,14 @@ def _refused(why: str) -> Fault:
 
 
 def _moves(folder: Folder, inner: Folder, say: Sayer) -> Optional[Moves]:
-    """What the script has noted, if it came so far."""
+    """Returns the moves that the script has recorded, or None if it didn't get that far."""
     if inner.look(LIST) is None:
         return None
     return Moves(folder, NAME, steps_of(read_file(inner, LIST)), say)
 
 
 def recover(folder: Folder, say: Sayer) -> None:
-    """Finishes the moves of the script, and removes its folder; files in it that no move is about are kept."""
+    """Finishes the moves of the script, and removes its folder. Files there that no move is about are kept."""
     if not folder.is_folder(NAME):
         raise _refused("it is a link or no folder")
     with contextlib.closing(folder.inner(NAME)) as inner:
@@ -87,7 +89,7 @@ def recover(folder: Folder, say: Sayer) -> None:
 
 
 def _clear(inner: Folder) -> None:
-    """Removes the links that par2 was given, the list, and folders that are empty."""
+    """Removes the links that par2 was given, the list, and empty folders."""
     for name in OWN_FOLDERS:
         if inner.is_folder(name):
             _clear_links(inner, name)

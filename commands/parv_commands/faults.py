@@ -1,4 +1,4 @@
-"""What ends a command, with its exit status, and what refuses a single file."""
+"""Errors: those that end a command, with its exit status, and those by which it refuses a single file."""
 
 from __future__ import annotations
 
@@ -15,7 +15,7 @@ MEMORY = 8
 
 
 class Fault(Exception):
-    """Ends the command: its exit status, and a line that says why."""
+    """Ends the command, with an exit status and a line that says why."""
 
     def __init__(self, status: int, text: str) -> None:
         super().__init__(text)
@@ -23,16 +23,16 @@ class Fault(Exception):
 
 
 class NoProgram(Fault):
-    """A program can't be run, or what has run isn't the one that it should be."""
+    """A program can't be run, or the one that has run isn't the right one."""
 
 
 class Refused(Exception):
-    """Why one file isn't read, made or moved, while the command goes on."""
+    """The reason why one file isn't read, made or moved. The command goes on."""
 
 
 @contextlib.contextmanager
 def faults_of(action: str, shown: str) -> Iterator[None]:
-    """Ends the command if the system refuses what is done to a file; its name is given as it is shown."""
+    """Ends the command if the system refuses a change or a read of a file, whose name is given as it is shown."""
     try:
         yield
     except OSError as fault:

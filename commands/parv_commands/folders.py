@@ -1,4 +1,4 @@
-"""Opening below a folder's descriptor: no part of a way is a link, and nothing is looked up by a whole path."""
+"""Opens files below a folder's descriptor. No part of a path is a link, and nothing is looked up by a whole path."""
 
 from __future__ import annotations
 
@@ -13,12 +13,12 @@ from .faults import FILES, Fault, faults_of
 from .names import base_of, folders_of, is_plain, numbered, shown
 
 _WAY = os.O_PATH | os.O_DIRECTORY | os.O_NOFOLLOW | os.O_CLOEXEC
-_STRIDE = 32            # folders from one that a walk keeps open to the next
+_STRIDE = 32            # a walk keeps each folder open whose depth is a multiple of this
 _ABSENT = (errno.ENOENT, errno.ENOTDIR, errno.ELOOP, errno.ENAMETOOLONG)
 
 
 def _inner(place: int, part: bytes, makes: bool) -> int:
-    """Opens a folder in a folder; if it isn't there, it may be made first."""
+    """Opens a folder in a folder. If it isn't there, it can be made first."""
     try:
         return os.open(part, _WAY, dir_fd=place)
     except FileNotFoundError:
@@ -30,13 +30,14 @@ def _inner(place: int, part: bytes, makes: bool) -> int:
 
 
 class Identity(NamedTuple):
-    """By what a file is known again: its inode, and if they are known its length and the time of its last change."""
+    """The marks by which a file is recognized: its inode and, if they are known, its length and the time of its last
+    change."""
     inode: int
     length: Optional[int]
     changed: Optional[int]
 
     def fits(self, now: Optional[os.stat_result]) -> bool:
-        """Whether this is the file, as it was."""
+        """Returns whether this is the file, unchanged."""
         return (now is not None and stat.S_ISREG(now.st_mode) and now.st_ino == self.inode
                 and self.length in (None, now.st_size) and self.changed in (None, now.st_mtime_ns))
 
@@ -46,7 +47,7 @@ def identity_of(now: os.stat_result) -> Identity:
 
 
 class Folder:
-    """An opened folder; names are paths below it."""
+    """An opened folder. Names are paths below it."""
 
     def __init__(self, place: int, name: str) -> None:
         self.place, self.shown = place, name
@@ -65,8 +66,8 @@ class Folder:
 
     @contextlib.contextmanager
     def above(self, name: bytes, makes: bool = False) -> Iterator[int]:
-        """The folder that a name is in, while it is used; it is made if that is asked for. There is none for a name
-        that leads out of this one."""
+        """Opens the folder that a name is in, while it is used, and can make it. A name that leads out of this folder
+        is refused."""
         if b"/" in name and not is_plain(name.rpartition(b"/")[0]):
             raise FileNotFoundError(errno.ENOENT, os.strerror(errno.ENOENT))
         place = os.open(b".", _WAY, dir_fd=self.place)
@@ -80,7 +81,7 @@ class Folder:
             os.close(place)
 
     def look(self, name: bytes) -> Optional[os.stat_result]:
-        """What is at a name, if something is; a link is not followed."""
+        """Returns what is at a name, or None. It doesn't follow a link."""
         try:
             with self.above(name) as place:
                 return os.stat(base_of(name), dir_fd=place, follow_symlinks=False)
@@ -93,7 +94,7 @@ class Folder:
         return self.look(name) is None
 
     def free_name(self, name: bytes, taken: Container[bytes] = ()) -> bytes:
-        """A name beside a name, at which nothing is, and which isn't taken."""
+        """Returns an unused name like this one, which isn't in `taken` either."""
         number = 1
         while numbered(name, number) in taken or not self.is_free(numbered(name, number)):
             number += 1
@@ -108,7 +109,7 @@ class Folder:
         return now is not None and stat.S_ISDIR(now.st_mode)
 
     def obstacle(self, name: bytes) -> Optional[str]:
-        """Why no file may be at a name, if something else is there or on the way to it."""
+        """Returns why no file can be at a name: something else is there, or on the way to it. None if nothing is."""
         for folder in folders_of(name):
             now = self.look(folder)
             if now is None:
@@ -121,12 +122,12 @@ class Folder:
         return None
 
     def open_to_read(self, name: bytes) -> int:
-        """Opens a file; a link isn't followed, and a FIFO doesn't wait."""
+        """Opens a file. It follows no link, and doesn't wait at a FIFO."""
         with self.above(name) as place:
             return os.open(base_of(name), os.O_RDONLY | os.O_NOFOLLOW | os.O_NONBLOCK | os.O_CLOEXEC, dir_fd=place)
 
     def inner(self, name: bytes) -> Folder:
-        """A folder below this one."""
+        """Opens a folder below this one."""
         with self.above(name) as place:
             return Folder(os.open(base_of(name), os.O_RDONLY | os.O_DIRECTORY | os.O_NOFOLLOW | os.O_CLOEXEC,
                                   dir_fd=place), f"{self.shown}/{shown(name)}")
@@ -135,7 +136,7 @@ class Folder:
         os.close(self.place)
 
     def entries(self) -> Dict[bytes, os.stat_result]:
-        """What is in the folder, by names, in their order."""
+        """Returns what is in the folder, by names, in their order."""
         found: Dict[bytes, os.stat_result] = {}
         with faults_of("read", self.shown):
             names: List[bytes] = sorted(map(os.fsencode, os.listdir(self.place)))
@@ -145,20 +146,20 @@ class Folder:
         return found
 
     def move(self, name: bytes, new_name: bytes, makes: bool = False) -> None:
-        """Gives a file below the folder another name there, at which nothing may be."""
+        """Gives a file below the folder another name there, which must not be used yet."""
         with self.above(name) as place, self.above(new_name, makes) as new_place:
             changes.move(place, base_of(name), new_place, base_of(new_name))
 
 
 class Descent:
-    """Opens folders below a folder as a walk comes to them, each after that which it is in. On the way to a deep one
-    some are kept open, so the way isn't gone from its beginning each time."""
+    """Opens folders below a folder in the order of a walk, each from the folder that it is in. It keeps some open on
+    the way to a deep one, so that it doesn't begin at the top each time."""
 
     def __init__(self, top: Folder) -> None:
         self.kept: List[Tuple[bytes, Folder]] = [(b"", top)]
 
     def opened(self, path: bytes) -> Folder:
-        """The folder with this path, which has a slash after it or is nothing."""
+        """Opens the folder with this path. The path ends with a slash, or is empty for the top."""
         while not path.startswith(self.kept[-1][0]):
             self.kept.pop()[1].close()
         above, folder = self.kept[-1]

@@ -17,7 +17,7 @@ from .search import Scanned, mark_of_files
 
 
 class Given:
-    """The files of the command line: their words for parv, and their paths."""
+    """The files of the command line: the words by which parv gets them, and their paths."""
 
     def __init__(self, links: Links, files: Sequence[bytes]) -> None:
         self.paths: Dict[str, bytes] = {}
@@ -44,7 +44,7 @@ class Given:
 
 
 class _Opener:
-    """What opens a file of the command line to be read."""
+    """Opens a file of the command line to read it."""
 
     def __init__(self, path: bytes) -> None:
         self.path = path
@@ -54,7 +54,7 @@ class _Opener:
 
 
 def _length_of(path: bytes) -> int:
-    """The length of a regular file."""
+    """Returns the length of a regular file."""
     with faults_of("open", shown(path)):
         now = os.stat(path)
     if not stat.S_ISREG(now.st_mode):
@@ -63,7 +63,7 @@ def _length_of(path: bytes) -> int:
 
 
 def read_given(parv: Parv, given: Given, chosen: Optional[str]) -> Tuple[SetAnswer, RecoverySet]:
-    """The set of the packet files, or that of an ID."""
+    """Returns the set of the packet files, or the one with the chosen ID."""
     answer = parv.set(given.packet_words, chosen)
     files = PacketFiles(parv, given.packet_words, given.opener)
     lines = parv.packets(given.packet_words, answer.id)

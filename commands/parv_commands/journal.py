@@ -1,8 +1,8 @@
-"""The journal of moves: what a repair is about to do with names, written whole to the disk before the first move.
+"""The journal of moves: the names that a repair is about to change. It is whole on the disk before the first move.
 
-A later run reads it, after whatever has ended the run before, and finishes the moves or takes them back. It knows each
-file by inode, length and time. What it doesn't know it neither moves nor removes: nothing here removes a file,
-except one of two names of the same file.
+However a run has ended, a later one reads the journal, and finishes the moves or takes them back. It recognizes each
+file by its inode, length and time. It neither moves nor removes a file that it doesn't recognize. Nothing here removes
+a file, except one of two names of the same file.
 """
 
 from __future__ import annotations
@@ -20,13 +20,13 @@ from .names import base_of, folders_of, is_plain, numbered, shown
 
 HEAD = b"parv-repair journal 1"
 END = b"end"
-MOST = 1 << 28          # bytes that a journal may have
+MOST = 1 << 28          # the greatest number of bytes in a journal
 _FIELDS = 5
 _NUMBERS = re.compile(rb"([0-9]{1,20}) ([0-9]{1,20}) (-?[0-9]{1,20})")     # a file may be older than 1970
 
 
 class Move(NamedTuple):
-    """A file gets another name. One that is kept may have any free name like the one that is noted."""
+    """A file gets another name. A file that is kept as a backup may get any unused name like the recorded one."""
     file: Identity
     origin: bytes
     target: bytes
@@ -58,7 +58,7 @@ def encoded(steps: Sequence[Step]) -> bytes:
 
 
 def decoded(data: bytes) -> List[Step]:
-    """The steps of a journal; it was written whole, or is none."""
+    """Returns the steps of a journal. If the journal wasn't written completely, it is refused."""
     fields = data.split(b"\0")
     if fields[0] != HEAD or fields[-2:] != [END, b""] or (len(fields) - 3) % _FIELDS:
         raise Refused("it is no journal of this version")
@@ -76,7 +76,7 @@ def decoded(data: bytes) -> List[Step]:
 
 
 def read_file(folder: Folder, name: bytes) -> bytes:
-    """The bytes of a file that a run has left; anything but a regular file is refused."""
+    """Returns the bytes of a file that a run has left. Anything but a regular file is refused."""
     opened = folder.open_to_read(name)
     try:
         now = os.fstat(opened)
@@ -93,7 +93,8 @@ def read_file(folder: Folder, name: bytes) -> bytes:
 
 
 class Moves:
-    """The steps of a journal, and the folder in which they are made; `stage` has the files of the command itself."""
+    """The steps of a journal, and the folder in which they are made. `stage` contains the files of the command
+    itself."""
 
     def __init__(self, folder: Folder, stage: bytes, steps: Sequence[Step], say: Sayer) -> None:
         self.folder, self.stage, self.steps, self.say = folder, stage + b"/", list(steps), say
@@ -101,28 +102,28 @@ class Moves:
         self.ends = {end for step in self.moves() for end in (step.origin, step.target)}
 
     def is_staged(self, name: bytes) -> bool:
-        """Whether a name is in the stage, where nobody else puts files."""
+        """Returns whether a name is in the stage, where nobody else puts files."""
         return name.startswith(self.stage)
 
     def moves(self) -> Iterator[Move]:
         return (step for step in self.steps if isinstance(step, Move))
 
     def has(self, move: Move, name: bytes) -> bool:
-        """Whether the file of a move is at a name. Outside of the stage it must be as it was. In the stage any file is
-        taken for it, since in a copy of the folder inodes are others."""
+        """Returns whether the file of a move is at a name. Outside the stage, it must be unchanged. In the stage, any
+        file is taken for it, since inodes differ in a copy of the folder."""
         now = self.folder.look(name)
         if self.is_staged(name):
             return now is not None and stat.S_ISREG(now.st_mode)
         return move.file.fits(now)
 
     def has_two_names(self, move: Move) -> bool:
-        """Whether the file of a move is at both names, of which a move by two calls has left the first."""
+        """Returns whether the file of a move is at both names: a move that takes two calls was ended between them."""
         now, then = self.folder.look(move.origin), self.folder.look(move.target)
         return (now is not None and then is not None and os.path.samestat(now, then)
                 and now.st_ino == move.file.inode)
 
     def carry(self, name: bytes, new_name: bytes) -> None:
-        """Moves a file to a name at which nothing is."""
+        """Moves a file to a name that isn't used."""
         if not is_plain(name) or not is_plain(new_name):
             raise Refused(f"{shown(name)} isn't moved to {shown(new_name)}: one of them leads out of the folder")
         before = self.folder.look(name)
@@ -132,25 +133,25 @@ class Moves:
             raise Refused(f"cannot move {shown(name)} to {shown(new_name)}: {fault.strerror}") from fault
         now = self.folder.look(new_name)
         if before is not None and now is not None and not os.path.samestat(before, now):
-            with contextlib.suppress(OSError):      # somebody has put another file there in between
+            with contextlib.suppress(OSError):      # somebody has put another file there meanwhile
                 self.folder.move(new_name, name)
             raise Refused(f"{shown(name)} has changed meanwhile")
 
     def free_name(self, name: bytes) -> bytes:
-        """A name beside a name, at which nothing is and to which no step moves a file."""
+        """Returns an unused name like this one, to which no step moves a file."""
         return self.folder.free_name(name, self.ends)
 
     def sync(self) -> None:
-        """Brings the names that files have now to the disk, before the journal goes."""
+        """Writes the present names of files to the disk, before the journal is removed."""
         for path in sorted({part for end in self.ends if is_plain(end) for part in [b"", *folders_of(end)]}):
             with contextlib.suppress(FileNotFoundError, NotADirectoryError):
                 with self.folder.above(path + b"/" if path else b"") as place:
                     changes.sync_folder(place)
 
-    # Forwards.
+    # Making the steps.
 
     def make(self) -> None:
-        """Makes all steps, in a run that has just noted them; each must be made as it was noted."""
+        """Makes all steps, in the run that has just recorded them. Each must be possible exactly as recorded."""
         for step in self.steps:
             if isinstance(step, Made):
                 try:
@@ -164,7 +165,7 @@ class Moves:
                 self.carry(step.origin, step.target)
 
     def finish(self) -> None:
-        """Makes the steps that an earlier run hasn't made, as far as nobody has changed what they are about."""
+        """Makes the steps that an earlier run hasn't made, unless somebody has changed their files or folders."""
         for step in self.steps:
             if isinstance(step, Made):
                 if is_plain(step.path) and self.folder.is_free(step.path):
@@ -181,8 +182,8 @@ class Moves:
         self.bring_out()
 
     def _is_done(self, step: Move) -> bool:
-        """Whether a move was made: its file is at the target. (A file in the stage is taken for that of a move only by
-        its place, so for it the target decides.)"""
+        """Returns whether a move was made: whether its file is at the target. (In the stage, a file is recognized only
+        by its place, so the target decides.)"""
         return step.file.fits(self.folder.look(step.target))
 
     def _make_again(self, path: bytes) -> None:
@@ -196,7 +197,7 @@ class Moves:
         with self.folder.above(name) as place:
             changes.remove_file(place, base_of(name))
 
-    # Backwards.
+    # Taking the steps back.
 
     def undo(self) -> None:
         """Takes the steps back, the last one first."""
@@ -234,7 +235,7 @@ class Moves:
             self.say(f"{shown(end)} stays: there is another file at {shown(step.origin)}")
 
     def _end_of(self, step: Move) -> bytes:
-        """The name that the file of a move has got, if it has: one that is kept may have got another number."""
+        """Returns the name that the file of a move has got. A backup may have got another number."""
         number, end = 1, step.target
         while step.is_kept and not self.has(step, end):
             end = numbered(step.origin, number)
@@ -244,7 +245,8 @@ class Moves:
         return end
 
     def _can_return(self, name: bytes) -> bool:
-        """Whether what was at a name before can be there again, or nothing was: one move or two have taken it away."""
+        """Returns whether the file that was at a name can get it back: no file was there, or one or two moves have
+        taken it away."""
         left = self.by_origin.get(name)
         if left is None or self.has(left, self._end_of(left)):
             return True
@@ -259,8 +261,8 @@ class Moves:
     # Files that are left in the stage.
 
     def bring_out(self) -> None:
-        """Moves each file of the folder out of the stage: to the name that it is to have, to that which it had, or to a
-        free one beside that."""
+        """Moves each file of the folder out of the stage: to its new name, to its old one, or to an unused name like
+        these."""
         for into in self.moves():
             if not self.is_staged(into.target) or not self.folder.is_file(into.target):
                 continue
@@ -273,6 +275,6 @@ class Moves:
             self.carry(into.target, free)
 
     def are_made(self) -> bool:
-        """Whether nothing is left to be made: no file waits at the beginning of its move."""
+        """Returns whether no step is left to be made: no file is still at the beginning of its move."""
         return not any(self.has(step, step.origin) and not self._is_done(step) for step in self.moves())
 

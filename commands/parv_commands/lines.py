@@ -1,4 +1,4 @@
-"""The line of a set: as text, as a JSON object, and what was lost since an earlier one."""
+"""The line about a set: as text, as a JSON object, and what was lost since an earlier one."""
 
 from __future__ import annotations
 
@@ -10,7 +10,7 @@ from .names import shown
 
 UNKNOWN = "-"
 VERDICTS = {0: "complete", POSSIBLE: "possible", IMPOSSIBLE: "impossible"}
-SAY_SOMETHING = (*VERDICTS, NO_SET)     # the statuses that say something of a set; others say that it could not be read
+SAY_SOMETHING = (*VERDICTS, NO_SET)     # the statuses that say something about a set; with others, it could not be read
 FEWER, WORSE, GONE = "fewer", "worse", "gone"
 Value = Union[None, int, str, List[str], Dict[str, Optional[int]]]
 
@@ -20,8 +20,8 @@ def number(value: Optional[int]) -> str:
 
 
 class Line(NamedTuple):
-    """What is known of a set: its status, its ID or none, its counts, its folder with a slash after it or nothing, and
-    what it is called. From status 3 on the reason says why there is no verdict."""
+    """What is known about a set: its status, its ID or None, its numbers, its folder (with a slash after it, or empty),
+    and its name. From status 3 on, the reason says why there is no verdict."""
     status: int
     id: Optional[str]
     need: Optional[int]
@@ -41,7 +41,7 @@ class Line(NamedTuple):
 
 
 class Loss(NamedTuple):
-    """What was lost: by this word, of this set as it is now and as it was."""
+    """What a set has lost: the word for it, and the set now and before."""
     word: str
     now: Line
     before: Line
@@ -54,7 +54,7 @@ class Loss(NamedTuple):
 
 
 def losses(now: Line, before: Line) -> List[Loss]:
-    """What a set has lost, if something is known of it."""
+    """Returns what a set has lost, if its state is known both times."""
     if now.status not in SAY_SOMETHING or before.status not in SAY_SOMETHING:
         return []
     found: List[Loss] = []
@@ -66,8 +66,8 @@ def losses(now: Line, before: Line) -> List[Loss]:
 
 
 def known(now: Line, before: Optional[Line]) -> Line:
-    """What is known of a set after a run: of one that could not be read what was known before, and so the counts of one
-    of which only packets are left."""
+    """Returns what is known about a set after a run. If the set could not be read, this is what was known before. If
+    only packets are left, it has the earlier numbers."""
     if before is None:
         return now
     if now.status not in SAY_SOMETHING:
@@ -77,14 +77,14 @@ def known(now: Line, before: Optional[Line]) -> Line:
 
 
 def json_of(line: Line, is_gone: bool = False) -> Dict[str, Value]:
-    """The fields of a JSON object, whose strings are those of the text."""
+    """Returns the fields of a JSON object. Their texts are those of the line."""
     return {"status": None if is_gone else line.status, "result": None if is_gone else VERDICTS.get(line.status),
             "set": line.id, "need": None if is_gone else line.need, "have": None if is_gone else line.have,
             "folder": shown(line.folder[:-1]) or ".", "name": shown(line.name), "reason": line.reason}
 
 
 def json_with(fields: Dict[str, Value], found: List[Loss], before: Optional[Line]) -> Dict[str, Value]:
-    """The same with what was lost, and what was known before."""
+    """Adds what was lost, and what was known before."""
     earlier: Dict[str, Optional[int]] = {}
     if before is not None:
         earlier = {"status": before.status, "need": before.need, "have": before.have}

@@ -1,5 +1,5 @@
-"""Verifying a set where it is, by jobs that ask for runs of parv: which files of its folder it is verified with, and
-whether each file of it is there under its own name."""
+"""Verifies a set in its folder, by jobs that ask for runs of parv. Decides with which files of the folder it is
+verified, and whether each file of the set is there under its own name."""
 
 from __future__ import annotations
 
@@ -19,21 +19,21 @@ from .reach import Ways, files_there, preferred, subfolders_of
 from .signals import wait_point
 
 HERE = b"f"             # the link to the folder
-PLACE = 9               # bytes that a word takes on a command line beside its own
-PART_OF_ROOM = 4        # of the room of a command line words of paths take a fourth at most: short ones are to fit too
+PLACE = 9               # bytes that an argument takes in addition to its own
+PART_OF_ROOM = 4        # paths take at most a fourth of a command line's capacity, so that short words fit too
 Sayer = Callable[[str], None]
 
 
 class Checked(NamedTuple):
-    """A verdict with the status that the files have under their own names."""
+    """A verdict, with the status for the files under their own names."""
     status: int
     need: int
     have: int
 
 
 def folders_of(folder: Folder, found: SetAnswer, say: Sayer) -> List[bytes]:
-    """The folders in which the files of a set may be, each with a slash after it, and the folder itself as nothing. Of
-    names at which nothing is read it says so."""
+    """Returns the folders in which the files of a set may be, each with a slash after it, and the folder itself as an
+    empty path. Says which names of the set aren't read."""
     ways = Ways(folder)
     read: List[bytes] = []
     for file in found.files:
@@ -51,7 +51,8 @@ def folders_of(folder: Folder, found: SetAnswer, say: Sayer) -> List[bytes]:
 
 def is_complete(folder: Folder, found: SetAnswer, sources: Sequence[Optional[bytes]],
                 there: Dict[bytes, Identity]) -> bool:
-    """Whether each file of a set is at its name: of several files with its content parv names the first."""
+    """Returns whether each file of a set is at its name. If several files have its content, parv names only the
+    first."""
     if any(source is None or file.name not in there for file, source in zip(found.files, sources)):
         return False
     return all(source == file.name or is_same(folder, file.name, source or b"")
@@ -59,18 +60,18 @@ def is_complete(folder: Folder, found: SetAnswer, sources: Sequence[Optional[byt
 
 
 class Looking:
-    """The runs of parv over a folder. A file has its path after that of one link to the folder as its word. It gets a
-    link of its own if parv wouldn't take that word for what it is, or if a command line has no room for all of them."""
+    """The runs of parv over a folder. The word for a file is its path below one link to the folder. A file gets a link
+    of its own if parv would misunderstand that word, or if the words don't all fit into a command line."""
 
     def __init__(self, parv: Parv, folder: Folder, say: Sayer) -> None:
         self.parv, self.folder, self.say = parv, folder, say
-        self.paths: Dict[str, bytes] = {}       # of the files by their words, as these are shown
+        self.paths: Dict[str, bytes] = {}       # of the files, by their words as parv shows them
         self._room = os.sysconf("SC_ARG_MAX") // PART_OF_ROOM
         with faults_of("make a link in", parv.links.folder.shown):
             changes.make_link(parv.links.folder.place, HERE, path_below(folder, b"."))
 
     def word_of(self, path: bytes, is_packet_file: bool = False) -> str:
-        """The word for a file."""
+        """Returns the word for a file."""
         word = b"%s/%s" % (HERE, path)
         if len(word) + PLACE <= self._room and names.is_packet_file(path) == is_packet_file and _is_text(word):
             self._room -= len(word) + PLACE
@@ -86,7 +87,7 @@ class Looking:
         return Call([word.encode() for word in (command, *words)], links.folder.place, links.kept, takes)
 
     def ask(self, command: str, words: Sequence[str], statuses: Sequence[int]) -> Generator[Call, Answer, Answer]:
-        """The answer of a run, which ends with one of these statuses or a fault."""
+        """Runs parv and returns its answer. The run must end with one of these statuses or with an error."""
         ended = yield self.call(command, words)
         if ended.status not in statuses:
             raise self.parv.fault_of(ended.status, ended.said, command)
@@ -94,7 +95,7 @@ class Looking:
 
     def check(self, owner: str, packet_files: Sequence[bytes], tails: bool,
               most_open: int) -> Generator[Call, Answer, Checked]:
-        """Verifies the set of an ID, which these packet files have."""
+        """Verifies the set with an ID, of which these packet files have packets."""
         packet_words = [self.word_of(name, True) for name in packet_files]
         found = answers.read_set((yield from self.ask("set", ["--set", owner, "--", *packet_words], (0,))).out)
         there = files_there(self.folder, {file.name for file in found.files},
@@ -109,7 +110,7 @@ class Looking:
         return Checked(status, verdict.need, verdict.have)
 
     def _to_scan(self, found: SetAnswer, there: Dict[bytes, Identity], room: int) -> List[bytes]:
-        """As many of the files as parv takes."""
+        """Returns as many of the files as parv accepts."""
         if len(there) <= room:
             return list(there)
         room = max(room, 0)
@@ -117,7 +118,7 @@ class Looking:
         return preferred(there, {file.name for file in found.files}, {file.length for file in found.files})[:room]
 
     def _sources(self, verdict: Verdict) -> Iterator[Optional[bytes]]:
-        """The path of a file with the content of each file of the set, if there is one."""
+        """Yields, for each file of the set, the path of a file with its content, or None."""
         for state in verdict.states:
             if state.word is not None and state.word not in self.paths:
                 raise answers.NoAnswer("verify")

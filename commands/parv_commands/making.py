@@ -1,4 +1,4 @@
-"""Making the files that are to be repaired, in the stage, by par2."""
+"""Makes the files that are to be repaired, in the stage, with par2."""
 
 from __future__ import annotations
 
@@ -19,7 +19,7 @@ from .stage import FILES_OF_PAR2, Stage, path_of
 
 
 class Making:
-    """Has par2 make the files that are to be repaired, in the stage."""
+    """The files that par2 makes in the stage."""
 
     def __init__(self, scene: Scene, found: Found, place: Stage, sources: Sequence[Optional[bytes]], repairs: Set[int],
                  scanned: Sequence[bytes]) -> None:
@@ -27,7 +27,7 @@ class Making:
         self.sources, self.repairs, self.scanned = sources, repairs, scanned
 
     def made(self) -> Dict[int, bytes]:
-        """The paths of the files that were made, by their numbers."""
+        """Returns the paths of the files that were made, by their numbers."""
         with contextlib.closing(self.place.opened.inner(FILES_OF_PAR2)) as inner:
             bench = Bench(inner, self.found.set)
             bench.write_packets(self.found.files,
@@ -57,13 +57,13 @@ class Making:
         raise Fault(NO_REPAIR, text)
 
     def _link(self, bench: Bench) -> None:
-        """Has par2 see the files that are there whole."""
+        """Shows par2 the whole files."""
         for number, source in enumerate(self.sources):
             if source is not None:
                 bench.link(name_for(number), source)
 
     def _look(self, bench: Bench) -> Dict[int, bytes]:
-        """The files that are complete in the stage, as parv says."""
+        """Returns the files in the stage that are complete according to parv."""
         there = bench.entries()
         wanted = [number for number in sorted(self.repairs) if name_for(number) in there]
         paths: Dict[int, bytes] = {}
@@ -78,7 +78,7 @@ class Making:
         looked = self.scene.look(self.found, list(dict.fromkeys(paths.values())))
         made: Dict[int, bytes] = {}
         for number, path in paths.items():
-            source = looked.sources[number]     # of several files with this content the first
+            source = looked.sources[number]     # the first of several files with this content
             if source is not None and (source == path or is_same(self.scene.folder, source, path)):
                 made[number] = path
         return made
@@ -111,5 +111,5 @@ class Making:
             data = os.pread(source, found.own_length(file, number - file.first), offset)
         finally:
             os.close(source)
-        with contextlib.suppress(Refused):      # par2 tells then that the slice is missing
+        with contextlib.suppress(Refused):      # then par2 says that the slice is missing
             fill(opened, data, (number - file.first) * found.size)

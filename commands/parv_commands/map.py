@@ -1,4 +1,4 @@
-"""parv-map: draws of each file of a set which slices are in place, moved or missing."""
+"""parv-map: draws for each file of a set which slices are in place, moved or missing."""
 
 from __future__ import annotations
 
@@ -18,7 +18,7 @@ USUAL_WIDTH = 80        # if a terminal doesn't say how wide it is
 
 USAGE_TEXT = """usage: parv-map [--tails] [--set ID] [-B DIR] [--width N] [--html FILE] [--svg FILE] FILES
 
-Draws of each file of a PAR2 set which slices are in place, which are moved, and
+Draws which slices of each file of a PAR2 set are in place, which are moved, and
 which are missing. In the folder of the files:
   parv-map -B . ./*
 
@@ -42,13 +42,13 @@ slice, or several in a row if a file would take more than four lines. Of several
 the worst is shown: missing, not known, moved, in place. It has colours on a
 terminal, unless NO_COLOR is set.
 
---html FILE writes a page of it, which has more cells, and says what each stands
-for, and the place of each moved slice. --svg FILE writes a picture to show
+--html FILE writes a page with the picture. It has more cells, and says what each
+means, and the place of each moved slice. --svg FILE writes a picture to show
 elsewhere. Each is written whole or not at all, and never over a file that is
 there.
 
 The exit status:
-  0  whatever is seen
+  0  the picture was drawn, whatever it shows
   3  wrong words, or no packet file
   4  no set in the packet files, or with --tails too many lengths
   6  a file can't be read or written, or parv can't be run
@@ -58,7 +58,7 @@ PARV names the program, if it isn't in PATH. man parv-map has more.
 
 
 class Asked(NamedTuple):
-    """What the command line asks for."""
+    """The files and options of the command line."""
     files: List[bytes]
     tails: bool
     chosen: Optional[str]
@@ -69,7 +69,7 @@ class Asked(NamedTuple):
 
 
 def draw(asked: Asked) -> int:
-    """The whole run; its exit status."""
+    """Runs the command, and returns its exit status."""
     program = words.needed_parv()
     programs.raise_file_limit()
     writers = [(path, text_of) for path, text_of in

@@ -1,4 +1,4 @@
-"""Which slices of each file of a set are in place, which are moved, and which are missing."""
+"""Finds out which slices of each file of a set are in place, which are moved, and which are missing."""
 
 from __future__ import annotations
 
@@ -21,14 +21,14 @@ WORDS = ["in place", "moved", "not known", "missing"]
 
 
 class Map(NamedTuple):
-    """The states of a file's slices, and where moved ones are: the name and the offset, by number."""
+    """The states of a file's slices and, by number, the name and offset where a moved one is."""
     file: Member
     states: List[int]
     where: Dict[int, Tuple[str, int]]
 
 
 def tally(states: Sequence[int]) -> str:
-    """How many slices are in each state, in words."""
+    """Returns how many slices are in each state, in words."""
     return ", ".join(f"{states.count(state)} {WORDS[state]}" for state in range(4) if state in states) or "no slices"
 
 
@@ -41,13 +41,13 @@ def all_states(maps: Sequence[Map]) -> List[int]:
 
 
 def bare(path: bytes, base: bytes) -> bytes:
-    """The name of a scanned file, without the folder of -B."""
+    """Returns the name of a scanned file, without the folder of -B."""
     front = base if base.endswith(b"/") else base + b"/"
     return path[len(front):] if base and path.startswith(front) else path
 
 
 def _is_in_place(found: RecoverySet, file: Member, number: int, opened: BinaryIO, tails: bool) -> bool:
-    """Whether an open file has the slice at its offset, looked at as parv does."""
+    """Returns whether an open file has the slice at its offset, by the rules of parv."""
     own, offset = found.own_length(file, number), number * found.size
     behind = os.fstat(opened.fileno()).st_size - offset
     looked = own if tails else max(own, min(found.size, behind))
@@ -55,7 +55,7 @@ def _is_in_place(found: RecoverySet, file: Member, number: int, opened: BinaryIO
 
 
 def _map_in_place(found: RecoverySet, file: Member, paths: Sequence[bytes], tails: bool) -> Map:
-    """The map of a file by the scanned files of its name: all else is missing, or not known."""
+    """Returns the map of a file from the scanned files with its name. All other slices are missing, or not known."""
     states = [NOT_KNOWN if file.sums is None else MISSING] * file.slices
     for path in paths if file.sums else []:
         with progress.doing(f"{file.shown} is read", file.length), faults_of("read", shown(path)), \
@@ -75,14 +75,14 @@ def _has_content(path: bytes, file: Member) -> bool:
 
 
 def _map_of_unknown(file: Member, state: State, paths: Sequence[bytes]) -> Map:
-    """The map of a file whose checksums aren't known, by what parv says of the whole file."""
+    """Returns the map of a file whose slices have no checksums, from what parv says about the whole file."""
     if state.word is None:
         return Map(file, [NOT_KNOWN] * file.slices, {})
     return Map(file, [IN_PLACE if any(_has_content(path, file) for path in paths) else MOVED] * file.slices, {})
 
 
 def maps_of(found: RecoverySet, answer: SetAnswer, given: Given, parv: Parv, tails: bool, base: bytes) -> List[Map]:
-    """The maps of all files."""
+    """Returns the maps of all files."""
     by_name: Dict[bytes, List[bytes]] = {}
     for scanned in given.scanned:
         path = given.paths[scanned.word]
@@ -98,12 +98,12 @@ def maps_of(found: RecoverySet, answer: SetAnswer, given: Given, parv: Parv, tai
 
 
 def _missing(maps: Sequence[Map]) -> Set[int]:
-    """The numbers in the whole set of the slices that are missing."""
+    """Returns the numbers, in the whole set, of the missing slices."""
     return {number for each in maps for number, state in zip(each.file.numbers, each.states) if state == MISSING}
 
 
 def _take_moved(maps: Sequence[Map], search: Search) -> None:
-    """Notes where a search finds slices that are missing so far."""
+    """Records where a search finds slices that were missing until then."""
     owners = [each for each in maps for _ in each.states]
     for at, offset, number in search.sightings():
         search.wanted.discard(number)

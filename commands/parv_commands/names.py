@@ -7,23 +7,24 @@ import re
 from typing import Dict, Iterable, List, Optional, Sequence
 
 LONGEST_PART = 255
-MOST_FOLDERS = 200      # that a name may have: each look at a name opens all of them
+MOST_FOLDERS = 200      # the most folders in a name: each look at a name opens all of them
 
 
 def shown(name: bytes) -> str:
-    """A name as parv shows it: printable ASCII, a backslash twice, and each other byte as \\x and two digits."""
+    """Returns a name as parv shows it: printable ASCII, a backslash twice, and each other byte as \\x and two
+    digits."""
     return re.sub(rb"[^ -\[\]-~]", lambda odd: b"\\\\" if odd[0] == b"\\" else b"\\x%02x" % odd[0][0],
                   name).decode("ascii")
 
 
 def unshown(text: str) -> bytes:
-    """The name that parv shows so."""
+    """Returns the name that parv shows in this way."""
     return re.sub(rb"\\(?:\\|x([0-9a-f]{2}))", lambda odd: bytes.fromhex(odd[1].decode()) if odd[1] else b"\\",
                   text.encode("ascii"))
 
 
 def is_packet_file(name: bytes) -> bool:
-    """Whether parv takes a file of this name for a packet file."""
+    """Returns whether parv takes a file of this name for a packet file."""
     return name[-5:].lower() == b".par2"
 
 
@@ -32,12 +33,12 @@ def base_of(name: bytes) -> bytes:
 
 
 def folders_of(name: bytes) -> List[bytes]:
-    """The folders on the way to a name, the outermost first."""
+    """Returns the folders on the way to a name, the outermost first."""
     return [name[:at] for at, byte in enumerate(name) if byte == 0x2f]
 
 
 def is_plain(name: bytes) -> bool:
-    """Whether a name stays below its folder, by its parts."""
+    """Returns whether a name stays below its folder, judged by its parts."""
     return not {b"", b".", b".."} & set(name.split(b"/"))
 
 
@@ -46,7 +47,7 @@ def has_too_many_folders(name: bytes) -> bool:
 
 
 def refusal(name: bytes, reserved: Iterable[bytes]) -> Optional[str]:
-    """Why a name of a set is refused, if it is; the reserved names are those of the command's own entries."""
+    """Returns why a name of a set is refused, or None. The reserved names are those of the command's own entries."""
     parts = name.split(b"/")
     if parts[0] == b"":
         return "its name is absolute"
@@ -62,7 +63,7 @@ def refusal(name: bytes, reserved: Iterable[bytes]) -> Optional[str]:
 
 
 def refusals(names: Sequence[bytes], reserved: Iterable[bytes]) -> Dict[int, str]:
-    """Why names of a set are refused, by their numbers; a name may not be that of another file's folder."""
+    """Returns why names of a set are refused, by their numbers. A name may not be that of another file's folder."""
     kept = list(reserved)
     why: Dict[int, str] = {}
     for number, name in enumerate(names):
@@ -78,7 +79,7 @@ def refusals(names: Sequence[bytes], reserved: Iterable[bytes]) -> Dict[int, str
 
 
 def numbered(name: bytes, number: int) -> bytes:
-    """NAME.number beside a name, cut if the last part would be too long."""
+    """Returns NAME.number for a name. The name is cut if its last part would be too long."""
     end = b".%d" % number
     folder, slash, base = name.rpartition(b"/")
     return folder + slash + base[:LONGEST_PART - len(end)] + end

@@ -1,4 +1,4 @@
-"""Files that a command makes beside others: whole under their names, or not at all."""
+"""Files that a command makes beside others. They are whole under their names, or aren't there."""
 
 from __future__ import annotations
 
@@ -14,7 +14,7 @@ from .names import base_of, shown
 
 
 class _Target(NamedTuple):
-    """A new file: the folder that it is in, its name there, the name for messages, and that until it is whole."""
+    """A new file: the folder that it is in, its name there, its name in messages, and its name until it is whole."""
     folder: Folder
     name: bytes
     shown: str
@@ -22,7 +22,7 @@ class _Target(NamedTuple):
 
 
 class NewFiles:
-    """Files that are to be made at these paths, at which nothing is yet."""
+    """Files that are to be made at these paths, which aren't used yet."""
 
     def __init__(self, paths: Sequence[bytes]) -> None:
         self.targets: List[_Target] = []
@@ -51,7 +51,7 @@ class NewFiles:
         raise Fault(FILES, f"{target.shown} is there already")
 
     def twins(self) -> Optional[Tuple[str, str]]:
-        """Two of the paths that are one file, if there are such."""
+        """Returns two of the paths if they lead to the same file, or None."""
         seen: Dict[Tuple[int, int, bytes], str] = {}
         for target in self.targets:
             now = os.fstat(target.folder.place)
@@ -62,7 +62,7 @@ class NewFiles:
         return None
 
     def write(self, texts: Sequence[str]) -> None:
-        """Makes all of them, each with its text. What is there then is on the disk."""
+        """Makes all of them, each with its text, and writes them to the disk."""
         written: List[_Target] = []
         try:
             for target, text in zip(self.targets, texts):

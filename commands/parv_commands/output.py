@@ -1,4 +1,4 @@
-"""What a command says: its lines on standard output, and what else there is to say on standard error."""
+"""The output of a command: its lines on standard output, and its messages on standard error."""
 
 from __future__ import annotations
 
@@ -19,7 +19,7 @@ class _Said:
 
 
 def begin(command: str) -> None:
-    """Takes the name that messages begin with, and puts something in the place of what is closed, so that no file that
+    """Sets the name with which messages begin. Opens /dev/null in place of each closed descriptor, so that no file that
     is opened later gets its number."""
     _Said.command = command
     for number in 0, _OUT, _ERR:
@@ -36,7 +36,7 @@ def _write_all(number: int, data: bytes) -> None:
 
 
 def tell(lines: Iterable[str]) -> None:
-    """Writes lines on standard output."""
+    """Writes lines to standard output."""
     if _Said.closed:
         raise Fault(FILES, "cannot write standard output: it is closed")
     try:
@@ -46,7 +46,7 @@ def tell(lines: Iterable[str]) -> None:
 
 
 def pass_on(data: bytes, number: int = _OUT) -> None:
-    """Writes what a program has written, or a part of it: on standard output, or else on standard error if that can be
+    """Writes output of a program, or a part of it: to standard output, or otherwise to standard error if that can be
     written."""
     progress.clear()
     if number == _OUT and _Said.closed:
@@ -59,7 +59,7 @@ def pass_on(data: bytes, number: int = _OUT) -> None:
 
 
 def say(text: str) -> None:
-    """Writes a line on standard error, if that can be written."""
+    """Writes a line to standard error, if that can be written."""
     progress.clear()
     with contextlib.suppress(OSError):
         _write_all(_ERR, f"{_Said.command}: {text}\n".encode("ascii", "backslashreplace"))

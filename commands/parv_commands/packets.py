@@ -1,4 +1,4 @@
-"""Reading packets: those that a set is made of, as parv chooses them, and packet files that are written from them."""
+"""Reads the packets of which a set is made, as parv chooses them, and writes packet files from them."""
 
 from __future__ import annotations
 
@@ -13,7 +13,7 @@ from .parv import Parv
 
 MAGIC = b"PAR2\0PKT"
 HEADER = 64
-PAIR = 20               # bytes of the MD5 and the CRC-32 of a slice
+PAIR = 20               # bytes of the checksums of a slice: an MD5 and a CRC-32
 PIECE = 1 << 20
 KINDS = {"main": b"PAR 2.0\0Main\0\0\0\0", "filedesc": b"PAR 2.0\0FileDesc", "ifsc": b"PAR 2.0\0IFSC\0\0\0\0",
          "recvslic": b"PAR 2.0\0RecvSlic"}
@@ -22,8 +22,8 @@ Opener = Callable[[str], BinaryIO]
 
 
 class Member(NamedTuple):
-    """A file of the set; `first` is the number of its first slice in the whole set, and the sums are those of its
-    slices as a packet has them, if they are known."""
+    """A file of the set. `first` is the number of its first slice in the whole set. `sums` has the checksums of each
+    slice, as a packet has them, or is None."""
     id: str
     first: int
     length: int
@@ -37,7 +37,7 @@ class Member(NamedTuple):
 
     @property
     def numbers(self) -> range:
-        """The numbers of its slices in the whole set."""
+        """Returns the numbers of its slices in the whole set."""
         return range(self.first, self.first + self.slices)
 
     @property
@@ -46,7 +46,7 @@ class Member(NamedTuple):
 
 
 class RecoverySet(NamedTuple):
-    """A set with the packets that describe it; `have` counts its recovery slices."""
+    """A set, with the packets that describe it. `have` is the number of its recovery slices."""
     id: str
     size: int
     line: str
@@ -55,11 +55,11 @@ class RecoverySet(NamedTuple):
     have: int
 
     def own_length(self, file: Member, number: int) -> int:
-        """How many bytes the slice of this number in its file has."""
+        """Returns the length without padding of the slice with this number in its file."""
         return min(self.size, file.length - number * self.size)
 
     def is_short(self, file: Member) -> bool:
-        """Whether the last slice of a file is shorter than the slice size."""
+        """Returns whether the last slice of a file is shorter than the slice size."""
         return file.length % self.size != 0
 
 
@@ -73,7 +73,7 @@ def packet_of(owner: str, kind: str, body: bytes) -> bytes:
 
 
 class PacketFiles:
-    """The packet files of a call of parv, read again at the offsets of the packets that it has found."""
+    """The packet files of a call of parv. Packets are read again at the offsets that it has found."""
 
     def __init__(self, parv: Parv, words: Sequence[str], opener: Opener) -> None:
         self.parv, self.words, self.opener = parv, words, opener
@@ -94,7 +94,7 @@ class PacketFiles:
         return self.parv.links.shown[word]
 
     def pieces(self, line: PacketLine) -> Iterator[bytes]:
-        """The bytes of a packet, in pieces, which are those that parv has seen."""
+        """Yields the bytes of a packet, in pieces. They must be the bytes that parv has read."""
         hashed = hashlib.md5()
         with faults_of("read", self.name_of(line.word)):
             file = self._file(line.word)
@@ -122,7 +122,7 @@ class PacketFiles:
         return b"".join(self.pieces(line))
 
     def exponent(self, line: PacketLine) -> int:
-        """The exponent of a recovery slice, by which it differs from others."""
+        """Returns the exponent of a recovery slice, by which it differs from others."""
         with faults_of("read", self.name_of(line.word)):
             file = self._file(line.word)
             file.seek(line.offset + HEADER)
@@ -130,7 +130,7 @@ class PacketFiles:
 
 
 def _key(line: PacketLine, packet: bytes) -> Key:
-    """For what a packet is: of several the first counts."""
+    """Returns what a packet describes. If several describe the same, the first counts."""
     if line.kind == "main":
         return ("main",)
     owner = packet[64:80].hex()
@@ -138,7 +138,7 @@ def _key(line: PacketLine, packet: bytes) -> Key:
 
 
 def read_recovery_set(found: SetAnswer, files: PacketFiles, lines: Iterable[PacketLine]) -> RecoverySet:
-    """The set with the packets that parv has chosen for it."""
+    """Returns the set with the packets that parv has chosen for it."""
     chosen: Dict[Key, bytes] = {}
     for line in lines:
         if line.set == found.id and line.kind in ("main", "filedesc", "ifsc") and (line.word,
@@ -161,7 +161,7 @@ def read_recovery_set(found: SetAnswer, files: PacketFiles, lines: Iterable[Pack
 
 
 def recovery_lines(found: SetAnswer, files: PacketFiles, lines: Iterable[PacketLine]) -> List[PacketLine]:
-    """The recovery slices that parv has counted: of those with one exponent the first."""
+    """Returns the recovery slices that parv has counted: for each exponent the first."""
     taken: Dict[int, PacketLine] = {}
     for line in lines:
         if line.set == found.id and line.kind == "recvslic" and (line.word, line.offset) not in found.aside:
@@ -172,13 +172,13 @@ def recovery_lines(found: SetAnswer, files: PacketFiles, lines: Iterable[PacketL
 
 
 def names_of_others(found: SetAnswer, files: PacketFiles, lines: Iterable[PacketLine]) -> Set[bytes]:
-    """The names of files of other sets in the same packet files."""
+    """Returns the names of files of other sets in the same packet files."""
     return {files.read(line)[120:].rstrip(b"\0") for line in lines
             if line.set != found.id and line.kind == "filedesc"}
 
 
 def packets_for(found: RecoverySet, wanted: Set[int]) -> bytes:
-    """The packets of the set, in which slices that aren't wanted have sums that no bytes will have."""
+    """Returns the packets of the set. Slices that aren't wanted get checksums that no bytes will have."""
     packets, nothing = [found.main], os.urandom(PAIR)
     for file in found.files:
         packets.append(file.description)
@@ -190,8 +190,8 @@ def packets_for(found: RecoverySet, wanted: Set[int]) -> bytes:
 
 def write_for_par2(opened: int, found: RecoverySet, names: Sequence[bytes], files: PacketFiles,
                    recovery: Iterable[PacketLine], told: Callable[[int], None]) -> None:
-    """Writes the packet file that par2 gets: the packets of the set with other names, so that no name of the set comes
-    to it, and the recovery slices."""
+    """Writes the packet file that par2 gets: the recovery slices, and the packets of the set with other names, so that
+    par2 sees no name of the set."""
     head = [found.main]
     for file, name in zip(found.files, names):
         body = file.description[64:120] + name + bytes(-len(name) % 4)

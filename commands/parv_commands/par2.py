@@ -1,5 +1,5 @@
-"""Running par2 in the stage: it gets one packet file that is written for it, and links to the files, all with names of
-their own, so it reads no packet that parv hasn't chosen, and no name of the set."""
+"""Runs par2 in the stage. It gets one packet file that is written for it, and links to the files. All have names of
+their own, so par2 reads no packet that parv hasn't chosen, and no name of the set."""
 
 from __future__ import annotations
 
@@ -17,16 +17,17 @@ from .programs import Program, answer_of, find_program
 from .signals import wait_point
 
 PACKETS = b"set.par2"
-UP = b"../../"          # from the folder in which par2 works to that which is repaired
+UP = b"../../"          # from the folder in which par2 works to the one that is repaired
 
 
 def name_for(number: int) -> bytes:
-    """The name by which par2 knows the file of the set with this number. (One of a single letter ends par2 0.8.1.)"""
+    """Returns the name by which par2 knows the file of the set with this number. (A name of one letter makes par2
+    0.8.1 end.)"""
     return b"file%d" % number
 
 
 def needed_par2() -> Program:
-    """The program par2, without which there is no repair."""
+    """Returns the program par2. Ends the command if there is none, since there is no repair without it."""
     program = find_program("PAR2", "par2")
     if program is None:
         name = shown(os.fsencode(os.environ.get("PAR2") or "par2"))
@@ -35,7 +36,8 @@ def needed_par2() -> Program:
 
 
 class Tried(NamedTuple):
-    """How par2 has ended: whether it is worth while to try it with other files, and what to say if all isn't there."""
+    """How par2 has ended: whether it may help to try it with other files, and what to say if some files aren't
+    repaired."""
     may_try_again: bool
     text: str
 
@@ -54,19 +56,19 @@ class Bench:
                                recovery, _passed)
 
     def link(self, name: bytes, path: bytes) -> None:
-        """Has par2 see a file of the folder under a name."""
+        """Shows par2 a file of the folder, under a name."""
         with faults_of("make a link in", self.place.shown):
             changes.make_link(self.place.place, name, UP + path)
 
     def clear(self) -> None:
-        """Removes all but the packet file."""
+        """Removes everything except the packet file."""
         with faults_of("remove what is in", self.place.shown):
             for name in self.place.entries():
                 if name != PACKETS:
                     changes.remove_file(self.place.place, name)
 
     def repair(self, extra: Sequence[bytes]) -> Tried:
-        """Has par2 repair what is linked, with files under these further names."""
+        """Lets par2 repair the linked files, with files under these further names."""
         program = needed_par2()
         with progress.doing("par2 repair"):
             ended = answer_of(program, [b"repair", b"-q", PACKETS, *extra], self.place.place)
@@ -79,7 +81,7 @@ class Bench:
         return Tried(ended.status not in (126, 127), f"par2 repair has failed with status {ended.status}: {last}")
 
     def source_of(self, name: bytes) -> Optional[bytes]:
-        """The path in the folder to which a name leads that par2 has kept as a link."""
+        """Returns the path in the folder to which a name leads, if par2 has kept it as a link; otherwise None."""
         with contextlib.suppress(OSError):
             target = os.readlink(name, dir_fd=self.place.place)
             if target.startswith(UP):
@@ -91,11 +93,11 @@ class Bench:
 
 
 def _passed(done: int) -> None:
-    """Tells how far a copy is; a signal may end it here."""
+    """Shows how far a copy has got. A signal may end the command here."""
     wait_point()
     progress.show(done)
 
 
 def files_of(names: Sequence[bytes]) -> List[bytes]:
-    """The words for files under numbers."""
+    """Returns the words for files under numbers."""
     return [b"other%d" % number for number in range(len(names))]

@@ -1,5 +1,4 @@
-"""parv-parts: searches large files for the slices of a set, a part at a time, and goes on with a search that was
-stopped."""
+"""parv-parts: searches large files for the slices of a set, a part at a time, and resumes a search that was stopped."""
 
 from __future__ import annotations
 
@@ -17,12 +16,12 @@ from .parv import LONGEST_LINE, fault_of, most_read
 from .programs import Program
 from .signals import interruptible
 
-WORDS = b"words"        # the file with the words of the search
+WORDS = b"words"        # the file with the arguments of the search
 NEW = b"new"            # the part that is being written
 END = "end"
-LONGEST_LAST = 4096     # bytes that the last line of a part has at most
+LONGEST_LAST = 4096     # the most bytes in the last line of a part
 PIECE = 1 << 20
-_ODD = re.compile(rb"[^ -~\n]")       # what no line of parv has
+_ODD = re.compile(rb"[^ -~\n]")       # bytes that aren't in any line of parv
 _LAST = re.compile(rb"(end|cursor [0-9a-f:]+)\n")
 _SPECIAL = re.compile(rb"[ !\"$&'()*,;<>?\[\\\]^`{|}]|^[#~]|(?<=[:=])~")
 
@@ -53,7 +52,7 @@ PARV names the program, if it isn't in PATH. man parv-parts has more.
 
 
 class Asked(NamedTuple):
-    """What the command line asks for."""
+    """The files and options of the command line."""
     tails: bool
     folder: bytes
     limit: bytes
@@ -67,19 +66,20 @@ class Part(NamedTuple):
 
 
 def quoted(word: bytes) -> bytes:
-    """A word as `printf %q` of bash has it if it is printable ASCII: so search_in_parts.sh kept the words."""
+    """Returns a word as `printf %q` of bash writes it, if it is printable ASCII. search_in_parts.sh kept the words in
+    this way."""
     if re.fullmatch(rb"[ -~]+", word):
         return _SPECIAL.sub(rb"\\\g<0>", word)
     return b"$'%s'" % re.sub(rb"[^ -&(-\[\]-~]", lambda odd: b"\\%03o" % odd[0][0], word) if word else b"''"
 
 
 def text_of(asked: Asked) -> bytes:
-    """The words of a search by which its folder is known again. LIMIT isn't among them."""
+    """Returns the arguments by which the folder of a search is recognized. LIMIT isn't one of them."""
     return b"".join(line + b"\n" for line in [*([b"find --tails"] if asked.tails else []), *map(quoted, asked.files)])
 
 
 class Parts:
-    """The folder of a search, and its parts that are whole, one after the other."""
+    """The folder of a search, and its whole parts, in order."""
 
     def __init__(self, folder: Folder, words_text: bytes) -> None:
         self.folder = folder
@@ -103,7 +103,7 @@ class Parts:
         return f"{self.folder.shown}/{name.decode()}"
 
     def _bytes_of(self, name: bytes, most: int) -> bytes:
-        """The last bytes of a file, if it is one."""
+        """Returns the last bytes of a regular file, or none if it isn't one."""
         if not self.folder.is_file(name):
             return b""
         with faults_of("read", self._shown(name)):
@@ -114,14 +114,15 @@ class Parts:
                 os.close(opened)
 
     def _take_words(self, text: bytes) -> None:
-        """Notes the words in a new folder. One that has other files, or is of other words, is left as it is."""
+        """Records the arguments in a new folder. A folder that has other files, or other arguments, is left as it
+        is."""
         there = set(self.folder.entries())
         if WORDS in there and not self.folder.is_file(WORDS):
             raise Fault(USAGE, f"{self.folder.shown} has other files")
         written = self._bytes_of(WORDS, len(text) + 1)
         if not written and there - {WORDS}:
             raise Fault(USAGE, f"{self.folder.shown} has other files")
-        # (If nothing but the words is there, they may have been cut.)
+        # (If only the arguments are there, they may have been cut.)
         if not written or there == {WORDS} and text.startswith(written):
             with faults_of("write", self._shown(WORDS)):
                 self._remove(WORDS)
@@ -137,7 +138,7 @@ class Parts:
             changes.remove_file(self.folder.place, name)
 
     def _read(self, name: bytes) -> Optional[Part]:
-        """A part, if it is whole: if its last line is `end`, or `cursor` and the place to go on from."""
+        """Returns a part, if it is whole: if its last line is `end`, or `cursor` and the place from which to go on."""
         end = self._bytes_of(name, LONGEST_LAST)
         line = end[end[:-1].rfind(b"\n") + 1:]
         last = _LAST.fullmatch(line)
@@ -147,8 +148,8 @@ class Parts:
         return None if now is None else Part(last[1].decode("ascii"), now.st_size - len(line))
 
     def add(self, pieces: Iterator[bytes]) -> int:
-        """Writes the next part; how many matches it has. Once it has its name it is on the disk, and no older part
-        comes after it."""
+        """Writes the next part, and returns its number of matches. When the part gets its name, it is on the disk, and
+        no older part comes after it."""
         lines, pending = 0, bytearray()
         with faults_of("write", self._shown(NEW)):
             self._remove(NEW)
@@ -180,7 +181,7 @@ class Parts:
         return lines - 1
 
     def tell(self) -> None:
-        """Writes the lines of all parts on standard output."""
+        """Writes the lines of all parts to standard output."""
         for number, part in enumerate(self.parts, 1):
             name, at = b"%d" % number, 0
             with faults_of("read", self._shown(name)):
@@ -200,7 +201,7 @@ class Parts:
 
 @contextlib.contextmanager
 def locked(folder: Folder) -> Iterator[None]:
-    """Keeps other runs out of a folder. (The lock isn't handed to parv, which ends with the command.)"""
+    """Keeps other runs out of a folder. (parv doesn't inherit the lock; it ends with the command.)"""
     lock = os.open(b".", os.O_RDONLY | os.O_DIRECTORY | os.O_CLOEXEC, dir_fd=folder.place)
     try:
         with faults_of("lock", folder.shown):
@@ -214,21 +215,21 @@ def locked(folder: Folder) -> Iterator[None]:
 
 
 def _is_next(line: bytes, cursor: Sequence[bytes]) -> bool:
-    """Whether a line has another cursor than that at which a part has begun."""
+    """Returns whether a line has a cursor other than the one at which a part has begun."""
     return _LAST.fullmatch(line + b"\n") is not None and line[7:] not in cursor
 
 
 def find(program: Program, asked: Asked, cursor: Sequence[bytes]) -> Iterator[bytes]:
-    """What parv writes of a part, in pieces of whole lines."""
+    """Yields the output of parv for a part, in pieces of whole lines."""
     tails = [b"--tails"] if asked.tails else []
     given = [b"find", *tails, b"--limit", asked.limit, *cursor, b"--", *asked.files]
-    said, rest, left = programs.Said(program), b"", int(asked.limit)       # as many matches may still come
+    said, rest, left = programs.Said(program), b"", int(asked.limit)       # how many matches may still come
     with progress.doing("parv find", most_read(asked.files, 1)), programs.running(program, given) as process:
         for piece in programs.pieces_of(process, said):
             *lines, rest = (rest + piece).split(b"\n")
             for line in lines:
                 if line == b"end" and left >= 0 or left == 0 and _is_next(line, cursor):
-                    left = -1       # after the last line nothing comes
+                    left = -1       # nothing may follow the last line
                 elif left > 0 and answers.read_sighting(line):
                     left -= 1
                 else:
@@ -244,8 +245,8 @@ def find(program: Program, asked: Asked, cursor: Sequence[bytes]) -> Iterator[by
 
 
 def refuse_odd(files: Sequence[bytes]) -> None:
-    """Ends the run if parv takes no word like one of these. (It gets no links in their place, since the cursors have
-    the words.)"""
+    """Ends the run if parv rejects a word like one of these. (The files get no links with other names, because the
+    fingerprint in a cursor covers the words.)"""
     for file in files:
         try:
             file.decode("utf-8")
@@ -254,7 +255,7 @@ def refuse_odd(files: Sequence[bytes]) -> None:
 
 
 def search(asked: Asked) -> int:
-    """The whole run; its exit status."""
+    """Runs the command, and returns its exit status."""
     program = words.needed_parv()
     refuse_odd(asked.files)
     programs.raise_file_limit()

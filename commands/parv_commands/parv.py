@@ -1,5 +1,5 @@
-"""Running parv over files of any name: each is given by a link with a short name in a temporary folder, so that a
-command line has room for as many as parv takes, and no name is one that parv would take in another way."""
+"""Runs parv over files of any name. Each is a link with a short name in a temporary folder. So a command line has space
+for as many files as parv accepts, and parv misunderstands no name."""
 
 from __future__ import annotations
 
@@ -16,24 +16,24 @@ from .folders import Folder
 from .names import is_packet_file, shown
 from .programs import Answer, Program, Said, answer_of, pieces_of, running, status_of
 
-MOST_FILES = 65_535         # files of one command line
-SPARE_FILES = 32            # that are open beside those that are named
-LONGEST_LINE = 1 << 17      # bytes that a match has at most
+MOST_FILES = 65_535         # the most files in one command line
+SPARE_FILES = 32            # files that are open in addition to those that are named
+LONGEST_LINE = 1 << 17      # the most bytes in the line of a match
 _FAULTS = (USAGE, NO_SET, FILES, MEMORY)
 _PRINTABLE = re.compile("[ -~]*")
 _ABOUT = re.compile(rb"parv: (cannot open|read fault in) ([^\n]*)\n?")
 
 
 class Links:
-    """The temporary folder of links, and the names in messages of the files by their words; `kept` are opened folders
-    that links lead through."""
+    """The temporary folder of links, and the names in messages of the files by their words. `kept` has opened folders
+    through which links lead."""
 
     def __init__(self, folder: Folder, kept: Tuple[int, ...]) -> None:
         self.folder, self.kept = folder, kept
         self.shown: Dict[str, str] = {}
 
     def word(self, target: bytes, name: str, is_packet_file: bool = False) -> str:
-        """The word for a file, by which parv takes it for what it is."""
+        """Returns the word for a file, by which parv takes it for what it is."""
         word = f"{len(self.shown)}{'.par2' if is_packet_file else ''}"
         with faults_of("make a link in", self.folder.shown):
             changes.make_link(self.folder.place, word.encode(), target)
@@ -42,14 +42,14 @@ class Links:
 
 
 def _clear(folder: Folder) -> None:
-    """Removes what is in a temporary folder, which has only files and links."""
+    """Removes everything in a temporary folder, which has only files and links."""
     for name in os.listdir(folder.place):
         changes.remove_file(folder.place, os.fsencode(name))
 
 
 @contextlib.contextmanager
 def folder_within(above: Folder) -> Iterator[Folder]:
-    """A new folder for temporary files, which goes once it isn't used any more."""
+    """Makes a new folder for temporary files, and removes it when it isn't used any more."""
     name = f"parv-{secrets.token_hex(8)}".encode()
     with faults_of("make a temporary folder in", above.shown):
         changes.make_folder(above.place, name, 0o700)
@@ -69,7 +69,7 @@ def folder_within(above: Folder) -> Iterator[Folder]:
 
 @contextlib.contextmanager
 def temporary_folder() -> Iterator[Folder]:
-    """A folder for temporary files, which goes however the command is ended."""
+    """Makes a folder for temporary files, which is removed however the command ends."""
     above = Folder.opened(os.fsencode(os.path.abspath(os.environ.get("TMPDIR") or "/tmp")))
     try:
         with folder_within(above) as folder:
@@ -79,12 +79,13 @@ def temporary_folder() -> Iterator[Folder]:
 
 
 def path_below(folder: Folder, name: bytes) -> bytes:
-    """A path of a file below an opened folder, for a child that has the folder open too."""
+    """Returns a path of a file below an opened folder, for a child that has the folder open too."""
     return b"/proc/self/fd/%d/%s" % (folder.place, name)
 
 
 def fault_of(program: Program, status: int, said: bytes, command: str, names: Mapping[str, str]) -> Fault:
-    """The fault of a run that has no answer, by what parv has said; the names in messages are by the words of files."""
+    """Returns the error of a run without an answer, from what parv has said. `names` has the names for messages, by the
+    words."""
     line = said.decode("utf-8", "backslashreplace").split("\n")[0]
     if status < 0:
         return NoProgram(FILES, f"{program.shown} was ended by signal {-status}")
@@ -100,8 +101,8 @@ def fault_of(program: Program, status: int, said: bytes, command: str, names: Ma
 
 
 def most_read(files: Iterable[bytes], times: int) -> int:
-    """How many bytes parv reads of these files at most: three times the length of a packet file, and so many times that
-    of each other one. (It reads more of packet files only if their packets lie in one another.)"""
+    """Returns how many bytes of these files parv reads at most: three times the length of a packet file, and `times`
+    times the length of each other one. (It reads more of packet files only if their packets overlap.)"""
     most = 0
     for file in files:
         with contextlib.suppress(OSError, ValueError):
@@ -112,13 +113,13 @@ def most_read(files: Iterable[bytes], times: int) -> int:
 
 
 class Parv:
-    """The program, and the links to the files that it is given."""
+    """The program, and the links to the files that it gets."""
 
     def __init__(self, program: Program, links: Links) -> None:
         self.program, self.links = program, links
 
     def fault_of(self, status: int, said: bytes, command: str) -> Fault:
-        """The fault of a run that has no answer."""
+        """Returns the error of a run without an answer."""
         return fault_of(self.program, status, said, command, self.links.shown)
 
     def answer(self, command: str, words: Sequence[str], most: int = 0) -> Answer:
@@ -144,7 +145,7 @@ class Parv:
 
     def verify(self, found: answers.SetAnswer, packet_words: Sequence[str], words: Sequence[str], tails: bool = False,
                most: int = 0) -> answers.Verdict:
-        """The verdict over these files; a fault of parv if there is none."""
+        """Returns the verdict over these files. Ends with an error of parv if there is none."""
         ended = self.answer("verify", [*(["--tails"] if tails else []), "--set", found.id, "--", *packet_words, *words],
                             most)
         if ended.status not in (0, 1, 2):
@@ -152,7 +153,7 @@ class Parv:
         return answers.read_verdict(ended.out, ended.status, found)
 
     def find(self, words: Sequence[str], most: int = 0) -> Generator[answers.Sighting, None, None]:
-        """The sightings, as they come; parv ends when no more are asked for."""
+        """Yields the matches as they come. parv ends when no more are asked for."""
         said, rest = Said(self.program), b""
         with progress.doing("parv find", most), running(
                 self.program, [b"find", *map(os.fsencode, words)], self.links.folder.place, self.links.kept) as process:

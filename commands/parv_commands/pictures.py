@@ -10,22 +10,23 @@ from .mapping import WORDS, Map, all_states, need, tally
 from .packets import RecoverySet
 
 FILLS = ["#2e7d32", "#e08600", "#7a7a7a", "#c62828"]
-# A square, half of one, a bar, and a frame: paths from their upper left corner, of 9 by 9.
+# A square, half of one, a bar, and a frame: paths from their upper left corners, 9 by 9.
 SHAPES = ["h9v9h-9z", "v9h9z", "m0 3h9v3h-9z", "h9v9h-9zm2 2v5h5v-5z"]
 PITCH = 10
-COLUMNS = 64        # of a drawing
+COLUMNS = 64        # cells in a row of a drawing
 ROWS = 8
-MOST_NAME = 40      # characters of a name in a drawing
-LETTER = 7.3        # how wide one is there
+MOST_NAME = 40      # the most characters of a name in a drawing
+LETTER = 7.3        # the width of a character there
 
 
 def _place_of(at: int) -> str:
-    """The corner of a cell in a grid."""
+    """Returns the corner of a cell in a grid."""
     return f"{at % COLUMNS * PITCH} {at // COLUMNS * PITCH}"
 
 
 def _grid(each: Map, is_told: bool) -> Tuple[List[str], int]:
-    """The cells of a file, and how many rows they take. Each says what it stands for, or those of a state are one."""
+    """Returns the cells of a file, and how many rows they take. Each cell says what it means, or all cells of a state
+    are one."""
     parts = spans(len(each.states), COLUMNS * ROWS)
     worst = [max(each.states[begin:end]) for begin, end in parts]
     cells: List[str] = []
@@ -51,7 +52,7 @@ def _cell_told(each: Map, begin: int, end: int) -> str:
 
 
 def _legend() -> List[str]:
-    """The shapes with their words, in a line."""
+    """Returns the shapes with their words, in a line."""
     parts: List[str] = []
     at = 0
     for fill, shape, word in zip(FILLS, SHAPES, WORDS):
@@ -61,7 +62,7 @@ def _legend() -> List[str]:
 
 
 def svg_of(found: RecoverySet, maps: Sequence[Map]) -> str:
-    """A drawing of all files with their names."""
+    """Returns a drawing of all files with their names."""
     states = all_states(maps)
     labels = [f"{cut(each.file.shown, MOST_NAME)}: {tally(each.states)}" for each in maps]
     labels.append(f"{tally(states)}; {need(found, states)}")
@@ -82,7 +83,7 @@ def svg_of(found: RecoverySet, maps: Sequence[Map]) -> str:
 
 
 class Run(NamedTuple):
-    """Moved slices that follow one another in another file too: the first and the last, the name of that file, and the
+    """Moved slices that also follow one another in another file: the first and the last, the name of that file, and the
     offset of the first."""
     first: int
     last: int
@@ -95,7 +96,7 @@ class Run(NamedTuple):
 
 
 def _runs(each: Map, size: int) -> List[Run]:
-    """Where the moved slices of a file are."""
+    """Returns where the moved slices of a file are."""
     runs: List[Run] = []
     for number, (name, offset) in sorted(each.where.items()):
         last = runs[-1] if runs else None
@@ -107,7 +108,7 @@ def _runs(each: Map, size: int) -> List[Run]:
 
 
 def page_of(found: RecoverySet, maps: Sequence[Map]) -> str:
-    """A page with a drawing of each file."""
+    """Returns a page with a drawing of each file."""
     states = all_states(maps)
     parts = ["<!DOCTYPE html>", '<html lang="en"><head><meta charset="utf-8">', f"<title>Set {found.id}</title>",
              "<style>body{font:14px monospace;background:#fff;color:#222}h2{font-size:1em;overflow-wrap:anywhere}"

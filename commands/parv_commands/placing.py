@@ -1,4 +1,5 @@
-"""Placing slices: the bytes of a slice at the offset of a match, their sums, and writing them into a file."""
+"""Places slices: reads the bytes of a slice at the offset of a match, computes their checksums, and writes them into a
+file."""
 
 from __future__ import annotations
 
@@ -11,12 +12,12 @@ from . import changes, progress
 from .faults import Refused
 from .signals import wait_point
 
-BLOCK = 4096        # zeros that are left as a hole: this number of them from a multiple of it on
+BLOCK = 4096        # zeros become a hole if they fill a block of this length, at a multiple of it
 PIECE = 1 << 20
 
 
 def crc_of(pieces: Iterable[bytes]) -> bytes:
-    """The CRC-32 of some pieces in turn, as a packet has it."""
+    """Returns the CRC-32 of some pieces in order, in the form that a packet has."""
     crc = 0
     for piece in pieces:
         crc = zlib.crc32(piece, crc)
@@ -24,7 +25,7 @@ def crc_of(pieces: Iterable[bytes]) -> bytes:
 
 
 def md5_of(pieces: Iterable[bytes]) -> bytes:
-    """The MD5 of some pieces in turn."""
+    """Returns the MD5 of some pieces in order."""
     hashed = hashlib.md5()
     for piece in pieces:
         hashed.update(piece)
@@ -32,7 +33,7 @@ def md5_of(pieces: Iterable[bytes]) -> bytes:
 
 
 def window(opened: int, offset: int, own: int, size: int) -> Iterator[bytes]:
-    """`own` bytes of a file from an offset on, and zeros up to the slice size, in pieces."""
+    """Yields `own` bytes of a file from an offset on, and then zeros up to the slice size, in pieces."""
     for at in range(0, own, PIECE):
         yield os.pread(opened, min(PIECE, own - at), offset + at)
     for at in range(own, size, PIECE):
@@ -40,15 +41,16 @@ def window(opened: int, offset: int, own: int, size: int) -> Iterator[bytes]:
 
 
 def is_there(opened: int, offset: int, own: int, size: int, sums: bytes) -> bool:
-    """Whether a file has `own` bytes at an offset, and these have both sums with zeros up to the slice size.
+    """Returns whether a file has `own` bytes at an offset that have both checksums when zeros fill them up to the slice
+    size.
 
-    The MD5 is taken only of what has the CRC-32, since it takes much longer."""
+    The MD5 takes much longer, so it is computed only if the CRC-32 is right."""
     return (os.fstat(opened).st_size >= offset + own and crc_of(window(opened, offset, own, size)) == sums[16:]
             and md5_of(window(opened, offset, own, size)) == sums[:16])
 
 
 def pieces_of_file(opened: int) -> Iterator[bytes]:
-    """The bytes of a whole file, in pieces."""
+    """Yields the bytes of a whole file, in pieces."""
     at = 0
     while data := os.pread(opened, PIECE, at):
         yield data
@@ -56,7 +58,7 @@ def pieces_of_file(opened: int) -> Iterator[bytes]:
 
 
 def told(pieces: Iterable[bytes]) -> Iterator[bytes]:
-    """Pieces, while the line of progress says how many bytes they were; a signal may end the command between two."""
+    """Yields the pieces, and shows how many bytes they had so far. A signal may end the command between two pieces."""
     done = 0
     for piece in pieces:
         wait_point()
@@ -66,16 +68,17 @@ def told(pieces: Iterable[bytes]) -> Iterator[bytes]:
 
 
 def _bytes_of(opened: int, length: int, at: int) -> bytes:
-    """Bytes at an offset of a file that has them; a hole isn't read."""
+    """Returns bytes at an offset of a file that is long enough. It doesn't read holes."""
     try:
         is_hole = os.lseek(opened, at, os.SEEK_DATA) >= at + length
     except OSError:
-        is_hole = True      # to the end of the file
+        is_hole = True      # (up to the end of the file)
     return bytes(length) if is_hole else os.pread(opened, length, at)
 
 
 def fill(opened: int, data: bytes, at: int) -> None:
-    """Writes the blocks of the data that aren't there yet, each in place of zeros."""
+    """Writes the blocks of the data that aren't in the file yet. A block may only replace zeros; otherwise the file is
+    refused."""
     now, zeros, start, begin = _bytes_of(opened, len(data), at), bytes(BLOCK), 0, -1
     while start < len(data) and now != data:
         end = min(len(data), start + BLOCK - (at + start) % BLOCK)

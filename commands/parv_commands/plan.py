@@ -1,4 +1,4 @@
-"""The plan of a repair: which file gets which name, what is copied, made and kept, and the moves that this comes to."""
+"""The plan of a repair: which file gets which name, what is copied, made and kept, and the moves for that."""
 
 from __future__ import annotations
 
@@ -18,21 +18,21 @@ PIECE = 1 << 20
 
 
 class Copy(NamedTuple):
-    """A file that is copied, for the file of the set that has this number."""
+    """A file that is copied, for the file of the set with this number."""
     number: int
     source: bytes
     target: bytes
 
 
 class Backup(NamedTuple):
-    """A file that makes way for the file of the set with this number, and the name by which it is kept."""
+    """A file that makes way for the file of the set with this number, and the name under which it is kept."""
     number: int
     kept: bytes
     file: Identity
 
 
 def is_same(folder: Folder, name: bytes, other: bytes) -> bool:
-    """Whether two files have the same bytes."""
+    """Returns whether two files have the same bytes."""
     opened = [folder.open_to_read(name)]
     try:
         opened.append(folder.open_to_read(other))
@@ -56,8 +56,8 @@ def is_same(folder: Folder, name: bytes, other: bytes) -> bool:
 class Plan:
     """What is to be done for the files of a set.
 
-    `sources` has for each of them the path of a file with its content, which is its own name if it is complete, and one
-    in the stage if it is to be made. `names_kept` are those that the files there keep, as names of other sets.
+    For each of them, `sources` has the path of a file with its content: its own name if it is complete, and a path in
+    the stage if it is to be made. The files with names in `names_kept` keep these, since they are names of other sets.
     """
 
     def __init__(self, folder: Folder, files: Sequence[Member], there: Dict[bytes, Identity], sources: Sequence[bytes],
@@ -72,9 +72,9 @@ class Plan:
         self._leaves: Set[bytes] = set()
         self._folders: Set[bytes] = set()
         self._asides: Dict[bytes, bytes] = {}
-        # The names of files and folders of the set, and those by which other files are kept.
+        # The names of files and folders of the set, and the names under which other files are kept.
         self._names = {part for file in files for part in [*folders_of(file.name), file.name]}
-        # The file that is moved, or nothing for a folder; its origin and its target; whether it is kept.
+        # For each move: the file, or None for a folder; its origin and its target; whether it is kept as a backup.
         self._moves: List[Tuple[Optional[bytes], bytes, bytes, bool]] = []
         origins = {number: origin for number in range(len(files)) for origin in [self._decide(number)]
                    if origin is not None}
@@ -84,17 +84,18 @@ class Plan:
             self._move_in(number, origin)
 
     def _is_spare(self, name: bytes) -> bool:
-        """Whether a file may be renamed: it has no name of its own, and isn't to get one."""
+        """Returns whether a file may be renamed: it doesn't keep its name, and isn't used for a file of the set yet."""
         return name not in self._stays and name not in self._used
 
     def _spare_like(self, source: bytes) -> Optional[bytes]:
-        """Another file with the same bytes that may be renamed."""
+        """Returns another file with the same bytes that may be renamed, or None."""
         length = self.there[source].length
         return next((name for name, now in self.there.items() if now.length == length and self._is_spare(name)
                      and is_same(self.folder, source, name)), None)
 
     def _decide(self, number: int) -> Optional[bytes]:
-        """What gets the name of a file, if it doesn't have it: something that is there or that is to be made."""
+        """Returns what gets the name of a file, if that doesn't have it yet: a file that is there, or one that is to be
+        made."""
         file, source = self.files[number], self.sources[number]
         if source == file.name:
             return None
@@ -114,7 +115,8 @@ class Plan:
         return self.copies[-1].target
 
     def _make_way(self, number: int) -> None:
-        """Moves what has the name of a file: by way of the stage if it is to be renamed, else to a free name."""
+        """Moves the file that has the name of a file of the set: through the stage if it is to be renamed, otherwise to
+        a free name."""
         name = self.files[number].name
         if self.folder.is_free(name):
             return
@@ -131,7 +133,7 @@ class Plan:
         self.told.append(f"keep {shown(name)} as {shown(kept)}")
 
     def _move_in(self, number: int, origin: bytes) -> None:
-        """The folders of a name that are to be made, and the move to the name."""
+        """Adds the folders of a name that are to be made, and the move to that name."""
         name = self.files[number].name
         for path in folders_of(name):
             if path not in self._folders and self.folder.is_free(path):
@@ -140,11 +142,11 @@ class Plan:
         self._moves.append((origin, self._asides.get(origin, origin), name, False))
 
     def steps(self, identity: Callable[[bytes], Identity]) -> List[Step]:
-        """The steps for the journal, once all that is made is there; each file is known by its identity."""
+        """Returns the steps for the journal, once everything is made. Each file is recognized by its identity."""
         return [Made(path) if name is None else Move(self.there.get(name) or identity(name), origin, path, kept)
                 for name, origin, path, kept in self._moves]
 
     def made(self) -> List[bytes]:
-        """The paths of what is in the stage and gets a name."""
+        """Returns the paths of files in the stage that get a name."""
         return [origin for name, origin, _, _ in self._moves if name is not None and name not in self.there]
 

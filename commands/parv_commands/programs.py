@@ -1,4 +1,4 @@
-"""Running other programs: which file is run, with which environment, and that it ends with the command."""
+"""Runs other programs: finds which file to run, sets its environment, and ends it with the command."""
 
 from __future__ import annotations
 
@@ -17,34 +17,34 @@ from .faults import FILES, NoProgram
 from .names import shown
 from .signals import interruptible
 
-USUAL = "/usr/local/bin:/usr/bin:/bin"      # the PATH if there is none
+USUAL = "/usr/local/bin:/usr/bin:/bin"      # the PATH, if none is set
 PIECE = 1 << 16
-MOST_OUTPUT = 1 << 28       # bytes that an answer may have which is held as a whole
-MOST_SAID = 1 << 16         # bytes of standard error that are kept
+MOST_OUTPUT = 1 << 28       # the most bytes in an answer that is kept as a whole
+MOST_SAID = 1 << 16         # the most bytes of standard error that are kept
 _PR_SET_PDEATHSIG = 1
-_ROUNDS, _ROUND = 200, 0.01     # how often, and after how many seconds, it is asked whether a group is gone
+_ROUNDS, _ROUND = 200, 0.01     # how often, and after how many seconds, it looks whether a group has ended
 _libc = ctypes.CDLL(None)
 
 
 class Program(NamedTuple):
-    """A program by its whole path, and its name in messages."""
+    """A program: its whole path, and its name in messages."""
     path: str
     shown: str
 
 
 def absolute_parts(path: str) -> List[str]:
-    """The parts of a PATH that don't depend on the folder where a program is called."""
+    """Returns the parts of a PATH that don't depend on the folder in which a program is called."""
     return [part for part in path.split(os.pathsep) if part.startswith("/")]
 
 
 def search_path() -> str:
-    """The PATH that programs get which are run, in whatever folder that is."""
+    """Returns the PATH for programs that are run, in whatever folder."""
     return os.pathsep.join(absolute_parts(os.environ.get("PATH", ""))) or USUAL
 
 
 def find_program(variable: str, usual: str) -> Optional[Program]:
-    """The program that a variable of the environment names, or else of the usual name, if there is one. A relative one
-    is looked up here and now, in the folder from which the command is called."""
+    """Returns the program that a variable of the environment names, or otherwise the one of the usual name; None if
+    there is none. A relative name is looked up now, in the folder in which the command is called."""
     name, here = os.environ.get(variable) or usual, os.getcwd()
     parts = [""] if "/" in name else (os.environ.get("PATH") or USUAL).split(os.pathsep)
     for place in (os.path.join(here, part, name) for part in parts):
@@ -62,7 +62,7 @@ def needed_program(variable: str, usual: str) -> Program:
 
 
 def raise_file_limit() -> int:
-    """Lets this process have the most files open at once that it may; returns this number."""
+    """Raises the number of files that this process may have open as far as possible, and returns it."""
     soft, hard = resource.getrlimit(resource.RLIMIT_NOFILE)
     with contextlib.suppress(OSError, ValueError):
         resource.setrlimit(resource.RLIMIT_NOFILE, (hard, hard))
@@ -71,13 +71,13 @@ def raise_file_limit() -> int:
 
 
 def environment() -> Dict[str, str]:
-    """The environment that programs get which are run."""
+    """Returns the environment for programs that are run."""
     return {**os.environ, "PATH": search_path(), "LC_ALL": "C"}
 
 
 def _child(place: Optional[int]) -> Callable[[], None]:
-    """What a child does before it becomes the program: it leads a group of its own, ends if the command is killed or was
-    so already, and goes to its folder."""
+    """Returns what a child does before it becomes the program. It leads a group of its own, ends if the command is
+    killed (or has been killed already), and goes to its folder."""
     command = os.getpid()
 
     def before() -> None:
@@ -91,7 +91,8 @@ def _child(place: Optional[int]) -> Callable[[], None]:
 
 
 def _end_group(leader: int) -> None:
-    """Ends what a program has started and left, as a script does that is killed, and waits until it is gone."""
+    """Ends the programs that a program has started and left, such as a script that was killed, and waits until they
+    have ended."""
     with contextlib.suppress(ProcessLookupError, PermissionError):
         for _ in range(_ROUNDS):
             os.killpg(leader, signal.SIGKILL)
@@ -101,8 +102,8 @@ def _end_group(leader: int) -> None:
 @contextlib.contextmanager
 def running(program: Program, words: Sequence[bytes], place: Optional[int] = None,
             kept: Tuple[int, ...] = (), own: Container[int] = ()) -> Iterator[subprocess.Popen[bytes]]:
-    """A program that runs in an opened folder, and doesn't afterwards. If `own` has 0 or 1, it gets the standard input
-    or output of the command itself."""
+    """Runs a program in an opened folder, and makes sure that it doesn't run afterwards. If `own` contains 0 or 1, the
+    program gets the standard input or output of the command itself."""
     try:
         process = subprocess.Popen([os.fsencode(program.path), *words], stdin=None if 0 in own else subprocess.DEVNULL,
                                    stdout=None if 1 in own else subprocess.PIPE, stderr=subprocess.PIPE,
@@ -123,8 +124,8 @@ def running(program: Program, words: Sequence[bytes], place: Optional[int] = Non
 
 
 def outputs_of(process: subprocess.Popen[bytes]) -> Iterator[Tuple[int, bytes]]:
-    """What a program writes on standard output and standard error, in pieces, each with 1 or 2. What it leaves running
-    isn't waited for."""
+    """Yields what a program writes to standard output and standard error, in pieces, each with 1 or 2. It doesn't wait
+    for programs that this one leaves running."""
     with selectors.DefaultSelector() as waiting:
         for number, pipe in (1, process.stdout), (2, process.stderr):
             if pipe is not None:
@@ -147,8 +148,8 @@ def outputs_of(process: subprocess.Popen[bytes]) -> Iterator[Tuple[int, bytes]]:
 
 
 class Said(bytearray):
-    """What a program writes on standard error: its beginning is kept, and a program that writes more than an answer has
-    ends the command."""
+    """The standard error of a program. Only its beginning is kept. If it is longer than any answer, the command
+    ends."""
 
     def __init__(self, program: Program) -> None:
         super().__init__()
@@ -167,7 +168,7 @@ def too_much(program: Program) -> NoProgram:
 
 
 def pieces_of(process: subprocess.Popen[bytes], said: Said) -> Iterator[bytes]:
-    """What a program writes on standard output, in pieces; what it says on standard error comes into `said`."""
+    """Yields what a program writes to standard output, in pieces. Its standard error goes to `said`."""
     for number, piece in outputs_of(process):
         if number == 1:
             yield piece
@@ -183,7 +184,8 @@ class Answer(NamedTuple):
 
 
 def status_of(process: subprocess.Popen[bytes]) -> int:
-    """Waits for the end of a program that writes nothing any more; a signal is a status below 0."""
+    """Waits for the end of a program that writes nothing any more. Returns its status, which is below 0 for a
+    signal."""
     while True:
         with contextlib.suppress(subprocess.TimeoutExpired), interruptible():
             return process.wait(progress.EACH)

@@ -1,4 +1,4 @@
-"""Progress on a terminal: after two seconds a line on standard error says what is done, and how far it is."""
+"""Progress on a terminal. After two seconds, a line on standard error says what is being done, and how far it is."""
 
 from __future__ import annotations
 
@@ -8,13 +8,14 @@ import threading
 import time
 from typing import Iterator, Optional
 
-FIRST = 2.0         # seconds until the line comes
+FIRST = 2.0         # seconds until the line is shown
 EACH = 0.5          # seconds from one line to the next
 _ERR = 2
 
 
 class _Progress:
-    """What goes on now, of how much at most, whether the line comes at once and has the speed, and when it began."""
+    """What is being done now, its greatest number of bytes, whether the line is shown at once and with the speed, and
+    the start."""
     what: str = ""
     most: int = 0
     at_once: bool = False
@@ -40,20 +41,20 @@ def _write(text: str) -> None:
 
 
 def clear() -> None:
-    """Takes the line off, before something else is written."""
+    """Removes the line, before something else is written."""
     if _Progress.shown:
         _write("\r\033[K")
         _Progress.shown = False
 
 
 def can_show() -> bool:
-    """Whether there is a terminal for the line, and the system tells what a program has read."""
+    """Returns whether there is a terminal for the line, and whether the system says how much a program has read."""
     return _is_terminal() and os.access("/proc/self/io", os.R_OK)
 
 
 @contextlib.contextmanager
 def doing(what: str, most: int = 0, at_once: bool = False) -> Iterator[None]:
-    """Says what goes on while it does, and how many bytes it has to pass at most, if that is known."""
+    """Says what is being done, as long as it lasts, and how many bytes it has to handle at most, if that is known."""
     before = _Progress.what, _Progress.most, _Progress.at_once, _Progress.begun
     _Progress.what, _Progress.most, _Progress.at_once, _Progress.begun = what, most, at_once, time.monotonic()
     if at_once:
@@ -66,14 +67,14 @@ def doing(what: str, most: int = 0, at_once: bool = False) -> Iterator[None]:
 
 
 def stop() -> None:
-    """Has no line come any more for what goes on now."""
+    """Shows no line any more for what is being done now."""
     clear()
     _Progress.what = ""
 
 
 def show(done: Optional[int]) -> None:
-    """Tells how many bytes were passed so far, if that is known: once two seconds have gone, and half a second since
-    the line before."""
+    """Shows how many bytes were handled so far, if that is known: after two seconds at the earliest, and half a second
+    after the line before."""
     now = time.monotonic()
     since = now - _Progress.last
     if (not _Progress.what or now - _Progress.begun < FIRST and not _Progress.at_once or since < EACH
@@ -91,8 +92,8 @@ def show(done: Optional[int]) -> None:
 
 @contextlib.contextmanager
 def waiting(what: str) -> Iterator[None]:
-    """Says what goes on while calls last that tell nothing themselves, as those that bring files to the disk. A thread
-    does, so no program may begin meanwhile."""
+    """Says what is being done during calls that don't report their progress, such as those that write files to the
+    disk. A thread shows it, so no program may be started meanwhile."""
     over = threading.Event()
 
     def tells() -> None:
@@ -101,7 +102,7 @@ def waiting(what: str) -> Iterator[None]:
     teller: Optional[threading.Thread] = None
     with doing(what):
         if _is_terminal():
-            with contextlib.suppress(RuntimeError):     # if there can be no more threads
+            with contextlib.suppress(RuntimeError):     # if no more threads are allowed
                 teller = threading.Thread(target=tells, daemon=True)
                 teller.start()
         try:
@@ -113,7 +114,7 @@ def waiting(what: str) -> Iterator[None]:
 
 
 def read_by(pid: int) -> int:
-    """How many bytes a program has read so far, as /proc has it."""
+    """Returns how many bytes a program has read so far, according to /proc."""
     with contextlib.suppress(OSError, ValueError):
         with open(f"/proc/{pid}/io", encoding="ascii") as file:
             for line in file:

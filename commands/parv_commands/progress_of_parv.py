@@ -1,4 +1,5 @@
-"""parv-progress: runs parv, and shows on a terminal how much it has read, of how much at most, and how fast."""
+"""parv-progress: runs parv, and shows on a terminal how much it has read, the most that it can read, and how fast it
+reads."""
 
 from __future__ import annotations
 
@@ -48,8 +49,8 @@ def _is_terminal(number: int) -> bool:
 
 
 def _become(program: Program, given: List[bytes]) -> NoReturn:
-    """Runs parv in the place of this command."""
-    for number in signal.SIGPIPE, signal.SIGXFSZ:     # as they were before Python had them ignored
+    """Runs parv in place of this command."""
+    for number in signal.SIGPIPE, signal.SIGXFSZ:     # Python ignores these; parv must not
         signal.signal(number, signal.SIG_DFL)
     signals.wait_point()
     try:
@@ -59,14 +60,14 @@ def _become(program: Program, given: List[bytes]) -> NoReturn:
 
 
 def _show(program: Program, given: List[bytes]) -> int:
-    """Runs parv and shows how far it is; its exit status."""
+    """Runs parv, shows how far it is, and returns its exit status."""
     is_terminal = _is_terminal(1)
     options = given[:given.index(b"--")] if b"--" in given else given
     times = 1 if given[0] == b"find" else 3 if b"--tails" in options else 2
     with progress.doing("parv", most_read(given[1:], times), True), \
             programs.running(program, given, own=(0,) if is_terminal else (0, 1)) as process:
         for number, piece in programs.outputs_of(process):
-            progress.stop()     # (The line would take off a part of what comes from now on.)
+            progress.stop()     # (From now on, removing the line would remove output.)
             with signals.interruptible():
                 output.pass_on(piece, number)
         status = programs.status_of(process)

@@ -1,4 +1,4 @@
-"""Which files a set is verified with: those of its folder, and those of the subfolders that names of the set have."""
+"""Decides with which files a set is verified: those of its folder, and those of the subfolders in the set's names."""
 
 from __future__ import annotations
 
@@ -14,14 +14,14 @@ from .signals import wait_point
 
 
 class Ways:
-    """What is at names below a folder, and on the ways to them; each part is looked at once."""
+    """What is at names below a folder, and on the ways to them. Each part is looked up once."""
 
     def __init__(self, folder: Folder) -> None:
         self.folder = folder
         self._kinds: Dict[bytes, int] = {}
 
     def kind(self, path: bytes) -> int:
-        """The kind of what is at a path, or 0 if nothing is."""
+        """Returns the kind of what is at a path, or 0 if nothing is there."""
         if path not in self._kinds:
             with faults_of("open", shown(path)):
                 now = self.folder.look(path)
@@ -29,7 +29,7 @@ class Ways:
         return self._kinds[path]
 
     def is_clear(self, name: bytes) -> bool:
-        """Whether no link is at a name, nor on the way to it."""
+        """Returns whether no link is at a name, or on the way to it."""
         at = name.find(b"/")
         while at >= 0:
             kind = self.kind(name[:at])
@@ -40,7 +40,7 @@ class Ways:
 
 
 def subfolders_of(ways: Ways, members: Iterable[bytes]) -> List[bytes]:
-    """The subfolders that plain names of a set have, each with a slash after it."""
+    """Returns the subfolders in plain names of a set, each with a slash after it."""
     found: Set[bytes] = set()
     for name in members:
         wait_point()
@@ -51,7 +51,8 @@ def subfolders_of(ways: Ways, members: Iterable[bytes]) -> List[bytes]:
 
 
 def files_there(folder: Folder, members: Set[bytes], folders: Sequence[bytes]) -> Dict[bytes, Identity]:
-    """The files in these folders, of which the folder itself is nothing; packet files only if the set has them."""
+    """Returns the files in these folders (an empty path is the folder itself). Packet files are included only if the
+    set has them."""
     there: Dict[bytes, Identity] = {}
     for path in folders:
         wait_point()
@@ -65,8 +66,8 @@ def files_there(folder: Folder, members: Set[bytes], folders: Sequence[bytes]) -
 
 
 def preferred(there: Dict[bytes, Identity], members: Set[bytes], lengths: Set[int]) -> List[bytes]:
-    """The files of a folder in the order in which they are looked at if there are too many: those with names of the
-    set, then those with a length of one of its files, then the longest."""
+    """Returns the files of a folder in the order in which they are used if there are too many: those with names of the
+    set, then those with the length of one of its files, then the longest."""
     def order(path: bytes) -> Tuple[bool, bool, int]:
         length = there[path].length or 0
         return path not in members, length not in lengths, -length

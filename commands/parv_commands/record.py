@@ -1,5 +1,5 @@
-"""What a rescue has done in its folder, in a file of lines there: which files it makes and has made, which slices are
-there, which files were complete by their last change, and how far each list of files was searched."""
+"""The record of a rescue, in a file of lines in its folder: which files it makes and has made, which slices are there,
+which files were complete and when they last changed, and how far each list of files was searched."""
 
 from __future__ import annotations
 
@@ -14,18 +14,18 @@ from .folders import Folder
 from .search import Place
 
 NAME = b".parv-rescue"
-EARLIER = b".extract_found"     # that of extract_found.py of version 0.4.0, which goes on in the same way
+EARLIER = b".extract_found"     # the record of extract_found.py of version 0.4.0, which is continued in the same way
 NAMES = (NAME, EARLIER)
 _HEADS = {NAME: "parv-rescue", EARLIER: "extract_found"}
 
 
 def name_in(folder: Folder) -> Optional[bytes]:
-    """The record that is in a folder, if it has one."""
+    """Returns the name of the record in a folder, or None if it has none."""
     return next((name for name in NAMES if not folder.is_free(name)), None)
 
 
 class Record:
-    """The record of a folder for the set of an ID; other runs are kept out while it is opened."""
+    """The record of a folder for the set with an ID. While it is open, no other run can open it."""
 
     def __init__(self, folder: Folder, owner: str) -> None:
         name = name_in(folder) or NAME
@@ -51,7 +51,7 @@ class Record:
         self._read(f"{_HEADS[name]} 1 {owner}")
 
     def _read(self, head: str) -> None:
-        """Reads the lines; of one that was being written the beginning is taken off."""
+        """Reads the lines. If the last one was not completely written, it is removed."""
         with faults_of("read", self.shown):
             data = os.pread(self.place, os.fstat(self.place).st_size, 0)
         lines = data[:data.rfind(b"\n") + 1].decode("ascii", "replace").split("\n")[:-1]
@@ -89,13 +89,13 @@ class Record:
             raise ValueError(kind)
 
     def write(self, text: str) -> None:
-        """Puts text after the last whole line."""
+        """Writes text after the last whole line."""
         with faults_of("write", self.shown):
             changes.write_at(self.place, text.encode("ascii"), self.end)
         self.end += len(text)
 
     def tell(self, *words: object) -> None:
-        """Has a line for the next time that it is saved."""
+        """Adds a line, which is written when the record is saved next."""
         self.news.append(" ".join(map(str, words)) + "\n")
 
     def save(self) -> None:

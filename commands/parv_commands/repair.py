@@ -57,7 +57,7 @@ PARV and PAR2 name the programs, if they aren't in PATH. man parv-repair has mor
 
 
 class Asked(NamedTuple):
-    """What the command line asks for."""
+    """The folder and options of the command line."""
     folder: bytes
     dry: bool
     purge: bool
@@ -72,7 +72,7 @@ class Repair:
         self.dry, self.purge = dry, purge
 
     def run(self, chosen: Optional[str]) -> Tuple[int, List[str]]:
-        """The exit status, and the lines that tell what was done."""
+        """Returns the exit status, and the lines that say what was done."""
         found = self.scene.find_set(chosen)
         with contextlib.closing(found.files):
             self.scene.gather(found)
@@ -93,7 +93,7 @@ class Repair:
             return 0, self._repair(found, sources, repairs, others, scanned)
 
     def _look_again(self, found: Found, scanned: Sequence[bytes], before: Verdict) -> Looked:
-        """With --tails, which may find what is missing."""
+        """Verifies again with --tails, which may find missing slices."""
         try:
             looked = self.scene.look(found, scanned, True)
         except Fault as fault:
@@ -105,7 +105,8 @@ class Repair:
         return looked
 
     def _origins(self, found: Found, sources: Sequence[Optional[bytes]]) -> List[bytes]:
-        """The path that has or will have the content of each file: an empty file is made, whatever else is empty."""
+        """Returns the path that has or will have the content of each file. An empty file is made, even if others are
+        empty."""
         origins: List[bytes] = []
         for number, (file, source) in enumerate(zip(found.set.files, sources)):
             if file.length == 0 and source != file.name:
@@ -130,7 +131,7 @@ class Repair:
 
     def _repair(self, found: Found, sources: Sequence[Optional[bytes]], repairs: Set[int], others: Set[bytes],
                 scanned: Sequence[bytes]) -> List[str]:
-        """Makes all complete; the lines that tell what was done."""
+        """Makes all files complete, and returns the lines that say what was done."""
         place = Stage(self.folder, self.say)
         moves: Optional[Moves] = None
         try:
@@ -164,7 +165,7 @@ class Repair:
         return [*plan.told, *(f"remove {shown(kept)}" for kept in gone), "complete"]
 
     def _leave(self, place: Stage, moves: Optional[Moves]) -> None:
-        """Undoes what was done, and removes the stage; a fault says what couldn't be undone."""
+        """Undoes what was done, and removes the stage. An error says what couldn't be undone."""
         if not stage.is_there(self.folder):
             return
         try:
@@ -190,14 +191,14 @@ class Repair:
                 filled(opened)
 
     def _copy(self, place: Stage, plan: Plan) -> None:
-        """Makes the copies that a plan has."""
+        """Makes the copies in a plan."""
         for copy in plan.copies:
             with progress.doing(f"{shown(copy.source)} is copied", self.scene.there[copy.source].length or 0):
                 self._make_file(place, names.base_of(copy.target), functools.partial(self._fill, copy.source))
 
     def _fill(self, path: bytes, opened: int) -> None:
-        """Copies a file of the folder with its times and its mode. (The copy may be of another owner: it doesn't run as
-        that one.)"""
+        """Copies a file of the folder with its times and its mode. (The copy may have another owner, so it loses the
+        bits by which it would run as its owner.)"""
         source = self.folder.open_to_read(path)
         try:
             now = os.fstat(source)
@@ -213,7 +214,7 @@ class Repair:
             os.close(source)
 
     def _moves(self, plan: Plan) -> Moves:
-        """The moves of a plan. Within one file system a move is whole, or hasn't begun."""
+        """Returns the moves of a plan. Within one file system, a move is done completely or not at all."""
         def identity(path: bytes) -> Identity:
             now = self.folder.look(path)
             if now is None or not stat.S_ISREG(now.st_mode):
@@ -230,7 +231,7 @@ class Repair:
         return moves
 
     def _verify(self, found: Found) -> None:
-        """Ends the run unless all is complete now."""
+        """Ends the run unless all files are complete now."""
         self.scene.gather(found)
         looked = self.scene.look(found, self.scene.to_scan(found))
         if not self.scene.is_complete(found, self.scene.settled(found, looked.sources)):
@@ -239,7 +240,7 @@ class Repair:
     # Backups.
 
     def _say_of_earlier_backups(self, found: Found) -> None:
-        """Says which files an earlier run may have kept. They stay: who put them there isn't known."""
+        """Says which files an earlier run may have kept. They stay, since nobody knows who put them there."""
         members = {file.name for file in found.set.files}
         kept = [path for path in sorted(self.scene.there) if path not in members and _NUMBERED.fullmatch(path)
                 and path.rpartition(b".")[0] in members]
@@ -249,7 +250,7 @@ class Repair:
                      "earlier one, and can be removed by rm")
 
     def _backups_to_remove(self, found: Found, backups: Sequence[Backup]) -> List[Backup]:
-        """The kept files that may go: those that have a slice of the file whose name they had."""
+        """Returns the backups that may be removed: those that contain a slice of the file whose name they had."""
         removed: List[Backup] = []
         for backup in backups if self.purge else ():
             if self._has_slices(found, backup):
@@ -268,7 +269,7 @@ class Repair:
             return next(sightings, None) is not None
 
     def _remove(self, backup: Backup) -> bool:
-        """Removes a kept file, if it is still the one that was kept."""
+        """Removes a backup, if it is still the file that was kept."""
         with faults_of("remove", shown(backup.kept)), self.folder.above(backup.kept) as above:
             if not backup.file.fits(self.folder.look(backup.kept)):
                 self.say(f"{shown(backup.kept)} has changed meanwhile, and stays")
@@ -279,7 +280,7 @@ class Repair:
 
 @contextlib.contextmanager
 def locked(folder: Folder) -> Iterator[None]:
-    """Keeps other runs out of a folder. (The lock isn't handed to programs that are run.)"""
+    """Keeps other runs out of a folder. (Programs that are run don't inherit the lock.)"""
     lock = os.open(b".", os.O_RDONLY | os.O_DIRECTORY | os.O_CLOEXEC, dir_fd=folder.place)
     try:
         try:
@@ -304,7 +305,7 @@ def _run(asked: Asked, folder: Folder, program: Program) -> Tuple[int, List[str]
             with progress.waiting("a run that was ended is finished"):
                 module.recover(folder, say)
             if purge:
-                say("so --remove-backups removes nothing")      # a backup may be what somebody has written since
+                say("so --remove-backups removes nothing")      # a backup may be a file that somebody has written since
                 purge = False
         most_open = programs.raise_file_limit()
         with temporary_folder() as temporary:
@@ -313,7 +314,7 @@ def _run(asked: Asked, folder: Folder, program: Program) -> Tuple[int, List[str]
 
 
 def repair(asked: Asked) -> int:
-    """The whole run; its exit status."""
+    """Runs the command, and returns its exit status."""
     program = words.needed_parv()
     folder = Folder.opened(asked.folder)
     try:

@@ -1,4 +1,4 @@
-"""parv-rescue: copies the slices of a set that are in other files, as in the image of a disc, into files of the set."""
+"""parv-rescue: copies slices of a set out of other files, such as the image of a disc, into files of the set."""
 
 from __future__ import annotations
 
@@ -19,9 +19,9 @@ from .record import NAMES, Record, name_in
 from .search import Scanned, Search
 from .writer import Writer
 
-EXPECTED, TAILS = "expected", "tails"   # the two ways to search, as the record names them
-MOST_TAILS = 256    # lengths that parv looks for at once
-PAUSE = 4           # seconds at least from one entry into the record to the next
+EXPECTED, TAILS = "expected", "tails"   # the two kinds of search, as the record names them
+MOST_TAILS = 256    # the most lengths that parv looks for at once
+PAUSE = 4           # the least number of seconds between two entries into the record
 
 USAGE_TEXT = """usage: parv-rescue [--tails] [--set ID] FOLDER FILES
 
@@ -43,11 +43,11 @@ and so are files that are shorter than a slice. That can take long. Leave it out
 at first: if a line says that it might find more, go on with it in the same FOLDER.
 
 At the end a line for each file says `complete`, `damaged`, `wrong`, `missing`
-or `refused`, and of a damaged one a line `hole OFFSET LENGTH NAME` of each hole.
+or `refused`. After a damaged one, each hole has a line `hole OFFSET LENGTH NAME`.
 
 The exit status:
   0  each file of the set is complete
-  1  not each is
+  1  some file of the set isn't
   3  wrong words, no packet file, or FOLDER is of another set or has other files
   4  no set in the packet files, or with --tails too many lengths are missing
   6  a file can't be read or written, or parv can't be run
@@ -57,7 +57,7 @@ PARV names the program, if it isn't in PATH. man parv-rescue has more.
 
 
 class Asked(NamedTuple):
-    """What the command line asks for."""
+    """The folder, files and options of the command line."""
     folder: bytes
     files: List[bytes]
     tails: bool
@@ -65,7 +65,7 @@ class Asked(NamedTuple):
 
 
 def open_folder(path: bytes) -> Folder:
-    """The folder that is written to: new, empty, or one with a record."""
+    """Opens the folder that is written to. It must be new, empty, or have a record."""
     with faults_of("make", shown(path)):
         changes.make_path(path)
     folder = Folder.opened(path)
@@ -75,7 +75,8 @@ def open_folder(path: bytes) -> Folder:
 
 
 def bytes_at(source: Scanned, offset: int, own: int, size: int) -> Tuple[bytes, bytes]:
-    """The first `own` bytes of a slice at the offset of a match, and their sums with zeros up to the slice size."""
+    """Returns the first `own` bytes of a slice at the offset of a match, and their checksums with zeros up to the slice
+    size."""
     with faults_of("read", source.shown):
         opened = source.opener()
         try:
@@ -91,13 +92,13 @@ class Rescue:
 
     def __init__(self, found: RecoverySet, given: Given, parv: Parv, writer: Writer) -> None:
         self.found, self.given, self.parv, self.writer = found, given, parv, writer
-        self.complete: Set[str] = set()     # the IDs of files that are told as complete
+        self.complete: Set[str] = set()     # the IDs of files that are reported as complete
 
     def search(self, tails: bool, wanted: Set[int]) -> Search:
         return Search(self.found, self.parv, self.given.scanned, tails, wanted, not tails)
 
     def run(self, tails: bool) -> Tuple[int, List[str], int]:
-        """The exit status, the lines that tell what is there, and how many short slices are missing that a search with
+        """Returns the exit status, the lines that say what is there, and how many missing short slices a search with
         --tails might find."""
         writer = self.writer
         writer.prepare()
@@ -117,18 +118,19 @@ class Rescue:
         return status, lines, 0 if tails else self._may_find(search, missing)
 
     def _reached(self, way: str) -> Tuple[int, int, int]:
-        """The place from which a search of these files goes on this way: an earlier run may have come there."""
+        """Returns the place from which this kind of search goes on in these files. An earlier run may have reached
+        it."""
         nothing = 0, 0, 0
         return nothing if self.writer.is_lossy else self.writer.record.reached.get((way, self.given.mark), nothing)
 
     def _may_find(self, search: Search, short: Set[int]) -> int:
-        """How many short slices a search with --tails has to do with still, if it isn't refused."""
+        """Returns how many short slices a search with --tails would still look for; 0 if it would be refused."""
         lengths = {search.owners[number].length % self.found.size for number in short}
         may = 0 < len(lengths) <= MOST_TAILS and self._reached(TAILS)[0] < len(self.given.scanned)
         return len(short) if may else 0
 
     def _searches(self, search: Search, way: str) -> None:
-        """Copies what a search sees from the place at which it goes on, and keeps in the record how far it came."""
+        """Copies what a search finds, from the place at which it goes on, and records how far it came."""
         search.at = self._reached(way)
         try:
             self._copy(search, way)
@@ -139,14 +141,14 @@ class Rescue:
         self.writer.save(search, way)
 
     def _copy(self, search: Search, way: str) -> None:
-        """Copies each slice that the search sees."""
+        """Copies each slice that the search finds."""
         key: Optional[Tuple[int, int, int]] = None
         data, sums = b"", b""
         with contextlib.closing(search.sightings()) as sightings:
             for at, offset, number in sightings:
                 file, source = search.owners[number], search.scanned[at]
                 own = self.found.own_length(file, number - file.first)
-                if key != (at, offset, own):        # equal slices are seen at one place, one after another
+                if key != (at, offset, own):        # equal slices are found at one place, one after another
                     key = (at, offset, own)
                     data, sums = bytes_at(source, offset, own, self.found.size)
                 self._take(search, file, number, data, sums, f"{source.shown} has changed at {offset}")
@@ -154,7 +156,7 @@ class Rescue:
                     self.writer.save(search, way)
 
     def _take(self, search: Search, file: Member, number: int, data: bytes, sums: bytes, else_said: str) -> None:
-        """Writes a slice if its bytes still have its sums."""
+        """Writes a slice if its bytes still have its checksums."""
         if not file.sums or sums != file.sums[number - file.first]:
             self.writer.is_lossy = True
             output.say(else_said)
@@ -166,7 +168,7 @@ class Rescue:
     # The lines at the end.
 
     def _holes(self, file: Member) -> List[Tuple[int, int]]:
-        """The offset and length of each hole of a file, of as many slices as are missing in a row."""
+        """Returns the offset and length of each hole of a file. Slices that are missing in a row make one hole."""
         gaps: List[Tuple[int, int]] = []
         for number in range(file.slices):
             if file.first + number not in self.writer.record.there:
@@ -178,7 +180,7 @@ class Rescue:
         return gaps
 
     def _state(self, file: Member, count: int) -> str:
-        """The state of a file of which so many slices are there by the record; something else may have completed it."""
+        """Returns the state of a file with `count` slices in the record. Another program may have completed it."""
         if count == file.slices:
             return self.writer.state_if_whole(file)
         missing = next(number - file.first for number in file.numbers if number not in self.writer.record.there)
@@ -187,7 +189,7 @@ class Rescue:
         return "damaged" if count else "missing"
 
     def _told(self, file: Member) -> List[str]:
-        """The lines about a file: its state, and its holes."""
+        """Returns the lines about a file: its state, and its holes."""
         count = sum(number in self.writer.record.there for number in file.numbers)
         state = self._state(file, count)
         if file.id in self.writer.refused:
@@ -210,7 +212,7 @@ class Rescue:
 
 
 def rescue(asked: Asked) -> int:
-    """The whole run; its exit status."""
+    """Runs the command, and returns its exit status."""
     program = words.needed_parv()
     programs.raise_file_limit()
     with temporary_folder() as temporary:

@@ -1,4 +1,4 @@
-"""What is in a folder that is repaired, as parv sees it: the set, the files, and which of them has which content."""
+"""A folder that is repaired, as parv sees it: the set, the files, and which of them has which content."""
 
 from __future__ import annotations
 
@@ -21,7 +21,8 @@ RESERVED = (stage.NAME, earlier.NAME)
 
 
 class Looked(NamedTuple):
-    """What parv has said of some files: the path of one with the content of each file of the set, and its verdict."""
+    """What parv has said about some files: for each file of the set, the path of one with its content; and the
+    verdict."""
     sources: List[Optional[bytes]]
     verdict: Verdict
 
@@ -36,7 +37,7 @@ class Found(NamedTuple):
 
 
 class Scene:
-    """A folder, and what parv has said of it."""
+    """A folder, and what parv has said about it."""
 
     def __init__(self, folder: Folder, program: Program, links: Links, most_open: int) -> None:
         self.folder, self.links, self.most_open = folder, links, most_open
@@ -49,7 +50,7 @@ class Scene:
         output.say(f"{self.folder.shown}: {text}")
 
     def word_of(self, path: bytes, is_packet_file: bool = False) -> str:
-        """The word by which parv gets a file of the folder."""
+        """Returns the word by which parv gets a file of the folder."""
         key = path, is_packet_file
         if key not in self.words:
             word = self.links.word(path_below(self.folder, path), shown(path), is_packet_file)
@@ -57,7 +58,7 @@ class Scene:
         return self.words[key]
 
     def packet_words(self) -> List[str]:
-        """The packet files of the folder."""
+        """Returns the words for the packet files of the folder."""
         found: List[str] = []
         for name, now in self.folder.entries().items():
             if names.is_packet_file(name) and stat.S_ISLNK(now.st_mode):
@@ -72,7 +73,7 @@ class Scene:
         return open(self.folder.open_to_read(self.paths[word]), "rb")
 
     def find_set(self, chosen: Optional[str]) -> Found:
-        """The set of the packet files, or that which was chosen."""
+        """Returns the set of the packet files, or the one that was chosen."""
         words_given = self.packet_words()
         lines = self.parv.packets(words_given)
         sets = list(dict.fromkeys(line.set for line in lines if line.kind == "main"))
@@ -88,14 +89,14 @@ class Scene:
             return Found(answer, read_recovery_set(answer, files, lines), files, lines, words_given)
 
     def gather(self, found: Found) -> None:
-        """Notes the files of the folder, and of the subfolders that the set names, except packet files."""
+        """Records the files of the folder, and of the subfolders that the set names, except packet files."""
         members = {file.name for file in found.set.files}
         with progress.waiting("the folder is read"):
             read = (name for name in members if names.refusal(name, RESERVED) is None)
             self.there = files_there(self.folder, members, [b"", *subfolders_of(Ways(self.folder), read)])
 
     def to_scan(self, found: Found) -> List[bytes]:
-        """As many of the files as parv takes."""
+        """Returns as many of the files as parv accepts."""
         room = min(MOST_FILES, self.most_open - SPARE_FILES) - len(found.words)
         if len(self.there) <= room:
             return list(self.there)
@@ -105,7 +106,7 @@ class Scene:
                          {file.length for file in found.set.files})[:room]
 
     def look(self, found: Found, paths: Sequence[bytes], tails: bool = False) -> Looked:
-        """What parv says of files of the folder."""
+        """Returns what parv says about files of the folder."""
         given = [self.word_of(path) for path in paths]
         most = sum((self.there[path].length or 0) * (3 if tails else 2) for path in paths if path in self.there)
         verdict = self.parv.verify(found.answer, found.words, given, tails, most)
@@ -117,7 +118,8 @@ class Scene:
         return Looked(sources, verdict)
 
     def settled(self, found: Found, sources: Sequence[Optional[bytes]]) -> List[Optional[bytes]]:
-        """The same with the own name of each file that has its content, though another one with it comes first."""
+        """Returns `sources`, but with the own name of each file that has its content there, even if another file comes
+        first."""
         settled: List[Optional[bytes]] = []
         with progress.doing("equal files are compared"):
             for file, source in zip(found.set.files, sources):
@@ -130,7 +132,8 @@ class Scene:
         return all(file.name == source for file, source in zip(found.set.files, sources))
 
     def refuse_names(self, found: Found) -> None:
-        """Ends the run if a name of the set leads elsewhere, or something is in its place. Anyone may have made it."""
+        """Ends the run if a name of the set leads elsewhere, or something is in its place. Anyone may have made the
+        set."""
         why = names.refusals([file.name for file in found.set.files], RESERVED)
         for number, file in enumerate(found.set.files):
             reason = why.get(number) or self.folder.obstacle(file.name)
@@ -141,7 +144,7 @@ class Scene:
             raise Fault(NO_SET, "the set is refused for its names")
 
     def search(self, found: Found, paths: Sequence[bytes], wanted: Set[int], tails: bool) -> Search:
-        """A search for slices in files of the folder."""
+        """Returns a search for slices in files of the folder."""
         scanned: List[Scanned] = []
         for path in paths:
             def opener(name: bytes = path) -> int:

@@ -1,4 +1,4 @@
-"""A search of files for slices of a set, by `parv find`."""
+"""Searches files for slices of a set, by `parv find`."""
 
 from __future__ import annotations
 
@@ -14,11 +14,11 @@ from .packets import Member, RecoverySet, packets_for
 from .parv import Parv
 from .placing import is_there
 
-WASTE = 1 << 24     # how many bytes may be seen again in vain, each sighting being LINE more
+WASTE = 1 << 24     # how many bytes may be searched in vain; each match that isn't wanted counts as LINE more
 LINE = 4096
-AGAIN = 4           # how often a slice that isn't wanted any more may be seen until nothing is expected by it
+AGAIN = 4           # after this number of matches, a slice that isn't wanted any more leads to no other one
 WANTED = b"wanted.par2"
-Place = Tuple[int, int, int]        # the numbers of a cursor: of a scanned file, an offset, and of a slice in the set
+Place = Tuple[int, int, int]        # the numbers of a cursor: a scanned file, an offset, and a slice in the set
 
 
 class Scanned(NamedTuple):
@@ -30,7 +30,7 @@ class Scanned(NamedTuple):
 
 
 def mark_of_files(files: Sequence[Tuple[bytes, int]]) -> str:
-    """The mark of a list of scanned files in a cursor: the MD5 of their words and lengths."""
+    """Returns the fingerprint of a list of scanned files for a cursor: the MD5 of their words and lengths."""
     mark = hashlib.md5()
     for word, length in files:
         for part in len(word).to_bytes(8, "little"), word, length.to_bytes(8, "little"):
@@ -41,9 +41,9 @@ def mark_of_files(files: Sequence[Tuple[bytes, int]]) -> str:
 class Search:
     """A search that goes on from a cursor.
 
-    `wanted` has the numbers in the whole set of the slices that are looked for, and may lose some at each sighting.
-    `at` is the place that the search has come to. If it `expects`, it looks itself for a short last slice at its
-    distance from each other slice of the same file that is seen.
+    `wanted` has the numbers, in the whole set, of the slices that are looked for. After each match it may lose some.
+    `at` is the place that the search has reached. If it `expects`, it also looks by itself for a short last slice, at
+    its distance from each match of another slice of the same file.
     """
 
     def __init__(self, found: RecoverySet, parv: Parv, scanned: Sequence[Scanned], tails: bool, wanted: Set[int],
@@ -55,15 +55,15 @@ class Search:
         self.by_word = {file.word: number for number, file in enumerate(scanned)}
         self.by_id = {file.id: file.first for file in found.files if file.slices}
         self.owners: List[Member] = [file for file in found.files for _ in file.numbers]
-        self.looked: Dict[int, Place] = {}      # the place at which a last slice was looked for, by its number
-        self.again: Dict[int, int] = {}         # how often slices were seen that aren't wanted, by their numbers
+        self.looked: Dict[int, Place] = {}      # the place at which a last slice was looked for, by the slice's number
+        self.again: Dict[int, int] = {}         # how often slices were found that aren't wanted, by their numbers
 
     def cursor(self) -> str:
         return ":".join(map(str, ["2", self.found.id, self.mark, *self.at]))
 
     def sightings(self) -> Generator[Place, None, None]:
-        """The number of a scanned file, an offset and the number of a slice, for each sighting of one that is wanted;
-        the search is past it once the next one is asked for."""
+        """Yields each match of a wanted slice: the number of a scanned file, an offset, and the number of the slice.
+        When the next one is asked for, the search has passed it."""
         place, name = self.parv.links.folder.place, self.parv.links.folder.shown
         while self.wanted and self.at[0] < len(self.scanned):
             with faults_of("write in", name), changes.new_file(place, WANTED) as opened:
@@ -75,20 +75,21 @@ class Search:
                     changes.remove_file(place, WANTED)
 
     def asked(self) -> Set[int]:
-        """The slices that parv looks for: those that are wanted, and those that lead to one of them."""
+        """Returns the slices that parv looks for: those that are wanted, and those that lead to one of them."""
         return self.wanted.union(filter(self._leads, range(len(self.owners))))
 
     def _leads(self, number: int) -> bool:
-        """Whether the last slice of the same file is short, wanted still, and expected by this one.
+        """Returns whether the last slice of the same file is short, still wanted, and expected at its distance from
+        this slice.
 
-        A slice of zeros is seen at each offset of an empty part of a disc, and the sums of a slice are read and
-        compared for each. So nothing is expected any more by a slice that was seen AGAIN times after it was found."""
+        A slice of zeros is found at each offset of an empty part of a disc, and for each match the checksums of a slice
+        are read and compared. So a slice that was found AGAIN times after it was wanted leads to nothing any more."""
         file = self.owners[number]
         return (self.expects and number < file.last and file.last in self.wanted
                 and self.found.is_short(file) and self.again.get(number, 0) < AGAIN)
 
     def _led_to(self, file: int, offset: int, number: int) -> Iterator[Place]:
-        """The sighting of the short last slice at its distance from this sighting, if it is there."""
+        """Yields the match of the short last slice at its distance from this match, if it is there."""
         if not self._leads(number):
             return
         owner = self.owners[number]
@@ -111,16 +112,16 @@ class Search:
         if file is None or first is None or line.number >= self.owners[first].slices:
             raise NoAnswer("find")
         place = file, line.offset, first + line.number
-        if place < self.at or line.offset >= self.scanned[file].length:     # they come in order, and so to an end
+        if place < self.at or line.offset >= self.scanned[file].length:     # matches come in order, so they end
             raise NoAnswer("find")
         return place
 
     def _part(self) -> Iterator[Place]:
-        """The sightings as far as it is worth while to search for these slices.
+        """Yields the matches, as long as the search for these slices is worth its time.
 
-        Slices that aren't wanted any more are seen again at other places, one of zeros at each offset of an empty part
-        of a disc, and each time parv takes an MD5. Once they have cost as much as a new beginning, the search begins
-        again at its place, without them.
+        Slices that aren't wanted any more are found again at other places: a slice of zeros at each offset of an empty
+        part of a disc. For each such match, parv computes an MD5. Once that has cost as much as a new start, the search
+        starts again at its place, without these slices.
         """
         words = [*self.flags, "--cursor", self.cursor(), "--", WANTED.decode(), *(file.word for file in self.scanned)]
         waste = 0

@@ -1,4 +1,4 @@
-"""Which sets the packet files of a folder have, by their packets, and what these sets are called."""
+"""Finds out which sets the packet files of a folder have, from their packets, and what these sets are called."""
 
 from __future__ import annotations
 
@@ -10,7 +10,7 @@ from .answers import NoAnswer, PacketLine, read_packet
 from .packets import HEADER, PacketFiles
 
 NO_MAIN = "no usable set: no main"
-_MOST_BODY = 1 << 20        # bytes of a Main packet that parv reads, and what it may say
+_MOST_BODY = 1 << 20        # the most bytes of a Main body that parv reads; the limits of its fields follow
 _MOST_SIZE = 1 << 28
 _MOST_IDS = 32_768
 _LONGEST_LINE = 4096
@@ -18,16 +18,16 @@ _VOLUME = re.compile(rb"(.+)\.vol[0-9]+[-+][0-9]+", re.IGNORECASE | re.DOTALL)
 
 
 def called(name: bytes) -> bytes:
-    """What a packet file is called without `.par2`, and without `.vol0+1` or the like before it."""
+    """Returns what a packet file is called without `.par2`, and without `.vol0+1` or the like before it."""
     front = name[:-5]
     volume = _VOLUME.fullmatch(front)
     return volume[1] if volume else front
 
 
 class Listed:
-    """The answer of `parv packets`, read as it comes: the IDs of the sets of which each packet file has packets, in the
-    order of these; the Main packets by the ID of their set; and which sets have descriptions of files. `paths` has the
-    packet files by their words, as parv shows these."""
+    """The answer of `parv packets`, read as it comes: for each packet file the IDs of the sets of which it has packets,
+    in order; the Main packets by the ID of their set; and which sets have descriptions of files. `paths` has the packet
+    files by their words, as parv shows these."""
 
     def __init__(self, paths: Mapping[str, bytes], packet_files: Iterable[bytes]) -> None:
         self.ids: Dict[bytes, Dict[str, None]] = {path: {} for path in packet_files}
@@ -63,20 +63,20 @@ class Listed:
             self.described.add(packet.set)
 
     def end(self) -> None:
-        """Sees that the answer has come to its end."""
+        """Checks that the answer is complete."""
         if self._rest or not self._is_whole:
             raise NoAnswer("packets")
 
     def add(self, other: Listed) -> None:
-        """Takes in what was read of other files."""
+        """Adds what was read of other files."""
         self.ids.update(other.ids)
         self.described |= other.described
         for owner, lines in other.mains.items():
             self.mains.setdefault(owner, []).extend(lines)
 
     def why_none(self, owner: str, files: PacketFiles) -> Optional[str]:
-        """Why the packets of an ID are no set, in the words of parv, if they have no Main packet or no description. Of
-        others only parv knows."""
+        """Returns why the packets of an ID are no set, in the words of parv, if they have no Main packet or no
+        description. In other cases it returns None, and only parv knows."""
         mains = self.mains.get(owner, [])
         if not mains:
             return NO_MAIN
@@ -96,7 +96,7 @@ def _ids_of(main: bytes) -> List[bytes]:
 
 
 def _is_usable(main: bytes, owner: str) -> bool:
-    """Whether parv takes a Main packet with this body for that of a set."""
+    """Returns whether parv takes a Main packet with this body for that of a set."""
     if len(main) < 12 or (len(main) - 12) % 16:
         return False
     ids, size = _ids_of(main), int.from_bytes(main[:8], "little")

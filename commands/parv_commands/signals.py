@@ -1,8 +1,8 @@
-"""Signals that end a command: they wait while a step is done that must not be cut.
+"""Signals that end a command. They wait while the command is in a step that must not be interrupted.
 
-A signal is taken at once only within `interruptible`, which is put around what takes long. Everything else is done to
-its end first, so no step has to ask what was cut off. Only the first signal counts: what is done on the way out is
-done whole.
+A signal takes effect at once only within `interruptible`, which is put around everything that takes long. Every other
+step is finished first, so none has to find out where it was interrupted. Only the first signal counts: what the command
+does on its way out is finished.
 """
 
 from __future__ import annotations
@@ -24,7 +24,7 @@ class Ended(BaseException):
 
 
 class _Signals:
-    """The first signal that came, whether one may end the command now, and whether one has."""
+    """The first signal that came, whether a signal may end the command now, and whether one has."""
     came: Optional[int] = None
     open: bool = False
     ended: bool = False
@@ -43,14 +43,14 @@ def _come(number: int, _: Optional[FrameType]) -> None:
 
 
 def take_signals() -> None:
-    """Has signals end the command by an exception. What nohup has it ignore is ignored still."""
+    """Makes signals end the command by an exception. Signals that nohup ignores are still ignored."""
     for number in SIGNALS:
         if signal.getsignal(number) != signal.SIG_IGN:
             signal.signal(number, _come)
 
 
 def forget_signals() -> None:
-    """Has no signal end anything any more: the command is done. (Python would take its handlers off before it ends.)"""
+    """Makes no signal end the command any more, since it is done. (Python would remove its handlers before it ends.)"""
     for number in SIGNALS:
         signal.signal(number, signal.SIG_IGN)
     _Signals.ended, _Signals.open = True, False

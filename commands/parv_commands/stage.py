@@ -1,8 +1,8 @@
-"""The folder in which a repair works, below the one that it repairs: until the moves par2 has links there and what it
-makes, and the journal is there while names change.
+"""The stage: the folder in which a repair works, below the one that it repairs. Until the moves, par2 has its links and
+its results there. While names change, the journal is there.
 
 The file `owner` has the inode of the stage. So a stage that came with a download, or with a copy of the folder, isn't
-taken for one of this folder's, and nothing in it is removed.
+taken for a stage of this folder, and nothing in it is removed.
 """
 
 from __future__ import annotations
@@ -26,12 +26,12 @@ FILES_OF_PAR2, MADE, ASIDE = b"files", b"made", b"aside"
 
 
 def path_of(*parts: bytes) -> bytes:
-    """The path of something in the stage, from the folder that is repaired."""
+    """Returns the path of something in the stage, from the folder that is repaired."""
     return b"/".join([NAME, *parts])
 
 
 class Stage:
-    """The stage of a folder, while it is there."""
+    """The stage of a folder, while it exists."""
 
     def __init__(self, folder: Folder, say: Sayer) -> None:
         self.folder, self.say = folder, say
@@ -61,7 +61,7 @@ class Stage:
                 changes.make_folder(self.opened.place, name)
 
     def is_own(self) -> bool:
-        """Whether the stage is one that was made in this folder, and not one that came with it."""
+        """Returns whether the stage was made in this folder, and didn't come with it."""
         entries = self.opened.entries()
         if not entries:
             return True
@@ -76,7 +76,7 @@ class Stage:
     # The journal.
 
     def note(self, steps: List[Step], made: Iterable[bytes]) -> None:
-        """Writes the journal, once what was made is on the disk; the paths of that are from the folder."""
+        """Writes the journal, after the files that were made are on the disk. Their paths start at the folder."""
         with faults_of("write in", self.folder.shown):
             for name in made:
                 opened = self.folder.open_to_read(name)
@@ -92,13 +92,13 @@ class Stage:
             changes.sync_folder(self.folder.place)
 
     def forget(self) -> None:
-        """Removes the journal: what was moved is moved."""
+        """Removes the journal, after all moves."""
         with faults_of("write in", self.folder.shown):
             changes.remove_file(self.opened.place, JOURNAL)
             changes.sync_folder(self.opened.place)
 
     def moves(self) -> Optional[Moves]:
-        """The moves that a run has noted here, if it came so far."""
+        """Returns the moves that a run has recorded here, or None if it didn't get that far."""
         if self.opened.look(JOURNAL) is None:
             return None
         try:
@@ -107,14 +107,14 @@ class Stage:
             raise self.stays(f"{shown(path_of(JOURNAL))}: {why}") from why
 
     def stays(self, why: str) -> Fault:
-        """That the stage can't be dealt with, and what to do."""
+        """Returns the error that the stage can't be dealt with, and what to do."""
         return Fault(FILES, f"{why}; {shown(NAME)} stays, for what is to be undone: look at what is in it, and move it "
                             "out of the folder")
 
     # Its end.
 
     def _clear_folder(self, name: bytes) -> None:
-        """Removes a folder of the stage with the files and links in it; folders in it stay."""
+        """Removes a folder of the stage with the files and links in it. Folders in it stay."""
         with contextlib.suppress(FileNotFoundError), contextlib.closing(self.opened.inner(name)) as inner:
             for entry, now in inner.entries().items():
                 if not stat.S_ISDIR(now.st_mode):
@@ -129,14 +129,14 @@ class Stage:
                 raise
 
     def clear(self) -> None:
-        """Removes the stage, from which all files of the folder have gone. What a run hasn't made is kept."""
+        """Removes the stage, once all files of the folder have left it. What no run has made is kept."""
         with faults_of("remove what is in", f"{self.folder.shown}/{shown(NAME)}"):
             if self.is_own():
                 for name in FILES_OF_PAR2, MADE:
                     self._clear_folder(name)
                 self._remove_if_empty(ASIDE)
                 for name in NEW, OWNER:
-                    # (The owner goes last, and only from a stage that has nothing else.)
+                    # (The owner is removed last, and only from a stage that has nothing else.)
                     if name in self.opened.entries() and (name == NEW or len(self.opened.entries()) == 1):
                         changes.remove_file(self.opened.place, name)
             if not self.opened.entries():
@@ -152,12 +152,12 @@ class Stage:
 
 
 def is_there(folder: Folder) -> bool:
-    """Whether a run was ended here, or something else has the name of the stage."""
+    """Returns whether a run was ended here, or something else has the name of the stage."""
     return not folder.is_free(NAME)
 
 
 def recover(folder: Folder, say: Sayer) -> None:
-    """Finishes what an ended run was at, or takes it back, and removes the stage."""
+    """Finishes what an ended run was doing, or takes it back, and removes the stage."""
     if not folder.is_folder(NAME):
         raise Fault(FILES, f"{shown(NAME)} is a link or no folder: remove it, and call the command again")
     stage = Stage(folder, say)
@@ -174,7 +174,7 @@ def recover(folder: Folder, say: Sayer) -> None:
 
 
 def _deal_with(stage: Stage, moves: Moves) -> str:
-    """Finishes the moves of an ended run, or undoes them; says which."""
+    """Finishes the moves of an ended run, or undoes them, and returns which of the two."""
     try:
         if not stage.is_own():
             moves.bring_out()
@@ -183,7 +183,7 @@ def _deal_with(stage: Stage, moves: Moves) -> str:
         moves.finish()
         return f"a run was ended here{' ' if said.startswith('after') else ', '}{said}"
     except Refused as why:
-        if not stage.is_own():      # its steps aren't those of a run here: there is nothing to take back
+        if not stage.is_own():      # its steps aren't those of a run here, so there is nothing to take back
             raise stage.stays(str(why)) from why
         try:
             moves.undo()

@@ -1,4 +1,4 @@
-"""The state of a tree in a file: a line for each set, by which the next run knows what was lost since."""
+"""The state of a tree in a file: a line for each set, from which the next run knows what was lost since."""
 
 from __future__ import annotations
 
@@ -19,12 +19,12 @@ from .names import base_of, shown, unshown
 HEAD = b"parv-tree state "
 VERSION = b"1"
 _LINE = re.compile("([0-9]) ([0-9a-f]{32}) need (-|[0-9]{1,18}) have (-|[0-9]{1,18}) ([ -~]*)")
-_LONGEST_NAME = 200     # bytes of its name that the temporary file has too
+_LONGEST_NAME = 200     # how many bytes of its name the temporary file's name contains
 Key = Tuple[bytes, Optional[str]]
 
 
 def key_of(line: Line) -> Key:
-    """By what a set is known again: its folder and its ID."""
+    """Returns the marks by which a set is recognized: its folder and its ID."""
     return line.folder, line.id
 
 
@@ -33,7 +33,7 @@ def _number(text: str) -> Optional[int]:
 
 
 class State:
-    """The file, which is refused unless it is such a state of this tree, or isn't there."""
+    """The file. It is refused if it exists and isn't a state of this tree."""
 
     def __init__(self, path: bytes, tree: bytes) -> None:
         self.shown, self.tree = shown(path), os.path.realpath(tree)
@@ -105,7 +105,7 @@ class State:
         return b"md5 %s\n" % hashlib.md5(text).hexdigest().encode()
 
     def write(self, sets: Iterable[Line]) -> None:
-        """Writes a new state in the place of the old one, which stays if that fails."""
+        """Writes a new state in place of the old one. The old one stays if that fails."""
         text = b"%s%s\nfolder %s\n" % (HEAD, VERSION, shown(self.tree).encode())
         text += b"".join(b"%s\n" % line.text.encode() for line in sets)
         new = b"%s.%s" % (self.name[:_LONGEST_NAME], secrets.token_hex(8).encode())

@@ -1,4 +1,4 @@
-"""parv-tree: checks every set below a folder, with a line for each, and tells what was lost since the last time."""
+"""parv-tree: checks each set below a folder, prints a line for each, and reports what was lost since the last time."""
 
 from __future__ import annotations
 
@@ -22,9 +22,9 @@ from .programs import Answer, Program
 from .sets import NO_MAIN, Listed, called
 from .state import Key, State, key_of
 
-LOST = 5                # the status if something was lost since the last time
-AT_ONCE = 256           # packet files that parv lists at once
-FILES_OF_A_RUN = 8      # that are open here for each run of parv
+LOST = 5                # the exit status if something was lost since the last time
+AT_ONCE = 256           # the most packet files that one run of parv lists
+FILES_OF_A_RUN = 8      # how many files are open here for each run of parv
 LEFT_OUT = (b".verify_and_repair", b".parv-repair")
 
 USAGE_TEXT = """usage: parv-tree [-j N] [-q] [--tails] [--json] [--state FILE] FOLDER
@@ -68,8 +68,8 @@ there.
 
 The exit status is the greatest of all:
   0  each set is complete
-  1  of one a repair can be tried
-  2  of one not enough is left
+  1  a set is damaged, and a repair can be tried
+  2  a set is damaged, and too little is left for a repair
   3  wrong words, no packet file at all, or FILE is no state of FOLDER
   4  packet files without a set
   5  something was lost since the last run with --state
@@ -80,7 +80,7 @@ PARV names the program, if it isn't in PATH. man parv-tree has more.
 
 
 class Asked(NamedTuple):
-    """What the command line asks for."""
+    """The folder and options of the command line."""
     folder: bytes
     sides: int
     quiet: bool
@@ -90,8 +90,8 @@ class Asked(NamedTuple):
 
 
 class Place:
-    """A folder with packet files: its path with a slash after it or nothing, their names, the lines of its sets as they
-    come to be known, what there is to say before each, and the faults of packet files by their names."""
+    """A folder with packet files: its path (with a slash after it, or empty), their names, the lines of its sets once
+    these are known, the messages before each line, and the errors of packet files by their names."""
 
     def __init__(self, path: bytes) -> None:
         self.path = path
@@ -115,7 +115,7 @@ class OneSet(NamedTuple):
 
 
 def _walk(top: Folder, say_unread: List[Tuple[bytes, str]]) -> Iterator[bytes]:
-    """The paths of all packet files below a folder; a folder that can't be read is noted, with why."""
+    """Yields the paths of all packet files below a folder. A folder that can't be read is recorded, with the reason."""
     waiting: List[bytes] = [b""]
     with contextlib.closing(Descent(top)) as descent:
         while waiting:
@@ -144,15 +144,15 @@ class Tree:
         self.pool = Pool(program, max(1, min(asked.sides, (self.most_open - SPARE_FILES) // FILES_OF_A_RUN)))
         self.at_once = max(1, min(AT_ONCE, self.most_open - SPARE_FILES))
         self.places: Deque[Place] = collections.deque()
-        self.next = 0                               # the number of the line of the first place that is told next
+        self.next = 0                               # the line of the first place that is printed next
         self.status = 0
         self.count = 0
-        self.unread: List[bytes] = []               # folders of which nothing is known, nor of what is below them
+        self.unread: List[bytes] = []               # folders that couldn't be read, so nothing is known below them
         self.unsure: Set[bytes] = set()             # folders in which a packet file could not be read
         self.sets: Dict[Key, Line] = {}
 
     def run(self) -> int:
-        """Checks and tells all; the exit status."""
+        """Checks and prints everything, and returns the exit status."""
         with progress.doing("packet files are looked for"):
             self._find()
         self.pool.waiting.extend(self._list(place) for place in self.places)
@@ -186,14 +186,14 @@ class Tree:
 
     @contextlib.contextmanager
     def _looking(self, place: Place, said: List[str]) -> Iterator[Looking]:
-        """What runs parv in a folder."""
+        """Runs parv in a folder."""
         with faults_of("open", shown(place.path[:-1]) or self.top.shown):
             folder = self.top.inner(place.path[:-1] or b".")
         with contextlib.closing(folder), folder_within(self.temporary) as temporary:
             yield Looking(Parv(self.program, Links(temporary, (folder.place,))), folder, said.append)
 
     def _list(self, place: Place) -> Job:
-        """The job that finds the sets of a folder, and has them wait to be verified before all others."""
+        """Finds the sets of a folder, and puts them into the queue, to be verified before all others."""
         listed = Listed({}, [])
         sets: List[OneSet] = []
         try:
@@ -213,7 +213,7 @@ class Tree:
 
     def _read(self, look: Looking, place: Place, listed: Listed, packet_files: List[bytes],
               words_of: Dict[bytes, str]) -> Generator[Call, Answer, None]:
-        """Lists the packets of packet files: at once, or if that fails one by one."""
+        """Lists the packets of packet files: in one run or, if that fails, in one run for each."""
         given = [words_of[name] for name in packet_files]
         here = Listed(look.paths, packet_files)
         fault: Optional[Fault] = None
@@ -234,7 +234,7 @@ class Tree:
             place.faults[packet_files[0]] = fault
 
     def _sets(self, place: Place, listed: Listed, files: Optional[PacketFiles]) -> List[OneSet]:
-        """The sets of a folder that are to be verified. The lines of others are known then."""
+        """Returns the sets of a folder that are to be verified. The lines of the others are known then."""
         ids = {name: listed.ids.get(name, {}) for name in place.packet_files}
         found: Dict[str, List[bytes]] = {}
         lost: Dict[bytes, List[bytes]] = {}
@@ -256,8 +256,8 @@ class Tree:
         return sets
 
     def _is_none(self, place: Place, each: OneSet, listed: Listed, files: PacketFiles) -> bool:
-        """Whether it is known without parv that an ID has no set: then its line is known too. That may not be said if a
-        packet file of it could not be read."""
+        """Returns whether it is known without parv that the packets of an ID are no set. Then the line is known too.
+        This isn't said if one of its packet files could not be read."""
         if any(name in place.faults for name in each.packet_files):
             return False
         why = listed.why_none(each.id, files)
@@ -266,7 +266,7 @@ class Tree:
         return why is not None
 
     def _lose(self, place: Place, name: bytes, first: bytes) -> None:
-        """The line of packet files without a packet, which belong to no set."""
+        """Makes the line of packet files without a packet, which belong to no set."""
         fault = place.faults.pop(first, None)
         status, reason = (NO_SET, NO_MAIN) if fault is None else (fault.status, str(fault))
         if fault is not None:
@@ -275,7 +275,7 @@ class Tree:
         place.said[number] = [reason]
 
     def _check(self, place: Place, each: OneSet) -> Job:
-        """The job that verifies a set."""
+        """Verifies a set."""
         said: List[str] = []
         try:
             with self._looking(place, said) as look:
@@ -290,10 +290,10 @@ class Tree:
         place.lines[each.number] = line
         place.said[each.number] = said if line.reason is None else [*said, line.reason]
 
-    # What is told.
+    # Printing.
 
     def _tell(self) -> None:
-        """Tells what is known, as far as all before it is."""
+        """Prints the lines that are known, as far as all lines before them are."""
         while self.places and self.places[0].is_known:
             place = self.places[0]
             while self.next < len(place.lines):
@@ -312,7 +312,7 @@ class Tree:
             self.next = 0
 
     def _tell_line(self, line: Line) -> None:
-        """Tells of a set, and what it has lost."""
+        """Prints the line of a set, and what the set has lost."""
         self.count += 1
         self._rises_to(line.status)
         before = None if self.state is None else self.state.sets.get(key_of(line))
@@ -338,8 +338,8 @@ class Tree:
             output.tell(lines)
 
     def _compare(self, state: State) -> None:
-        """Tells which sets are gone, and keeps the state. If there is no packet file at all, the disk may not be
-        mounted: then the earlier state stays."""
+        """Prints which sets are gone, and keeps the new state. If there is no packet file at all, the disk may not be
+        mounted, so the earlier state stays."""
         for key, before in state.sets.items():
             if key in self.sets:
                 continue
@@ -361,14 +361,14 @@ class Tree:
 
 
 def _packet_files(look: Looking) -> PacketFiles:
-    """The packet files of a folder, read again."""
+    """Returns the packet files of a folder, to be read again."""
     def opener(word: str) -> BinaryIO:
         return open(look.folder.open_to_read(look.paths[word]), "rb")
     return PacketFiles(look.parv, list(look.paths), opener)
 
 
 def _fault_of(fault: Exception) -> Fault:
-    """The fault of one set, while the command goes on."""
+    """Returns the error of one set, after which the command goes on."""
     if isinstance(fault, Fault):
         return fault
     assert isinstance(fault, OSError)
@@ -377,7 +377,7 @@ def _fault_of(fault: Exception) -> Fault:
 
 
 def tree(asked: Asked) -> int:
-    """The whole run; its exit status."""
+    """Runs the command, and returns its exit status."""
     program = words.needed_parv()
     with contextlib.ExitStack() as used:
         top = used.enter_context(contextlib.closing(Folder.opened(asked.folder)))

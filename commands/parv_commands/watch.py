@@ -1,4 +1,4 @@
-"""parv-watch: verifies a folder into which the files of a set still come, again and again, until all are complete."""
+"""parv-watch: verifies a folder in which files of a set are still arriving, again and again, until all are complete."""
 
 from __future__ import annotations
 
@@ -20,7 +20,7 @@ from .programs import Program
 from .reach import Ways, files_there, preferred, subfolders_of
 
 COMPLETE = 0
-SECONDS = 60.0      # from one check to the next
+SECONDS = 60.0      # seconds from one check to the next
 
 USAGE_TEXT = """usage: parv-watch [--tails] FOLDER [SECONDS [CHECKS]]
 
@@ -48,7 +48,8 @@ PARV names the program, if it isn't in PATH. man parv-watch has more.
 
 
 class Asked(NamedTuple):
-    """What the command line asks for; without a number of checks they go on until all is complete."""
+    """The folder and options of the command line. Without a number of checks, they go on until all files are
+    complete."""
     folder: bytes
     tails: bool
     seconds: float
@@ -56,7 +57,7 @@ class Asked(NamedTuple):
 
 
 class Check:
-    """A check of a folder: what is in it now, and what parv says of that."""
+    """A check of a folder: what is in it now, and what parv says about that."""
 
     def __init__(self, folder: Folder, parv: Parv, tails: bool, most_open: int) -> None:
         self.folder, self.parv, self.tails, self.most_open = folder, parv, tails, most_open
@@ -64,7 +65,7 @@ class Check:
         self.sums: Dict[bytes, bytes] = {}
 
     def _files(self) -> Dict[bytes, Identity]:
-        """The regular files in the folder, and those that links there lead to."""
+        """Returns the regular files in the folder, and those to which links there lead."""
         found: Dict[bytes, Identity] = {}
         with faults_of("read", self.folder.shown):
             names = sorted(map(os.fsencode, os.listdir(self.folder.place)))
@@ -82,7 +83,7 @@ class Check:
         return self.parv.links.word(path_below(self.folder, name), shown(name), is_packets)
 
     def _to_scan(self, found: SetAnswer, packet_files: int) -> List[bytes]:
-        """The files that are scanned: those of the folder, and those of the subfolders that names of the set have."""
+        """Returns the files to scan: those of the folder, and those of the subfolders in the set's names."""
         members = {file.name for file in found.files}
         reached = [name for name in members if is_plain(name) and not has_too_many_folders(name)]
         self.there.update(files_there(self.folder, members, subfolders_of(Ways(self.folder), reached)))
@@ -95,7 +96,7 @@ class Check:
         return scanned[:room]
 
     def verdict(self) -> Tuple[int, str]:
-        """The exit status of the check, and its line."""
+        """Returns the exit status of the check, and its line."""
         packets = [name for name in self.there if is_packet_file(name)][:MOST_FILES]
         if not packets:
             raise Fault(USAGE, "no packet file")
@@ -112,8 +113,8 @@ class Check:
         return POSSIBLE, f"a repair can be tried: {verdict.counts}"
 
     def _is_complete(self, found: SetAnswer, verdict: Verdict, paths: Dict[str, bytes]) -> bool:
-        """Whether each file of the set is complete under its name. parv gets links with other names, and of several
-        files with the same content it names the first."""
+        """Returns whether each file of the set is complete under its name. parv gets links with other names, and it
+        names only the first of several files with the same content."""
         for file, state in zip(found.files, verdict.states):
             if state.word is None:
                 return False
@@ -125,7 +126,7 @@ class Check:
         return True
 
     def _is_same(self, name: bytes, other: bytes) -> bool:
-        """Whether two files have the same length and MD5, by which parv says that a file is complete."""
+        """Returns whether two files have the same length and MD5, by which parv decides that a file is complete."""
         return (other in self.there and self._length(other) == self._length(name)
                 and self._sum(name) == self._sum(other))
 
@@ -142,7 +143,8 @@ class Check:
 
 
 def check(folder: Folder, program: Program, tails: bool, most_open: int) -> Tuple[int, str]:
-    """A check; its exit status and its line. What may be otherwise the next time ends nothing."""
+    """Makes a check, and returns its exit status and its line. If the next check may end differently, it doesn't end
+    the command."""
     try:
         with temporary_folder() as temporary:
             return Check(folder, Parv(program, Links(temporary, (folder.place,))), tails, most_open).verdict()
@@ -155,7 +157,7 @@ def check(folder: Folder, program: Program, tails: bool, most_open: int) -> Tupl
 
 
 def watch(asked: Asked) -> int:
-    """The whole run; its exit status."""
+    """Runs the command, and returns its exit status."""
     program = words.needed_parv()
     most_open = programs.raise_file_limit()
     count = 0
@@ -171,7 +173,7 @@ def watch(asked: Asked) -> int:
 
 
 def asked_for(folder: str, tails: bool, numbers: Sequence[str]) -> Optional[Asked]:
-    """What the words ask for, if SECONDS and CHECKS are numbers."""
+    """Returns the arguments, or None if SECONDS and CHECKS aren't numbers."""
     if numbers and not re.fullmatch(r"([0-9]{1,9}(\.[0-9]{0,9})?|\.[0-9]{1,9})", numbers[0], re.ASCII):
         return None
     if len(numbers) > 1 and not re.fullmatch("[1-9][0-9]{0,17}", numbers[1], re.ASCII):

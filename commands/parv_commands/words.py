@@ -1,4 +1,4 @@
-"""The words of a command line, and how a command begins and ends."""
+"""Reads the arguments of a command, and begins and ends it."""
 
 from __future__ import annotations
 
@@ -16,7 +16,7 @@ from .programs import Program
 
 
 class Words(argparse.ArgumentParser):
-    """Words on a command line, of which wrong ones end with 3, as those of parv do."""
+    """A parser of arguments. Wrong ones end the command with 3, as those of parv do."""
 
     def error(self, message: str) -> NoReturn:
         output.say(shown(os.fsencode(message)))
@@ -25,7 +25,7 @@ class Words(argparse.ArgumentParser):
 
 
 def parser_of(text: str) -> Words:
-    """A parser whose help is this text, of which the first line is the usage."""
+    """Returns a parser whose help is this text, of which the first line is the usage."""
     usage, _, rest = text.partition("\n\n")
     parser = Words(usage=usage[7:], description=rest.strip(), formatter_class=argparse.RawDescriptionHelpFormatter,
                    allow_abbrev=False, add_help=False)
@@ -34,8 +34,8 @@ def parser_of(text: str) -> Words:
 
 
 def parsed(parser: Words) -> argparse.Namespace:
-    """The options of the command line, and its other words as `names`. Options may come between these, and no word
-    after `--` is one. (The parser itself would forget that.)"""
+    """Returns the options of the command line, and its other arguments as `names`. Options may come between these, but
+    no argument after `--` is an option. (argparse by itself forgets that.)"""
     given = sys.argv[1:]
     end = given.index("--") if "--" in given else len(given)
     found = parser.parse_intermixed_args(given[:end])
@@ -50,7 +50,7 @@ def is_set_id(text: str) -> str:
 
 
 def help_lines(text: str) -> int:
-    """Writes a help; the exit status."""
+    """Writes a help, and returns the exit status."""
     output.tell(text.strip().split("\n"))
     return 0
 
@@ -60,8 +60,8 @@ def needed_parv() -> Program:
 
 
 def ended(command: str, run: Callable[[], int]) -> int:
-    """Runs a command to its end; its exit status, with a line on standard error for what has ended it if that was no
-    signal."""
+    """Runs a command to its end and returns its exit status. Unless a signal ended it, a line on standard error says
+    what did."""
     output.begin(command)
     signals.take_signals()
     try:
@@ -80,6 +80,6 @@ def ended(command: str, run: Callable[[], int]) -> int:
         name = f"{shown(os.fsencode(fault.filename))}: " if isinstance(fault.filename, (str, bytes)) else ""
         output.say(f"{name}{fault.strerror or fault}")
         return FILES
-    except Exception:       # a fault of the command itself must not end with a status that is an answer
+    except Exception:       # an error in the command itself must not end with a status that means something else
         output.say(f"this is a fault of {command}:\n{traceback.format_exc()}")
         return FILES

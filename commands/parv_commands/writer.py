@@ -1,4 +1,4 @@
-"""Writing slices into the files of a set, below the folder of a rescue."""
+"""Writes slices into the files of a set, below the folder of a rescue."""
 
 from __future__ import annotations
 
@@ -18,23 +18,24 @@ from .record import NAMES, Record
 from .search import Search
 from .signals import wait_point
 
-MANY = 64           # files that are brought to the disk one by one
+MANY = 64           # the most files that are written to the disk one by one
 
 
 def cursor_of(found: RecoverySet, search: Search, mark: str) -> str:
-    """The cursor of a search as the record has it, by the names of the files as they were given."""
+    """Returns the cursor of a search as the record has it, with a fingerprint of the names of the files as they were
+    given."""
     return ":".join(map(str, ["2", found.id, mark, *search.at]))
 
 
 class Writer:
-    """Writes slices into files of the set, and keeps the record of it."""
+    """Writes slices into files of the set, and keeps the record of that."""
 
     def __init__(self, found: RecoverySet, folder: Folder, record: Record, mark: str) -> None:
         self.found, self.folder, self.record, self.mark = found, folder, record, mark
         self.refused: Dict[str, str] = {}       # why files are refused, by their IDs
-        self.touched: List[Member] = []         # files that were written to since that was saved
+        self.touched: List[Member] = []         # files that were written to since the record was saved
         self.copied = 0                         # slices that this run has written
-        self.is_lossy = False                   # whether this run has passed something that a later one may take
+        self.is_lossy = False                   # whether this run has skipped a slice that a later one may copy
         self.saved = time.monotonic()
 
     def _refuse(self, file: Member, why: str) -> None:
@@ -42,12 +43,12 @@ class Writer:
         output.say(f"refused: {file.shown}: {why}")
 
     def _refuse_for_now(self, file: Member, why: str) -> None:
-        """Refuses a file for what is in its place, which a later run may find gone."""
+        """Refuses a file because something else is in its place, which may be gone in a later run."""
         self.is_lossy = True
         self._refuse(file, why)
 
     def prepare(self) -> None:
-        """Refuses files by their names, makes those without bytes, and looks at those made before."""
+        """Refuses files by their names, makes the empty ones, and looks at those made before."""
         why = names.refusals([file.name for file in self.found.files], NAMES)
         for number, file in enumerate(self.found.files):
             if number in why:
@@ -58,7 +59,7 @@ class Writer:
 
     @contextlib.contextmanager
     def opened(self, file: Member) -> Iterator[Optional[int]]:
-        """The file while it is used, or nothing if it is refused, now or from now on."""
+        """Opens the file while it is used. Yields None if it is refused, now or from now on."""
         place: Optional[int] = None
         try:
             if file.id not in self.refused:
@@ -76,7 +77,8 @@ class Writer:
         if file.id in self.record.made:
             return self._open(file)
         if file.id not in self.record.making:
-            # (If a run ends before the file is noted as made, an empty one in its place is known to be its own.)
+            # (If a run ends before it has recorded that it made the file, an empty file in its place is known to be its
+            # own.)
             self.record.write(f"making {file.id}\n")
             self.record.making.add(file.id)
             place = self._make(file)
@@ -130,7 +132,7 @@ class Writer:
         return True
 
     def save(self, search: Search, way: str) -> None:
-        """Puts what was done into the record, once it is on the disk, and how far the search came."""
+        """Syncs the copied slices to the disk. Then it records them, and how far the search came."""
         with progress.waiting("what was copied is brought to the disk"):
             self._sync({file.id: file for file in self.touched}.values())
         self.touched = []
@@ -153,9 +155,9 @@ class Writer:
                     changes.sync(place)
 
     def state_if_whole(self, file: Member) -> str:
-        """Whether a file all of whose slices are there is complete by its MD5, or wrong.
+        """Returns whether a file that has all its slices is complete by its MD5, or wrong.
 
-        It isn't read again if it was complete before and has not changed since."""
+        If it was complete before and hasn't changed since, it isn't read again."""
         with self.opened(file) as place, faults_of("read", file.shown):
             if place is None:
                 return "refused"
@@ -169,8 +171,8 @@ class Writer:
         return "complete"
 
     def is_whole_by_others(self, file: Member, number: int) -> bool:
-        """Whether a file that lacks a slice by the record is whole nevertheless, as after a repair. It is read as a
-        whole only if it has the slice of this number in its place."""
+        """Returns whether a file that lacks a slice by the record is whole nevertheless, as after a repair. It is read
+        completely only if it has the slice with this number in its place."""
         with contextlib.suppress(OSError):
             place = self.folder.open_to_read(file.name)
             try:
@@ -198,13 +200,14 @@ def _told(pieces: Iterator[bytes]) -> Iterator[bytes]:
 
 
 def _full(fault: OSError, file: Member) -> None:
-    """Ends the command if a file can't be made for want of space, and not for what is in its place."""
+    """Ends the command if a file can't be made because of the disk, and not because of what is in its place."""
     if fault.errno in (errno.ENOSPC, errno.EDQUOT, errno.EROFS, errno.EIO):
         raise Fault(FILES, f"cannot write {file.shown}: {fault.strerror}") from fault
 
 
 def _has_length(place: int, length: int) -> None:
-    """Gives a file that was just made its length, as a hole; one that was made before has it, and no other name."""
+    """Gives a file that was just made its length, as a hole. A file that was made before must have it, and no second
+    name."""
     now = os.fstat(place)
     if not stat.S_ISREG(now.st_mode) or now.st_nlink != 1 or now.st_size not in (0, length):
         raise Refused("what is in its place isn't what was left there")

@@ -1,4 +1,5 @@
-"""Runs the tests of the commands: a line for each, `ok: ` or `FAILED: ` with what was wrong, or `not run: ` with why.
+"""Runs the tests of the commands, and prints a line for each: `ok: `, `FAILED: ` with what was wrong, or `not run: `
+with the reason.
 
 usage: python3 -m tests [NAME..]      in the folder commands/; PARV names the program
 """
@@ -14,7 +15,7 @@ sys.dont_write_bytecode = True
 
 
 class Lines(unittest.TestResult):
-    """Tells how each test has ended."""
+    """Prints how each test has ended."""
 
     def line(self, word: str, test: unittest.TestCase, why: str = "") -> None:
         name = test.id().replace("tests.test_", "").split(".")[-1].replace("test_", "", 1).replace("_", " ")

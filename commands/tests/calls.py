@@ -1,4 +1,4 @@
-"""Calls of commands as a person makes them: how they end, what they write, and signals while a program runs."""
+"""Calls commands as a person does: how they end, what they write, and signals while a program runs."""
 
 from __future__ import annotations
 
@@ -19,13 +19,13 @@ Ended = Tuple[int, str, str]
 
 
 def take_all_signals() -> None:
-    """Lets signals end a child, also if the tests run under nohup."""
+    """Lets signals end a child, even if the tests run under nohup."""
     for number in SIGNALS:
         signal.signal(number, signal.SIG_DFL)
 
 
 class Calls(unittest.TestCase):
-    """Tests that call commands beside a room."""
+    """Tests that call commands, in the folder above a room."""
     room: Room
 
     def call(self, *words: str, shell: str = 'exec "$@"', **environment: str) -> Ended:
@@ -42,13 +42,14 @@ class Calls(unittest.TestCase):
         return path
 
     def waits(self, name: str, command: str) -> str:
-        """A program that waits when it is called so, and notes its number."""
+        """Writes a program that records its number and waits, if this shell command succeeds, and otherwise is parv."""
         return self.program(name, f'#!/bin/bash\n{command} || exec "{PARV}" "$@"\necho $$ > {self.room.top}/waiting\n'
                                   "exec sleep 60\n")
 
     def ended_while(self, words: List[str], number: signal.Signals, all_of_them: bool,
                     **environment: str) -> Tuple[int, bytes]:
-        """How a command ends by a signal once such a program waits, of which then nothing is left."""
+        """Ends a command by a signal while such a program waits. Returns how it ends; the program must have ended
+        too."""
         place = os.path.join(self.room.top, "waiting")
         given = {**os.environ, "PARV": PARV, "PAR2": self.room.stand_in, "TMPDIR": self.room.temporary, **environment}
         process = subprocess.Popen(words, cwd=self.room.top, env=given, stdout=subprocess.PIPE,

@@ -1,4 +1,4 @@
-"""Folders that tests repair, runs over them in a process of their own, and what has become of them."""
+"""Folders that tests repair, runs over them in processes of their own, and comparisons afterwards."""
 
 from __future__ import annotations
 
@@ -32,8 +32,8 @@ for whole in %s/by-number/file*; do
 done
 """
 STAGE = ".parv-repair"
-EARLIER = ".verify_and_repair"      # that of the script of version 0.4.0
-SECONDS = 120       # that a run may take
+EARLIER = ".verify_and_repair"      # the stage of the script of version 0.4.0
+SECONDS = 120       # the greatest number of seconds for a run
 Listing = Dict[str, Tuple[int, bytes]]
 Action = Callable[[str], None]
 
@@ -56,7 +56,7 @@ def file_id(name: bytes, data: bytes) -> bytes:
 
 
 def set_of(files: Dict[bytes, bytes], size: int, recovery: int) -> bytes:
-    """The packets of a set; its recovery slices are zeros, so only a stand-in repairs by them."""
+    """Returns the packets of a set. Its recovery slices are zeros, so only a stand-in for par2 repairs with them."""
     ids = {name: file_id(name, data) for name, data in files.items()}
     order: List[bytes] = sorted(ids.values(), key=lambda each: each[::-1])
     main = struct.pack("<QI", size, len(files)) + b"".join(order)
@@ -85,7 +85,7 @@ def read(path: str) -> bytes:
 
 
 class Ended(NamedTuple):
-    """How a run has ended: a signal is a status above 128. `calls` are those that it has made to change the disk."""
+    """How a run has ended; for a signal the status is above 128. `calls` are its calls that change the disk."""
     status: int
     out: str
     said: str
@@ -96,7 +96,7 @@ class Ended(NamedTuple):
 
 
 class Room:
-    """A folder with what is to be repaired, and the whole files beside it."""
+    """A folder with files that are to be repaired, and a folder beside it with the whole files."""
 
     def __init__(self, files: Dict[str, bytes], size: int = 8, recovery: int = 20) -> None:
         self.top = tempfile.mkdtemp()
@@ -115,7 +115,7 @@ class Room:
         self.fresh()
 
     def fresh(self) -> None:
-        """The folder as it is with all files whole."""
+        """Makes the folder again, with all files whole."""
         shutil.rmtree(self.folder)
         os.mkdir(self.folder)
         for name, data in self.files.items():
@@ -139,7 +139,7 @@ class Room:
         os.rename(self.path(name), self.path(other))
 
     def listing(self) -> Listing:
-        """The kinds and contents of all below the folder."""
+        """Returns the kinds and contents of everything below the folder."""
         found: Listing = {}
         for at, folders, names in os.walk(self.folder):
             for name in folders + names:
@@ -152,12 +152,12 @@ class Room:
         return found
 
     def contents(self) -> Set[bytes]:
-        """The different contents of files in the folder."""
+        """Returns the different contents of files in the folder."""
         return {data for kind, data in self.listing().values() if kind == stat.S_IFREG}
 
     def state(self) -> str:
-        """What a run finds in the folder. Inodes and times are others in each room, so files that a journal knows are
-        named by their places."""
+        """Returns the state of the folder that a run finds. Inodes and times differ in each room, so files in a journal
+        are named by their places."""
         found = self.listing()
         known = {}
         for name in found:
@@ -174,14 +174,14 @@ class Room:
         return told.hexdigest()
 
     def lacks(self) -> List[str]:
-        """What is wrong with a folder that is said to be complete."""
+        """Returns what is wrong with a folder that should be complete."""
         here = self.listing()
         return [name for name, data in self.files.items() if here.get(name) != (stat.S_IFREG, data)] + [
             name for name in here if name.startswith(STAGE)]
 
     def run(self, main: Callable[[], int], words: Sequence[str], watch: Optional[changes.Observer] = None,
             **environment: str) -> Ended:
-        """A run of a command in a process of its own."""
+        """Runs a command in a process of its own."""
         paths = [os.path.join(self.top, name) for name in ("out", "said", "calls")]
         with open(paths[2], "wb", buffering=0) as calls:
             child = os.fork()
@@ -225,7 +225,7 @@ def _be_child(main: Callable[[], int], words: Sequence[str], paths: Sequence[str
 
 
 class At:
-    """Does something at a call of this number, before or after it; calls may be only of some kinds."""
+    """Does something at the call with this number, before or after it. It may count only calls of some kinds."""
 
     def __init__(self, number: int, when: str, does: Callable[[], None], kinds: Sequence[str] = ()) -> None:
         self.number, self.when, self.does, self.kinds = number, when, does, kinds
@@ -240,7 +240,7 @@ class At:
 
 
 class From(At):
-    """The same at each call from this number on."""
+    """Does it at each call from this number on."""
 
     def __call__(self, call: str, when: str) -> None:
         if self.kinds and call not in self.kinds:
@@ -251,8 +251,8 @@ class From(At):
 
 
 class Noting:
-    """Notes the state of a room before and after each call that may change it, and how many contents it lacks then. A
-    run that is ended there leaves this state."""
+    """Records the state of a room before and after each call that may change it, and how many contents are missing
+    then. A run that is ended there leaves this state."""
 
     def __init__(self, room: Room, held: Set[bytes]) -> None:
         self.room, self.held, self.count = room, held, 0
@@ -267,7 +267,7 @@ class Noting:
                 out.write(f"{self.count} {when} {self.room.state()} {lost}\n")
 
     def noted(self) -> List[Tuple[int, str, str, int]]:
-        """The number of each call, whether it is before or after it, the state, and how much is lost."""
+        """Returns, for each call, its number, `before` or `after`, the state, and how many contents are lost."""
         lines = [line.split() for line in read(self.place).decode().splitlines()]
         return [(int(number), when, state, int(lost)) for number, when, state, lost in lines]
 

@@ -1,4 +1,4 @@
-"""Each call that changes what is on a disk goes through the module `changes`, by which the other tests count them."""
+"""Each call that changes a disk goes through the module `changes`, which the other tests use to count these calls."""
 
 from __future__ import annotations
 
@@ -19,7 +19,7 @@ from .rooms import Room
 from .test_repair_crashes import WHOLE, damage
 
 PACKAGE = os.path.dirname(os.path.realpath(parv_commands.__file__ or ""))
-READS: Dict[str, Set[str]] = {      # what modules may take from others that can also change something
+READS: Dict[str, Set[str]] = {      # what the commands may use of modules that can also change a disk
     "os": set("""O_CLOEXEC O_DIRECTORY O_NOFOLLOW O_NONBLOCK O_PATH O_RDONLY O_RDWR R_OK SEEK_DATA X_OK _exit access
               close devnull environ execve fchdir fsdecode fsencode fstat getcwd getcwdb getpid getppid isatty killpg
               listdir lseek open path pathsep pread read readlink scandir set_blocking setpgid stat stat_result strerror
@@ -30,7 +30,7 @@ SAYING = {"output.py", "progress.py"}       # modules that write to standard out
 CALLS = dict(pair.split(":") for pair in """mkdir:mkdir mkdirat:mkdir unlinkat:unlink unlink:unlink rmdir:rmdir
     symlinkat:symlink symlink:symlink renameat2:rename rename:rename renameat:rename linkat:link link:link write:write
     pwrite64:pwrite ftruncate:ftruncate truncate:ftruncate fchmod:fchmod fchmodat:fchmod chmod:fchmod utimensat:utimens
-    fsync:fsync syncfs:syncfs openat:create""".split())     # of the system, with the names that `changes` has for them
+    fsync:fsync syncfs:syncfs openat:create""".split())     # calls of the system, and their names in `changes`
 
 
 def modules() -> Iterator[Tuple[str, ast.Module]]:
@@ -41,7 +41,7 @@ def modules() -> Iterator[Tuple[str, ast.Module]]:
 
 
 def wrong_calls(name: str, tree: ast.Module) -> List[str]:
-    """What a module calls or names that may change something on a disk."""
+    """Returns what a module calls or names that may change a disk."""
     found: List[str] = []
     for node in ast.walk(tree):
         if isinstance(node, ast.Attribute) and isinstance(node.value, ast.Name) and node.value.id in READS:

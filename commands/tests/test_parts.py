@@ -1,5 +1,5 @@
-"""Names as they are shown, names that are refused or lead out of a folder, answers that are none of parv, programs that
-end with a command, and progress on a terminal."""
+"""Parts of the commands: names as they are shown, names that are refused or lead out of a folder, answers that aren't
+parv's, programs that end with a command, and progress on a terminal."""
 
 from __future__ import annotations
 
@@ -114,7 +114,7 @@ class Programs(unittest.TestCase):
 
 
 class Progress(unittest.TestCase):
-    """A command on a terminal says what goes on, and takes the line off."""
+    """On a terminal, a command says what it does, and removes the line."""
 
     def on_terminal(self, words: List[str], main: object, first: float, status: int = 0) -> str:
         room = Room({"first": b"first of all", "second": b"the second"})

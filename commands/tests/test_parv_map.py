@@ -37,7 +37,7 @@ class Pages(Calls):
         return self.room.run(map_command.main, BOTH if words is None else words, watch)
 
     def new(self) -> List[str]:
-        """What was made in the folder from which the command is called."""
+        """Returns what was made in the folder in which the command is called."""
         return sorted(set(os.listdir(self.room.top)) - set(self.before) - {"out", "said", "calls"})
 
     def test_a_full_disk_leaves_no_cut_page(self) -> None:
@@ -56,7 +56,7 @@ class Pages(Calls):
     def test_after_a_kill_a_page_is_whole_or_not_there(self) -> None:
         calls = self.run_it().calls
         self.assertEqual(calls.count("rename"), 2)
-        for number in range(1, len(calls) + 1):     # (after a call the disk is as it is before the next one)
+        for number in range(1, len(calls) + 1):     # (after a call, the disk is as before the next one)
             self.assertEqual(self.run_it(At(number, "before", KILLED)).status, 137)
             for name in self.new():
                 if name in ("page", "picture"):

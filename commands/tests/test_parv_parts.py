@@ -1,5 +1,5 @@
-"""parv-parts: runs that are ended at each call that changes the disk, full disks, folders that aren't its own, words of
-earlier searches, and programs that aren't parv."""
+"""parv-parts: runs that are ended at each call that changes the disk, full disks, folders that aren't its own,
+arguments of earlier searches, and programs that aren't parv."""
 
 from __future__ import annotations
 
@@ -47,7 +47,7 @@ class Parts(Calls):
         calls = self.run_it().calls
         for call in "mkdir", "create", "write", "fsync", "rename":
             self.assertIn(call, calls)
-        for number, call in enumerate(calls, 1):    # (after a call the disk is as it is before the next one)
+        for number, call in enumerate(calls, 1):    # (after a call, the disk is as before the next one)
             self.assertEqual(self.run_it(At(number, "before", KILLED)).status, 137)
             self.is_whole(self.run_it(goes_on=True), (number, call))
         self.assertEqual(self.run_it(At(len(calls), "after", KILLED)).status, 137)

@@ -1,4 +1,4 @@
-"""parv-progress: output, exit status and signals of parv come through unchanged, with a terminal and without one."""
+"""parv-progress: it doesn't change the output, exit status and signals of parv, with a terminal and without one."""
 
 from __future__ import annotations
 
@@ -62,7 +62,7 @@ class Progress(Calls):
     # With a terminal.
 
     def on_terminal(self, words: List[str], program: str, out: bool = True) -> Tuple[int, bytes]:
-        """How a run on a terminal ends, and what comes there; standard output may be the file `lines`."""
+        """Returns how a run on a terminal ends, and what is shown there. Standard output may go to the file `lines`."""
         child, terminal = pty.fork()
         if not child:
             status = 99
@@ -70,7 +70,7 @@ class Progress(Calls):
                 os.chdir(self.room.top)
                 os.environ.update(PARV=program, TMPDIR=self.room.temporary)
                 settings = termios.tcgetattr(2)
-                settings[1] &= ~termios.OPOST       # (so that no byte is added to a line feed)
+                settings[1] &= ~termios.OPOST       # (so that the terminal adds no byte to a line feed)
                 termios.tcsetattr(2, termios.TCSANOW, settings)
                 if not out:
                     os.dup2(os.open("lines", os.O_WRONLY | os.O_CREAT | os.O_TRUNC), 1)

@@ -23,10 +23,10 @@ WHOLE = {
 
 
 def damage(room: Room) -> None:
-    """One file is missing, one damaged, two have each other's names, one another name, one is a copy of that, one
-    belongs into a folder that isn't there, and an empty one is missing."""
+    """Damages the folder: one file is missing, one is damaged, two have each other's names, one has another name, one
+    is a copy of that one, one belongs into a folder that isn't there, and an empty one is missing."""
     room.fresh()
-    for name in os.listdir(room.temporary):     # of runs that were killed
+    for name in os.listdir(room.temporary):     # left by runs that were killed
         shutil.rmtree(os.path.join(room.temporary, name))
     room.take("report.doc")
     room.put("notes.txt", b"some nXtes of a year")
@@ -68,7 +68,7 @@ class Crashes(unittest.TestCase):
         return self.room.run(repair.main, ["room"], watch)
 
     def points(self, first: int = 1, each: int = 1) -> Iterator[Tuple[int, str]]:
-        """Each call of a repair, before it and after it, or some of them: a call that follows is mostly alike."""
+        """Yields each call of a repair, before it and after it, or only some: neighbouring calls are mostly alike."""
         for number in range(first, len(self.calls) + 1, each):
             for when in "before", "after":
                 yield number, when
@@ -86,8 +86,8 @@ class Crashes(unittest.TestCase):
         self.assertGreater(len(self.calls), 60)
 
     def test_what_was_made_and_the_journal_are_on_the_disk_before_the_first_move(self) -> None:
-        noted = self.calls.index("rename")      # of the journal, when it is whole
-        made = ["fsync"] * 4                    # the missing and the damaged file, the copy and the empty one
+        noted = self.calls.index("rename")      # the journal gets its name, when it is whole
+        made = ["fsync"] * 4                    # of the missing and the damaged file, the copy and the empty one
         self.assertEqual(self.calls[noted - 7:noted + 4],
                          [*made, "create", "write", "fsync", "rename", "fsync", "fsync", "rename"])
         moved = len(self.calls) - 1 - self.calls[::-1].index("rename")
@@ -112,8 +112,8 @@ class Crashes(unittest.TestCase):
                 self.assertEqual((again.status, self.room.listing()), (5, self.before), (point, again))
 
     def each_state(self, begin: Callable[[], None], *words: str) -> Dict[str, Tuple[Tuple[int, str], ...]]:
-        """Makes a run from each state of the folder that runs leave which are ended by force, one after the other,
-        until no state is new; the calls by which each is reached. Runs from equal states are alike, so one is made."""
+        """Starts a run from each state that runs leave when they are ended by force, until no state is new. Returns the
+        calls that lead to each. Only one run is made from equal states, since such runs are the same."""
         found: Dict[str, Tuple[Tuple[int, str], ...]] = {}
         waiting: List[Tuple[Tuple[int, str], ...]] = [()]
         while waiting:

@@ -1,5 +1,5 @@
-"""What a repair meets in its folder: files that come while it moves others, what earlier runs and other people have
-left in place of its own folder, and journals that anyone may have made."""
+"""A repair and what it meets in its folder: files that arrive while it moves others, files that earlier runs and other
+people have left in place of its stage, and journals that anyone may have made."""
 
 from __future__ import annotations
 
@@ -18,7 +18,7 @@ from .rooms import FULL, KILLED, STAGE, At, Ended, Listing, Room, ends_by, read,
 
 
 class Without:
-    """The C library without one of its calls, as an earlier one may be."""
+    """The C library without one of its calls, like an earlier version of it."""
 
     def __init__(self, library: object, name: str) -> None:
         self._library, self._name = library, name
@@ -41,7 +41,7 @@ class Moves(unittest.TestCase):
         return self.room.run(repair.main, [*words, "room"], watch)
 
     def turn(self) -> None:
-        """The names of the files go round, and the third is damaged."""
+        """Exchanges the names of the files in a circle, and damages the third."""
         self.room.fresh()
         self.room.rename("first", "x")
         self.room.rename("second", "first")
@@ -94,7 +94,7 @@ class Moves(unittest.TestCase):
         return Identity(now.st_ino, now.st_size, now.st_mtime_ns)
 
     def plant(self, steps: List[Step], owner: bool = True) -> None:
-        """A stage with these steps as its journal."""
+        """Makes a stage with these steps as its journal."""
         for name in "files", "made", "aside":
             os.makedirs(self.room.path(f"{STAGE}/{name}"))
         if owner:
@@ -343,7 +343,7 @@ class Moves(unittest.TestCase):
     def test_a_run_that_was_ended_after_its_moves_is_not_said_to_have_moved_nothing(self) -> None:
         self.turn()
         calls = self.run_it().calls
-        gone = calls.index("unlink", calls.index("syncfs"))     # of the journal
+        gone = calls.index("unlink", calls.index("syncfs"))     # the removal of the journal
         self.turn()
         self.run_it(watch=At(calls[:gone + 1].count("unlink"), "after", KILLED, ["unlink"]))
         self.assertNotIn(f"{STAGE}/journal", self.room.listing())
@@ -369,7 +369,7 @@ class Moves(unittest.TestCase):
             os.removedirs(room.path("in/a/folder"))
         away()
         calls = room.run(repair.main, ["room"]).calls
-        first = calls[:calls.index("rename")].count("mkdir") + 1    # of the folders after the journal
+        first = calls[:calls.index("rename")].count("mkdir") + 1    # the first folder after the journal
         away()
         self.assertEqual(room.run(repair.main, ["room"], At(first, "before", KILLED, ["mkdir"])).status, 137)
         log = os.path.join(room.top, "log")

@@ -1,5 +1,5 @@
-"""A rescue that is ended at each call that changes the disk: what was written stays, and the next run goes on to the
-end. Folders that the earlier script has left go on too."""
+"""A rescue that is ended at each call that changes the disk: what was written stays, and the next run finishes it.
+Folders that the earlier script has left are finished too."""
 
 from __future__ import annotations
 
@@ -62,7 +62,7 @@ class Rescue(unittest.TestCase):
             ended = self.run_it(From(number, "before", FULL, MAKING))
             self.assertNotEqual(ended.status, 0, (number, ended))
             self.assertIn("No space left", ended.said, number)
-            if ended.status != 1:       # (one file alone is refused if it can't have its length)
+            if ended.status != 1:       # (a single file is refused if it can't have its length)
                 self.assertEqual((ended.status, ended.out), (6, ""), (number, ended))
             self.is_whole(self.run_it(goes_on=True), number)
 
@@ -124,7 +124,7 @@ class Rescue(unittest.TestCase):
         self.assertIn("wrong long 6/6\n", ended.out)
 
     def rescue_parts(self) -> Ended:
-        """What a rescue says that finds neither the third slice of `long` nor anything of `short`."""
+        """Returns the output of a rescue that finds neither the third slice of `long` nor any of `short`."""
         if not os.path.exists(os.path.join(self.room.top, "parts")):
             long = FILES["long"]
             write(os.path.join(self.room.top, "parts"), long[:16] + b"????????" + long[24:] + FILES["in/a/folder"])

@@ -1,5 +1,5 @@
 """Exit statuses are true whatever fails: programs that aren't parv or par2, outputs and temporary folders that can't be
-written, more files or longer names than one command line has, and signals."""
+written, more files or longer names than fit into one command line, and signals."""
 
 from __future__ import annotations
 
@@ -269,7 +269,7 @@ class Statuses(Calls):
         ran, child = os.path.join(self.room.top, "ran"), os.path.join(self.room.top, "child")
 
         class Killing:
-            """The C library, by which a child kills the command before it asks for anything."""
+            """The C library, through which a child kills the command before it asks for anything."""
             def prctl(self, *_: object) -> None:
                 command = os.getppid()
                 write(child, b"%d" % os.getpid())
@@ -288,7 +288,7 @@ class Statuses(Calls):
 
 
 class Packets(unittest.TestCase):
-    """What par2 gets."""
+    """The packets that par2 gets."""
 
     def setUp(self) -> None:
         self.room = Room(FILES)
@@ -303,7 +303,8 @@ class Packets(unittest.TestCase):
         evil = set_of({b"../../../evil": b"evil"}, 8, 1)
         at = evil.index(b"FileDesc") - 56
         forged = packet(owner, b"PAR 2.0\0FileDesc", evil[at + 64:at + 64 + 72])
-        # Of the file that is missing, with a name that parv rejects and par2 reads up to its zero byte, and other MD5s.
+        # Packets about the missing file, with a name that parv rejects and par2 reads up to its zero byte, and with
+        # other MD5s.
         own = self.room.packets.index(b"second.txt")
         about = self.room.packets[own - 56:own]
         aside = packet(owner, b"PAR 2.0\0FileDesc", about[:16] + b"o" * 32 + about[48:] + b"../../evil\0more.")

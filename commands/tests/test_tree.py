@@ -1,4 +1,4 @@
-"""parv-tree: what it tells of a tree, what was lost since the last time, and that its statuses are true."""
+"""parv-tree: what it prints about a tree, what was lost since the last time, and that its exit statuses are true."""
 
 from __future__ import annotations
 
@@ -34,7 +34,7 @@ def id_of(packets: bytes) -> str:
 
 
 class TreeTest(unittest.TestCase):
-    """A tree with a set in each of two folders; `one` has three recovery slices."""
+    """A tree with a set in each of two folders. `one` has three recovery slices."""
 
     def setUp(self) -> None:
         self.room = Room({})
@@ -187,7 +187,7 @@ class Lines(TreeTest):
 
 
 class WithoutSets(TreeTest):
-    """Packets that are no set: as far as that is told without parv, it is what parv says."""
+    """Packets that are no set. If parv-tree says so without parv, it says what parv would say."""
 
     def calls(self, name: bytes, packets: bytes) -> Tuple[Ended, List[str]]:
         log = os.path.join(self.room.top, "log")
@@ -264,7 +264,7 @@ class WithoutSets(TreeTest):
         self.assertGreater(asked, 60)
 
     def odd_packets(self, chance: random.Random, data: bytes) -> bytes:
-        """A set with something wrong, mostly."""
+        """Returns a set in which, mostly, something is wrong."""
         own = file_id(b"name", data)
         ids = [own, *(md5(data + b"%d" % number) for number in range(chance.randrange(3)))]
         count = chance.choice([0, 1, len(ids), len(ids) + 1])
@@ -279,7 +279,7 @@ class WithoutSets(TreeTest):
 
 
 class States(TreeTest):
-    """What is kept from one run to the next."""
+    """The state that is kept from one run to the next."""
 
     def setUp(self) -> None:
         super().setUp()
@@ -359,7 +359,7 @@ class States(TreeTest):
         again = [json.loads(line) for line in self.run_tree("--json", "--state", "state").out.splitlines()]
         self.assertEqual([(each["lost"], each["before"]["have"]) for each in again], [([], 1)])
 
-    # What could not be read is not lost.
+    # Sets that could not be read aren't lost.
 
     def test_a_set_that_could_not_be_read_is_compared_later(self) -> None:
         self.lose_recovery()
@@ -391,7 +391,7 @@ class States(TreeTest):
             given = {**os.environ, "PARV": PARV, "TMPDIR": self.room.temporary}
             ended = subprocess.run(["bash", "-c", shell, "bash", TREE, *self.words, "room"], cwd=self.room.top,
                                    env=given, capture_output=True)
-            if "true" not in shell:     # (which may have taken it, or not)
+            if "true" not in shell:     # (that run may have replaced it, or not)
                 self.assertEqual((ended.returncode, read(self.state)), (6, before), ended)
                 self.assertIn(b"cannot write standard output", ended.stderr)
         write(self.state, before)
@@ -449,7 +449,7 @@ class States(TreeTest):
         write(os.path.join(other, "set.par2"), self.one)
         self.room.run(tree.main, ["--state", "of other", "other"])
         odd.append((read(os.path.join(self.room.top, "of other")), f"is the state of {other}"))
-        with unittest.mock.patch.object(tree.Tree, "run", lambda self: 0):      # (which isn't come to)
+        with unittest.mock.patch.object(tree.Tree, "run", lambda self: 0):      # (which isn't called)
             for data, said in odd:
                 write(self.state, data)
                 ended = self.run_tree(*self.words)
@@ -493,7 +493,7 @@ class States(TreeTest):
 
 
 class Statuses(TreeTest):
-    """Whatever fails, 0 is told only if each set is complete."""
+    """Whatever fails, the status is 0 only if each set is complete."""
 
     def call(self, *words: str, shell: str = 'exec "$@"', **environment: str) -> Tuple[int, str, str]:
         given = {**os.environ, "PARV": PARV, "TMPDIR": self.room.temporary, **environment}

@@ -1,4 +1,4 @@
-"""parv-watch: words that are refused, what a check says whatever files and names there are, and what ends it."""
+"""parv-watch: arguments that are refused, what a check says for various files and names, and what ends it."""
 
 from __future__ import annotations
 
@@ -32,7 +32,7 @@ class Watch(Calls):
         self.assertEqual(self.call(WATCH, folder, *ONCE, shell=shell, **environment), (status, line + "\n", ""))
         self.assertEqual(os.listdir(self.room.temporary), [])
 
-    # Words.
+    # Arguments.
 
     def test_seconds_and_checks_are_numbers_and_others_are_refused(self) -> None:
         odd = ["abc", "-1", "", " ", "1 ", "5m", "1e3", "inf", "nan", "0x1", "1.5.1", ".", "1,5", "\u0661", "1\n"]
@@ -58,7 +58,7 @@ class Watch(Calls):
         self.assertEqual(self.call(WATCH, "room/first", *ONCE),
                          (6, "", "parv-watch: cannot open room/first: Not a directory\n"))
 
-    # What a check says.
+    # The output of a check.
 
     def test_of_equal_files_each_has_to_be_there(self) -> None:
         self.says(0, "complete")

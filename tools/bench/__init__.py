@@ -1,1 +1,1 @@
-"""What the program costs, in time and in memory."""
+"""Programs that measure how much time and memory parv takes."""

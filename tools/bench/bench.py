@@ -3,31 +3,33 @@
 
 usage: bench.py [small|large [CASE ..]]
 
-With CASE only those cases are measured whose names begin so, or like one of several, and only their sets
-are made: `bench.py large 61 "2,000" "find --tails"`. Needs par2 (Debian package par2).
-Of each case the two run in turn, and the best of the rounds counts: processor time (user and system)
-against par2 on one thread, time on the clock against par2 with as many threads as it takes by itself,
-and peak memory. Each case is run once before it is measured, to see that it is what it says: both
-verdicts, and what parv lists. A case isn't measured where a run would take longer than the limit:
-where parv hashes each window anew, that is told by the smallest set, and such a run isn't begun.
+With CASE, only the cases run whose names begin with one of these texts, and only their sets are made:
+`bench.py large 61 "2,000" "find --tails"`. Needs par2 (Debian package par2).
 
-par2 has no --tails, so in the cases `find --tails` and `verify --tails` parv without the flag stands in par2's
-place, as `plain`. Their numbers are those of own lengths below the slice size. `find` meets no slice there. `verify`
-has so many files, the last of which has another last byte, and needs the last slice of that one alone.
+In each case the two programs run in turn, and the best of the rounds counts: processor time (user and system) against
+par2 on one thread; time on the clock against par2 with as many threads as it takes by itself; and peak memory. Before
+it is measured, each case runs once to check that it is what it says: both verdicts, and the output of parv. A case
+isn't measured if a run would take longer than the limit. If parv hashes each window as a whole, the smallest set shows
+that, and such a run isn't started.
 
-The next cases are of content as people have it, which repeats or doesn't: each kind whole, damaged at one place, and
-with a part left out, in slices of the size that par2 chooses ("par2's") and of 4 KiB.
+par2 has no --tails, so in the cases `find --tails` and `verify --tails`, parv is compared with itself without the
+option (`plain`). The numbers in their names count own lengths below the slice size. `find` finds no slice there.
+`verify` has files of that number, of which the last has a changed last byte, and looks only for the last slice of that
+one.
 
-In the last cases only an image is scanned, by `verify --tails`. It has all files of the set, or a tenth of them is
-missing. A "disc of 200" has 200 files, each padded to 2,048 bytes. The ISO image needs genisoimage, and the ext4
-image mke2fs: a case whose program isn't installed is left out. `find --tails` goes over the discs too.
+The next cases have content such as people have, which repeats or doesn't. Each kind is whole, damaged at one place, or
+has a part left out, in slices of the size that par2 chooses ("par2's") and of 4 KiB.
 
-With BEFORE, another parv runs in turn with them. Each case then has a second line, of that one beside
-par2, and at the end of the first the processor time of parv by that of the one before. Both must give the
-same text and the same exit status: where they don't, that is told, and the exit status is 1.
+In the last cases, only an image is scanned, by `verify --tails`. It has all files of the set, or a tenth of them is
+missing. A "disc of 200" has 200 files, each padded to 2,048 bytes. The ISO image needs genisoimage, and the ext4 image
+mke2fs; a case whose program isn't installed is left out. `find --tails` runs over the discs too.
 
-PARV is the program (crates/parv/out/parv), BEFORE the other one (none), PARV_BENCH the folder that keeps
-the sets (/tmp/parv-bench), ROUNDS the number of rounds, LIMIT the seconds that a run may take.
+With BEFORE, another parv runs in turn with them. Then each case has a second line, which compares that one with par2,
+and its first line ends with the ratio of the processor times of the two parvs. Both must print the same text and end
+with the same exit status. Otherwise, that is reported, and the exit status is 1.
+
+PARV is the program (crates/parv/out/parv), BEFORE the other one (none), PARV_BENCH the folder that keeps the sets
+(/tmp/parv-bench), ROUNDS the number of rounds, and LIMIT the greatest number of seconds for a run.
 """
 
 import ctypes
@@ -42,7 +44,7 @@ import time
 from itertools import zip_longest
 from typing import NamedTuple
 
-sys.path[0] = os.path.dirname(os.path.dirname(os.path.realpath(__file__)))  # tools/, where imports begin
+sys.path[0] = os.path.dirname(os.path.dirname(os.path.realpath(__file__)))  # imports are relative to tools/
 
 from bench import disc_images
 from bench.bench_sets import INDEX, OTHER, SHAPES, TAILS, data_files, packet_files, sets_of, size_text, slices_in
@@ -54,21 +56,22 @@ ROOT = os.path.abspath(os.environ.get("PARV_BENCH") or "/tmp/parv-bench")
 ROUNDS = {"small": 3, "large": 5}
 LIMIT = {"small": 3, "large": 60}
 
-# A process begins with the peak of the one that it was copied from, so a small shell starts each program
-# and ends, and the system gives the program to this one, which asked for such (PR_SET_CHILD_SUBREAPER).
+# A process begins with the peak memory of the process that it was copied from. So a small shell starts each program and
+# ends. The system then makes the program a child of this process, which asked for that (PR_SET_CHILD_SUBREAPER).
 START = '"$@" 2>/dev/null & echo $! >&2'
 ctypes.CDLL(None).prctl(36, 1, 0, 0, 0)
 
-# On the smallest set no search that slides takes so many seconds, and one that hashes each window takes more.
+# Over the smallest set, a search that rolls its checksum takes fewer seconds than this, and one that hashes each window
+# as a whole takes more.
 PLAIN = 0.1
 
 VERIFIED, LISTED, SEEN = r"^need (\d+) have \d+$", r"^\S+ \d+ \d+ recvslic ", r"^\S+ \d+ [0-9a-f]{32} \d+$"
 
 
 class Case(NamedTuple):
-    """What is measured: a folder of the sets, parv's command, the exit status over that folder of par2 or of
-    what stands in its place, whether parv gets --tails, which of the two it is measured beside, and the program
-    that makes the folder's image."""
+    """What is measured: a folder of the sets, the command of parv, the exit status of the compared program over that
+    folder, whether parv gets --tails, the compared program (`beside`), and the program that makes the folder's
+    image."""
     name: str
     folder: str
     command: str
@@ -109,7 +112,7 @@ CASES = [
 
 
 class Run(NamedTuple):
-    """Seconds of the processor and on the clock, peak memory in KiB, exit status."""
+    """Seconds of the processor and on the clock, peak memory in KiB, and exit status."""
     processor: float
     wall: float
     memory: int
@@ -117,14 +120,15 @@ class Run(NamedTuple):
 
 
 class Answer(NamedTuple):
-    """What a parv says of a case: its exit status, its text, and the number in that which `expected` has."""
+    """The answer of a parv in a case: its exit status, its text, and the number in that text which `expected` also
+    returns."""
     status: int
     text: bytes
     number: int
 
 
 def run(words, folder, limit, out=subprocess.DEVNULL):
-    """One run, or nothing where it was stopped at the limit."""
+    """Runs a program once. Returns None if it was stopped at the limit."""
     start = time.monotonic()
     shell = subprocess.run(["sh", "-c", START, "sh", *words], cwd=folder, stdin=subprocess.DEVNULL, stdout=out,
                            stderr=subprocess.PIPE, check=True)
@@ -134,7 +138,7 @@ def run(words, folder, limit, out=subprocess.DEVNULL):
     try:
         _, ended, usage = os.wait4(program, 0)
     except ChildProcessError:
-        # It ended before the shell did, which took its end for itself.
+        # The program ended before the shell did, so the shell received its status.
         if out is not subprocess.DEVNULL:
             out.seek(0)
             out.truncate()
@@ -159,19 +163,20 @@ def by_parv(program, case, folder):
 
 
 def by_par2(folder, options=()):
-    """par2 finds files by their names; one under another name it must be told."""
+    """Returns the words that run par2. It finds files by their names, so it must be told about a file with another
+    name."""
     return ["par2", "verify", "-q", "-q", *options, INDEX, *(name for name in data_files(folder) if name == OTHER)]
 
 
 def one_thread():
-    """What puts par2 on one thread: words before its own, and options."""
+    """Returns what runs par2 on one thread: words before its own, and options."""
     text = subprocess.run(["par2", "--help"], capture_output=True, text=True).stdout
     options = [f"{flag}1" for flag in ("-t", "-T") if f"{flag}<n>" in text]
     return ([], options) if "-t1" in options else (["taskset", "-c", str(min(os.sched_getaffinity(0)))], [])
 
 
 def beside(case, folder, alone):
-    """What stands beside parv: par2 on one thread and par2 by itself, or twice parv without the flag."""
+    """Returns the compared programs: par2 on one thread and par2 by itself, or twice parv without the option."""
     if case.beside == "plain":
         return [by_parv(PARV, case._replace(tails=False), folder)] * 2
     words, options = alone
@@ -179,7 +184,8 @@ def beside(case, folder, alone):
 
 
 def expected(case, shape, folder):
-    """What parv's text has of the case: the slices that it needs, or how many it sees or lists."""
+    """Returns the number that parv's text must have in this case: slices that it needs, or slices or packets that it
+    lists."""
     if case.command == "packets":
         return shape.volume // shape.slice_size
     lost = shape.lost(case.folder, folder)
@@ -187,7 +193,7 @@ def expected(case, shape, folder):
 
 
 def told(case, text):
-    """The number in parv's text that `expected` has."""
+    """Returns the number in parv's text that `expected` computes."""
     lines = text.decode().split("\n")
     if case.command == "verify":
         return sum(int(found[1]) for found in (re.search(VERIFIED, line) for line in lines) if found)
@@ -195,7 +201,7 @@ def told(case, text):
 
 
 def answer(program, case, folder, limit):
-    """What a parv says of the case, by a run that isn't counted; nothing where it was stopped."""
+    """Returns the answer of a parv in the case, from a run that isn't measured; None if it was stopped."""
     with tempfile.TemporaryFile() as out:
         ran = run(by_parv(program, case, folder), folder, limit, out)
         if ran is None:
@@ -206,7 +212,8 @@ def answer(program, case, folder, limit):
 
 
 def disagreement(case, shape, folder, ours, theirs):
-    """How the answer of a parv, or the exit status of what stands beside it, isn't the case's; or nothing."""
+    """Says how the answer of a parv, or the exit status of the compared program, isn't that of the case; None if both
+    are."""
     status = ours.status
     if case.command != "verify" and status == 0:
         status = case.status
@@ -217,7 +224,7 @@ def disagreement(case, shape, folder, ours, theirs):
 
 
 def difference(ours, before):
-    """How the answers of the two programs differ; an empty text where they don't."""
+    """Says how the answers of the two parvs differ; an empty text if they don't."""
     if ours.status != before.status:
         return f"exit status {ours.status} and {before.status}"
     if ours.text != before.text:
@@ -228,8 +235,8 @@ def difference(ours, before):
 
 
 def window_cost(program, case, probe, sets, limit):
-    """Seconds for each byte of each window where parv hashes each anew, by the smallest set; 0 where it doesn't,
-    and where that set has no such case."""
+    """Returns the seconds for each byte of each window, measured with the smallest set, if parv hashes each window as a
+    whole; 0 if it doesn't, or if that set has no such case."""
     if case.command == "packets" or case.folder not in probe.folders:
         return 0
     folder = os.path.join(sets, case.folder)
@@ -243,21 +250,22 @@ def ratio(ours, theirs):
 
 
 def in_turn(programs, case, folder, limit, rounds, alone):
-    """The best runs of each program, and of the two that stand beside; nothing for one that was stopped."""
+    """Returns the best runs of each program, and of the two compared ones; None for a program that was stopped."""
     commands = [*(by_parv(program, case, folder) for program in programs), *beside(case, folder, alone)]
     turns = [[run(command, folder, limit) for command in commands] for _ in range(rounds)]
     return [None if None in runs else best(runs) for runs in zip(*turns)]
 
 
 def columns(ours, theirs, threads):
-    """A program, by the processor and on the clock, beside the two that stand there."""
+    """Returns the columns of a program: processor time and time on the clock, each compared with one of the two
+    others."""
     return f"{ours.processor:8.3f} {theirs.processor:8.3f} {ratio(ours.processor, theirs.processor)} " \
            f"{ours.wall:9.3f} {threads.wall:8.3f} {ratio(ours.wall, threads.wall)} " \
            f"{ours.memory / 1024:8.1f} {theirs.memory / 1024:7.1f}"
 
 
 def rows(programs, costs, case, shape, folder, limit, rounds, alone):
-    """The text of each program, and how the answers of two differ; nothing where not both were run."""
+    """Returns the text for each program, and how the answers of two differ; None for that if not both were run."""
     over = f"not measured (over {limit:g} s)"
     answers = [answer(program, case, folder, limit) if cost * shape.slice_size * shape.data <= limit else None
                for program, cost in zip(programs, costs)]
@@ -280,7 +288,7 @@ def rows(programs, costs, case, shape, folder, limit, rounds, alone):
 
 
 def sets_for(cases, size, shapes):
-    """The folder of each shape that has one of these cases."""
+    """Returns the folder of each shape that has one of these cases."""
     return {shape: sets_of(ROOT, size, shape) for shape in shapes
             if any(case.folder in shape.folders for case in cases)}
 
@@ -305,7 +313,7 @@ def say_heading(other):
 
 
 def chosen():
-    """The size and the cases that are asked for."""
+    """Returns the size and the cases that the arguments ask for."""
     size, *begins = sys.argv[1:] or ["small"]
     cases = [case for case in CASES if case.name.startswith(tuple(begins or [""]))]
     if size not in SHAPES or not all(any(case.name.startswith(begin) for case in cases) for begin in begins):
@@ -315,7 +323,7 @@ def chosen():
 
 
 def makeable(cases):
-    """The cases that can be made; of each other one a line is printed."""
+    """Returns the cases that can be made, and prints a line for each of the others."""
     lacking = [case for case in cases if case.program and not disc_images.found(case.program)]
     for case in lacking:
         print(f"{case.name}: left out, since {case.program} isn't installed")

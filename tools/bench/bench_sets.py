@@ -1,9 +1,8 @@
 """The sets that bench.py measures: made with par2 from a fixed seed, once, and kept.
 
-Of each slice size there is a folder with a folder for each case, which holds the packet files and
-the files as that case has them; so there is of each number of files of one length, and of each number
-of tails. A folder is made aside and renamed, so that it is there whole or not at all; its file `made`
-tells what it was made of, and another bench makes it anew.
+For each shape there is a folder, which has a folder for each case: the packet files, and the files as that case has
+them. A shape is a slice size, a number of files of one length, or a number of tails. A folder is made under another
+name and renamed when it is whole. Its file `made` says what it was made from; if that differs, bench.py makes it again.
 """
 
 import hashlib
@@ -21,15 +20,15 @@ from models.describe_set import packets_of, set_of
 from models.find_slices import slices_of
 from models.list_packets import packets_in
 
-VERSION = 1  # of what is made here
+VERSION = 1  # increased when the sets change
 KIB, MIB = 1 << 10, 1 << 20
 DATA, OTHER, INDEX, LOST = "data.bin", "other.bin", "set.par2", "lost"
-VOLUME_SLICES = 32  # input slices of a set that is made for its volume
-DISC_RECOVERY = 20  # recovery slices of a set with images, for those that an ext4 image lacks: it stores no zeros
+VOLUME_SLICES = 32  # input slices of the set whose large volume is read
+DISC_RECOVERY = 20  # recovery slices of a set with images; an ext4 image lacks some slices, since it stores no zeros
 
 
 class Shape(NamedTuple):
-    """The sets of one slice size: bytes of data, number of files where they are many, bytes of a large volume."""
+    """The sets of one slice size: bytes of data, number of files in the case with many, and bytes of a large volume."""
     slice_size: int
     data: int
     files: int
@@ -44,7 +43,7 @@ class Shape(NamedTuple):
         return ["intact", *DAMAGED, "many", *(["volume"] if self.volume else [])]
 
     def lost(self, folder, _path):
-        """How many slices aren't there."""
+        """Returns how many slices are missing."""
         return {"flipped": 1, "left out": 1, "every slice": self.data // self.slice_size}.get(folder, 0)
 
     def make(self, folder):
@@ -61,7 +60,8 @@ class Shape(NamedTuple):
 
 
 class Files(NamedTuple):
-    """A set of files of one length: how many are gone, and in how many of the others a byte is flipped then."""
+    """A set of files of one length. `gone` of them are missing; then, in `flipped` of the others, a byte is changed
+    too."""
     slice_size: int
     length: int
     files: int
@@ -99,7 +99,7 @@ class Files(NamedTuple):
 
 
 class Tails(NamedTuple):
-    """Sets with so many own lengths below their slice size, and bytes that are searched for them."""
+    """Sets with `files` own lengths below their slice size, and bytes that are searched for them."""
     slice_size: int
     data: int
     files: int
@@ -116,7 +116,7 @@ class Tails(NamedTuple):
         return dict(zip(self.folders, [self.files, 1]))[folder]
 
     def make(self, folder):
-        """A set that nothing is seen of, and one of files, of which the last has another last byte."""
+        """Makes a set of which nothing is found, and one with files, of which the last has a changed last byte."""
         nowhere, flipped = [os.path.join(folder, name) for name in self.folders]
         os.makedirs(nowhere)
         written(nowhere, "set", packets_with_tails(self.slice_size, tails_about(self.slice_size * 3 // 4, self.files)))
@@ -127,8 +127,8 @@ class Tails(NamedTuple):
 
 
 class Real(NamedTuple):
-    """A set of files of some kind as people have them, in slices of a size or, if that is 0, of the size that par2
-    chooses: whole, with a byte flipped or a part zeroed, and with a byte or a part left out."""
+    """A set of files of some kind that people have, in slices of a given size or, if that is 0, of the size that par2
+    chooses. They are whole, have a changed byte or a part of zeros, or lack a byte or a part."""
     kind: str
     slice_size: int
     data: int
@@ -163,8 +163,8 @@ class Real(NamedTuple):
 
 
 class Disc(NamedTuple):
-    """A set whose files are scanned in an image only: one has them all, and in the other one a tenth is missing. The
-    slice size is as of Real."""
+    """A set whose files are scanned only in an image. One image has them all, and in the other a tenth is missing. The
+    slice size is as in Real."""
     kind: str
     slice_size: int
     data: int
@@ -199,39 +199,40 @@ class Disc(NamedTuple):
 
 DAMAGED = ["renamed", "flipped", "left out", "in front", "every slice"]
 
-# How large the files of each kind are, in MiB, in the large sets, where ratios count. A set has at most 32,768 slices.
+# The sizes of the files of each kind, in MiB, in the large sets, whose ratios count. A set has at most 32,768 slices.
 REAL = {
     "virtual disk": 192, "database": 100, "one line": 64, "records of 1,000": 64, "records of 5,000": 64, "bitmap": 24,
     "sound": 64, "volumes": 150, "small files": 36, "log": 64, "tar": 128,
 }
 
-# The slice size of each image and how large its files are, in KiB and MiB.
+# For each image: the slice size in KiB, and the size of its files in MiB.
 DISCS = {
     "disc of 40": (256, 300), "disc of 200": (64, 300), "disc of 256": (64, 300), "ISO image": (0, 96),
     "tar image": (0, 96), "ext4 image": (0, 96),
 }
 
 
-# How many bytes are searched for so many tails, in MiB.
+# For each number of tails: how many MiB are searched for them.
 TAILS = {1: 64, 4: 64, 16: 32, 64: 32, 200: 16, 256: 16}
 
 
 def tails(slice_size, divisor):
-    """Sets of each number of tails, so much smaller. Files that are longer than a slice have all but one byte of
-    their last one, and so less and less."""
+    """Yields the sets of each number of tails, with sizes divided by the divisor. Files that are longer than a slice
+    have all but one byte of their last one, then all but two, and so on."""
     for count, data in TAILS.items():
         longest = data * MIB // divisor // count
         yield Tails(slice_size, (longest - longest % slice_size or longest) * count, count)
 
 
 def real(divisor):
-    """The sets of each kind, so much smaller, in the slices that par2 chooses and in slices of 4 KiB."""
+    """Returns the sets of each kind, with sizes divided by the divisor, in slices that par2 chooses and in slices of 4
+    KiB."""
     return [Real(kind, slice_size, min(REAL[kind], most) * MIB // divisor)
             for kind in KINDS for slice_size, most in ((0, 192), (4 * KIB, 96))]
 
 
 def discs(divisor):
-    """The set of each image, so much smaller, and in slices that are as much smaller."""
+    """Returns the set of each image, with the sizes of files and slices divided by the divisor."""
     return [Disc(kind, slice_size * KIB // divisor, data * MIB // divisor)
             for kind, (slice_size, data) in DISCS.items()]
 
@@ -263,7 +264,7 @@ def data_files(folder):
 
 
 def write_data(path, length):
-    """Bytes that are fixed by the file's name and each one's place."""
+    """Writes bytes that follow from the file's name and the place of each byte."""
     with open(path, "wb") as out:
         for at in range(0, length, MIB):
             seed = f"{os.path.basename(path)} {at}".encode()
@@ -271,8 +272,8 @@ def write_data(path, length):
 
 
 def create(folder, slice_size, recovery):
-    """Makes packet files of the folder's files: the index and one volume. Threads would wait for one another. A slice
-    size of 0 is left to par2."""
+    """Makes packet files for the folder's files: the index and one volume. It uses one thread, since several would wait
+    for one another. If the slice size is 0, par2 chooses it."""
     sizes = [f"-s{slice_size}"] if slice_size else []
     subprocess.run(["par2", "create", "-q", "-q", *sizes, f"-c{recovery}", "-n1", INDEX,
                     *data_files(folder)], cwd=folder, check=True, stdout=subprocess.DEVNULL,
@@ -280,13 +281,13 @@ def create(folder, slice_size, recovery):
 
 
 def noted_lost(path):
-    """How many slices aren't in a folder of a set, which a file there tells."""
+    """Returns how many slices a folder of a set lacks, which a file there says."""
     with open(os.path.join(path, LOST)) as file:
         return int(file.read())
 
 
 def slice_size_of(path):
-    """The slice size of a packet file's set."""
+    """Returns the slice size of a packet file's set."""
     with open(path, "rb") as file:
         data = file.read()
     at = next(at for at, _, kind, _ in packets_in(data) if kind == "main")
@@ -294,26 +295,26 @@ def slice_size_of(path):
 
 
 def slices_in(path):
-    """How many slices the set of a folder has."""
+    """Returns how many slices the set of a folder has."""
     with open(os.path.join(path, packet_files(path)[0]), "rb") as file:
         return len(slices_of(set_of(packets_of([(b"index", file.read())]))))
 
 
 def flip_each(data, size):
-    """Flips a byte in the middle of each slice."""
+    """Changes a byte in the middle of each slice."""
     for at in range(size // 2, len(data), size):
         flip(data, at)
 
 
 def link_all(source, target, names):
-    """A folder with the packet files of another, and these of its files."""
+    """Makes a folder with the packet files of another one, and with these of its files."""
     os.mkdir(target)
     for name in [*packet_files(source), *names]:
         os.link(os.path.join(source, name), os.path.join(target, name))
 
 
 def damage_copy(source, target, name, *damage):
-    """A file is there for itself, damaged, and no link."""
+    """Makes a damaged copy of a file, in place of a link."""
     path = os.path.join(target, name)
     if os.path.exists(path):
         os.remove(path)
@@ -322,7 +323,7 @@ def damage_copy(source, target, name, *damage):
 
 
 def damage(folder, case, shape):
-    """A folder beside the intact one, in which the file is as the case has it."""
+    """Makes a folder beside the intact one, in which the file is as the case has it."""
     intact, target = os.path.join(folder, "intact"), os.path.join(folder, case)
     link_all(intact, target, [])
     if case == "renamed":
@@ -335,7 +336,7 @@ def damage(folder, case, shape):
 
 
 def make_many(folder, slice_size, lengths):
-    """Files of unlike lengths, whose last slices are short."""
+    """Makes files of different lengths, whose last slices are short."""
     os.mkdir(folder)
     for number, length in enumerate(lengths):
         write_data(os.path.join(folder, f"{number:03}.bin"), length)
@@ -343,7 +344,7 @@ def make_many(folder, slice_size, lengths):
 
 
 def make_volume(folder, shape):
-    """One volume, of a file that is gone."""
+    """Makes one volume, for a file that is then removed."""
     os.mkdir(folder)
     data = os.path.join(folder, DATA)
     write_data(data, VOLUME_SLICES * shape.slice_size)
@@ -352,7 +353,7 @@ def make_volume(folder, shape):
 
 
 def sets_of(root, size, shape):
-    """The folder of the sets of this shape, which are made if they aren't there."""
+    """Returns the folder of the sets of this shape, and makes them if they aren't there."""
     folder = os.path.join(root, size, shape.name)
     made, wanted = os.path.join(folder, "made"), f"{VERSION} {tuple(shape)}\n"
     if os.path.exists(made):

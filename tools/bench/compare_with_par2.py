@@ -5,17 +5,16 @@ usage: compare_with_par2.py [SLICE_SIZE ..]
        compare_with_par2.py --sets N [--seed N] [--jobs N]
        compare_with_par2.py --creators
 
-Needs par2 (Debian package par2). With slices of 512 bytes, 64 KiB and 1 MiB, or of the sizes that are
-given, each case makes a set of three files of some thirty slices anew, damages the folder, and runs both
-over all that is there, parv without --tails and with it. Prints a line for each case; a case whose
-answers differ is one that EXPLAINED names and has no difference with --tails, or the exit status is 1.
+Needs par2 (Debian package par2). Slices have 512 bytes, 64 KiB and 1 MiB, or the given sizes. Each case makes a new set
+of three files with about thirty slices, damages the folder, and runs both programs over all files there, parv without
+--tails and with it. It prints a line for each case. If the answers differ without --tails, EXPLAINED must name the
+case, and with --tails they must not differ. Otherwise the exit status is 1.
 
-With --sets it takes N sets of damaged_sets.py instead, prints of each how many slices are needed by
-par2, by parv and by parv with --tails, and at last in how many each needs fewer. The exit status is 1
-where parv with --tails needs more in one.
+With --sets, it uses N sets of damaged_sets.py. For each it prints how many slices par2, parv, and parv with --tails
+need, and finally in how many sets each needs fewer. The exit status is 1 if parv with --tails needs more in some set.
 
-With --creators it takes the sets of creator_sets.py, each whole and without its first file; where the
-answers differ, EXPLAINED_SETS has both. Of the first one par2 has to lay out the same packets.
+With --creators, it uses the sets of creator_sets.py, each whole and without its first file. If the answers differ,
+EXPLAINED_SETS must contain both. par2 must lay out the first of these sets with the same packets.
 
 PARV is the program (crates/parv/out/parv).
 """
@@ -30,7 +29,7 @@ import sys
 import tempfile
 from concurrent.futures import ProcessPoolExecutor
 
-sys.path[0] = os.path.dirname(os.path.dirname(os.path.realpath(__file__)))  # tools/, where imports begin
+sys.path[0] = os.path.dirname(os.path.dirname(os.path.realpath(__file__)))  # imports are relative to tools/
 
 from hostile.runs import PARV
 from make import creator_sets, damaged_sets
@@ -39,7 +38,7 @@ from models.list_packets import packets_in
 
 VERDICTS = {0: "complete", 1: "possible", 2: "impossible", 4: "no set"}
 SIZES = [512, 65536, 1048576]
-# Lengths, and below the places of damage, are those of slices of 512 bytes; larger ones multiply them.
+# These lengths, and the places of damage below, are for slices of 512 bytes. They are multiplied for larger slices.
 FILES = {"a.bin": 9000, "b.bin": 5120, "c.bin": 777}
 
 # The cases in which the two answer differently without --tails, and why.
@@ -49,7 +48,7 @@ EXPLAINED = {
     "all files joined into one": (("possible", 1, 8), ("possible", 0, 8), SHORT_SLICE),
 }
 
-# The sets of other creators of which par2 says something else, and why.
+# The sets of other creators about which par2 says something else, and why.
 FIRST_PACKET = "par2 takes the set of the first packet, parv that of the first Main"
 SIGNAL = "par2 ends by a signal where it finds a file that isn't recoverable"
 EXPLAINED_SETS = {
@@ -85,7 +84,7 @@ def damage_packets():
         in_file(name, flip, os.path.getsize(name) // 2)
 
 
-# What is done to the folder; a slice has `times` times 512 bytes.
+# The damage to the folder in each case. A slice has `times` times 512 bytes.
 CASES = {
     "nothing damaged": lambda times: None,
     "a bit flipped": lambda times: in_file("a.bin", flip, 3000 * times),
@@ -135,7 +134,7 @@ def by_par2(packet_files, files):
 
 
 def answers():
-    """What parv says of the folder, without --tails and with it, and par2."""
+    """Returns the answers about the folder: of parv without --tails and with it, and of par2."""
     files = sorted(name for name in os.listdir(".") if not name.endswith(".par2"))
     packet_files = sorted(glob.glob("*.par2"))
     return by_parv(packet_files, files), by_parv(packet_files, files, "--tails"), by_par2(packet_files, files)
@@ -146,7 +145,7 @@ def as_text(name, answer):
 
 
 def compare(size, case, damage):
-    """Prints what both say of a case, and whether that is as it should be."""
+    """Prints both answers in a case, and returns whether they are as expected."""
     times = size // 512
     with tempfile.TemporaryDirectory() as folder:
         os.chdir(folder)
@@ -166,7 +165,7 @@ def compare(size, case, damage):
 
 
 def needs_of(seed, number):
-    """Of one damaged set what was done to it, and what each needs."""
+    """Returns the damage to one set, and how many slices each program needs."""
     with tempfile.TemporaryDirectory() as folder:
         told = damaged_sets.make(folder, seed, number)
         os.chdir(folder)
@@ -176,7 +175,7 @@ def needs_of(seed, number):
 
 
 def compare_sets(count, seed, jobs):
-    """Prints what each needs of each damaged set, and in how many sets which needs fewer."""
+    """Prints how many slices each program needs for each damaged set, and in how many sets each needs fewer."""
     all_needs = []
     with ProcessPoolExecutor(jobs) as pool:
         for number, (told, needs) in enumerate(pool.map(needs_of, [seed] * count, range(count))):
@@ -191,7 +190,7 @@ def compare_sets(count, seed, jobs):
 
 
 def bodies(name):
-    """Set ID, type and body of each packet of a file, without recovery data."""
+    """Returns the set ID, type and body of each packet of a file, without recovery data."""
     with open(name, "rb") as file:
         data = file.read()
     return [(data[at + 32:at + 64], data[at + 64:at + 68 if kind == "recvslic" else at + length])
@@ -199,7 +198,7 @@ def bodies(name):
 
 
 def laid_out_alike():
-    """Whether par2 makes the packet files of `interleaved` of its files; prints it."""
+    """Prints and returns whether par2 makes the packet files of `interleaved` from its files."""
     with tempfile.TemporaryDirectory() as folder:
         creator_sets.write(folder, creator_sets.interleaved())
         os.chdir(folder)
@@ -215,7 +214,7 @@ def laid_out_alike():
 
 
 def compare_creator(layout):
-    """Prints what both say of a set, whole and without its first file, and whether that is as it should be."""
+    """Prints both answers about a set, whole and without its first file, and returns whether they are as expected."""
     agree = True
     with tempfile.TemporaryDirectory() as folder:
         creator_sets.write(folder, layout())

@@ -1,6 +1,6 @@
-"""Images of discs: files as people have them one after another, of a fixed seed, and archives of system files.
+"""Images of discs: files of a fixed seed that follow one another, and archives of system files.
 
-`IMAGES` has by name what makes the files of a set, and what writes an image of those that a folder has.
+For each name, `IMAGES` has what makes the files of a set, and what writes an image of the files in a folder.
 """
 
 import os
@@ -18,21 +18,22 @@ from make.packets import filled, slices
 
 HEADER, SECTOR = 12 * KIB, 2 * KIB
 SYSTEM_FILES = 230
-SHORTEST, LONGEST = 16 * KIB, 4 * MIB     # of the system files
-BLOCK, SPARE = 4 * KIB, 16 * MIB          # of ext4, which may take a tenth more for itself
+SHORTEST, LONGEST = 16 * KIB, 4 * MIB     # bytes of a system file
+BLOCK, SPARE = 4 * KIB, 16 * MIB          # for ext4: its block, and space for itself in addition to a tenth
 PROGRAMS = os.pathsep.join([os.environ.get("PATH", os.defpath), "/usr/sbin", "/sbin"])
 
 
 class Image(NamedTuple):
-    """How the files of a set of so many bytes are made, by name, how an image of a folder is written, and by which
-    program."""
+    """How to make the files of a set of a given length, by name; how to write an image of a folder; and the program for
+    that."""
     files: Callable
     write: Callable
     program: str = ""
 
 
 def files_of_disc(count):
-    """So many files of unlike lengths, the longest seven times as long as the shortest."""
+    """Returns a function that makes `count` files of different lengths, the longest seven times as long as the
+    shortest."""
     def make(length):
         chance, mean = random.Random(f"disc {count}"), length // count
         return {f"{number:03}.bin": noise(f"disc {count} {number}", chance.randrange(mean // 4, mean * 7 // 4))
@@ -41,7 +42,7 @@ def files_of_disc(count):
 
 
 def system_files(length):
-    """Small files of the system, no two alike, which depend on the machine: as many as there is room for."""
+    """Returns small files of the system, no two the same, up to this length in all. They depend on the machine."""
     paths = sorted(os.path.join(folder, name) for folder, _, names in os.walk(SYSTEM) for name in names)
     random.Random("system files").shuffle(paths)
     contents = []
@@ -62,14 +63,14 @@ def is_readable_file(path):
 
 
 def contents_in(folder):
-    """The contents of a folder's files, in the order of their names."""
+    """Yields the contents of a folder's files, in the order of their names."""
     for name in sorted(os.listdir(folder)):
         with open(os.path.join(folder, name), "rb") as file:
             yield file.read()
 
 
 def write_disc(folder, path):
-    """The files after a header, each padded to a sector."""
+    """Writes the files after a header, each padded to a sector."""
     write(path, noise("header", HEADER), *(filled(content, SECTOR) for content in contents_in(folder)))
 
 
@@ -98,7 +99,7 @@ IMAGES = {
 
 
 def found(program):
-    """The path of a program, or nothing if it isn't installed."""
+    """Returns the path of a program, or None if it isn't installed."""
     return shutil.which(program, path=PROGRAMS)
 
 
@@ -111,13 +112,14 @@ def write_image(kind, folder, names, path):
 
 
 def lost_in(path, contents, slice_size):
-    """How many slices of these contents the image has nowhere."""
+    """Returns how many slices of these contents aren't anywhere in the image."""
     with open(path, "rb") as file:
         image = file.read()
     blocks = set(slices(image, SECTOR))
 
     def is_there(part):
-        """Whether the image has these bytes. If they are many, they begin less than a sector before a whole one."""
+        """Returns whether the image has these bytes. A long part contains a whole sector, less than a sector after its
+        beginning."""
         if len(part) >= 2 * SECTOR and not any(part[at:at + SECTOR] in blocks for at in range(SECTOR)):
             return False
         return part in image

@@ -1,14 +1,14 @@
 #!/usr/bin/env python3
-"""Measures what hostile packet files cost: memory and seconds of the processor.
+"""Measures what hostile packet files cost: memory, and seconds of the processor.
 
 usage: hostile_cost.py [nested|headers|windows|sums|tails|names ..]
 
 nested   Creator packets, each in the body of the one before, 512 KiB in all.
-headers  A header every 16 bytes, whose length runs to the file's end and whose hash is wrong: each
-         costs a hash of the rest. Beside it `par2 verify` on the same file, where there is a par2.
-windows  A set of the largest slice size, none of whose slices has sums: no window is made.
-sums     A slice of zeros with the right CRC-32 and a wrong MD5, in a file of zeros: an MD5 a place.
-tails    256 short slices such as that of `sums`, and --tails: 256 MD5s a place.
+headers  A header every 16 bytes, whose length goes to the end of the file and whose hash is wrong: each
+         costs a hash of the rest. `par2 verify` runs over the same file, if par2 is installed.
+windows  A set of the largest slice size whose slices have no checksums: parv makes no window.
+sums     A slice of zeros with the right CRC-32 and a wrong MD5, in a file of zeros: an MD5 at each offset.
+tails    256 short slices like that of `sums`, and --tails: 256 MD5s at each offset.
 names    Names of 4,096 bytes that are shown by 16,384 each, and one long name of a scanned file.
 
 PARV is the program (crates/parv/out/parv). A run is stopped after 1,000 seconds.
@@ -20,7 +20,7 @@ import struct
 import sys
 import zlib
 
-sys.path[0] = os.path.dirname(os.path.dirname(os.path.realpath(__file__)))  # tools/, where imports begin
+sys.path[0] = os.path.dirname(os.path.dirname(os.path.realpath(__file__)))  # imports are relative to tools/
 
 from hostile.hostile_packets import nested_creators
 from hostile.runs import PARV, Runner, as_text
@@ -31,7 +31,7 @@ GREATEST = 268435456
 
 
 def told(runner, name, words, size):
-    """Prints what a run took; the size is that of its packet files."""
+    """Prints what a run took. `size` is the size of its packet files."""
     ran = runner.run(words)
     ended = "stopped" if ran.hung else f"status {ran.status}" if ran.status >= 0 else as_text(ran)
     print(f"{name}: {ran.seconds:.2f} s, {ran.memory / KIB:.1f} MiB with a packet file of "

@@ -1,7 +1,7 @@
-/* Preloaded into parv, to measure with more files than the system lets a process hold open: of a file whose
-   name doesn't end in .par2, in letters of either case, only the name is kept. It is opened anew for each
-   read and asked by its name for its kind and length, and that time and the names' memory are in what is
-   measured. Where PACKET_FILES_TOO is set, it is so of files of any name.
+/* Lets parv run with more files than the system allows a process to hold open. It is loaded by LD_PRELOAD. It
+   keeps only the name of each file, unless the name ends in .par2 (in letters of either case). It opens the
+   file again for each read, and asks for its kind and length by its name. This time, and the memory for the
+   names, are part of the measured numbers. If PACKET_FILES_TOO is set, it does so for packet files too.
 
        gcc -shared -fPIC -O2 -o /tmp/many_open.so tools/bench/many_open.c
        LD_PRELOAD=/tmp/many_open.so parv verify FILES */
@@ -16,7 +16,7 @@
 #include <sys/syscall.h>
 #include <unistd.h>
 
-enum { FIRST = 1 << 30, MOST = 1 << 17 };       /* the first number given, and how many there are */
+enum { FIRST = 1 << 30, MOST = 1 << 17 };       /* the first descriptor that it returns, and how many there are */
 static char *names[MOST];
 static int count;
 

@@ -1,11 +1,11 @@
 #!/usr/bin/env python3
-"""Compares the greatest resident size of runs with the formulas of docs/MEMORY.md, at two sizes of each input,
-and once with most of them together.
+"""Compares the greatest resident size of runs with the formulas of docs/MEMORY.md, at two sizes of each input, and
+once with most inputs together.
 
 usage: memory_cost.py
 
-Each line has by how many KiB the size is greater than that of the same command on a set without files, and
-how many the formula allows.
+Each line says by how many KiB the run is larger than the same command on a set without files, and how many KiB the
+formula allows.
 
 PARV is the program (crates/parv/out/parv).
 """
@@ -14,40 +14,41 @@ import os
 import subprocess
 import sys
 
-sys.path[0] = os.path.dirname(os.path.dirname(os.path.realpath(__file__)))  # tools/, where imports begin
+sys.path[0] = os.path.dirname(os.path.dirname(os.path.realpath(__file__)))  # imports are relative to tools/
 
 from hostile.runs import PARV, TOOLS, Runner, as_text
 from make.packets import NO_ID, desc_body, ids_of, ifsc_body, main_body, md5, packet, recvslic_body, set_of
 
 KIB, MIB = 1 << 10, 1 << 20
 MARGIN = MIB
-PACKET, UNNAMED, FILE, SLICE, TAIL, NAMED, SHOWN = 200, 150, 910, 180, 5150, 560, 5  # bytes for each
-RUNNING = 4  # for each byte of a window of up to 8 MiB, if there are six tails or more
-SLICE_AGAIN, INDEX_AGAIN = 100, 528 * KIB  # for a second index, of the slices that verify still looks for
-OF_A_LENGTH = 80  # in verify, for each scanned file of a length of the set
+PACKET, UNNAMED, FILE, SLICE, TAIL, NAMED, SHOWN = 200, 150, 910, 180, 5150, 560, 5  # bytes for one of each
+RUNNING = 4  # bytes for each byte of a window of up to 8 MiB, if there are six tails or more
+SLICE_AGAIN, INDEX_AGAIN = 100, 528 * KIB  # bytes for each slice, and once, for verify's second index
+OF_A_LENGTH = 80  # bytes, in verify, for each scanned file that has the length of a file of the set
 COMMANDS = ["packets", "set", "find", "verify"]
 SEARCHES = COMMANDS[2:]
 EMPTY = main_body(4, [])
 
 
 def no_sums(owner, pairs):
-    """Kind and body of sums that nothing has."""
+    """Returns the kind and body of checksums that no slice has."""
     return "ifsc", owner + b"".join(md5(b"%d" % at) + at.to_bytes(4, "big") for at in range(pairs))
 
 
 def one_file(size, length, pairs):
-    """The set of a file with sums that nothing has."""
+    """Returns the set of one file, with checksums that no slice has."""
     return set_of(main_body(size, [NO_ID]), ("filedesc", desc_body(NO_ID, b"a", b"", length)), no_sums(NO_ID, pairs))
 
 
 def files_of_one_slice(count, names=7, length=lambda at: 4):
-    """Kinds and bodies of the packets of files with names of so many bytes and sums that nothing has."""
+    """Returns the kinds and bodies of the packets of files whose names have `names` bytes, with checksums that no slice
+    has."""
     return [body for at, owner in enumerate(ids_of(count))
             for body in (("filedesc", desc_body(owner, b"%0*d" % (names, at), b"", length(at))), no_sums(owner, 1))]
 
 
 class Costs:
-    """What runs the program, the peaks on a set without files, and whether all was within the formulas."""
+    """The program's runner, the peaks on a set without files, and whether all runs were within the formulas."""
 
     def __init__(self):
         self.runner = Runner(300)
@@ -59,7 +60,7 @@ class Costs:
         self.failed = False
 
     def write(self, name, data, length=None):
-        """A file with a hole behind its data, up to the length."""
+        """Writes a file with a hole after its data, up to the length."""
         self.runner.write(name, data)
         if length is not None:
             os.truncate(os.path.join(self.runner.folder, name), length)
@@ -79,7 +80,8 @@ class Costs:
 
 
 def cost_of_packets(costs):
-    """Of each kind. In a set, descriptions, sums and Main packets are put aside here: they are too short."""
+    """Packets of each kind. In a set, the descriptions, checksums and Main packets here are rejected: they are too
+    short."""
     kinds = [("Creator packets", "creator", b"", 0), ("recovery slices", "recvslic", recvslic_body(1, b"abcd"), 0),
              ("descriptions", "filedesc", b"abcd", 4), ("sums", "ifsc", b"abcd", 4),
              ("Main packets", "main", b"abcd", 4), ("packets of no known kind", b"PAR 2.0\0Unknown\0", b"abcd", 0)]
@@ -91,7 +93,7 @@ def cost_of_packets(costs):
 
 
 def cost_of_descriptions(costs):
-    """Those of files that Main does not name, each with an ID of its own."""
+    """Descriptions of files that Main doesn't name, each with its own ID."""
     for count, names in (20_000, 8), (100_000, 8), (2_000, 4_000), (8_000, 400):
         bodies = [("filedesc", desc_body(owner, b"%0*d" % (names, at), b"", 4))
                   for at, owner in enumerate(ids_of(count, 1))]
@@ -101,7 +103,8 @@ def cost_of_descriptions(costs):
 
 
 def cost_of_bodies(costs):
-    """Beside a text of which each byte is shown by four. Sums of the set and Main packets of others are usable."""
+    """Large bodies: of text, of which each byte is shown by four; and of checksums of the set and Main packets of
+    others, which are usable."""
     owner = md5(EMPTY)
     for mib, shown in (7, MIB // 4), (63, MIB):
         for name, made in (("descriptions", lambda: packet(owner, "filedesc", bytes(MIB)) * mib),
@@ -123,7 +126,7 @@ def cost_of_recovery_data(costs):
 
 
 def cost_of_files(costs):
-    """The description of each holds its name once, and what is read and kept of it twice more."""
+    """Files: the description of each has its name once, and what parv reads and keeps has it twice more."""
     for count, names in (4096, 7), (32768, 7), (2_000, 4_000), (8_000, 400):
         costs.write("p.par2", set_of(main_body(4, ids_of(count)), *files_of_one_slice(count, names)))
         costs.within(f"{count} files of one slice each, with {names} bytes of name", (FILE + 3 * names) * count,
@@ -138,7 +141,7 @@ def cost_of_slices(costs):
 
 
 def cost_of_slices_that_are_found(costs):
-    """One is found by the MD5 of its file, and then the others are looked for."""
+    """Slices that are found: one is found by the MD5 of its file, and then the others are looked for."""
     costs.write("z", b"zzzz")
     for count in 4096, 32767:
         whole, other = ids_of(2)
@@ -150,15 +153,15 @@ def cost_of_slices_that_are_found(costs):
 
 
 def cost_of_slices_that_repeat(costs):
-    """Slices of zeros and of ones are found again and again, so the survey makes a smaller index in the run of each.
-    If the file of another slice is whole, it begins with one. All the others are looked for to the end."""
+    """Slices of zeros and of ones that are found again and again, so the survey makes a smaller index in the run of
+    each. If the file of another slice is whole, it begins with one. All other slices are looked for to the end."""
     costs.write("whole", b"wwww")
     *owners, other = ids_of(4)
     contents = {b"whole": b"wwww", b"zeros": bytes(4), b"ones": b"1111"}
     found = [body for owner, (name, content) in zip(owners, contents.items())
              for body in (("filedesc", desc_body(owner, name, content)), ("ifsc", ifsc_body(owner, content, 4)))]
     for count in 4096, 32765:
-        run = 2 * (count + 3) + 9000  # more windows than are compared in vain before an index is made
+        run = 2 * (count + 3) + 9000  # more windows than the survey compares in vain before it makes an index
         costs.write("runs", bytes(run) + b"1" * run)
         costs.write("p.par2", set_of(main_body(4, [*owners, other]), *found,
                                      ("filedesc", desc_body(other, b"a", b"", 4 * count)), no_sums(other, count)))
@@ -180,7 +183,7 @@ def cost_of_tails(costs):
 
 
 def cost_of_slice_size(costs):
-    """The last slice is short, so --tails looks for it by its own length."""
+    """Slice sizes. The last slice is short, so --tails looks for it by its own length."""
     costs.write("z", b"z" * 100)
     for size in 8 * MIB, 256 * MIB:
         costs.write("p.par2", one_file(size, size + 5, 2))
@@ -190,7 +193,7 @@ def cost_of_slice_size(costs):
 
 
 def cost_of_lengths(costs):
-    """A packet file with its packets in front of a hole, and one to scan."""
+    """Lengths of files: a packet file with its packets before a hole, and a file to scan."""
     for size in 64 * MIB, 1024 * MIB:
         costs.write("z", b"z" * 100)
         costs.write("p.par2", one_file(4, 4, 1), size)
@@ -201,7 +204,8 @@ def cost_of_lengths(costs):
 
 
 def cost_of_scanned_files(costs):
-    """Those that may not be open at once are held open by many_open.c, whose names are counted too."""
+    """Scanned files. many_open.c holds those open that the system doesn't allow; the memory for its names is part of
+    the result."""
     for count, size in (8_000, 8), (65_000, 8), (2_000, 120), (10_000, 120):
         names = [f"{at:0{size}}" for at in range(count)]
         costs.runner.clear()
@@ -217,14 +221,14 @@ def cost_of_scanned_files(costs):
 
 
 def cost_of_packet_files(costs):
-    """As many as every system lets a process have open, each with three packets."""
+    """Packet files, as many as every system lets a process have open, with three packets each."""
     costs.write("p.par2", one_file(4, 4, 1))
     for count in 200, 1000:
         costs.within(f"{count} packet files", (NAMED + 3 * PACKET) * count, COMMANDS, ["p.par2"] * count)
 
 
 def cost_of_most(costs):
-    """A set with most of these; one of its files is whole, and is named three hundred times."""
+    """Most inputs together: one of the files is whole, and is named three hundred times."""
     whole, ids = b"w" * 16, ids_of(1_000)
     size, pairs, packets, bodies, scanned = 16 * KIB, 8, 20_000, 8, 300
     files = [body for at, owner in enumerate(ids)
@@ -235,7 +239,7 @@ def cost_of_most(costs):
     costs.write("p.par2", set_of(main, ("filedesc", desc_body(whole, b"z", b"zzzz")),
                                  ("ifsc", ifsc_body(whole, b"zzzz", size)), *files)
                 + packet(md5(main), "creator", b"") * packets + packet(md5(main), "filedesc", bytes(MIB)) * bodies)
-    # What is reckoned for a file has one of its slices.
+    # The formula for a file includes one of its slices.
     allowed = ((FILE + 3 * 100 + (pairs - 1) * SLICE) * len(ids) + PACKET * packets + bodies * MIB + (1 + RUNNING) * size + 256 * TAIL
                + (NAMED + 4) * scanned)
     for command, again in ("find --tails", 0), ("verify --tails", SLICE_AGAIN * pairs * len(ids) + INDEX_AGAIN):

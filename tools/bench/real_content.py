@@ -1,7 +1,7 @@
-"""Files as people have them, made from a fixed seed: content that repeats, and some that doesn't.
+"""Files such as people have, made from a fixed seed: content that repeats, and some that doesn't.
 
-`KINDS` has, by name, what makes the files of a set of some length. Each gives the files and a `Spot`, around
-which the bytes of a file stand nowhere else: damage there costs a slice, since no other one is equal to it.
+For each name, `KINDS` has what makes the files of a set of some length. Each returns the files and a `Spot`: the bytes
+around it are nowhere else in the files, so damage there costs a slice.
 """
 
 import hashlib
@@ -14,7 +14,7 @@ from typing import NamedTuple
 KIB, MIB = 1 << 10, 1 << 20
 LINE = b"2026-01-01 00:00:00 INFO worker: nothing to do, sleeping 60s\n"
 ARTICLE = 700 * KIB
-SYSTEM = "/usr/lib"  # whose files the tar has
+SYSTEM = "/usr/lib"  # the tar has files from there
 
 
 class Spot(NamedTuple):
@@ -26,13 +26,13 @@ class Spot(NamedTuple):
 
 
 def noise(seed, length):
-    """So many bytes that follow from a seed, and look like chance."""
+    """Returns bytes that follow from a seed and look random."""
     parts = (hashlib.shake_256(f"{seed} {at}".encode()).digest(min(MIB, length - at)) for at in range(0, length, MIB))
     return b"".join(parts)
 
 
 def islands(seed, length, count, size):
-    """Zeros with so many islands of data, and the middle of one of these."""
+    """Returns zeros with `count` islands of data, and the middle of one of these."""
     data, chance = bytearray(length), random.Random(seed)
     places = [at * length // count + chance.randrange(max(1, length // count - size)) for at in range(count)]
     for at in places:
@@ -41,7 +41,7 @@ def islands(seed, length, count, size):
 
 
 def before_noise(seed, repeated, length):
-    """Bytes again and again, and after them a sixteenth of noise, in whose middle the spot is."""
+    """Returns the same bytes again and again, then a sixteenth of noise, and the middle of that noise."""
     tail = length // 16
     front = (repeated * (length // len(repeated) + 1))[:length - tail]
     return front + noise(seed, tail), length - tail // 2
@@ -70,7 +70,8 @@ def records(period):
 
 
 def bitmap(length):
-    """Bands of 64 equal rows of 3,000 pixels each, and one row in the middle that is like no other."""
+    """Makes a bitmap: bands of 64 equal rows of 3,000 pixels each, and one row in the middle that differs from all
+    others."""
     width, rows = 9000, []
     for band in range(length // (64 * width) + 1):
         rows += [noise(f"band {band}", 3) * (width // 3)] * 64
@@ -80,21 +81,21 @@ def bitmap(length):
 
 
 def sound(length):
-    """A quarter of sound, a quarter of silence, and so again."""
+    """Makes sound: a quarter of sound, a quarter of silence, and the same again."""
     part = length // 4
     data = noise("sound", part) + bytes(part) + noise("more sound", part) + bytes(length - 3 * part)
     return {"sound.bin": data}, Spot("sound.bin", 2 * part + part // 2)
 
 
 def volumes(length):
-    """Ten volumes, as they are posted."""
+    """Makes ten volumes, like those that people post."""
     files = {f"volume{number}.bin": noise(f"volume {number}", length // 10) for number in range(10)}
     article = min(ARTICLE, length // 40)
     return files, Spot("volume4.bin", length // 20, article, article)
 
 
 def small_files(length):
-    """Files of 1 to 40 KiB."""
+    """Makes files of 1 to 40 KiB."""
     chance, files, left = random.Random("small files"), {}, length
     while left > 0:
         size = min(left, chance.randrange(KIB, 40 * KIB))
@@ -105,7 +106,7 @@ def small_files(length):
 
 
 def log(length):
-    """Lines with a time and a number each."""
+    """Makes lines with a time and a number each."""
     chance, lines, size = random.Random("log"), [], 0
     while size < length:
         at = len(lines)
@@ -119,7 +120,7 @@ def log(length):
 
 
 def system_tar(length):
-    """A tar of system files, which hang on the machine, and of noise."""
+    """Makes a tar of system files, which depend on the machine, and of noise."""
     out, left = io.BytesIO(), length
     with tarfile.open(fileobj=out, mode="w", format=tarfile.GNU_FORMAT) as tar:
         for folder, folders, names in os.walk(SYSTEM):

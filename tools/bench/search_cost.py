@@ -1,15 +1,15 @@
 #!/usr/bin/env python3
-"""Measures what a search costs a byte, for slices of 4 bytes to 256 MiB and for 1 to 32,768 slices.
+"""Measures what a search costs for each byte, for slices of 4 bytes to 256 MiB and for 1 to 32,768 slices.
 
 usage: search_cost.py FOLDER [tails]
 
-FOLDER gets a packet file for each pair and the files that are searched: 65,536 bytes again and again,
-at least eight times the slice size. No slice has the CRC-32 of one of their windows, so no MD5 is
-taken: what is told is the search alone, in nanoseconds of the processor a byte, the best of three runs.
+FOLDER gets a packet file for each pair of these, and the files that are searched: the same 65,536 bytes again and
+again, at least eight times the slice size. No slice has the CRC-32 of one of their windows, so no MD5 is taken. The
+result is the cost of the search itself, in nanoseconds of the processor for each byte, the best of three runs.
 
-With `tails` it measures what --tails costs, by the number of own lengths below slices of 64 KiB, those of
-about 1 KiB and those of about 60 KiB: a table in Markdown of the nanoseconds a byte, and in brackets how
-many each length takes more than a search without --tails.
+With `tails`, it measures what --tails costs, by the number of own lengths below slices of 64 KiB: lengths of about
+1 KiB and of about 60 KiB. It prints a table in Markdown: nanoseconds for each byte and, in brackets, how many more each
+length takes than a search without --tails.
 
 PARV is the program (crates/parv/out/parv).
 """
@@ -22,7 +22,7 @@ import subprocess
 import sys
 import zlib
 
-sys.path[0] = os.path.dirname(os.path.dirname(os.path.realpath(__file__)))  # tools/, where imports begin
+sys.path[0] = os.path.dirname(os.path.dirname(os.path.realpath(__file__)))  # imports are relative to tools/
 
 from hostile.runs import PARV
 from make.packets import ids_of, main_body, md5, numbers, set_of
@@ -45,11 +45,11 @@ def table_of(polynomial=0xEDB88320):
 
 
 def window_sums(size):
-    """The CRC-32 of each window of this size in the repeated bytes."""
+    """Returns the CRC-32 of each window of this size in the repeated bytes."""
     table = table_of()
     window = (PERIOD * (size // len(PERIOD) + 2))[:size + len(PERIOD)]
     crc = zlib.crc32(window[:size])
-    # What a byte that falls out leaves behind it: its CRC-32 before so many zeros, without the zeros' own.
+    # The effect of a byte that leaves the window: its CRC-32 before `size` zeros, without that of the zeros themselves.
     zeros = bytes(size)
     none = zlib.crc32(bytes(size + 1))
     bits = [zlib.crc32(bytes([1 << bit]) + zeros) ^ none for bit in range(8)]
@@ -58,7 +58,7 @@ def window_sums(size):
         for bit in range(8):
             if byte >> bit & 1:
                 leaves[byte] ^= bits[bit]
-    # And what the register's begin makes of one byte more.
+    # The effect of the register's initial value on one more byte.
     more = zlib.crc32(bytes(size + 1)) ^ zlib.crc32(bytes(size))
     sums = set()
     for at in range(len(PERIOD)):
@@ -71,7 +71,7 @@ def window_sums(size):
 
 
 def packets_of(size, count, windows):
-    """A set of one file of so many slices, whose sums no window has."""
+    """Returns a set of one file with `count` slices, whose checksums no window has."""
     owner, pairs, number = b"o" * 16, [], 0
     while len(pairs) < count:
         crc = zlib.crc32(b"slice %d" % number)
@@ -83,19 +83,20 @@ def packets_of(size, count, windows):
 
 
 def crc_of_none(size):
-    """A CRC-32 that no window of this size has."""
+    """Returns a CRC-32 that no window of this size has."""
     windows = window_sums(size)
     return next(crc for crc in map(zlib.crc32, map(numbers, range(1 << 32))) if crc not in windows)
 
 
 def tails_about(length, count):
-    """So many own lengths about this one, each with a CRC-32 that no window of it has."""
+    """Returns `count` own lengths near this one, each with a CRC-32 that no window of that length has."""
     first = length - count // 2
     return [(tail, crc_of_none(tail)) for tail in range(first, first + count)]
 
 
 def packets_with_tails(size, crcs):
-    """A set of one file for each of these lengths, whose only slice has this CRC-32 before the zeros that fill it."""
+    """Returns a set of one file for each of these lengths, whose only slice has this CRC-32 without the zeros that fill
+    it."""
     ids, bodies = ids_of(len(crcs), 1), []
     for owner, (length, crc) in zip(ids, crcs):
         sums = md5(numbers(length)) + struct.pack("<I", zlib.crc32(bytes(size - length), crc))
@@ -121,7 +122,7 @@ def seconds(words):
 
 
 def nanoseconds(packets, path, *options):
-    """The least of three searches, a byte."""
+    """Returns the nanoseconds for each byte, in the fastest of three searches."""
     return min(seconds([PARV, "find", *options, packets, path]) for _ in range(3)) / os.path.getsize(path) * 1e9
 
 

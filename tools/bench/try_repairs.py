@@ -3,17 +3,20 @@
 
 usage: try_repairs.py [--count N] [--seed N] [--first N] [--sets N] [--keep FOLDER]
 
-Each of N folders (200), from number --first (0) on, has --sets N (1) sets made by par2 of 1 to 9 files of up to
-60,000 bytes, with names that have blanks, line feeds, dashes, bytes that are no UTF-8 and folders, some of one
-content or with equal slices, all by the seed (1) and the folder's number; further sets may share names with the
-first. Then files are damaged, joined, renamed, swapped, copied and removed, and packet files damaged and
-removed. The command gets the folder for each set in turn, and par2 gets copies, with each packet file of the set
-first in turn, until it has repaired all. The command must end with 0 and each file complete if par2 can repair
-the set; if it can't the command may, or must leave each file and folder as it was, and say why. Nothing is
-lost: each content that was there is there. Each exit status, of a trial too, must be what follows from the files
-and from `parv verify --tails` over copies of them under plain names. Prints a line for each set and then how many
-ended how; the exit status is 1 if one should have ended otherwise. --keep has the folders of these. Needs par2
-(Debian package par2). PARV is the program (crates/parv/out/parv).
+It makes --count folders (200), numbered from --first (0). Each has --sets sets (1), which par2 makes of 1 to 9 files
+of up to 60,000 bytes. Names have blanks, line feeds, dashes, bytes that aren't UTF-8, and folders; some files have the
+same content or equal slices. All follows from the seed (1) and the folder's number. Further sets may share names with
+the first. Then files are damaged, joined, renamed, swapped, copied and removed, and packet files damaged and removed.
+
+The command gets the folder for each set in turn. par2 gets copies of it, with each packet file of the set first in
+turn, until it has repaired all. If par2 can repair the set, the command must end with 0 and complete files. Otherwise
+it may do so, or must leave each file and folder as it was, and say why. Nothing may be lost: each content that was
+there is still there. Each exit status, also of a dry run, must follow from the files and from `parv verify --tails`
+over copies of them under plain names.
+
+It prints a line for each set, and finally how many ended in which way. The exit status is 1 if one should have ended
+differently; --keep is where the folders of these are kept. Needs par2 (Debian package par2). PARV is the program
+(crates/parv/out/parv).
 """
 
 import argparse
@@ -26,7 +29,7 @@ import sys
 import tempfile
 from collections import Counter
 
-sys.path[0] = os.path.dirname(os.path.dirname(os.path.realpath(__file__)))  # tools/, where imports begin
+sys.path[0] = os.path.dirname(os.path.dirname(os.path.realpath(__file__)))  # imports are relative to tools/
 
 from hostile.runs import PARV
 from make import damage
@@ -54,7 +57,7 @@ def write(folder, files):
 
 
 def content(chance, size, before):
-    """Bytes of a file: random ones, some of them zeros, or those of another file."""
+    """Returns the bytes of a file: random ones, some of them zeros, or those of another file."""
     if before and chance.randrange(6) == 0:
         return bytearray(chance.choice(before))
     data = bytearray(chance.randbytes(chance.choice([1, 40, 3000, chance.randrange(1, 60000)])))
@@ -79,13 +82,13 @@ def removed(chance, files):
 
 
 def renamed(chance, files):
-    """Gets a name of its own, or that of another file, which goes."""
+    """Gives a file a new name, or the name of another file, which is lost."""
     data = files.pop(chance.choice(sorted(files)))
     files[chance.choice(OTHER_NAMES + sorted(files))] = data
 
 
 def turned_names(chance, files):
-    """Some files change their names in a circle."""
+    """Exchanges the names of some files in a circle."""
     names = chance.sample(sorted(files), chance.randrange(1, len(files) + 1))
     for name, data in zip(names, [files[name] for name in names[1:] + names[:1]]):
         files[name] = data
@@ -96,7 +99,7 @@ def copied(chance, files):
 
 
 def as_target(chance, files):
-    """A copy of one file stands at the name of another, which has a new name."""
+    """Puts a copy of one file at the name of another, which gets a new name."""
     one, two = (chance.choice(sorted(files)) for _ in range(2))
     files.setdefault(chance.choice(OTHER_NAMES), files[one])
     files[one] = bytearray(files[two])
@@ -107,7 +110,7 @@ DAMAGES = [put_in, left_out, cut, joined, turned_round, swapped, flipped, flippe
 
 
 def create(folder, files, base, size, recovery):
-    """Puts a set of these files into the folder; returns its ID."""
+    """Puts a set of these files into the folder, and returns its ID."""
     write(folder, files)
     subprocess.run(["par2", "create", "-q", "-q", "-t1", f"-s{size}", f"-c{recovery}",
                     *([f"-n{min(recovery, 3)}"] if recovery else []), f"./{base}.par2",
@@ -118,7 +121,7 @@ def create(folder, files, base, size, recovery):
 
 
 def make(folder, seed, number, count):
-    """Puts sets into the folder; returns the files of each by its ID, and what was done to them."""
+    """Puts sets into the folder. Returns the files of each by its ID, and what was done to them."""
     chance = random.Random(f"repairs {seed} {number}" if count == 1 else f"repairs {seed} {number} of {count}")
     wholes, there, told = {}, {}, []
     for base in chance.sample(["set", "a set", "-set"], count):
@@ -155,7 +158,7 @@ def make(folder, seed, number, count):
 
 
 def standing(folder):
-    """All that stands below a folder: kind, mode, time and bytes of files by their paths."""
+    """Returns everything below a folder: kind, mode, time, and the bytes of files, by their paths."""
     found = {}
     for at, folders, names in os.walk(folder):
         for name in folders + names:
@@ -177,7 +180,7 @@ def regular(folder):
 
 
 def by_par2(folder, whole, owner):
-    """Whether par2 repairs all of it, with some packet file of the set first."""
+    """Returns whether par2 repairs all of it, with some packet file of the set first."""
     names = regular(folder)
     for first in [name for name in names if name.endswith(".par2")]:
         if bytes.fromhex(owner) not in read(os.path.join(folder, first)):
@@ -194,7 +197,8 @@ def by_par2(folder, whole, owner):
 
 
 def verdict_of(folder, whole, owner):
-    """The status of `parv verify --tails` over copies of what the command looks at, under plain names."""
+    """Returns the status of `parv verify --tails` over copies, under plain names, of the files that the command looks
+    at."""
     copy = folder + ".plain"
     os.mkdir(copy)
     words = []
@@ -215,7 +219,7 @@ def verdict_of(folder, whole, owner):
 
 
 def wanted_statuses(folder, whole, owner, can_par2):
-    """The statuses that a trial and a run may have."""
+    """Returns the statuses that a dry run and a run may have."""
     status = verdict_of(folder, whole, owner)
     if status >= 2:
         return {status}, {status}
@@ -225,7 +229,7 @@ def wanted_statuses(folder, whole, owner, can_par2):
 
 
 def by_command(folder, whole, owner, statuses):
-    """How the command ends, what is wrong with it, and its reason."""
+    """Returns how the command ends, what is wrong with that, and its reason."""
     before = standing(folder)
     words = [COMMAND, "--set", owner, folder]
     trial = subprocess.run([*words, "--dry-run"], capture_output=True, env={**os.environ, "PARV": PARV})
@@ -252,7 +256,7 @@ def by_command(folder, whole, owner, statuses):
 
 
 def end_of(folder, whole, owner):
-    """How one set ended."""
+    """Returns how one set ended."""
     was_whole, by_them = is_whole(folder, whole), by_par2(folder, whole, owner)
     status, wrong, reason = by_command(folder, whole, owner, wanted_statuses(folder, whole, owner, by_them))
     if wrong:

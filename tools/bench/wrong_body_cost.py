@@ -1,15 +1,16 @@
 #!/usr/bin/env python3
-"""Shows what each wrong body of a crate costs the gate, stage by stage, dearest first.
+"""Shows what each mutant of a crate costs the gate, stage by stage, the most expensive first.
 
 usage: wrong_body_cost.py CRATE [WORD]
 
-It begins with what `rt check` in the crate's folder kept, as the gate begins with a proof of the crate
-(but where a crate has one alone, which costs a whole proof there), and checks a copy of the crate with
-each wrong body whose name has WORD, as many at once as there are processors. Seconds are of a processor,
-and of the clock for the stages: `front-end` reads the crate and its libraries, `session` proves what was
-turned and all that calls it, and `offers` does that once more where a goal that stays open has no answer
-in proofs/. Its copies stand in the crate's out/ while it runs. It is no test: a text that can't be read
-isn't told from a wrong body that is refused, as `rt must-fail` does.
+It begins with the results that `rt check` kept in the crate's folder, as the gate begins with a proof of the crate.
+(If a crate has only one mutant, the gate makes a whole proof instead.) It checks a copy of the crate with each mutant
+whose name contains WORD, as many at once as there are processors. The copies are in the crate's out/ while it runs.
+
+Seconds are those of a processor, and on the clock for the stages: `front-end` reads the crate and its libraries,
+`session` proves the function that was changed and all that call it, and `offers` does that again if a goal that stays
+open has no answer in proofs/. It isn't part of the gate: unlike `rt must-fail`, it doesn't distinguish a source that
+can't be read from a mutant that is refused.
 """
 
 import os
@@ -28,13 +29,13 @@ SHOWN = {0: "  (still proved)", 1: ""}
 
 
 def libraries(path):
-    """The libraries of each crate, by crates.txt."""
+    """Returns the libraries of each crate, from crates.txt."""
     lines = (line.split("#")[0].partition(":") for line in open(path))
     return {name.split()[0]: words.split() for name, colon, words in lines if colon}
 
 
 def below(crate, of):
-    """The crates of the repository that a crate stands on, lowest first, each once."""
+    """Returns the crates of the repository below a crate, lowest first, each once."""
     found = []
     for name in of[crate]:
         found += [it for it in (*(below(name, of) if name in of else []), name) if it in of and it not in found]
@@ -42,7 +43,7 @@ def below(crate, of):
 
 
 def words_of(crate, of):
-    """The words of a check of the crate, over libraries that `rt check` built."""
+    """Returns the arguments of a check of the crate, over libraries that `rt check` built."""
     words = ["--crate-name", crate, "src/lib.rt", "--extern", f"std={KIT}/rlibs/std.rlib", "-L", f"dependency={KIT}/rlibs"]
     for name in of[crate]:
         folder = f"{ROOT}/crates/{name}/out/rlib" if name in of else f"{KIT}/rlibs"
@@ -54,7 +55,7 @@ def words_of(crate, of):
 
 
 def turn(edit, room):
-    """Makes the wrong body of a file of must-fail/ in a copy of the crate."""
+    """Makes the mutant of a file of must-fail/ in a copy of the crate."""
     path, old = None, None
     for line in open(edit, encoding="utf-8"):
         word, _, text = line.rstrip("\n").partition(" ")
@@ -72,12 +73,13 @@ def turn(edit, room):
 
 
 def link(one, other):
-    """Copies a file that a check keeps; what was proved by a link, since a check replaces such a file."""
+    """Copies a file that a check keeps. Proofs are only linked, since a check replaces such a file and doesn't write
+    into it."""
     return os.link(one, other) if one.endswith(".oantt") else shutil.copy2(one, other)
 
 
 def cost(folder, words, edit):
-    """The processor's seconds of the check with a wrong body, those of its stages, and its exit status."""
+    """Returns the processor time of the check with a mutant, the times of its stages, and its exit status."""
     with tempfile.TemporaryDirectory(dir=f"{folder}/out") as room:
         for part in ("src", "specs", "proofs"):
             if os.path.isdir(f"{folder}/{part}"):

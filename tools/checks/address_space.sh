@@ -1,6 +1,10 @@
 #!/usr/bin/env bash
-# The system's own limit on memory, in steps: from the least at which the program ends by itself on no
-# words, each command ends with 8, its line and a beginning of the text, or as it does without a limit.
+# If this fails, parv may crash, or print a wrong answer, on a system that has too little memory for it.
+#
+# Each command runs under limits on its address space that rise in steps of 16 KiB. The lowest is the least limit under
+# which parv without arguments still ends with its usage line. Under each limit, a command either exits with 8, says
+# that it is out of memory and has written a beginning of its text, or does what it does without a limit. Then large
+# inputs are read under a small limit.
 . "$(dirname "$0")/with/wants.sh"
 cd "$work" || exit 1
 cp "$top/crates/parv/data/v.par2" v.par2
@@ -8,7 +12,7 @@ printf 'XXabcdefgh' > x.bin
 "$tools/make/many_packets.py" 400 many.par2
 "$tools/make/tail_sets.py" tails || exit 1
 
-# The exit status under a limit of so many KiB.
+# limited KIB WORDS..: runs parv with these words under a limit of KIB KiB, and returns its exit status.
 limited() {
     local limit=$1
     shift
@@ -21,7 +25,7 @@ until limited $least; [ $? -eq 3 ]; do
     [ $least -lt 100000 ] || { fails "the program ends with 3 under no limit"; exit 1; }
 done
 
-# Under each limit from the least on, until the run is the undisturbed one at each of a hundred steps.
+# steps WORDS..: runs parv with these words under each limit, until a hundred limits in a row don't change the run.
 steps() {
     local limit status refused=0 whole
     "$parv" "$@" > "$work/whole" 2> "$work/whole.err" < /dev/null
@@ -58,7 +62,8 @@ steps verify -q v.par2 x.bin
 steps verify --tails tails/two.par2 tails/turned
 steps find --tails tails/256.par2 tails/abcd
 
-# The survey makes a smaller index in the zeros. If there is no memory for it, the run is the undisturbed one.
+# In the zeros, the survey replaces its index by a smaller one. If there is no memory for it, the run is as without a
+# limit.
 mkdir repeats
 head -c 4 /dev/zero > repeats/zeros
 printf 'abcd' > repeats/last
@@ -66,9 +71,9 @@ printf 'abcd' > repeats/last
 { head -c 9000 /dev/zero; printf 'abcd'; } > long
 steps verify repeats.par2 long
 
-# Neither recovery data nor a file's length is taken as memory: 64 MiB in one packet, a file of 1 GiB, also behind
-# packets, and 64 MiB to scan, in 4 MiB more than the least. Nor are bodies held more than once that lie in one
-# another, nor is more room asked for where there are more packet files; a search asks for one window.
+# parv doesn't take memory for recovery data, or for the length of a file: it reads a packet of 64 MiB, a file of 1 GiB
+# (also after packets), and 64 MiB to scan, with 4 MiB more than the least limit. It holds the bodies of packets inside
+# one another only once, takes no more memory for 300 packet files than for one, and holds one window in a search.
 few=$((least + 4096))
 PYTHONPATH=$tools python3 "$tools/checks/address_space_sets.py"
 in_few=(sh -c 'ulimit -v "$0" && exec "$@"' "$few" "$parv")

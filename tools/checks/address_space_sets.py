@@ -1,4 +1,5 @@
-"""Writes what address_space.sh has run in little memory: packets and files that are large, or lie in one another."""
+"""For address_space.sh, which protects parv against crashes and wrong answers when memory is short: writes large
+packets and files, and packets inside one another."""
 from bench.memory_cost import one_file
 from hostile.hostile_packets import nested_creators
 from make.packets import desc_body, main_body, packet, set_of

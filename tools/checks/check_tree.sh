@@ -1,6 +1,9 @@
 #!/usr/bin/env bash
-# parv-tree: a line for each set of a folder, by set ID and folder, damaged ones too, and nothing read by a name of a
-# set that isn't one below its folder.
+# If this fails, parv-tree may leave out a damaged set, report it as whole, or open a file outside the folder because a
+# set names it.
+#
+# It runs over trees with whole, damaged and unusable sets, with names of any bytes and names that lead out of the
+# folder, with links and FIFOs, with a parv that fails, and as a user who may not read some files.
 . "$(dirname "$0")/with/wants.sh"
 cd "$work" || exit 1
 export LC_ALL=C
@@ -11,7 +14,7 @@ demo=$top/demo
 photos=589c76e09f0580b9203c5b64963b8957
 
 usage='usage: parv-tree [-j N] [-q] [--tails] [--json] [--state FILE] FOLDER'
-# Its help has each option at the beginning of a line, and each exit status.
+# The help has each option and each exit status at the beginning of a line.
 help=$("$script" -h)
 [ "${help%%$'\n'*}" = "$usage" ] || fails "its help begins with ${help%%$'\n'*}"
 for word in -j -q --tails --json --state 0 1 2 3 4 5 6 8; do
@@ -37,7 +40,7 @@ wants "a folder that isn't there" 6 "" "parv-tree: cannot open no\\x0ane: No suc
 mkdir tree
 wants "a folder without packet files" 3 "" "parv-tree: tree: no packet file" "$script" tree
 
-# Of several folders, of which one has two sets, and one a copy of a set of another.
+# Several folders: one has two sets, and one has a copy of a set of another folder.
 mkdir -p tree/{a,b/c,'b d/-e'} small
 printf 'abcdefgh' > small/g.bin
 "$one_set" v.par2 4 0 small
@@ -73,7 +76,7 @@ rm tree/a/tower.raw
 wants "a repair can be tried by --tails" 1 "1 $photos need 5 have 14 a/photos" "" "$script" -q --tails tree
 cp "$demo"/tower.raw tree/a
 wants "nothing to tell" 0 "" "" "$script" -q tree
-# Protection that is lost alone: with -q nothing tells it, and a comparison of the lines does.
+# Only recovery files are lost: -q doesn't report that, but a comparison with earlier lines does.
 "$script" tree > before
 "$script" -q --state kept tree 2> "$said/new"
 grep -q '^parv-tree: kept is new' "$said/new" || fails "a new state: $(cat "$said/new")"
@@ -96,7 +99,7 @@ wants "what is back" 0 "" "" "$script" -q --state kept tree
 wants "without --tails" 1 "1 $photos need 1 have 9 b/c/Photos of summer" "" "$script" -q tree
 wants "with --tails" 1 "1 $photos need 0 have 9 b/c/Photos of summer" "" "$script" -q --tails tree
 
-# A set of which no Main is left, and one whose files are lost in part.
+# One set has lost each Main packet, and one has lost some of its files.
 rm -r tree
 mkdir tree
 main=$("$parv" packets v.par2 | awk '$4 == "main" { print $3 }')
@@ -109,7 +112,7 @@ cp v.par2 tree/v.par2
 wants "the same with Main elsewhere" 2 "2 $v need 2 have 0 no_main
 2 $photos need 38 have 3 photos" "" "$script" tree
 
-# Names of any bytes, of folders and of files of a set.
+# Names of folders and of files in a set can have any bytes.
 rm -r tree
 mkdir -p whole/sub
 names=($'line\nfeed\n' ' two  blanks ' -dash $'caf\xe9' $'\xff' 'back\slash' 'st*r[x]?' '@' sub/in 'from a to b' .hidden)
@@ -122,7 +125,8 @@ cp -r whole/. "$folder"
 "$one_set" "$folder/"$'\xe9\n.par2' 4 3 whole
 id=$("$script" tree | tail -n 1 | cut -d ' ' -f 2)
 printf abcdefgh > "$folder/g.bin"
-# states NAME STATUS NEED: of the set with these names, beside that of one of its files.
+# states NAME STATUS NEED: wants this status and need in the line of the set with these names. One of its files is the
+# packet file of another set, whose line doesn't change.
 states() {
     wants "$1" "$2" "0 $v need 0 have 0 sp ace/\\xe9\\x0a/-x/other
 $2 $id need $3 have 3 sp ace/\\xe9\\x0a/-x/\\xe9\\x0a" "" "$script" tree
@@ -137,7 +141,7 @@ cp $'whole/\xff' "$folder"
 rm "$folder/"$'\xfe'
 states "one is gone" 1 2
 
-# Names that are no plain paths below the folder: what lies there isn't read, whatever the rest is.
+# If a name isn't a plain path below the folder, the file there isn't read, whatever else the set contains.
 rm -r tree whole
 mkdir -p tree/set/sub whole outer
 printf 'abcdefgh' > outer/bad.txt
@@ -189,7 +193,7 @@ for name in .verify_and_repair .parv-repair; do
 done
 wants "a file in a subfolder" 0 "0 $id need 0 have 0 set/set" "" "$script" tree
 
-# Ends of parv that are no answers, and an end of the command.
+# parv ends without an answer, or the command itself is ended.
 printf '#!/bin/sh\n[ "$1" != verify ] || kill -KILL $$\nexec "%s" "$@"\n' "$parv" > ends
 printf '#!/bin/sh\n[ "$1" != verify ] || { echo $$ > "%s/pid"; exec "%s" "$@" "%s/endless"; }\nexec "%s" "$@"\n' \
     "$work" "$parv" "$work" "$parv" > long
@@ -197,7 +201,7 @@ truncate -s 1T endless
 chmod +x ends long
 PARV=$work/ends wants "parv is ended" 6 "6 $id need - have - set/set" \
     "parv-tree: set/set: $work/ends was ended by signal 9" "$script" tree
-# A packet file at which parv failed once is told, also if the others of its name are a set that is complete.
+# If parv fails at a packet file, that is reported, even if the other packet files of this name are a complete set.
 mkdir -p once/set
 cp "$demo"/{*.raw,notes.txt,photos.par2} once/set
 cp v.par2 once/set/photos.vol0+1.par2
@@ -210,7 +214,7 @@ for status in 1 6 8 137; do
     PARV=$work/fails wants "a packet file at which parv ends with $status" $told "0 $photos need 0 have 0 set/photos" \
         "parv-tree: set/photos.vol0+1.par2: $line" "$script" once
 done
-# No parv is told once, ahead of all else.
+# If there is no parv, that is reported once, before everything else.
 mkdir path
 ln -s "$(python3 -c 'import sys; print(sys.executable)')" path/python3
 for folder in tree none; do
@@ -227,14 +231,14 @@ kill $!
 wait $!
 status=$?
 sleep 0.3
-# (What was ended may not have been waited for by then.)
+# (The ended program may still be a zombie at this point.)
 if [ $status -eq 143 ] && ! grep -q '^State:[[:blank:]][^Z]' "/proc/$(< pid)/status" 2> "$said/kill"; then
     echo "ok: parv ends with the command"
 else
     fails "an end by SIGTERM: status $status, $(cat text line)"
 fi
 
-# What may not be read, by one who isn't root.
+# Files and folders that a user who isn't root may not read.
 user=()
 [ "$(id -u)" -ne 0 ] || user=(setpriv --reuid 65534 --regid 65534 --clear-groups)
 chmod 711 .

@@ -1,5 +1,8 @@
 #!/usr/bin/env bash
-# The tests of the commands beside parv, a line for each, and the types of their package by mypy, if it is installed.
+# If this fails, a command around parv (parv-repair, parv-tree, ..) may do something other than its page says.
+#
+# It runs the unit tests in commands/tests, with a line for each test, and checks the types of the package with mypy, if
+# that is installed.
 . "$(dirname "$0")/with/wants.sh"
 cd "$top/commands" || exit 1
 export PARV=$parv

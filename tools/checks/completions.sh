@@ -1,7 +1,8 @@
 #!/usr/bin/env bash
-# The completions, typed into bash itself, and into zsh where it is there: each line is typed at a
-# terminal with a key behind it, and then it must be the one that is wanted. fish, where it is there,
-# is asked for what it offers for the same lines.
+# If this fails, the shell offers wrong options or file names when you press TAB.
+#
+# Each line is typed into bash at a terminal, and into zsh if it is installed, followed by a key; then the line must be
+# the expected one. If fish is installed, it is asked what it offers for the same lines.
 . "$(dirname "$0")/with/wants.sh"
 cd "$work" || exit 1
 mkdir 'a folder' folder typed

@@ -1,5 +1,6 @@
-"""Asks fish what it offers for each line of standard input, as completions_typed.py reads them: of TAB the one word
-that is put in, or nothing, of ALL these words."""
+"""For completions.sh, which protects you from wrong offers when you press TAB: asks fish what it offers for each line
+of standard input. These are the lines that completions_typed.py reads. For the key TAB, fish must offer the one word
+that is put in, or nothing; for ALL, it must offer all these words."""
 import re
 import subprocess
 import sys

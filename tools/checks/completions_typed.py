@@ -1,7 +1,11 @@
-"""Types each line of standard input into the shell named first, on a terminal of its own. A line is
-the text to type, a key (TAB, or ALL, which puts all that is offered in) and what must stand there
-then; of ALL the words that are put in are compared in any order. An option may be put in with the
-`=` of its value."""
+"""For completions.sh, which protects you from wrong offers when you press TAB: types each line of standard input into a
+shell, on a terminal of its own.
+
+usage: completions_typed.py SHELL COMPLETIONS
+
+A line has three fields, separated by a bar: the text to type; a key (TAB, or ALL, which inserts all offers); and the
+line that must be there then. For ALL, the inserted words are compared in any order. After an option, the `=` before its
+value may be inserted too."""
 import os
 import pty
 import select
@@ -36,7 +40,7 @@ if child == 0:
 
 
 def drain(seconds):
-    """Takes what the shell prints, so that it never waits for a reader."""
+    """Takes what the shell prints, so that the shell never waits for a reader."""
     while select.select([terminal], [], [], seconds)[0]:
         try:
             if not os.read(terminal, 65536):
@@ -50,7 +54,7 @@ def type_in(keys):
 
 
 def left_by(keys):
-    """The line that these keys leave."""
+    """Returns the line that the shell has after these keys, or None if it shows none."""
     if os.path.exists("typed/line"):
         os.unlink("typed/line")
     type_in(keys + "\x1bg")

@@ -1,18 +1,20 @@
 #!/usr/bin/env bash
-# What a search costs, in processor time: sets whose slices are equal or nearly all filling, over files that are
-# full of them, a file of 1 TiB for a set whose slices have no checksums, a large set over 64 MiB in which nothing
-# stands, beside md5sum, one over a file that is full of its slices, and tails of 60 KiB beside such of 1 KiB. Then
-# what many words cost, and the states of many files.
+# If this fails, a search that should take seconds may take hours, for example over files full of zeros.
+#
+# It measures processor time: for sets whose slices are equal or nearly all zeros or ones, over files that are full of
+# these; for a set whose slices have no checksums, over 1 TiB; for a large set, over 64 MiB without a match (compared
+# with md5sum) and over a file full of its slices; for tails of 60 KiB, compared with tails of 1 KiB; for 60,000
+# arguments; and for the states of 32,768 files.
 . "$(dirname "$0")/with/wants.sh"
 cd "$work" || exit 1
 
 PYTHONPATH=$tools python3 "$tools/checks/costs_sets.py"
 
-# At most ten seconds of the processor.
+# parv with at most ten seconds of processor time.
 ten=(sh -c 'ulimit -S -t 10 && exec "$0" "$@"' "$parv")
 wants "the verdict on many equal slices" 2 "need 1 have 0
 result impossible" "" "${ten[@]}" verify -q equal.par2 zero one odd
-# No scanned file is whole here, so no slice has its mark before the search.
+# No scanned file is whole here, so no slice is known to be there when the search begins.
 wants "the verdict on many equal slices in a run of them" 2 "need 16384 have 0
 result impossible" "" "${ten[@]}" verify -q equal.par2 more
 wants "the verdict on those that are found in other files" 2 "need 1 have 0
@@ -27,12 +29,12 @@ wants "no slice without checksums in 1 TiB" 0 end "" "${ten[@]}" find bare.par2 
 wants "no slice in a tail of zeros" 0 end "" "${ten[@]}" find tail.par2 tail
 wants "no slice in a tail of zeros, with --tails" 0 end "" "${ten[@]}" find --tails tail.par2 tail
 
-# Words that `packets` doesn't open are gone over once.
+# `packets` goes once over arguments that it doesn't open.
 words=()
 for at in {1..60000}; do words+=("n$at"); done
 wants "60,000 words" 0 "$("$parv" packets tail.par2)" "" sh -c 'ulimit -S -t 1 && exec "$0" "$@"' "$parv" packets tail.par2 "${words[@]}"
 
-# The least time of three, in milliseconds of the processor.
+# least_of_three COMMAND..: prints the least processor time of three runs, in milliseconds.
 TIMEFORMAT='%U %S'
 least_of_three() {
     local LC_ALL=C
@@ -73,8 +75,8 @@ else
     fails "a search of 16 MiB for four tails of 60 KiB takes $long ms, and for four of 1 KiB $short ms"
 fi
 
-# What is told of files that are missing is looked up: to a set of 32,768 files it makes little difference how many
-# others are scanned.
+# The state of a missing file is looked up, so with 32,768 files in the set, the number of other scanned files makes
+# little difference.
 "$tools/make/big_set.py" full 32768 1 > /dev/null
 mkdir others
 others=3000

@@ -1,4 +1,4 @@
-"""Writes the sets and files whose searches costs.sh times."""
+"""For costs.sh, which protects you from searches that take hours: writes the sets and files whose searches it times."""
 import random
 from bench.search_cost import packets_with_tails
 from make.content import write
@@ -10,7 +10,7 @@ def whole_set(name, size, *files):
               for body in (("filedesc", desc_body(owner, of, content)), ("ifsc", ifsc_body(owner, content, size)))]
     write(name, set_of(main_body(size, ids), *bodies))
 
-# 16,384 slices of zeros, 16,383 of ones, and one that stands nowhere; runs of both in turn.
+# 16,384 slices of zeros, 16,383 of ones, and one that is in no file; and files with runs of both in turn.
 zeros, ones = bytes(65536), b"\xff" * 65532
 whole_set("equal.par2", 4, (b"zero", zeros), (b"one", ones), (b"four", b"abcd"))
 write("zero", zeros)
@@ -19,11 +19,12 @@ write("odd", (bytes(4) + b"x" * 2496 + b"\xff" * 4 + b"x" * 2496) * 100)
 write("ones", ones + ones)
 write("more", bytes(1 << 20))
 
-# A slice of zeros that is longer than the file, and one of two letters before as many.
+# A slice of zeros that is longer than the file, and a short slice of two letters, which is filled with nearly as many
+# zeros.
 whole_set("tail.par2", 1 << 20, (b"zeros", bytes(1 << 20) + b"ab"))
 write("tail", b"x" * 5000 + bytes(60000))
 
-# 60 files of zeros, each of another length, and one of other bytes; and zeros of no such length.
+# 60 files of zeros of different lengths, and one of other bytes; and a file of zeros that has none of these lengths.
 whole_set("lengths.par2", 64, *((b"%d" % at, bytes(3840 + at)) for at in range(1, 60)), (b"x", b"x" * 64))
 write("zeros", bytes(100000))
 
@@ -32,19 +33,19 @@ write("bare.par2", set_of(main_body(64, [bytes(16)]), ("filedesc", desc_body(byt
 with open("hole", "wb") as out:
     out.truncate(1 << 40)
 
-# 32,768 slices of 64 bytes, and others.
+# 32,768 slices of 64 bytes, and a file with none of them.
 chance = random.Random(1)
 owner, length = bytes(16), 64 * 32768
 write("many.par2", set_of(main_body(64, [owner]), ("filedesc", desc_body(owner, b"many", b"", length)),
                           ("ifsc", owner + chance.randbytes(20 * 32768))))
 write("random", chance.randbytes(64 << 20))
 
-# 32,768 slices of 64 bytes, and a file that has each of them four times.
+# 32,768 slices of 64 bytes, and a file that contains each of them four times.
 there = chance.randbytes(length)
 whole_set("there.par2", 64, (b"there", there))
 write("there", there * 4)
 
-# Four tails of about 1 KiB, and four of about 60 KiB, before zeros up to 64 KiB.
+# Four short slices of about 1 KiB, and four of about 60 KiB, filled with zeros up to 64 KiB.
 for name, length in ("short", 1 << 10), ("long", 60 << 10):
     write(name + ".par2", packets_with_tails(1 << 16, [(length + at, chance.getrandbits(32)) for at in range(4)]))
 write("sixteen", chance.randbytes(16 << 20))

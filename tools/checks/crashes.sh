@@ -1,14 +1,17 @@
 #!/usr/bin/env bash
-# A repair that was ended by force after its files had got their names, and what people do before the next one: nothing
-# that they have written since is lost. The same with a list of moves that can't be written, and with a planted one.
+# If this fails, you may lose a file when a repair is killed, or loses power, and you change files before the next one.
+#
+# Repairs are ended by force after their files have their names. Then people change files, and the next repair runs. It
+# must lose nothing that was written since. The same is tried with a list of moves that can't be written, and with one
+# that somebody has planted.
 . "$(dirname "$0")/with/wants.sh"
 . "$tools/checks/with/commands.sh"
 . "$tools/checks/with/rooms.sh"
 cd "$work" || exit 1
-export PAR2=$tools/stand_in/par2.py ORIGINALS=$work/whole GIVEN=$work/given TMPDIR=$said    # a kill leaves links there
+export PAR2=$tools/stand_in/par2.py ORIGINALS=$work/whole GIVEN=$work/given TMPDIR=$said    # a killed run leaves links there
 
-# When it is to verify a folder in which the file PLACED is again, it does in that folder what MEANWHILE says, and ends what
-# has called it by a signal.
+# A program in place of parv. When it is called to verify a folder in which the file PLACED is back, it runs the
+# commands of MEANWHILE in that folder, and ends its caller by a signal.
 cat > ends << 'END'
 #!/usr/bin/env bash
 if [ "$1" = verify ] && [ -e "$PLACED" ]; then
@@ -21,19 +24,19 @@ END
 chmod +x ends
 export REAL=$parv
 
-# ended NAME FILE SIGNAL MEANWHILE: a run over `room` that ends by this signal when this file is at its place, once
-# people have done this.
+# ended NAME FILE SIGNAL MEANWHILE: repairs `room`; when FILE is at its place, it runs MEANWHILE and ends the repair by
+# SIGNAL.
 ended() {
     local status wanted=137
     [ "$3" = KILL ] || wanted=143
     ROOM=$work/room PLACED=$work/room/$2 SIGNAL=$3 MEANWHILE=$4 PARV=$work/ends "${repair[@]}" room > text 2> line
     status=$?
     { [ $status -eq $wanted ] && [ ! -s text ]; } || fails "no run was ended: $1: status $status, $(cat text line)"
-    # (A program that it has called may hold the folder for a moment.)
+    # (A program that the repair has called may hold the lock of the folder for a moment.)
     for _ in $(seq 100); do flock -n room true && break; sleep 0.1; done
 } 2> "$said/ended"
 
-# has NAME TEXT: some file of `room` has this text, and nothing else.
+# has NAME TEXT: wants some file of `room` whose whole content is TEXT.
 has() {
     local file
     while IFS= read -r -d '' file; do
@@ -42,8 +45,8 @@ has() {
     fails "$1: '$2' stands nowhere: $(cat text line; listed room)"
 }
 
-# goes_on NAME LINE WORDS..: the next run completes the set, and says this; of a run that was ended after its moves it may
-# say too that it has made some again, which people have undone.
+# goes_on NAME LINE WORDS..: the next run completes the set and prints LINE. After a run that was ended after its moves,
+# it may also say that it has repeated some of them, because people have undone them.
 goes_on() {
     local name=$1 wanted=$2 status
     shift 2
@@ -61,9 +64,9 @@ say="$repair_says room:"
 stay="$say a run was ended here after its moves, which stay"
 finished="$say a run was ended here, and is finished"
 
-# people NAME MEANWHILE TEXT..: whatever they do once all files have their places, and however the run ends then, these
-# texts are still there afterwards. Of the set one file was missing, one damaged, two had each other's names, one had
-# another name, and one is a copy of that.
+# people NAME MEANWHILE TEXT..: runs MEANWHILE once all files have their places, and ends the run in several ways. Each
+# TEXT must still be there afterwards. Of the set's files one was missing, one was damaged, two had each other's names,
+# one had a different name, and one is a copy of that one.
 people() {
     local name=$1 meanwhile=$2 signal text
     shift 2
@@ -114,7 +117,7 @@ people "they rename a file as it was" "mv one in/stray" 'same same'
 people "they remove the damaged file, and replace the repaired one" \
     "rm notes.txt.1; printf mine > new; mv new notes.txt" 'mine'
 
-# An empty file that was made, which needs no repair.
+# An empty file, which the command makes without a repair.
 for signal in KILL TERM; do
     furnish 4 0 one 'same same' empty ''
     rm room/empty
@@ -125,7 +128,7 @@ for signal in KILL TERM; do
     has "they write to an empty file that was made, then SIG$signal, then another run" 'not empty'
 done
 
-# A file that people have written isn't taken for a backup that may go.
+# A file that people have written isn't taken for a backup that may be removed.
 furnish 4 20 report.doc 'the report' report.doc.1 'the first report'
 rm room/report.doc
 ended "backups that aren't removed" report.doc KILL "rm report.doc.1; printf ', a week later' >> report.doc"
@@ -133,7 +136,7 @@ goes_on "backups that aren't removed" "$stay
 $say so --remove-backups removes nothing" --remove-backups
 has "backups that aren't removed" 'the report, a week later'
 
-# A folder that a file has left is removed.
+# Somebody removes the folder that a file was moved out of.
 for signal in KILL TERM; do
     furnish 4 20 report.doc 'the report' in/fine 'fine' one 'same same'
     rm room/report.doc
@@ -144,7 +147,7 @@ for signal in KILL TERM; do
     goes_on "a folder that was removed, then SIG$signal" "$([ $signal = TERM ] || echo "$stay")"
 done
 
-# A name that is as long as one may be.
+# A name of 255 bytes, the longest possible.
 long=$(printf 'n%.0s' $(seq 255))
 furnish 4 20 "$long" 'the report'
 rm "room/$long"
@@ -153,8 +156,8 @@ has "a long name" 'the report, a week later'
 goes_on "a long name" ""
 has "a long name, then another run" 'the report, a week later'
 
-# A run that is ended while two files with exchanged names are in its folder, of which a copy is made then: no inode is
-# as it was. (The third move is the first one out of it.)
+# A run is ended while two files with exchanged names are in its working folder. Then the whole folder is copied, so no
+# inode number stays. (The third move is the first one out of the working folder.)
 ended_repair=$tools/stand_in/ended_repair.py
 furnish 4 0 left 'left hand' right 'right hand' one 'same same'
 mv room/left room/x
@@ -179,14 +182,14 @@ $say .parv-repair isn't of a run in this folder: files that were moved into it a
     mv saved room
 done
 
-# People move files once the list was written, and nothing moved yet.
+# People move files after the list of moves was written and before the first move.
 { "$ended_repair" 1 before room > text; } 2> "$said/ended"
 [ -e room/$repair_list ] || fails "no list of moves was left"
 mv room/stray room/one
 "${repair[@]}" room > text 2> line || fails "a file that was moved to its place by hand: $(cat text line)"
 whole_now "a file that was moved to its place by hand"
 
-# The repaired file can't be made again: it stays after SIGKILL, whatever people do with the others.
+# The repaired file can't be made again, so it must stay after SIGKILL, whatever people do with the other files.
 for meanwhile in 'rm notes.txt.1; printf mine > new; mv new notes.txt' 'mv notes.txt.1 notes.txt' 'mv one stray' 'rm report.doc.1'; do
     furnish 16 2 report.doc 'the report' notes.txt 'some notes' one 'same same'
     printf 'the rXport' > room/report.doc
@@ -201,7 +204,7 @@ for meanwhile in 'rm notes.txt.1; printf mine > new; mv new notes.txt' 'mv notes
     fi
 done
 
-# A folder comes to the place of a file that is to be moved: that one isn't taken for a file of somebody else.
+# Somebody puts a folder at the place of a file that is to be moved. That file isn't taken for a file of somebody else.
 furnish 4 20 report.doc 'the report' notes.txt 'some notes' one 'same same'
 printf 'the rXport' > room/report.doc
 printf 'some nXtes' > room/notes.txt
@@ -219,7 +222,8 @@ else
 fi
 for text in 'the rXport' 'some nXtes'; do has "folders at the places of moved files" "$text"; done
 
-# The list of moves, which has the folders too that are to be made, is longer than a file may be; nothing else is.
+# The list of moves also contains the folders to be made. Here only the list is longer than the limit on the size of
+# files.
 long=$(printf 'n%.0s' $(seq 60))
 words=()
 for number in $(seq 10 29); do words+=("$number$long/$number$long/$number$long" "content $number"); done
@@ -239,7 +243,7 @@ as_before "a list of moves that can't be written"
 "${repair[@]}" room > text 2> line || fails "a run once the list can be written: $(cat text line)"
 whole_now "a list of moves that can be written then"
 
-# A thing in place of the list that is no file to be read.
+# Something that isn't a regular file is in the place of the list.
 furnish 4 5 first.txt abcdefgh second.txt ijklmnop
 mv room/first.txt room/x
 mkdir room/$repair_stage

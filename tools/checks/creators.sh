@@ -1,19 +1,21 @@
 #!/usr/bin/env bash
-# Sets as other creators lay theirs out: the order of packets and how often they stand there, optional and packed ones,
-# files that aren't recoverable, exponents, names, and what stands between packets. Each against independent readings,
-# whole and damaged, and texts that are worked out by hand.
+# If this fails, parv may misread sets that were made by another program than par2cmdline.
+#
+# Sets are laid out as different creators lay them out: they differ in the order and number of packets, in optional and
+# packed packets, in files that aren't recoverable, in exponents and names, and in the bytes between packets. parv must
+# agree with the independent models over whole and damaged files, and with texts that were worked out by hand.
 . "$(dirname "$0")/with/wants.sh"
 cd "$work" || exit 1
 "$tools/make/creator_sets.py" . || exit 1
 "$tools/make/creator_sets.py" read || exit 1
 
-# gathers: the packet files and the others of the folder.
+# gathers: collects the packet files of the folder in `packets`, and the other files in `files`.
 gathers() {
     mapfile -t packets < <(find . -type f -iname '*.par2' -printf '%P\n' | LC_ALL=C sort)
     mapfile -t files < <(find . -type f ! -iname '*.par2' -printf '%P\n' | LC_ALL=C sort)
 }
 
-# is_read WHAT: by parv as by the independent readings, over the files.
+# is_read WHAT: wants the matches and states of parv to be those of the models, over the collected files.
 is_read() {
     local tails status
     for tails in "" --tails; do
@@ -31,7 +33,8 @@ is_read() {
     done
 }
 
-# A byte is put in front of all files joined, and the first of them is gone.
+# Each set is read as it is, and then damaged: one more file has a byte and then the bytes of all files, and the first
+# file is removed.
 for set in read/*; do
     cd "$work/$set" || exit 1
     set=${set#*/}
@@ -49,7 +52,7 @@ for set in read/*; do
     fi
 done
 
-# laid FILE ID LENGTH:KIND ..: the lines of packets that lie one behind the other; a kind - is no packet.
+# laid FILE ID LENGTH:KIND ..: prints the lines of packets that follow one another in FILE. The kind `-` is a gap.
 laid() {
     local file=$1 id=$2 at=0 part
     shift 2
@@ -58,14 +61,14 @@ laid() {
         at=$((at + ${part%:*}))
     done
 }
-# lists NAME LINES WORDS ..: `packets` with these words.
+# lists NAME LINES WORDS ..: wants these lines from `packets` with these arguments.
 lists() {
     local name=$1 lines=$2
     shift 2
     wants "$name" 0 "$lines
 packets $(wc -l <<< "$lines")" "" "$parv" packets "$@"
 }
-# describes NAME TEXT WORDS ..: `set` with these words.
+# describes NAME TEXT WORDS ..: wants this text from `set` with these arguments.
 describes() {
     local name=$1 text=$2
     shift 2
@@ -86,7 +89,8 @@ sums="140:ifsc 100:ifsc 100:ifsc"
 slice=76:recvslic
 creator=104:creator
 
-# All but recovery slices and the creator stand once, twice and three times beside one, two and four of these.
+# In the three files, each packet except recovery slices and the creator occurs once, twice and three times, beside one,
+# two and four recovery slices.
 cd "$work/interleaved" || exit 1
 # shellcheck disable=SC2086 # (these are words)
 lists "packets that are interleaved" "$(laid set.par2 $three $main $descs $sums $creator
@@ -127,7 +131,8 @@ $files_of_three
 have 5
 creator One of 2004" set.par2 set.vol00+02.PAR2 set.vol02+03.PAR2
 
-# Names, comments of both kinds, two slices and the sums of a recovery file: none of them is looked into.
+# File names, comments of both kinds, two input slices and the checksums of a recovery file: parv looks into none of
+# them.
 cd "$work/optional" || exit 1
 coffee=be66a32c116a15f6381b8a97476060ea
 beside="96:unknown 76:unknown 100:unknown 84:unknown 96:unknown 96:unknown 120:unknown"
@@ -148,7 +153,7 @@ missing caf\\xe9.txt 0/2
 need 2 have 1
 result impossible" "" "$parv" verify set.par2 set.vol0+1.par2
 
-# A packed Main and packed recovery slices are no others.
+# A packed Main packet isn't taken for a Main packet, and a packed recovery slice isn't taken for a recovery slice.
 cd "$work/packed" || exit 1
 # shellcheck disable=SC2086 # (these are words)
 lists "packed packets are unknown" \
@@ -158,7 +163,7 @@ for command in set find verify; do
         "$parv" $command set.par2 first.txt second.txt third.dat
 done
 
-# Neither a description nor sums make a file that isn't recoverable one that is.
+# A description and checksums don't make a file recoverable that the Main packet lists as not recoverable.
 cd "$work/others" || exit 1
 set=c8ef204899826f5dbadfe1022e333c8f
 describes "files that aren't recoverable" "set $set size 8 slices 3
@@ -172,7 +177,7 @@ complete first.txt
 need 0 have 2
 result complete" "" "$parv" verify set.par2 set.vol0+2.par2 first.txt
 
-# Of seven recovery slices two have the exponent 100.
+# Two of seven recovery slices have the exponent 100.
 cd "$work/gaps" || exit 1
 describes "exponents with gaps" "$lines_of_three
 have 5
@@ -204,7 +209,8 @@ file 2bbb420cd756192eb1746dab724d32c9 1 1 yes abc
 others 0
 have 0
 $text" set.par2
-# states NAME STATUS LINE RESULT FILE: of the files alone whose names have folders, the second as this file.
+# states NAME STATUS LINE RESULT FILE: wants LINE about the file `sub\two.bin` of the set, and this result, if FILE is
+# scanned for it.
 states() {
     wants "$1" "$2" "set $names size 8 slices 9
 complete ab
@@ -231,7 +237,7 @@ cd "$work/long_creator" || exit 1
 } > wanted
 gives "a creator with a long text, behind one of zeros" 0 wanted "" "$parv" set set.par2
 
-# The first Main is that of the second set.
+# The first Main packet belongs to the second set.
 cd "$work/mixed" || exit 1
 two=b4d124697f83e22e6441bc4814f73cf1
 both="132:$three:filedesc 108:$two:main 132:$three:filedesc 132:$two:filedesc 132:$three:filedesc 128:$two:filedesc
@@ -265,7 +271,8 @@ complete third.dat
 need 3 have 2
 result impossible" "" "$parv" verify --set $three set.par2 second.txt fourth third.dat
 
-# A line, an exclamation mark, zeros up to the next 512 bytes, the magic, fronts of packets and one with another byte.
+# Between the packets are a line, an exclamation mark, zeros up to the next multiple of 512, the magic, beginnings of
+# packets, and a packet in which one byte was changed.
 cd "$work/junk" || exit 1
 # shellcheck disable=SC2086 # (these are words)
 lists "packets between other bytes" "$(laid set.par2 $three 20:- $main 1:- $descs 483:- 140:ifsc 8:- 100:ifsc \

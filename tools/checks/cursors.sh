@@ -1,7 +1,10 @@
 #!/usr/bin/env bash
-# A search that is cut in two, and what becomes of its second part where the scanned files are others: a cursor of
-# the second version is refused where a name, a length or the order is another, and no file is then read. What the
-# mark doesn't see, that cursors of the first version go on over any files, and which fault comes first.
+# If this fails, a search that you resume with --cursor may go on over changed files, and then miss slices or report
+# them twice.
+#
+# A search is cut in two, and the files change in between. A cursor of version 2 is rejected, before any scanned file is
+# read, if a name, a length or the order of the files has changed. Further tests: changes that the fingerprint of the
+# file list doesn't see; cursors of version 1, which go on over any files; and which error comes first.
 . "$(dirname "$0")/with/wants.sh"
 cd "$work" || exit 1
 cp "$top/crates/parv/data/v.par2" v.par2
@@ -12,7 +15,8 @@ mkdir d
 printf 'XXabcdefgh' | tee x.bin > d/x.bin
 printf 'ZZZefgh' > y.bin
 
-# mark NAME LENGTH ..: the MD5 of these names and lengths as `find` takes it, each number as eight bytes.
+# mark NAME LENGTH ..: prints the fingerprint that `find` makes of these names and lengths: an MD5, with each number as
+# eight bytes.
 eight() {
     local shift
     for shift in 0 8 16 24 32 40 48 56; do printf '%b' "\\0$(printf %03o $(($1 >> shift & 255)))"; done
@@ -54,7 +58,7 @@ wants "the second part, cut too" 0 "x.bin 6 $file 1
 cursor 2:$set:$two:0:6:2" "" "$parv" find --limit 1 --cursor "$from" v.par2 x.bin y.bin
 goes_on "a cursor behind all files" end 2:$set:"$two":4294967295:18446744073709551615:4294967295 v.par2 x.bin y.bin
 
-# Where nothing but a read of a scanned file could tell, by disturb.c's account the packet file alone is read.
+# If only a read of a scanned file could show the change, disturb.so reports that only the packet file is read.
 gcc -shared -fPIC -O1 -o disturb.so "$tools/disturb/disturb.c" -ldl || exit 1
 reads() {
     rm -f report
@@ -91,7 +95,7 @@ refused "a file made shorter" "$from" v.par2 x.bin y.bin
 : > x.bin
 refused "a file emptied" "$from" v.par2 x.bin y.bin
 
-# What the mark doesn't see.
+# Changes that the fingerprint doesn't see.
 printf 'XXXXXXabcd' > x.bin
 goes_on "not seen: another file of this name and length" "x.bin 6 $file 0
 y.bin 3 $file 1
@@ -108,7 +112,7 @@ refused "the same files, with -B the second time" 2:$set:"$(mark d/x.bin 10)":0:
 wants "a first part with -B" 0 "$first
 cursor 2:$set:$one:0:2:1" "" "$parv" find --limit 1 -B d/ v.par2 d/x.bin
 
-# Names are taken byte by byte, and not as they are shown.
+# The fingerprint takes names byte by byte, and not as they are shown.
 odd=$'o d\t\\\303\251%s\n.bin'
 cp x.bin "$odd"
 shown='o d\x09\\\xc3\xa9%s\x0a.bin'
@@ -116,14 +120,14 @@ wants "a name that isn't shown as it is" 0 "$shown 2 $file 0
 cursor 2:$set:$(mark "$odd" 10):0:2:1" "" "$parv" find --limit 1 v.par2 "$odd"
 goes_on "on with such a name" "$shown 6 $file 1
 end" 2:$set:"$(mark "$odd" 10)":0:2:1 v.par2 "$odd"
-# Names are parted by their lengths, and a length has eight bytes.
+# Lengths separate the names, and a length has eight bytes.
 refused "two names that are one, joined" 2:$set:"$(mark x 0 .bin 10)":0:2:1 v.par2 x.bin
 truncate -s 5G large.bin
 goes_on "a file of 5 GiB, behind its end" end 2:$set:"$(mark large.bin 5368709120)":0:5368709120:0 v.par2 large.bin
 refused "a file shorter by 4 GiB" 2:$set:"$(mark large.bin 1073741824)":0:5368709120:0 v.par2 large.bin
 wants "no files, and a cursor of none" 0 end "" "$parv" find --cursor 2:$set:"$(mark)":0:0:0 v.par2
 
-# The first version: one text for all files.
+# Version 1: the same cursor for all files.
 for words in "x.bin y.bin" "-B d d/x.bin y.bin"; do
     # shellcheck disable=SC2086 # (these are words)
     goes_on "version 1, over $words" "$rest" $set:0:2:1 v.par2 $words
@@ -133,7 +137,7 @@ x.bin 2 $file 0
 x.bin 6 $file 1
 end" $set:0:2:1 v.par2 y.bin x.bin
 
-# Which fault is told.
+# The error that is reported, also if there are two.
 none=00000000000000000000000000000000
 another="parv: cursor of another set"
 wants "another set and other files" 3 "" "$another" "$parv" find --cursor 2:$none:$one:0:2:1 v.par2 y.bin
@@ -147,7 +151,7 @@ wants "too many tails and other files" 3 "" "$other" \
 wants "too many tails" 4 "" "parv: no usable set: too many tails" \
     "$parv" find --tails --cursor "2:$many:$one:0:0:0" tails/257.par2 x.bin
 
-# What is no cursor.
+# Texts that aren't cursors.
 upper=${set^^}
 for text in "" 2 2: ::: 3:$set:$one:0:2:1 1:$set:$one:0:2:1 02:$set:$one:0:2:1 22:$set:$one:0:2:1 :$set:$one:0:2:1 \
     $set:$one:0:2:1 2:$set:0:2:1 2:$set::0:2:1 2::$one:0:2:1 2:$set:$one:0:2 2:$set:$one:0:2: 2:$set:$one:0:2:1: \

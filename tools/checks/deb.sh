@@ -1,7 +1,10 @@
 #!/usr/bin/env bash
-# The Debian package: the same bytes whenever and wherever it is made, what the archive has in Debian's places, fields
-# that are right, nothing of which lintian complains; installed below a folder it has the built program, which runs, and
-# a purge leaves nothing.
+# If this fails, the Debian package may lack files, install something other than the built program, or leave files after
+# its removal.
+#
+# The package is made twice, at different times and in different folders, and must have the same bytes. Its files are
+# compared with those of the archive, and its fields with what the program needs; lintian must find no error. It is
+# installed below a folder, run there, and purged.
 . "$(dirname "$0")/with/wants.sh"
 . "$tools/checks/with/packed.sh"
 cd "$work" || exit 1
@@ -28,7 +31,7 @@ field() {
     dpkg-deb -f "first/$package" "$1"
 }
 size=$(find deb/usr -type f -printf '%s\n' | awk '{ sum += int(($1 + 1023) / 1024) } END { print sum }')
-# What the linker looks for, and the newest version of the C library that it wants.
+# The libraries that the program needs, and the newest version of the C library of which it uses a symbol.
 needed=$(objdump -p "$parv" | awk '$1 == "NEEDED" { print $2 }')
 newest=$(objdump -T "$parv" | grep -o 'GLIBC_[0-9.]*' | sort -Vu | tail -n 1)
 if [ "$(field Package) $(field Version) $(field Architecture)" = "parv $version-1 amd64" ] && [ "$needed" = libc.so.6 ] \
@@ -45,7 +48,8 @@ else
     echo "ok: all in the package is root's, which everybody can read and nobody else can change"
 fi
 
-# The files of the archive, each in its place and with its content; and what Debian wants of a package besides.
+# Each file of the archive must be in its place in the package, with the same content, along with the files that Debian
+# demands.
 (cd "$top" && PARV=$parv DIST=$work/archive tools/dist.sh) > archive.log 2>&1 || fails "no archive: $(head -c 300 archive.log)"
 tar -xzf archive/*.tar.gz
 (cd "parv-$version-x86_64-linux" && find bin lib share -type f) | while IFS= read -r file; do
@@ -72,7 +76,7 @@ else
     fails "what the package says: $(diff "$said/build" deb/usr/share/doc/parv/BUILD) $(cat deb/usr/share/doc/parv/copyright)"
 fi
 
-# complaints PACKAGE: the errors and warnings of lintian, if there is any.
+# complaints PACKAGE: prints the errors and warnings of lintian, and fails if there are any.
 complaints() {
     lintian --fail-on error,warning "$1" > complaints 2> "$said/lintian"
     local status=$?
@@ -93,7 +97,7 @@ else
     fails "lintian: $(head -c 600 told "$said/lintian")"
 fi
 
-# Into a folder, without its maintainer scripts, of which it has none, and without what it depends on.
+# Installs below a folder, without root and without the packages that this one depends on. It has no maintainer scripts.
 mkdir -p rooted/var/lib/dpkg/{info,updates}
 touch rooted/var/lib/dpkg/{status,available}
 rooted() {

@@ -1,7 +1,9 @@
 #!/usr/bin/env bash
-# What the libraries derive: copies, comparisons, hashes and what `{:?}` shows. The laws of these traits would let
-# nearly any body through, so none is written by hand but those that are listed, each with the reason.
-# The sources alone are read, and no program.
+# If this fails, a copy, a comparison, a hash or the `{:?}` text of a value in the libraries may be wrong without any
+# proof noticing.
+#
+# The laws of these traits allow nearly any body. So none is written by hand, except the listed ones, each with a
+# reason. This check reads only the sources, and runs no program.
 set -uo pipefail
 top=$(cd "$(dirname "$0")/../.." && pwd)
 work=$(mktemp -d) || exit 1
@@ -9,7 +11,7 @@ trap 'rm -rf "$work"' EXIT
 cd "$work" || exit 1
 failed=0
 
-# by_hand FOLDER: the impls of such traits in the sources below it, but for the tests'.
+# by_hand FOLDER: prints the impls of these traits that are written by hand in the sources below it, without the tests.
 by_hand() {
     find "$1"/*/src -name '*.rt' ! -path '*_tests/*' -print0 | sort -z \
         | xargs -0 cat | tr -s ' \n' ' ' \
@@ -17,8 +19,8 @@ by_hand() {
         | sed 's/ *$//' | sort
 }
 
-# Of `Hash16`: IDs are ordered as numbers, which has a clause (`cmp`) and laws. Of `Part`: its bytes are shown and not
-# those that it shares with other packets, which a test looks at.
+# `Hash16` has its own order, because IDs are ordered as numbers; a clause (`cmp`) and laws cover that. `Part` has its
+# own `{:?}` text, which shows its own bytes and not those that it shares with other packets; a test covers that.
 cat > listed << 'END'
 impl Ord for Hash16
 impl PartialOrd for Hash16
@@ -33,7 +35,7 @@ else
     echo "FAILED: impls by hand of what is derived elsewhere: $(diff listed found | grep '^[<>]' | head -n 9 | tr '\n' ' ')"
 fi
 
-# Each of these in a copy has to be found.
+# Each of these lines is put into a copy, and has to be found there.
 mkdir -p crates/one/src
 sees() {
     printf '%s\n' "$1" > crates/one/src/lib.rt

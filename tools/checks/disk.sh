@@ -1,27 +1,32 @@
 #!/usr/bin/env bash
-# What the system is asked of files on disk: how they are opened, in which order and by which path, what their kind
-# and length are taken from, and which bytes of which file each read asks for, call by call; that no byte is made up
-# past an early end, and that a read that failed isn't made again. Each fault that is named must change a run.
+# If this fails, parv may read the wrong bytes, open a device or a pipe, or write to a file: no proof covers the calls
+# of the operating system.
+#
+# It records the calls of the built program on files: how and in which order it opens them, where it takes their kind
+# and length from, and which bytes each read asks for. It also checks that parv makes up no bytes after an early end of
+# a file, and doesn't repeat a read that failed. A library then makes the program misbehave in each way that is named
+# here, and each must change the recorded run.
 . "$(dirname "$0")/with/recording.sh"
 set=617cdc72ba53d94fe713fea2ae18f776
 file=e345eacbe656c0e6fd20ed63cb7b062c
-# O_RDONLY with O_CLOEXEC and O_NOCTTY; the flag by which statx asks of an open file.
+# The flags O_RDONLY, O_CLOEXEC and O_NOCTTY; and the flag with which statx asks about an open file.
 read_only=80100 of_open=1000
 
-# The calls by which this file is opened, with this number.
+# opening FILE NUMBER: prints the calls that open this file and give it this number.
 opening() {
     printf '%s\n' "statx $1 0" "open $1 $read_only $2" "statx $2 $of_open"
 }
 
-# The recorded run ended with $status_wanted, wrote $text_wanted and $line_wanted, made the calls of $calls_wanted,
-# and closed each file once.
+# Whether the recorded run ended with $status_wanted, wrote $text_wanted and $line_wanted, made the calls in
+# $calls_wanted, and closed each file once.
 is_wanted() {
     [ "$status" = "$status_wanted" ] && [ "$(< text)" = "$text_wanted" ] && [ "$(< line)" = "$line_wanted" ] \
         && [ "$(grep -v '^close ' calls)" = "$calls_wanted" ] \
         && cmp -s <(awk '$1 == "open" && $4 { print $4 }' calls) <(sed -n 's/^close //p' calls | sort -n)
 }
 
-# asks NAME STATUS TEXT LINE CALLS WORDS..: a run that ends so and makes these calls, apart from closing.
+# asks NAME STATUS TEXT LINE CALLS WORDS..: wants the run with these words to end like this and to make these calls,
+# apart from those that close files.
 asks() {
     name=$1 status_wanted=$2 text_wanted=$3 line_wanted=$4 calls_wanted=$5
     words=("${@:6}")
@@ -34,7 +39,7 @@ asks() {
     fi
 }
 
-# sees FAULT..: that run is another one with each of these faults.
+# sees FAULT..: wants the same run to differ if the library causes this fault, for each of them.
 sees() {
     local fault
     for fault; do
@@ -47,8 +52,9 @@ sees() {
     done
 }
 
-# Nothing that a program calls of the C library is on files and isn't recorded here, and it calls the system by
-# nothing else. (Other calls are on memory and how it starts and ends.)
+# calls_known PROGRAM: whether each function that the program calls in the C library is recorded here or doesn't concern
+# files, and it calls the system in no other way. (The functions in `others` concern memory, and the start and end of
+# the program.)
 on_files='open|statx|pread|close|(__)?write'
 others='[mc]alloc|realloc|posix_memalign|aligned_alloc|free|mem(cpy|move|set|cmp)|bcmp|strlen|__errno_location'
 others+='|__libc_start_main|__sysv_signal|__x86_get_cpuid_feature_leaf'
@@ -82,7 +88,7 @@ sees "opened for writing too" "created where it is missing" "left open for other
     "opened again to be read" "never closed" "no look before opening" "no second look" "a second look by path" \
     "a link isn't followed"
 
-# The length is that of the open file, as is the kind, and not what stands at the path.
+# The length and the kind are those of the open file, and not those of whatever is at its path by then.
 WRONG="another length by path" asks "a length by path that is another" 0 "$both
 end" "" "$(opening v.par2 1; opening x.bin 2)
 pread 1 0 416 416
@@ -104,7 +110,7 @@ pread 1 0 416 416" packets "$path"
 done
 sees "a link isn't followed"
 
-# What isn't a regular file isn't opened, and nothing behind it is looked at.
+# A file that isn't regular isn't opened, and parv doesn't look at the files after it.
 mkfifo fifo.par2
 ln -s none.par2 broken.par2
 for path in none.par2 broken.par2 folder fifo.par2; do
@@ -121,7 +127,7 @@ asks "empty files" 0 "end" "" "$(opening empty.par2 1; opening v.par2 2; opening
 pread 2 0 416 416" find empty.par2 empty.bin v.par2
 sees "a length of 0 refused"
 
-# The last of 300 files is read by its own number, among packet files and among those that are scanned.
+# The last of 300 files is read by its own number, both as a packet file and as a scanned file.
 few=$(ulimit -n)
 if [ "$few" = unlimited ] || [ "$few" -ge 620 ]; then
     names=() packets=() opened='' read='' scanned='' searched=''
@@ -149,7 +155,7 @@ else
     echo "not run: no more than $few files may be open, and 620 are wanted"
 fi
 
-# Lengths and offsets above 2^32 and 2^44, up to the greatest, in files that take no room; not each folder takes them.
+# Lengths and offsets above 2^32 and 2^44, up to the greatest, in sparse files. Not every file system allows these.
 place=$work/place
 mkdir place
 [ -w /dev/shm ] && place=$(mktemp -d -p /dev/shm) && trap 'rm -rf "$work" "$place"' EXIT
@@ -169,7 +175,7 @@ pread 2 $far 10 10" find -B "$place" --cursor "$set:0:$far:0" v.par2 "$place/far
     rm "$place/far"
 done
 
-# A read that fails is the last one, whichever error it has: 4 is a call that was interrupted.
+# A read that fails is the last one, whatever its error is. (4 is EINTR, an interrupted call.)
 for number in 5 4; do
     export ERROR=$number FAIL_READ=2
     asks "a read that fails by error $number" 6 "" "parv: read fault in x.bin" \
@@ -179,7 +185,8 @@ pread 2 0 10 -1" find v.par2 x.bin y.bin
     sees "a failed read tried again"
     [ $number = 5 ] || sees "an interrupted read tried again"
 done
-# Of a file that is read in parts the second one may fail, or the third: what reads on by itself forgets one of them.
+# If a file is read in parts, the second or the third part may fail. A reader that continues by itself would forget one
+# of these errors.
 export ERROR=5 FAIL_READ SHORT=100
 parts=$(opening v.par2 1)
 for FAIL_READ in 2 3; do
@@ -200,7 +207,7 @@ pread 1 300 116 100
 pread 1 400 16 16" packets v.par2
 unset SHORT
 
-# A file that ends early: neither zeros nor what was read before stands in the place of its bytes.
+# A file that ends early: its missing bytes are replaced neither by zeros nor by bytes that were read before.
 export CUT_READ=1
 asks "a packet file that ends early" 6 "" "parv: read fault in v.par2" "$(opening v.par2 1)
 pread 1 0 416 0" packets v.par2
@@ -216,8 +223,8 @@ pread 2 0 8 0" verify v.par2 y.bin
 sees "zeros past an early end" "stale bytes past an early end"
 unset CUT_READ
 
-# A read that was interrupted has failed, and the file hasn't ended; what is read behind it is read. No run shows
-# either, so a test is run that wants an early end, and then reads on: it fails.
+# An interrupted read has failed; it doesn't mean that the file has ended, and later reads are made. No run of the
+# program shows either. So a test runs here that expects an early end and then reads on, and it has to fail.
 tests=$top/crates/search_tests/out/search_tests_tests
 if [ -x "$tests" ]; then
     test=$("$tests" --list | sed -n 's/: test$//p' | grep a_search_goes_on_where_a_shortened_file_ended)
@@ -231,7 +238,7 @@ pread 2 0 10 5
 pread 2 5 5 0" ]
     }
     name="an interrupted read of a test, and those behind it"
-    # (The shell says of each test that it was ended.)
+    # (The shell reports each test that was ended by a signal.)
     if reads_on 2> "$said/ended"; then
         echo "ok: $name"
     else

@@ -1,6 +1,9 @@
 #!/usr/bin/env bash
-# The archive: it holds what is installed and sums that hold, it installs without a toolchain, what it
-# installs runs, and it is the same bytes whenever and wherever it is made.
+# If this fails, the archive that users download may lack files, install something other than the built program, or need
+# the toolchain.
+#
+# The archive is made twice, at different times, and must have the same bytes. Its checksums must hold. It is installed
+# with only a few programs in PATH, and the installed commands are run. A changed or planted file must not be installed.
 . "$(dirname "$0")/with/wants.sh"
 . "$tools/checks/with/packed.sh"
 cd "$work" || exit 1

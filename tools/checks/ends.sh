@@ -1,6 +1,9 @@
 #!/usr/bin/env bash
-# How the program ends: its exit status and its line for words that are no plan, sets that are none, outputs
-# that fail and verdicts, and that no word is skipped.
+# If this fails, a script that looks at the exit status of parv may take bad arguments, an unusable set or a failed
+# write for success.
+#
+# It runs parv with wrong arguments, unusable sets, outputs that fail and each verdict, and compares the exit status and
+# the message. It also checks that parv skips no argument.
 . "$(dirname "$0")/with/wants.sh"
 cd "$work" || exit 1
 cp "$top/crates/parv/data/v.par2" v.par2
@@ -58,7 +61,8 @@ result possible" "" "$parv" verify -q v.par2 x.bin
 wants "no file" 2 "need 2 have 0
 result impossible" "" "$parv" verify -q v.par2
 
-# A limit on the size of files ends the program by its signal; where that is ignored it is a write fault.
+# At a limit on the size of files, the program is ended by the signal for that. If the signal is ignored, this is a
+# write error.
 wants "a limit on the size of files" 0 "-25
 6 parv: write fault" "" python3 -c 'import resource, subprocess, sys
 for is_default in True, False:
@@ -67,14 +71,14 @@ for is_default in True, False:
     print(f"{ran.returncode} {ran.stdout}".strip())
 print(open("limited").read(), end="")' "$parv"
 
-# Words and the environment lie on the stack too, so there are few and none here.
+# Arguments and the environment are on the stack too, so there are few arguments and no environment here.
 for words in "packets v.par2" "set v.par2" "find v.par2 x.bin" "find --tails v.par2 x.bin" "verify v.par2 g.bin"; do
     # shellcheck disable=SC2086 # (these are words)
     "$parv" $words > "$said/alone"
     gives "a stack of 128 KiB: $words" 0 "$said/alone" "" \
         env -i sh -c "ulimit -s 128; exec \"\$0\" $words" "$parv"
 done
-# Zeros are searched for the program's slices until its time is spent.
+# The slices are searched for in zeros until the processor time is used up.
 truncate -s 16G endless.bin
 wants "a limit on the time of the processor" 0 -24 "" python3 -c 'import subprocess, sys
 print(subprocess.run(["sh", "-c", "ulimit -S -t 1; exec \"$0\" find v.par2 endless.bin", sys.argv[1]]).returncode)' "$parv"
@@ -84,7 +88,7 @@ for words in "packets v.par2" "set v.par2" "verify v.par2 x.bin"; do
     wants "a full device: $words" 6 "" "parv: write fault" sh -c "\"\$0\" $words > /dev/full" "$parv"
 done
 wants "a closed output" 6 "" "parv: write fault" sh -c '"$0" packets v.par2 >&-' "$parv"
-# A status alone is nothing to write, so these outputs aren't asked.
+# With -qq there is nothing to write, so parv doesn't notice that these outputs fail.
 wants "a full device and nothing to write" 0 "" "" sh -c '"$0" verify -qq v.par2 g.bin > /dev/full' "$parv"
 wants "a closed output and nothing to write" 0 "" "" sh -c '"$0" verify -qq v.par2 g.bin >&-' "$parv"
 wants "a reader that takes one line alone" 6 "x.bin 2 e345eacbe656c0e6fd20ed63cb7b062c 0" "parv: write fault" \

@@ -1,11 +1,13 @@
 #!/usr/bin/env bash
-# The scripts of examples/, each over a folder that is whole, one that has lost a file, and one without a set.
+# If this fails, a script in examples/ that you copied may give a wrong answer.
+#
+# Each script runs over a folder that is whole, over one that has lost a file, and over one without a set.
 . "$(dirname "$0")/with/wants.sh"
 cd "$work" || exit 1
 export PARV=$parv LC_ALL=C
 examples=$top/examples
 
-# Each folder has subfolders, as other commands leave them there: parv takes only files.
+# Each folder has subfolders, as other programs leave them; parv accepts only files.
 mkdir -- 'a whole' -damaged none
 mkdir -p 'a whole/saved/a b' ./-damaged/parts
 cp "$top"/demo/{photos.par2,photos.vol07+8.par2,*.raw,notes.txt} 'a whole'
@@ -49,7 +51,7 @@ head -c 3000 "$top/demo/beach.raw" > part
 wants "counts slices" 0 "part: 2 of 38 slices
 a whole/tower.raw: 5 of 38 slices" "" "$count" 'a whole/photos.par2' part 'a whole/saved' 'a whole/tower.raw'
 wants "counts slices: a file that isn't there" 6 "" "parv: cannot open nothing" "$count" 'a whole/photos.par2' nothing
-# Each of them was run, and is short.
+# Each script was run, and is short.
 for script in "$examples"/*; do
     lines=$(wc -l < "$script")
     if grep -q "^[a-z]*=\$examples/${script##*/}$" "$tools/checks/examples.sh" && [ "$lines" -ge 10 ] && [ "$lines" -le 30 ]; then

@@ -1,6 +1,9 @@
 #!/usr/bin/env bash
-# The faults of tools/faults: the texts of each stand in its files, and the checks, tests and crates that it names are
-# there. Nothing is built or run, which `make faults` does. Files that are wrong are refused.
+# If this fails, `make faults` can't show any more that some check or test notices the bug for which it was written.
+#
+# It checks the files in tools/faults without building or running anything (`make faults` does that): each text to be
+# replaced occurs exactly once in its file, and the named checks, tests and crates exist. Then it checks that wrong
+# files of this kind are refused.
 cd "$(dirname "$0")/../.." || exit 1
 work=$(mktemp -d) || exit 1
 trap 'rm -rf "$work"' EXIT
@@ -8,7 +11,7 @@ export PYTHONDONTWRITEBYTECODE=1
 failed=0
 tools/faults/run.py --dry || failed=1
 
-# refuses NAME TEXT FILE..: the last of these files is refused, in a line with that text.
+# refuses NAME TEXT FILE..: wants the last of these files to be refused, in a line with this text.
 refuses() {
     local name=$1 text=$2
     shift 2

@@ -1,5 +1,9 @@
 #!/usr/bin/env bash
-# Files that can't be opened: which is named, and in which order they are opened. A link to a file can.
+# If this fails, parv may name the wrong file when one can't be opened, hang at a pipe, or make, rename or remove a
+# file.
+#
+# It runs parv with files that can't be opened, and compares which is named and in which order they are opened. A link
+# to a file can be opened. It also lists the functions of the C library that the program uses.
 . "$(dirname "$0")/with/wants.sh"
 cd "$work" || exit 1
 cp "$top/crates/parv/data/v.par2" v.par2
@@ -50,8 +54,8 @@ done
 for i in 1 2 3 4 5 6 7; do cp v.par2 "v$i.par2"; done
 wants "more files than may be open at once" 6 "" "parv: cannot open v6.par2" \
     sh -c 'ulimit -n 8; exec "$0" packets v1.par2 v2.par2 v3.par2 v4.par2 v5.par2 v6.par2 v7.par2' "$parv"
-# What the program has of the C library: reading and writing, memory, the number of an error and the
-# setting of a signal, and nothing that makes, renames or removes a file, or speaks to the network.
+# The functions of the C library that the program uses: for reading and writing, for memory, for error numbers and for
+# the setting of a signal. None makes, renames or removes a file, or uses the network.
 nm -D --undefined-only "$parv" | awk '$1 == "U" { sub(/@.*/, "", $2); print $2 }' | LC_ALL=C sort > imports
 printf '%s\n' __errno_location __libc_start_main __sysv_signal __write __x86_get_cpuid_feature_leaf close free \
     malloc memcpy memmove memset open pread realloc statx write > wanted_imports

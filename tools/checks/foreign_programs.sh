@@ -1,13 +1,16 @@
 #!/usr/bin/env bash
-# Folders that have programs of their own, as a download may: none of these is run, however parv, par2 and PATH are named.
+# If this fails, a repair of a downloaded folder may run a program from that folder.
+#
+# The folder contains programs under the names of all programs that a command may run. None may be run, in whatever way
+# parv, par2 and PATH are named.
 . "$(dirname "$0")/with/wants.sh"
 . "$tools/checks/with/commands.sh"
 . "$tools/checks/with/rooms.sh"
 cd "$work" || exit 1
 export ORIGINALS=$work/whole GIVEN=$work/given
 
-# Programs of every name that a command may run, at every place at which a relative name could find them: each notes
-# that it was run, and does then what the real one does.
+# Programs of each name that a command may run, at each place where a relative name could find them. Each records that
+# it was run, and then does what the real one does.
 mkdir planted out
 names=(parv par2 par2.py awk basename bash cat chmod cmp cp cut date dd dirname env file find flock getconf grep head id ln ls \
     md5sum mkdir mkfifo mktemp mv nproc printf ps python3 readlink realpath rm rmdir sed sh sleep sort stat sync tail tee \
@@ -25,8 +28,8 @@ cp "$parv" out/parv
 printf '#!/bin/sh\nexec %q "$@"\n' "$tools/stand_in/par2.py" > out/par2
 chmod +x out/par2
 
-# runs NAME STATUS LAST COMMAND..: over a folder with these programs a command ends so, with this last line, and has run
-# none of them.
+# runs NAME STATUS LAST COMMAND..: wants the command, over a folder with these programs, to end with this status and
+# last line, and to have run none of them.
 runs() {
     local name=$1 status=$2 last=$3 folder got
     shift 3
@@ -48,7 +51,7 @@ runs() {
 }
 furnish 8 5 first.txt abcdefgh second.txt ijklmnop
 id=$("$parv" set room/set.par2 | sed -n 's/^set \([0-9a-f]*\) .*/\1/p')
-# over_it NAME STATUS LAST COMMAND..: the same, with parv, par2 and PATH named in all these ways.
+# over_it NAME STATUS LAST COMMAND..: does the same with parv, par2 and PATH named in each of these ways.
 over_it() {
     local name=$1 status=$2 last=$3 dot path
     shift 3
@@ -61,7 +64,7 @@ over_it() {
     done
 }
 over_it "a repair" 0 complete "${repair[@]}" room
-# A program that isn't there isn't looked for in the folder, nor where par2 works.
+# If par2 isn't found, it isn't looked for in the folder of the set, or in the one in which par2 would work.
 furnish 8 5 first.txt abcdefgh tools/par2 "$(cat planted/par2)" nopar2 "$(cat planted/par2)"
 chmod +x room/tools/par2 room/nopar2
 printf 'abcdXXXX' > room/first.txt
@@ -75,7 +78,7 @@ for name in tools/par2 ./tools/par2 nopar2; do
         fails "no par2, and a file $name in the set: status $status, $(cat text line)"
     fi
 done
-# A program beside the caller that no part of PATH has isn't parv.
+# A program `parv` in the current folder isn't used, if no part of PATH names that folder.
 printf '#!/bin/sh\nexit 0\n' > parv
 chmod +x parv
 for name in repair tree watch; do

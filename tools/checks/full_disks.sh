@@ -1,12 +1,15 @@
 #!/usr/bin/env bash
-# If temporary files can't be written, a tree of damaged sets isn't reported as a whole one, and no line of it is lost
-# without a word.
+# If this fails, parv-tree may report a tree of damaged sets as whole when the disk for temporary files is full.
+#
+# It runs parv-tree with a limit on the size of files, with small file systems for temporary files, with a parv that
+# fails halfway, and with an output that can't be written. Each damaged set must have its line, or the status is 6 and a
+# message says why.
 . "$(dirname "$0")/with/wants.sh"
 . "$tools/checks/with/commands.sh"
 . "$tools/checks/with/rooms.sh"
 cd "$work" || exit 1
 
-# Five sets in five folders, of which one is whole, and one folder with two sets in one packet file.
+# Five sets in five folders, one of them whole; and one folder that has two sets in one packet file.
 for number in 1 2 3 4 5; do
     furnish 8 1 "a file of set $number" "$(seq $number 60)"
     mkdir -p tree/$number
@@ -21,8 +24,8 @@ status=$?
 { [ $status -eq 2 ] && [ "$(wc -l < lines)" -eq 7 ] && [ "$(grep -c '^[12] ' lines)" -eq 5 ] && [ ! -s line ]; } \
     || fails "with room: status $status, $(cat lines line)"
 
-# told NAME COMMAND..: each set that isn't whole has its line, and the status is that of the worst; or it is 6, and a
-# message says why.
+# told NAME COMMAND..: wants a line for each set that isn't whole, and the status of the worst one; or status 6 and a
+# message that says why.
 told() {
     local name=$1 status id set lost=0
     "${@:2}" 2>&1 | cat > text
@@ -50,7 +53,7 @@ for words in "one by one" "side by side"; do
         done
     fi
 done
-# parv may fail in the middle too.
+# parv may also fail halfway.
 for name in packets set verify; do
     for status in 0 1 2 6; do
         printf '#!/bin/sh\n[ "$1" = %s ] || exec %q "$@"\n%q "$@" | head -c 30\nexit %s\n' $name "$parv" "$parv" $status > broken
@@ -58,7 +61,7 @@ for name in packets set verify; do
         told "parv $name fails in the middle, with $status" env PARV="$work/broken" "${tree_quiet[@]}" tree
     done
 done
-# Nor is it, when the lines themselves can't be written.
+# A tree isn't reported as whole either if the lines themselves can't be written.
 "${tree[@]}" tree > /dev/full 2> line
 status=$?
 if [ $status -eq 6 ]; then

@@ -1,13 +1,15 @@
 #!/usr/bin/env bash
-# Each call of the program that takes memory once at its greatest input: long names, texts and words, bodies at
-# their limit, a million packets, the greatest slice size, lengths and offsets behind 2^32 and at the end of the
-# longest file, and as many files as words may name. Each run has its text and status: none ends with 8, for want of
-# memory.
+# If this fails, parv may end with "out of memory", or with a wrong answer, at large inputs that it promises to read.
+#
+# Each call in the program that takes memory runs once at its greatest input: long names, texts and arguments, bodies at
+# their limit, a million packets, the greatest slice size, lengths and offsets above 2^32 and at the end of the longest
+# file, and as many files as the arguments may name. Each run must have its exact text and status, and none may end with
+# 8.
 . "$(dirname "$0")/with/wants.sh"
 export most=600
 cd "$work" || exit 1
 
-# Files with long holes stand in a folder in memory, which takes them at any length and doesn't keep what is read.
+# Files with long holes are in a folder in memory. That allows any length, and doesn't keep what was read.
 far=$work
 [ -w /dev/shm ] && far=$(mktemp -d -p /dev/shm) && trap 'rm -rf "$work" "$far"' EXIT
 "$tools/make/greatest.py" . "$far" || exit 1
@@ -25,7 +27,7 @@ in_x="x.bin 2 $file 0
 x.bin 6 $file 1
 end"
 
-# The first of a million packets stand in v.par2, at 0, 92, 220 and 340; its recovery slice is put aside.
+# The first of a million packets are those of v.par2, at 0, 92, 220 and 340. Its recovery slice is rejected.
 own_from=416
 aside_from=$((own_from + 64 * 130000))
 other_from=$((aside_from + 68 * 70000))
@@ -67,7 +69,7 @@ gives "the states of files of such names" 2 states "" "$parv" verify names.par2
 grep -q '^others 32767$' wanted || fails "the IDs are not as they should be: $(cat wanted)"
 gives "a Main packet with 32,768 IDs" 0 wanted "" "$parv" set others.par2
 
-# Paths of 4,000 bytes, of which 195 are shown by four each, and a folder of 4,000.
+# Paths of 4,000 bytes, of which 195 bytes are shown by four characters each; and a folder whose path has 4,000 bytes.
 times() { printf "$2%.0s" $(seq "$1"); }
 path=$(times 1900 ./)$(times 195 '\t')x.bin
 other=${path%x.bin}.par2
@@ -101,7 +103,7 @@ wants "a scanned file's argument of 131,071 bytes in a message" 6 "" "parv: cann
     "$parv" find v.par2 "aaaaa$long"
 wants "an option's value of 131,071 bytes" 3 "" "parv: bad value" "$parv" find --cursor "aaaaa$long" v.par2 x.bin
 
-# 100,000 words, of which at most 65,535 may be files.
+# 100,000 arguments, of which at most 65,535 may be files.
 words=()
 for _ in $(seq 100000); do words+=(-q); done
 if env true "${words[@]}" 2> "$said/words"; then
@@ -133,7 +135,7 @@ else
     echo "not run: 65,535 files: $(head -c 200 "$said/words")"
 fi
 
-# 1,100 lengths: the file of 1,099 bytes is damaged, and that of 1,100 has another name.
+# 1,100 files of different lengths: the one of 1,099 bytes is damaged, and the one of 1,100 has a different name.
 lengths=$("$tools/models/describe_set.py" lengths.par2 | sed -n 1p)
 printf X | dd of=lengths/1099 conv=notrunc status=none
 mv lengths/1100 lengths/x
@@ -146,7 +148,7 @@ gives "files of 1,100 lengths" 2 wanted "" "$parv" verify -B lengths lengths.par
 wants "too many tails by 1,100 lengths" 4 "" "parv: no usable set: too many tails" \
     "$parv" verify --tails -B lengths lengths.par2 lengths/*
 
-# Lengths of files about 2^32, and at the greatest that slices can be numbered of, 2^15 times 2^28.
+# Files whose lengths are near 2^32, and one of 2^15 times 2^28 bytes, the greatest length whose slices can be numbered.
 "$tools/models/describe_set.py" wide.par2 > wanted
 [ "$(cut -d ' ' -f 3 wanted | sed -n 2,5p | xargs)" = "4294967295 4294967296 4294967297 4398046511104" ] \
     || fails "the lengths are not as they should be: $(cat wanted)"
@@ -161,7 +163,7 @@ missing long 0/32768
 need 32768 have 0
 result impossible" "" "$parv" verify long.par2 x.bin
 wants "a file of 2^43 bytes and one more" 4 "" "parv: no usable set: too many slices" "$parv" set longer.par2
-# Its length is 2^32 more than that of g.bin, and its slices stand at its front.
+# This file is 2^32 bytes longer than g.bin, and its slices are at its beginning.
 cd "$far" || exit 1
 mkdir long
 cp "$work/g.bin" long
@@ -171,7 +173,7 @@ damaged g.bin 2/2
 need 0 have 0
 result possible" "" "$parv" verify -B long "$work/v.par2" long/g.bin
 
-# Slices of 268,435,456 bytes; behind the last one, which is short, nothing stands, and then two bytes.
+# Slices of 268,435,456 bytes. Nothing follows the last one, which is short; later two bytes follow it.
 wants "slices of 268,435,456 bytes" 0 "large.bin 2 $file 0
 large.bin 268435458 $file 1
 end" "" "$parv" find "$work/large.par2" large.bin
@@ -186,7 +188,7 @@ wants "the verdict on slices of 268,435,456 bytes, with --tails" 1 "$found" "" \
     "$parv" verify --tails "$work/large.par2" large.bin
 rm large.bin
 
-# A packet of more than 2^32 bytes, and what lies behind it.
+# A packet of more than 2^32 bytes, and the packets after it.
 wants "a packet of 4,294,967,364 bytes" 0 "far.par2 0 4294967364 recvslic $set
 far.par2 4294967364 92 main $set
 far.par2 4294967456 128 filedesc $set
@@ -201,7 +203,7 @@ others 0
 have 0
 aside hole.par2 4294967704 1" "" "$parv" set hole.par2
 
-# The last byte of the longest file that the file system takes.
+# The last byte of the longest file that the file system allows.
 for length in 9223372036854775807 17592186040320 8796093018112 2199023251456; do
     truncate -s $length last.bin 2> "$said/length" && break
 done

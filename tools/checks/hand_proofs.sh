@@ -1,8 +1,11 @@
 #!/usr/bin/env bash
-# A proof by hand can claim of the data that only contracts see whatever no clause forbids: those that
-# hand_proofs.txt lists were read, as they are, with the clauses that they prove, the definitions that these name
-# (`added_at` and `Reading`) and the module through which their words come; and there is no other at any depth of a
-# crate's proofs.
+# If this fails, some proof may rest on a statement that nobody has read, and the program may do what its contracts
+# exclude.
+#
+# A proof by hand can claim anything about ghost state (data that only contracts see) that no clause forbids. So a
+# person has read each of them, with the clauses that they prove, the definitions `added_at` and `Reading` that these
+# cite, and the module from which they take their lemmas. hand_proofs.txt has the checksums of the versions that were
+# read. There may be no other proof by hand, at any depth of a crate's proofs.
 cd "$(dirname "$0")/../.." || exit 1
 listed() {
     find crates/*/proofs -name Proof.antt -print0

@@ -1,7 +1,10 @@
 #!/usr/bin/env bash
-# Hostile packet files: two thousand cases against the plain model, and a thousand that must end as
-# any run may. Two hundred cases of joined files and two hundred of content that repeats, against the
-# plain model. HOSTILE, FUZZED, JOINED and REPEATED are the numbers of cases, SEED is that of all.
+# If this fails, packet files that somebody has made on purpose may crash parv, keep it busy for hours, or make it print
+# a wrong answer.
+#
+# It compares parv with the plain models on 2,000 hostile packet files, on 200 joined files and on 200 files of content
+# that repeats. On 1,000 random packet files it only wants an end that is allowed. HOSTILE, JOINED, REPEATED and FUZZED
+# set these numbers, and SEED sets the seed of all of them.
 . "$(dirname "$0")/with/wants.sh"
 cd "$work" || exit 1
 export PARV=$parv PYTHONDONTWRITEBYTECODE=1

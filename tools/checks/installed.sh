@@ -1,6 +1,9 @@
 #!/usr/bin/env bash
-# The installed files: the program, the commands, pages, completions and examples in their places and nothing else,
-# without a toolchain, and nothing of them after the removal.
+# If this fails, `make install` may leave out a file, need the toolchain, or `make uninstall` may leave files or remove
+# others.
+#
+# It installs below a folder with a PATH without `rt`, compares each installed file with its source, runs the installed
+# commands, and uninstalls.
 . "$(dirname "$0")/with/wants.sh"
 
 commands="parv $(cd "$top/commands/bin" && echo *)"
@@ -23,7 +26,7 @@ mkdir "$path"
 for tool in bash make install rm rmdir test sed; do ln -s "$(command -v $tool)" "$path"; done
 ln -s "$(python3 -c 'import sys; print(sys.executable)')" "$path/python3"
 
-# make with a PATH that has no rt, and nothing else from outside.
+# made WORDS..: runs make with a PATH that has no rt, and with no other variable from outside.
 made() {
     env -i PATH="$path" make -s -C "$top" "$@" DESTDIR="$room" PREFIX=/usr PARV="$parv" \
         > "$work/made" 2>&1 < /dev/null
@@ -51,7 +54,7 @@ if cmp -s "$parv" "$room/usr/bin/parv" && [ -x "$room/usr/bin/parv" ] \
 else
     fails "what is installed is another"
 fi
-# Each command is what was built, and prints its help, and if there is no parv, only that.
+# Each command is the one in commands/bin, prints its help, and without parv does nothing else.
 for script in "$room"/usr/bin/parv-*; do
     name=${script##*/}
     { [ -x "$script" ] && cmp "$top/commands/bin/$name" "$script" \
@@ -69,7 +72,7 @@ for script in "$room"/usr/bin/parv-*; do
     wants "$name without parv" 6 "" "$name: cannot run parv: put parv in PATH, or name it by PARV" \
         env -i PATH="$path" "$script" "${words[@]}"
 done
-# The program that was installed beside it is found.
+# The command finds the program that was installed beside it.
 cp -r "$top/demo" "$work/demo"
 rm "$work/demo/tower.raw"
 wants "the repair that was installed" 1 "repair tower.raw

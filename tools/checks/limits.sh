@@ -1,7 +1,9 @@
 #!/usr/bin/env bash
-# Large input, against independent readings: a packet file of 5 MB, a hundred and three hundred packet files at
-# once, sets of 3,000 and of 32,768 files, 40,000 recovery slices, twenty files to scan and a long one, and
-# 3,000, or 600 where no more may be open, and what stands behind 4 GiB. How often a file is read, and a list written.
+# If this fails, parv may give wrong answers for large sets or long files.
+#
+# It compares parv with the models on: a packet file of 5 MB, 100 and 300 packet files at once, sets of 3,000 and of
+# 32,768 files, 40,000 recovery slices, twenty scanned files and a long one, 3,000 scanned files (600 if no more may be
+# open), and packets and slices after 4 GiB of zeros. It also counts how often a file is read and a text is written.
 . "$(dirname "$0")/with/wants.sh"
 cd "$work" || exit 1
 
@@ -37,8 +39,8 @@ gives "the states of 32,768 files, none of them there" 2 states "" "$parv" verif
 "$tools/models/list_packets.py" full/*.par2 > wanted
 gives "the packets of a set of 32,768 files" 0 wanted "" "$parv" packets full/*.par2
 
-# The set of g.bin with 40,000 recovery slices, no two alike and in no order, of which some stand twice, and
-# some have an exponent above the limit.
+# The set of g.bin with 40,000 recovery slices with different exponents, in no order. Some slices occur twice, and some
+# others have an exponent above the limit.
 PYTHONPATH=$tools python3 "$tools/checks/limits_exponents.py"
 "$tools/models/describe_set.py" exponents.par2 > wanted
 [ "$(grep '^have' wanted)" = "have 40000" ] || fails "the exponents are not as they should be: $(grep '^have' wanted)"
@@ -46,7 +48,7 @@ gives "a set with 40,000 exponents" 0 wanted "" "$parv" set exponents.par2
 wants "the verdict with 40,000 exponents" 1 "need 2 have 40000
 result possible" "" "$parv" verify -q exponents.par2
 
-# Texts are written in blocks of 65,536 bytes as they are made, and a block ends with a line.
+# Texts are written in blocks of at least 65,536 bytes while they are made, and a block ends with a line.
 gcc -shared -fPIC -O1 -o disturb.so "$tools/disturb/disturb.c" -ldl || exit 1
 in_blocks() {
     local size writes
@@ -64,7 +66,7 @@ in_blocks packets long.par2
 in_blocks set big/*.par2
 in_blocks verify full/*.par2
 
-# How often the files are read and the text is written, by disturb.c's account.
+# counts NAME LEAST MOST reads|writes WORDS..: wants from LEAST to MOST reads or writes, as disturb.so counts them.
 counts() {
     local name=$1 least=$2 most=$3 what=$4 count writes reads
     shift 4
@@ -82,10 +84,11 @@ counts() {
 
 cp "$top/crates/parv/data/v.par2" v.par2
 printf 'XXabcdefgh' > x.bin
-# A line is written before the search goes on.
+# Each line is written before the search goes on.
 counts "two sightings and the end" 3 3 writes find v.par2 x.bin
-# 8 MiB are 2,048 pieces of 4,096 bytes for the search of slices, 129 of 65,536 for that of packets, of which
-# two share seven bytes, and 256 of 32,768 for an MD5; beside them a packet file is read.
+# 8 MiB are 2,048 pieces of 4,096 bytes for a search for slices; 129 pieces of 65,536 bytes for a search for packets,
+# since two neighbouring pieces share seven bytes; and 256 pieces of 32,768 bytes for an MD5. In addition a packet file
+# is read.
 PYTHONPATH=$tools python3 "$tools/checks/limits_zeros.py"
 dd if=v.par2 of=padded.par2 conv=notrunc status=none
 counts "a search of 8 MiB for slices" 2049 2060 reads find v.par2 zeros.bin
@@ -103,7 +106,7 @@ done
 gives "the slices in ${#scanned[@]} files and in a long one" 0 wanted "" \
     "$parv" find --limit 400000 big/*.par2 "${scanned[@]}" long.bin
 
-# Each file that was scanned is complete, and each other one is missing.
+# Each scanned file is complete, and each other file of the set is missing.
 awk -v names="${scanned[*]}" 'BEGIN { n = split(names, given, " "); for (i in given) here[given[i]] }
     $1 == "set" { print }
     $1 == "file" { print ($6 in here ? "complete " $6 : "missing " $6 " 0/1") }
@@ -113,7 +116,7 @@ wants "the verdict on 3,000 files" 2 "$(tail -n 2 wanted)" "" "$parv" verify -q 
 wants "the verdict on 32,768 files" 2 "need $((32768 - ${#scanned[@]})) have 1
 result impossible" "" "$parv" verify -q full/*.par2 "${scanned[@]}"
 
-# Of many files to scan the last alone has something, and of many the last alone is missing.
+# Of the files to scan, only the last contains a slice; and then only the last can't be opened.
 many=3000
 ulimit -n 3100 2> "$said/limit" || many=600
 mkdir many
@@ -126,7 +129,7 @@ cp 0000137 "many/$many"
 "$tools/models/find_slices.py" big/*.par2 "${others[@]}" > wanted
 if [ "$(wc -l < wanted)" -eq 2 ]; then
     gives "the last of $many files to scan" 0 wanted "" "$parv" find big/*.par2 "${others[@]}"
-    # Its one file is renamed, and each other one is missing.
+    # The file that the last one contains is renamed, and each other file of the set is missing.
     awk -v last="many/$many" '$1 == "set" { print }
         $1 == "file" { print ($6 == "0000137" ? "renamed " $6 " from " last : "missing " $6 " 0/1") }
         $1 == "have" { print "need 2999 have", $2; print "result impossible" }' set > wanted
@@ -137,7 +140,7 @@ fi
 wants "a missing one behind $many files to scan" 6 "" "parv: cannot open many/none" \
     "$parv" find big/*.par2 "${others[@]}" many/none
 
-# Packets, and slices, behind 4 GiB of zeros, which a folder in memory doesn't keep.
+# Packets and slices after 4 GiB of zeros. The files are in a folder in memory, which stores no zeros.
 far=$work
 [ -w /dev/shm ] && far=$(mktemp -d -p /dev/shm) && trap 'rm -rf "$work" "$far"' EXIT
 cd "$far" || exit 1

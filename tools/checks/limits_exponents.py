@@ -1,4 +1,5 @@
-"""Writes exponents.par2: the set of g.bin, with 40,000 recovery slices."""
+"""For limits.sh, which protects large sets from wrong answers: writes exponents.par2, the set of g.bin with 40,000
+recovery slices."""
 import random
 from make.packet_files import DESC_OF_G, G_SET, MAIN_OF_G, SUMS_OF_G
 from make.packets import packet, recvslic_body

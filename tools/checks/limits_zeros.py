@@ -1,4 +1,5 @@
-"""Writes zeros.bin, its set, and a packet file that begins with as many zeros."""
+"""For limits.sh, which protects you from files that are read twice: writes zeros.bin, its set, and a packet file that
+begins with the same number of zeros."""
 from make.packets import desc_body, main_body, set_of
 owner, content = bytes(16), bytes(8 << 20)
 with open("zeros.bin", "wb") as out:

@@ -1,12 +1,14 @@
 #!/usr/bin/env bash
-# Scripts and Python files, as linters see them: shellcheck (with .shellcheckrc) and pyflakes complain of none, and
-# each line that turns one of their rules off says why. Debian has both linters.
+# If this fails, a script or Python file may contain a mistake that a linter recognizes, such as an unquoted name.
+#
+# Both linters, shellcheck (with .shellcheckrc) and pyflakes, must find nothing, and must find something in a wrong
+# file. Each line that turns one of their rules off must say why. Debian has both linters.
 cd "$(dirname "$0")/../.." || exit 1
 work=$(mktemp -d) || exit 1
 trap 'rm -rf "$work"' EXIT
 failed=0
 
-# headed SUFFIX WORD: the files with this suffix, and those whose first line calls a program of this name.
+# headed SUFFIX WORD: prints the files with this suffix, and those whose first line calls a program of this name.
 headed() {
     find tools commands examples .ci -name __pycache__ -prune -o -type f -print 2> "$work/none" | while IFS= read -r file; do
         case $file in
@@ -17,7 +19,7 @@ headed() {
     done | sort
 }
 
-# lints NAME LINTER..: it says nothing of the files that are listed, and does of one that is wrong.
+# lints NAME LINTER..: wants the linter to find nothing in the listed files, and something in a wrong one.
 lints() {
     local name=$1
     shift
@@ -39,7 +41,7 @@ grep '^tools/checks/with/\|^tools/staging.sh$' "$work/all" > "$work/read"
 grep -vxFf "$work/read" "$work/all" > "$work/files"
 printf '#!/bin/sh\necho $1\n' > "$work/wrong"
 lints scripts shellcheck
-# What others read has variables that they set or use.
+# Scripts that others read use variables from there, or set variables for them.
 mv "$work/read" "$work/files"
 printf 'echo $1\n' > "$work/wrong"
 lints "scripts that others read" shellcheck -s bash -e SC2034,SC2154

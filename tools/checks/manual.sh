@@ -1,7 +1,9 @@
 #!/usr/bin/env bash
-# The manual pages: mandoc and man have nothing to say of them, where they are there. That of parv has each option and
-# each line of standard error, and each of its examples is run in a folder with the files that it names. Those of the
-# commands have each option and exit status of their help, and their examples are run too.
+# If this fails, a manual page may leave out an option or an exit status, or show an example that doesn't work.
+#
+# mandoc and man, if they are installed, must accept each page without a warning. The page of parv must have each option
+# and each line of standard error. The page of a command must have the options and exit statuses of its help. All
+# examples are run in a folder with the files that they name.
 . "$(dirname "$0")/with/wants.sh"
 . "$tools/checks/with/commands.sh"
 cd "$work" || exit 1
@@ -11,7 +13,7 @@ pages=("$top"/docs/*.1)
 for command in "$commands"/*; do [ -e "$top/docs/${command##*/}.1" ] || fails "there is no page of ${command##*/}"; done
 [ ${#pages[@]} -eq $(($(find "$commands" -type f | wc -l) + 1)) ] || fails "there are ${#pages[@]} pages"
 for page in "${pages[@]}"; do
-    # Of the pages that this one names, some may not be installed here.
+    # Some of the pages that this one refers to may not be installed here.
     if command -v mandoc > /dev/null; then
         mandoc -T lint "$page" 2>&1 \
             | grep -v 'not found: Xr par[a-z0-9-]* 1\|outdated mandoc.db lacks par[a-z0-9-]*(1) entry' > said
@@ -34,7 +36,7 @@ for page in "${pages[@]}"; do
     fi
 done
 
-# Of a command the page has each option and each exit status that its help has, and no others.
+# The page of a command has each option and each exit status of its help, and no others.
 for command in "$commands"/*; do
     name=${command##*/}
     page=$top/docs/$name.1
@@ -62,7 +64,7 @@ while IFS= read -r message; do
 done < messages
 [ "$(wc -l < messages)" -eq 14 ] || fails "there are $(wc -l < messages) messages"
 
-# Each script is told of, and what is named of those installed is there.
+# The page names each script, and each installed file that it names exists.
 for script in "$top"/examples/*; do
     grep -q "^\.It Pa ${script##*/}$" "$page" || fails "the page doesn't tell of ${script##*/}"
 done
@@ -71,7 +73,8 @@ grep -o '/usr/local/share/doc/parv/[A-Za-z_./]*' "$page" | sed 's|^/usr/local/sh
 while IFS= read -r path; do
     [ -e "$top/$path" ] || [ -e "$top/docs/$path" ] || fails "the page names $path, which isn't there"
 done < paths
-# The calls of commands in the pages: each in a copy of a folder with what it names, and how it ends.
+# The calls of commands in the pages. Each runs in a copy of a folder with the files that it names, and its end is
+# compared.
 { sed -n 's/^\.Dl \$ \(parv-[a-z]* .*\)/\1/p' "$top"/docs/*.1
     sed -n '/^\.Bd/,/^\.Ed/s/^\(\$ \|  *\)\(.*\)/\2/p' "$top/docs/parv-repair.1" | tr '\n' ' '; } \
     | sed 's/\\-/-/g; s/\\&//g' > calls
@@ -120,8 +123,8 @@ while IFS= read -r call; do
         fails "$call: status $status, $(cat text line)"
     fi
 done < calls
-# The line for cron: of a folder that is whole, of one that has lost a file or recovery slices, without parv, and with no
-# room for temporary files or for the state.
+# The line for cron, over a folder that is whole and over one that has lost a file or recovery slices; without parv; and
+# without space for temporary files or for the state.
 page=$top/docs/parv-tree.1
 sed -n 's/^17 3 \* \* \* //p' "$page" > cron
 [ "$(wc -l < cron)" -eq 1 ] || fails "the page has no line for cron"
@@ -131,7 +134,7 @@ python=$(dirname "$(python3 -c 'import sys; print(sys.executable)')")
 mkdir -p backup/2019 home
 cp "$top"/demo/{photos.par2,photos.vol07+8.par2,*.raw,notes.txt} backup/2019
 set=589c76e09f0580b9203c5b64963b8957
-# cron NAME STATUS TEXT LINE: a night, with these variables and words around the line.
+# cron NAME STATUS TEXT LINE: runs the line once, with the variables in `room` and after the words in `around`.
 around=() room=()
 cron() {
     wants "the line for cron: $1" "$2" "$3" "$4" "${around[@]}" \
@@ -184,16 +187,16 @@ worse $set status 2 was 1 2019/photos" "parv-tree: cannot write $work/home/.back
 fi
 page=$top/docs/parv.1
 
-# Each example is a file: its commands without `$ `, as bash reads them.
+# Each example becomes a file with its commands, without `$ `, as bash reads them.
 mkdir examples
 awk '/^\.Sh /{ here = $2 == "EXAMPLES" } here && /^\.Bd/{ n++; text = 1; next } /^\.Ed/{ text = 0 }
     here && text { sub(/^(\$ |  )/, ""); print > ("examples/" n) }' "$page"
 sed -i 's/\\-/-/g; s/\\e/\\/g' examples/*
-# FORMATS has the cursor that is made by hand.
+# FORMATS has the example that makes a cursor by hand.
 formats=$top/docs/FORMATS.md
 awk '/^    eight\(\) / { here = 1 } here && !/^    / { exit } here { sub(/^    /, ""); print }' "$formats" > examples/cursor
 
-# A folder photos with the set, whole, and other files; the volume has one recovery slice.
+# Makes the folder photos, with the whole set and other files. The volume has one recovery slice.
 furnish() {
     rm -rf photos
     mkdir photos
@@ -203,7 +206,7 @@ furnish() {
     printf 'odd' > photos/-odd.raw
     cd photos || exit 1
 }
-# example NUMBER NAME STATUS TEXT, in the present folder.
+# example NUMBER NAME STATUS TEXT: runs this example in the current folder.
 example() {
     given=$((given + 1))
     wants "the example of $2" "$3" "$4" "" \
@@ -272,7 +275,7 @@ example 15 "the recovery slices of each packet file" 0 "0 ./photos.par2
 1 ./photos.vol00+1.par2"
 printf 'XXabcdefgh' > x.bin
 { sed '/^set=/,$d' ../examples/cursor; echo 'listed "$@" | md5sum'; } > ../mark
-# marked MARK NAME [FILE]: the mark by the functions of that example.
+# marked MARK NAME [FILE]: wants this fingerprint from the functions of that example.
 marked() {
     grep -q "$1" "$formats" || fails "FORMATS has no fingerprint $1"
     for shell in sh bash; do

@@ -1,7 +1,9 @@
 #!/usr/bin/env bash
-# What memory costs: the greatest resident size of runs at two sizes of each input, within the formulas of
-# docs/MEMORY.md, and slices of 268,435,456 bytes with a stack of 128 KiB. What room is asked for and not used is
-# seen by address_space.sh.
+# If this fails, parv takes more memory than docs/MEMORY.md promises, and may be killed on a small machine.
+#
+# It measures the greatest resident size of runs at two sizes of each input, and compares it with the formulas of that
+# page. Runs over slices of 268,435,456 bytes must also fit into a stack of 128 KiB. (address_space.sh covers memory
+# that is reserved and not used.)
 . "$(dirname "$0")/with/wants.sh"
 cd "$work" || exit 1
 export PARV=$parv

@@ -1,16 +1,18 @@
 #!/usr/bin/env bash
-# Names of a set that are paths: whatever lies there, it isn't opened. Files are opened by the words
-# that name them; the names of the set are compared with these, and shown.
+# If this fails, a set could make parv open a file of its choice, because a name in the set is a path to that file.
+#
+# Whatever is at such a path, parv must not open it. It opens only files that the arguments name; it compares the names
+# in the set with these, and shows them.
 . "$(dirname "$0")/with/wants.sh"
 mkdir "$work/below"
 cd "$work/below" || exit 1
 
-# Writes that.par2, the set of one file of this name that holds abcdefgh, and prints its ID.
+# one_file NAME: writes that.par2, the set of one file of this name with the content abcdefgh, and prints its ID.
 one_file() {
     PYTHONPATH=$tools PYTHONDONTWRITEBYTECODE=1 python3 "$tools/checks/names_set.py" "$1"
 }
 
-# passes WHAT: no word names what lies there, and it is neither verified nor searched.
+# passes WHAT: wants the file at $place, which no argument names, to be neither verified nor searched.
 passes() {
     wants "$1 at $place is missing" 2 "$line
 missing $name 0/2
@@ -34,7 +36,7 @@ result complete" "" "$parv" verify that.par2 "$name"
     passes "a file that may not be read"
     rm -f "$name"
 
-    # What writes to a FIFO waits until the FIFO is opened by a reader.
+    # A program that writes to a FIFO waits until another one opens the FIFO to read.
     mkfifo "$name"
     : > "$name" &
     waits=$!
@@ -50,7 +52,7 @@ result complete" "" "$parv" verify that.par2 "$name"
     rm "$name"
 done
 
-# Behind a base a file has another name than its word, and the word is opened.
+# With a base, the name of a file is what follows the base in its argument. The file that the argument names is opened.
 mkdir folder
 printf 'abcdefgh' > folder/g.bin
 printf 'other' > g.bin

@@ -1,4 +1,5 @@
-"""Writes that.par2, the set of one file of the given name that has abcdefgh, and prints its ID."""
+"""For names.sh, which protects files that a set names but you don't: writes that.par2, the set of one file of the given
+name with the content abcdefgh, and prints its ID."""
 import os, sys
 from make.packets import desc_body, file_id, ifsc_body, main_body, md5, set_of
 name, content = os.fsencode(sys.argv[1]), b"abcdefgh"

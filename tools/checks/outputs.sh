@@ -1,19 +1,21 @@
 #!/usr/bin/env bash
-# That nothing is written to standard output but what the one sink is given. The contract of `perform_words` speaks of
-# the sink that it is lent. No contract says that `perform` makes no other handle of standard output, or that no
-# function opens /dev/stdout as a file. So the sources of the program and its libraries are read for both. And the
-# writes of runs are those of the text that the models have: a line each for `find`, and for the other commands as many
-# whole lines as make up a block. For words that have no plan nothing is written there, and by a run that was cut short
-# the first of these writes. Each fault that is named must be seen. (disk.sh sees that the program writes by `write`
-# only.)
+# If this fails, parv may print something that isn't part of its report, such as a second verdict.
+#
+# The contract of `perform_words` covers only the sink that it is lent. No contract says that `perform` makes no other
+# handle of standard output, or that no function opens /dev/stdout as a file. So this check searches the sources of the
+# program and its libraries for both. It also compares the writes of runs with the text of the models: `find` writes
+# line by line, and the other commands write as many whole lines as make up a block. If the arguments are wrong, nothing
+# is written to standard output; a run that is cut short writes the first of these writes. Then injected bugs must be
+# noticed. (disk.sh checks that the program writes only by `write`.)
 . "$(dirname "$0")/with/disturbing.sh"
 gcc -shared -fPIC -O1 -o disturb.so "$tools/disturb/disturb.c" -ldl || exit 1
 gcc -shared -fPIC -O1 -o outputs.so "$tools/disturb/outputs.c" -ldl || exit 1
 
-# The crates of the program, without those of tests.
+# The crates of the program, without the crates of tests.
 crates=$(sed -n 's/:.*//p' "$top/crates.txt" | grep -v '_tests$' | grep -vx parfixtures)
 
-# What gives a handle of an output or of a file, or writes to one, outside of comments: how often in which source.
+# Expressions that give a handle of an output or a file, or write to one. `handles` counts them in each source, without
+# comments.
 handle='\w*(\.|::)?[Ss]td(out|err)\b|\be?print(ln)?!|\bdbg!|[Rr]aw_?[Ff]d|\blibc\b|/dev/|/proc/'
 handle+='|\bio::[{A-Za-z, ]*Write\b|\bwrite(_all|_at|_all_at)?\(|\boptions\(|\bOpenOptions|\bcreate(_new)?\('
 handle+='|\bfs::[{A-Za-z_, ]+|&mut out\b'
@@ -44,7 +46,8 @@ else
     fails "the sources have other handles: $(diff <(handles "$top") - <<< "$wanted_handles" | tr '\n' ';')"
 fi
 
-# plants FILE BEFORE LINE..: each line before the line in a copy of this source.
+# plants FILE BEFORE LINE..: puts each line before the line BEFORE in a copy of this source, and wants that to be
+# noticed.
 plants() {
     local source=$1 before=$2 line
     for line in "${@:3}"; do
@@ -72,13 +75,14 @@ plants parv/src/program.rt '    let alloc = ' 'let more = File::options().write(
 plants parshelf/src/shelves/disk.rt '    let file = File::open' 'let _ = fs::write(rt, path, b"");' \
     'let more = File::create(rt, path);' 'let _ = file.write_at(b"", 0);'
 
-# The sizes of the writes in which the text of a command comes.
+# sizes_of COMMAND: prints the sizes of the writes of this command for the text on standard input.
 sizes_of() {
     LC_ALL=C awk -v least="$([ "$1" = find ] || echo 65536)" \
         '{ size += length($0) + 1 } size >= least + 0 { print 1, size, size; size = 0 } END { if (size) print 1, size, size }'
 }
 
-# Runs the program with these words: `text`, `line`, `outputs`, `status` and whether a disturbance met the run.
+# runs WORDS..: runs the program. It sets `status`, and `met` to 1 if a disturbance met the run, and writes the files
+# `text`, `line` and `outputs`.
 runs() {
     rm -f outputs report
     timeout "${most:-60}" env OUTPUTS=outputs REPORT=report LD_PRELOAD="$work/outputs.so $work/disturb.so" \
@@ -87,18 +91,18 @@ runs() {
     read -r met _ < report
 }
 
-# The lines of standard error came by one write each, and nothing was written elsewhere.
+# Whether each line of standard error came by one write, and nothing was written elsewhere.
 is_told() {
     [ "$(grep -c '^2 ' outputs)" = "$(wc -l < line)" ] && ! grep -qv '^[12] ' outputs
 }
 
-# The run ended so, with this line, and wrote what `wanted` has, by the writes in `sizes`.
+# Whether the run ended with this status and line, and wrote the text in `wanted` by the writes in `sizes`.
 is_wanted() {
     [ "$status" = "$status_wanted" ] && [ "$(< line)" = "$line_wanted" ] && is_told \
         && cmp -s text wanted && cmp -s <(grep '^1 ' outputs) sizes
 }
 
-# It ended as the disturbance asks, and wrote the first of these writes.
+# Whether the run ended as the disturbance demands, and wrote the first of these writes.
 is_cut() {
     local count end="6 parv: read fault in *"
     case $1 in
@@ -112,13 +116,13 @@ is_cut() {
         && cmp -s text <(head -c "$(awk '$1 == 1 { sum += $3 } END { print sum + 0 }' outputs)" wanted)
 }
 
-# What came in place of what was wanted.
+# Prints how the run differed from the expected one.
 came() {
     echo "$1: status $status, $(cmp text wanted 2>&1), $(diff <(grep '^1 ' outputs) sizes | head -n 5 | tr '\n' ';')" \
         "$(head -c 300 line)"
 }
 
-# writes NAME STATUS LINE WORDS..: the run of these words ends so, and its writes are those of the text in `wanted`.
+# writes NAME STATUS LINE WORDS..: wants the run to end like this, and its writes to be those of the text in `wanted`.
 writes() {
     name=$1 status_wanted=$2 line_wanted=$3
     words=("${@:4}")
@@ -127,7 +131,7 @@ writes() {
     if is_wanted; then echo "ok: $name: $(wc -l < sizes) writes"; else fails "$(came "$name")"; fi
 }
 
-# sees FAULT..: that run is another one with each of these faults.
+# sees FAULT..: wants the same run to differ with each of these injected bugs.
 sees() {
     local fault
     for fault; do
@@ -136,7 +140,7 @@ sees() {
     done
 }
 
-# cut_short WHAT..: that run once for each place at which one of these can disturb it.
+# cut_short WHAT..: repeats the same run, and each time disturbs the next place where this disturbance is possible.
 cut_short() {
     local what n cut
     for what; do
@@ -150,7 +154,7 @@ cut_short() {
             if is_cut "$what"; then
                 cut=$((cut + 1))
             elif [ "$what" != REFUSE ] || ! is_wanted; then
-                # (room that is asked for ahead may be refused, and is then had one by one)
+                # (If capacity that is requested ahead is refused, the run may go on and request it bit by bit.)
                 fails "$(came "$name: $what=$n")"
                 return
             fi
@@ -169,7 +173,7 @@ model() {
     "$tools/models/$1.py" "${@:2}" > wanted
 }
 
-# Runs with a plan.
+# Runs with valid arguments.
 model list_packets v.par2 w.par2
 writes "the packets of two files" 0 "" packets v.par2 w.par2
 sees first last twice half elsewhere silent
@@ -212,7 +216,7 @@ model describe_set big/*.par2
 writes "a set of many files" 0 "" set big/*.par2
 [ "$(wc -l < sizes)" -ge 3 ] || fails "the text isn't long"
 
-# Runs without one, and those that have no report: nothing is written.
+# Runs with wrong arguments, and runs without a report: nothing is written to standard output.
 : > wanted
 usage="parv: usage: parv packets|set|find|verify [options] FILES"
 writes "no words" 3 "$usage"

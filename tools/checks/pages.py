@@ -1,4 +1,5 @@
-"""Looks through the pages of a repository for links, paths and clauses that aren't there."""
+"""For pages.sh, which protects readers from links, paths and clauses that don't exist: looks through the pages of the
+repository in the folder that is its argument."""
 import glob
 import os
 import re
@@ -17,7 +18,7 @@ def fails(text):
 
 
 def anchors(page):
-    """The anchors of a page's headings."""
+    """Returns the anchors of a page's headings."""
     heads = re.findall(r"^#+ (.*)$", open(page).read(), re.M)
     return {re.sub(r"[^\w\- ]", "", head.lower()).replace(" ", "-") for head in heads}
 
@@ -46,12 +47,12 @@ if not failed and links > 30 and paths > 30:
 elif not failed:
     fails("there are %d links and %d paths" % (links, paths))
 
-# A page that is read from its beginning has at most 16 KB; FORMATS and PROVED are looked up.
+# A page that people read from its beginning has at most 16 KB. FORMATS and PROVED are looked up, so they may be longer.
 for page in PAGES:
     if page not in ("docs/FORMATS.md", "docs/PROVED.md") and os.path.getsize(page) > 16 * 1024:
         fails("%s has %d bytes" % (page, os.path.getsize(page)))
 
-# LAYERS names each module that has code of its own, in the section of its crate, and no other in its tables.
+# LAYERS names each module that has code of its own in the section of its crate, and its tables name no other.
 layers, modules, wrong = open("docs/LAYERS.md").read(), 0, set()
 for crate in re.findall(r"^(\w+):", open("crates.txt").read(), re.M):
     section = re.search(r"^## %s\n(.*?)(?=^## |\Z)" % crate, layers, re.M | re.S)
@@ -85,13 +86,13 @@ else:
 
 
 def clauses_by_name(paths):
-    """The clauses of the functions of each name. Under the name of a type or a trait stand those of all functions of
-    a file that declares it or implements something for it, and the ghost members there."""
+    """Returns the clauses of the functions of each name. For the name of a type or a trait, it returns the clauses and
+    ghost members in each file that declares it or implements something for it."""
     found = {}
     for path in paths:
         source = open(path).read()
         here = set(re.findall(r"^ *ghost (\w+) = \{", source, re.M))
-        # A signature goes up to the line that opens or ends the body.
+        # A signature ends at the line that opens or ends the body.
         for name, signature in re.findall(r"\bfn (\w+)(.*?(?:^ *\{\}?$|;$|(?<!record) \{$))", source, re.M | re.S):
             clauses = set(re.findall(r"\bensures (\w+) \{", signature))
             found.setdefault(name, set()).update(clauses)
@@ -102,7 +103,8 @@ def clauses_by_name(paths):
     return found
 
 
-# A row of three cells names functions or types, and last their clauses. One of "the same" goes on with those before.
+# A row of three cells names functions or types, and its last cell their clauses. A row of "the same" is about those of
+# the row before it.
 clauses = clauses_by_name(sorted(glob.glob("crates/*/src/**/*.rt", recursive=True)))
 of_any = set().union(*clauses.values())
 meant, named = set(), 0

@@ -1,14 +1,15 @@
 #!/usr/bin/env bash
-# The pages: links and paths in them lead somewhere, none is long, README is short and its example, its
-# calls of scripts and its ways to install do what it says, LAYERS and DEFINITIONS name each module, and
-# each clause that a row of PROVED names stands at a call of a name in this row, or in a file that has a
-# type in it.
+# If this fails, a page may link to nothing, be too long to read, or show an example that doesn't work.
+#
+# Each link and path in the pages must lead somewhere. README must be short, and its example, its calls of scripts and
+# its ways to install must do what it says. LAYERS and DEFINITIONS must name each module. Each clause in a row of PROVED
+# must belong to a function or a type that this row names.
 . "$(dirname "$0")/with/wants.sh"
 cd "$work" || exit 1
 
 python3 "$tools/checks/pages.py" "$top" || failed=1
 
-# The first example of README, as it stands, in demo/.
+# The first example of README, run in demo/ as it is written.
 awk '/^    \$ parv verify/ { here = 1 } here && !/^    / { exit } here { sub(/^    /, ""); print }' \
     "$top/README.md" > example
 words=$(sed -n '1s/^\$ parv //p' example)
@@ -17,7 +18,8 @@ cd "$top/demo" || exit 1
 # shellcheck disable=SC2086 # (these are words)
 wants "the example of README" 1 "$(sed 1d "$work/example")" "" "$parv" $words
 
-# Its calls of parv and of commands, each in a folder with what it names: how it ends, and its last line.
+# README's calls of parv and of commands, each in a folder with the files that it names: its exit status and its last
+# line.
 cd "$work" || exit 1
 mkdir -p download backup/whole bin
 ln -s "$parv" bin/parv
@@ -27,7 +29,7 @@ cp backup/whole/photos.par2 .
 mv download/harbour.raw download/port.raw
 { head -c 5000 /dev/zero; cat backup/whole/*.raw backup/whole/notes.txt; printf 'more'; } > disc.img
 last_match=$("$tools/models/find_slices.py" --tails photos.par2 disc.img | sed '$d' | tail -n 1)
-# Of `find -exec`, a status other than 0 becomes 1. Some have a line on standard error too.
+# `find -exec` ends with 1 if parv ends with any status other than 0. Some calls also write a line to standard error.
 wanted=("1 result possible" "1 result possible" "1 result possible"
     "1 a repair can be tried: need 0 have 0" "0 complete" "1 slices 37/38, copied now 37" "0 slices 38/38, copied now 1"
     "0 " "0 result complete" "0 complete" "0 $last_match" "0 38 in place; need 0 have 0")
@@ -40,9 +42,9 @@ number=0
 while IFS= read -r call; do
     place=.
     [[ $call != *" ./*" && $call != "find ."* ]] || place=download
-    # A subfolder is there only for the call that leaves it out.
+    # The subfolder exists only for the call that leaves subfolders out.
     [[ $call != "find ."* ]] || mkdir download/subfolder
-    # What parv-parts says of its parts isn't of interest.
+    # The progress lines of parv-parts don't matter here.
     got=$(cd "$place" && env -u PARV PATH="$top/examples:$top/commands/bin:$work/bin:$PATH" timeout 60 \
         bash -c "${call/\/srv/$work}" 2> "$work/line" < /dev/null > "$work/text"; echo $?)
     [[ $call != parv-parts* ]] || : > line
@@ -55,7 +57,7 @@ while IFS= read -r call; do
     number=$((number + 1))
 done < calls
 
-# What it asks of make is there. None of it is made: most takes long.
+# Each target of make that README names exists. They aren't built, since most take long.
 cd "$top" || exit 1
 { sed -nE 's/^    (sudo )?make ([a-z]+).*/\2/p' README.md; grep -o '`make [a-z]*' README.md | sed 's/.* //'; } | sort -u > "$work/targets"
 while IFS= read -r target; do
@@ -67,7 +69,7 @@ else
     fails "README names $(wc -l < "$work/targets") targets of make"
 fi
 
-# Its ways to install, but for sudo.
+# README's ways to install, except those with sudo.
 cd "$top" || exit 1
 grep -o '^    make install PREFIX=[^ ]*' README.md | sed 's/^ *//' > "$work/install"
 [ "$(wc -l < "$work/install")" -eq 1 ] || fails "README has no way to install below a folder"

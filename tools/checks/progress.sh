@@ -1,5 +1,7 @@
 #!/usr/bin/env bash
-# parv-progress: the words, output and exit status of parv, and on a terminal alone what was read so far.
+# If this fails, parv-progress may change the report or the exit status of parv, or write its progress into a file.
+#
+# Without a terminal, it must do exactly what parv does. On a terminal, it also shows how much was read.
 . "$(dirname "$0")/with/wants.sh"
 cd "$work" || exit 1
 export LC_ALL=C
@@ -24,7 +26,7 @@ wants "no parv" 6 "" "parv-progress: cannot run ./none: put parv in PATH, or nam
 wants "no parv in PATH" 6 "" "parv-progress: cannot run parv: put parv in PATH, or name it by PARV" \
     env -u PARV PATH="$work/path" "$script" verify x.par2
 
-# Where no terminal is, it is parv, to the byte.
+# Without a terminal it prints what parv prints, byte by byte.
 cp "$demo"/* .
 same() {
     local name=$1
@@ -38,7 +40,7 @@ same "find" find --limit 3 photos.par2 beach.raw
 same "no set" verify notes.txt
 same "a file that isn't there" verify photos.par2 none
 
-# On a terminal, with a program that reads 3,000,000 bytes, and ends once a file says so.
+# On a terminal, with a program that reads 3,000,000 bytes and ends once the file `go` exists.
 cat > slow << 'END'
 #!/usr/bin/env bash
 read -rN 3000000 _ < "${@: -1}"
@@ -52,7 +54,8 @@ chmod +x slow
 head -c 5000000 /dev/zero | tr '\0' a > five.bin
 head -c 1000000 /dev/zero | tr '\0' a > one.PAR2
 
-# on_terminal NAME MOST TEXT WORDS..: what was read is shown, of so many MiB at most, then what the program says.
+# on_terminal NAME MOST TEXT WORDS..: wants it to show that 2 of at most MOST MiB were read, and then what the program
+# prints.
 on_terminal() {
     local name=$1 most=$2 text=$3
     shift 3
@@ -76,7 +79,7 @@ on_terminal() {
 on_terminal "verify on a terminal" 13 "the text of verify" verify one.PAR2 five.bin
 on_terminal "verify --tails on a terminal" 18 "the text of verify" verify --tails one.PAR2 five.bin
 
-# `find` shows nothing beside its own lines, and something where they go to a file.
+# For `find` it shows no progress on the terminal that gets its lines, and does if the lines go to a file.
 touch go
 PARV=./slow timeout 60 script -qefc "$script find one.PAR2 five.bin" terminal > /dev/null 2>&1 < /dev/null
 if grep -qa "^the text of find" terminal && ! grep -qa "at most" terminal; then
@@ -95,7 +98,7 @@ else
     fails "find into a file: $(cat -v terminal)"
 fi
 
-# A signal ends the program too.
+# A signal to parv-progress also ends the program that it runs.
 for signal in INT:130 TERM:143 HUP:129; do
     rm -f go began
     PARV=./slow timeout 60 env --default-signal=INT,HUP script -qefc "exec $script verify one.PAR2 five.bin" terminal \

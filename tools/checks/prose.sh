@@ -1,12 +1,15 @@
 #!/usr/bin/env bash
-# The English of pages and usage texts: none has more hard phrases than prose.txt allows, whose numbers may only fall.
+# If this fails, pages and usage texts become harder to read.
+#
+# hard_phrases.py counts phrases that readers often misunderstand. No page may have more of them than prose.txt allows,
+# and the numbers there may only fall.
 . "$(dirname "$0")/with/wants.sh"
 count=$tools/hard_phrases.py
 ceilings=$tools/checks/prose.txt
 
 "$count" --try || failed=1
 "$count" --check "$ceilings" || failed=1
-# A phrase more than a page may have is refused, and so is one on a page without a ceiling.
+# One phrase more than a page may have is refused, and so is a phrase on a page that isn't in prose.txt.
 awk 'NR == 1 { $1 -= 1 } { print }' "$ceilings" > "$work/lower"
 sed 1d "$ceilings" > "$work/without"
 for name in lower without; do
@@ -16,7 +19,7 @@ for name in lower without; do
         fails "a hard phrase more isn't refused: $(head -c 300 "$work/told")"
     fi
 done
-# A ceiling that is too high is lowered, and one that is too low isn't raised.
+# A number that is too high is lowered, and one that is too low isn't raised.
 awk 'NR == 1 { $1 += 5 } NR == 2 { $1 -= 1 } { print }' "$ceilings" > "$work/other"
 "$count" --lower "$work/other" || failed=1
 "$count" --lower "$work/lower" || failed=1

@@ -1,5 +1,7 @@
 #!/usr/bin/env bash
-# The set in demo/, one of whose volumes is damaged, against independent readings of the same bytes.
+# If this fails, parv may misread a set that is partly damaged.
+#
+# It compares parv with the independent models on the set in demo/, one of whose volumes is damaged.
 . "$(dirname "$0")/with/wants.sh"
 cd "$top/demo" || exit 1
 

@@ -1,6 +1,9 @@
 #!/usr/bin/env bash
-# Allocations of runs that are refused in turn, at most kinds of end, also where an opening, a read or a write
-# fails too; each end leaves nothing behind. (More sets: refused_sets.sh, refused_tails.sh.)
+# If this fails, parv may crash or give a wrong answer when it can't get memory.
+#
+# Runs are repeated, and each repetition refuses the next allocation. This covers most kinds of end, also when an
+# opening, a read or a write fails in addition. Each end must leave no file open and no memory taken. (refused_sets.sh
+# and refused_tails.sh have more sets.)
 . "$(dirname "$0")/with/disturbing.sh"
 head -c 92 v.par2 > main.par2
 mkdir grown
@@ -22,7 +25,7 @@ disturb REFUSE find --limit 1 --cursor 2:$set:$list:0:2:1 -B d v.par2 x.bin
 disturb REFUSE find --limit 1 v.par2 x.bin y.bin x.bin
 disturb REFUSE verify v.par2 x.bin
 disturb REFUSE verify -q v.par2 y.bin
-# Ends at a fault of another kind.
+# Runs that end with an error other than out of memory.
 disturb REFUSE packets none.par2
 disturb REFUSE find v.par2 w.par2 x.bin none.bin
 disturb REFUSE find v.par2 x.bin .
@@ -40,7 +43,7 @@ disturb REFUSE --help
 disturb REFUSE packets
 disturb REFUSE verify
 disturb REFUSE
-# The same where a read, an opening or a write fails too: memory is then also refused to the line of that.
+# A read, an opening or a write fails in addition, so memory may also be refused to the message about that.
 FAIL_READ=2 disturb REFUSE packets v.par2 w.par2
 CUT_READ=1 disturb REFUSE set v.par2 w.par2
 FAIL_READ=3 disturb REFUSE find v.par2 x.bin y.bin

@@ -1,7 +1,9 @@
 #!/usr/bin/env bash
-# Allocations that are refused in turn over more sets: a packet inside another, a recovery slice that stands
-# twice and none, places with equal slices, a set of some hundred packets, and that of the demonstration; and those of
-# an index that a survey makes on its way.
+# If this fails, parv may crash or give a wrong answer when it can't get memory.
+#
+# Like refused.sh, over more sets: with a packet inside another, with no recovery slice or the same one twice, with
+# offsets at which equal slices are found, with hundreds of packets, and the set of the demonstration. It also refuses
+# the allocations of an index that the survey makes on its way.
 . "$(dirname "$0")/with/disturbing.sh"
 "$tools/make/packet_files.py" sets > made || exit 1
 printf 'abcd' > a.bin
@@ -22,8 +24,8 @@ cp "$top"/demo/* demo
 disturb REFUSE verify -B demo demo/*.par2 demo/*.raw
 
 # The survey of these four slices replaces its index by a smaller one each time it has compared more than 4 / 2 + 1,024
-# windows in vain, and has found more slices. The few zeros, and the few zeros and ones, have less of them; the many zeros have enough for one
-# smaller index, and the many zeros and ones for two.
+# windows in vain and has found more slices. The files in `few` have fewer windows than that. In `many`, the zeros are
+# enough for one smaller index, and the zeros and ones for two.
 mkdir repeats few many
 head -c 4 /dev/zero > repeats/zeros
 printf '1111' > repeats/ones
@@ -37,9 +39,9 @@ for length in few/500 many/9000; do
     { cat "$folder/zeros"; tr '\0' 1 < "$folder/zeros"; } > "$folder/both"
 done
 
-# survey INDEXES FILE..: each allocation of a run over the few is refused in turn, and of the run over the many, which
-# differs by these indexes alone. So it takes more memory, the same for each of them, and the refusals of this change
-# nothing: no more of them end the run.
+# survey INDEXES FILE..: refuses each allocation of a run over the files in `few` in turn, and of a run over those in
+# `many`, which differs only by these smaller indexes. The second run must allocate more, by the same number for each
+# index. A refusal of these allocations must change nothing: as many refusals end the run as before.
 survey() {
     local indexes=$1 folder line places=() ended=() more
     shift

@@ -1,6 +1,8 @@
 #!/usr/bin/env bash
-# Allocations that are refused in turn where tails are looked for: before other bytes, several slices at one place,
-# and as many lengths as may be.
+# If this fails, parv may crash or give a wrong answer when it can't get memory.
+#
+# Like refused.sh, with --tails: tails before other bytes, several slices at one offset, and the greatest number of
+# lengths.
 . "$(dirname "$0")/with/disturbing.sh"
 "$tools/make/tail_sets.py" . || exit 1
 

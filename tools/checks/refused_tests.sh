@@ -1,10 +1,14 @@
 #!/usr/bin/env bash
-# Each allocation of each test of parwindow and parfind, and of some tests of others, is refused in turn, or some
-# hundred of them where a test makes more than a thousand: a test passes, or it fails by want of memory, and where what
-# it says then is named, some test says it. With `later` all that come behind are refused too.
-# A crate of tests has its own name before the _tests of its program. The gate leaves these programs; elsewhere
-# there may be none, and then nothing is run. The other tests, whose refusals are tried on the built program, give
-# back what they take.
+# If this fails, the libraries may crash, or give a wrong answer, when they can't get memory.
+#
+# It runs the tests of parwindow and parfind, and some tests of other crates, and refuses each allocation of a test in
+# turn (about a hundred of them, spread evenly, if the test makes more than a thousand). A test must pass, or fail
+# because it is out of memory. In mode `later`, all allocations after the refused one are refused too; in mode `none`,
+# none is. Each message in the last column of the table below must come from some test.
+#
+# The test programs are crates/NAME/out/NAME_tests. The gate leaves them; without the gate there may be none, and then
+# nothing is run. All tests of packets_tests and runs_tests must at least give back the memory that they take; the
+# checks of the built program cover their refusals.
 . "$(dirname "$0")/with/wants.sh"
 gcc -shared -fPIC -O1 -o "$work/disturb.so" "$tools/disturb/disturb.c" -ldl || fails "no compiler"
 while IFS='|' read -r crate mode word told; do

@@ -1,7 +1,9 @@
 #!/usr/bin/env bash
-# A reopening gives its window up before it takes another: one of 4 MiB, with the room of 6 MiB beside what a
-# small test takes, and not with that of 2 MiB. The gate leaves the tests; elsewhere there may be none, and then
-# nothing is run.
+# If this fails, a program of yours that reopens a search with the library parfind may need memory for two windows.
+#
+# A reopening must free the window of one finder before the next one takes its own. A test with a window of 4 MiB must
+# pass with 6 MiB more address space than a small test needs, and fail with 2 MiB more. The gate leaves the test
+# program; without the gate there may be none, and then nothing is run.
 . "$(dirname "$0")/with/wants.sh"
 tests=$top/crates/search_tests/out/search_tests_tests
 if [ ! -x "$tests" ]; then
@@ -16,7 +18,7 @@ names=$("$tests" --list | sed -n 's/: test$//p')
 small=$(head -n 1 <<< "$names")
 test=$(grep 'a_reopening_holds_one_window$' <<< "$names")
 
-# Whether a test passes with so many KiB of address space. (That one is ended is told by the shell.)
+# passes TEST KIB: whether the test passes in this address space. (The shell reports a test that was ended by a signal.)
 passes() {
     { (ulimit -v "$2" && exec "$tests" "$1") > "$work/text" 2>&1; } 2> "$said/line"
 }

@@ -1,6 +1,9 @@
 #!/usr/bin/env bash
-# parv-repair on real damage, with a stand-in for par2: what becomes of each file, that nothing is
-# overwritten or lost, that all is left as it was if it fails, is interrupted or refuses a name, and why.
+# If this fails, parv-repair may lose or overwrite a file of yours, or report a repair that it hasn't made.
+#
+# It repairs folders with real damage, with a program that stands in for par2, and compares each file afterwards.
+# Nothing may be overwritten or lost. If the repair fails, is interrupted or refuses a name, all must be as before, and
+# the message must say why.
 . "$(dirname "$0")/with/wants.sh"
 . "$tools/checks/with/rooms.sh"
 cd "$work" || exit 1
@@ -9,12 +12,12 @@ export PAR2=$tools/stand_in/par2.py ORIGINALS=$work/whole GIVEN=$work/given
 script=${repair[0]}
 one_set=$tools/make/one_set.py
 
-# ends NAME STATUS TEXT LINE WORDS..: the command over `room` ends so.
+# ends NAME STATUS TEXT LINE WORDS..: wants the command over `room` to end like this.
 ends() {
     wants "$1" "$2" "$3" "$4" "$script" "${@:5}" room
 }
 
-# fails_with NAME STATUS TEXT LINE WORDS..: it ends so, and all is as it was.
+# fails_with NAME STATUS TEXT LINE WORDS..: wants it to end like this, and all files to be as before.
 fails_with() {
     listed room > before
     ends "$@"
@@ -25,7 +28,7 @@ usage='usage: parv-repair [--dry-run] [--remove-backups] [--set ID] FOLDER'
 say='parv-repair: room:'
 named="$say the name"
 refused_names="$say the set is refused for its names"
-# Its help has its promise, and each option and each exit status at the beginning of a line.
+# Its help has its promise, and has each option and each exit status at the beginning of a line.
 help=$("$script" -h)
 [ "${help%%$'\n'*}" = "$usage" ] || fails "its help begins with ${help%%$'\n'*}"
 grep -q "No bytes that were in the folder are$" <<< "$help" || fails "its help has no promise"
@@ -46,7 +49,7 @@ parv-repair: $usage" "$script" --set
 wants "a folder that isn't there" 6 "" "parv-repair: cannot open none\\x0a: No such file or directory" "$script" $'none\n'
 mkdir room path
 ln -s "$(python3 -c 'import sys; print(sys.executable)')" path/python3
-# That there is no parv is said once, before all else.
+# If there is no parv, that is said once, before everything else.
 for folder in room none; do
     wants "no parv, and the folder $folder" 6 "" \
         "parv-repair: cannot run ./none: put parv in PATH, or name it by PARV" env PARV=./none "$script" $folder
@@ -80,7 +83,7 @@ complete" ""
 whole_now "names that go round"
 if [ ! -s given ]; then echo "ok: no repair where names alone are wrong"; else fails "par2 was called for names"; fi
 
-# The files that par2 gets, and what becomes of damaged ones.
+# The files that par2 gets, and what happens to damaged ones.
 mv room/first.txt room/other
 printf 'ijklXXXX' > room/second.txt
 printf 'kept' > room/second.txt.1
@@ -110,7 +113,8 @@ remove first.txt.1
 complete" "" --remove-backups
 whole_now "a repair without its backups" second.txt.1 kept second.txt.2 ijklXXXX
 
-# Names of any bytes: shown as parv shows them, also if parv takes them only by a link or par2 reads them as others.
+# Names of any bytes are shown as parv shows them, even if parv accepts them only through a link, or par2 reads them
+# differently.
 names=($'line\nfeed\n' ' two  blanks ' -dash --set $'caf\xe9' 'back\slash' 'st*r[x]?' '$(id)`id`"' "it's" '%41' '@' '*' \
     'in a/sub/folder' .hidden 'from a to b' other.par2 $'\xff\n.PAR2')
 words=()
@@ -151,7 +155,7 @@ keep other as other.1
 complete" "$say other.1 has no slice of other that is found without --tails, and stays" --remove-backups
 whole_now "a name that par2 reads as another, and a backup that has no slice of its file" other.1 abcd
 
-# A set that anyone may have made has a file of the folder as an empty one, or as one of which nothing is there.
+# A set that anyone may have made describes a file of the folder as empty, or as one of which no slice is there.
 furnish 4 20 film abcdefgh thesis ""
 printf 'my thesis, of a year' > room/thesis
 ends "a foreign file at the name of an empty one" 0 "make thesis
@@ -164,7 +168,7 @@ keep film as film.1
 complete" "$say film.1 has no slice of film that is found without --tails, and stays" --remove-backups
 whole_now "a foreign file at the name of another" thesis.1 'my thesis, of a year' film.1 'my film, of a year'
 
-# Two files of one content, and empty files.
+# Two files with the same content, and empty files.
 furnish 4 0 one same-same two same-same three "" four other
 fails_with "files of one content, and an empty one" 0 complete ""
 mv room/one room/x
@@ -186,7 +190,7 @@ ends "a file of one content for two" 0 "rename x to two
 copy x to one
 complete" ""
 
-# Slices that parv sees and par2 does not, by --tails: those of other files, put together.
+# Slices that parv finds with --tails and par2 doesn't find: they are in other files, put together.
 furnish 8 1 long abcdefghijklmnopqrstuvwxyz short 01234
 { printf 'Some text. '; cat room/long; printf ' and '; cat room/short; printf ' behind it'; } > room/image
 rm room/long room/short
@@ -204,7 +208,7 @@ rm room/long room/short
 printf 'Some text. abcdefghijklmnopqrst0123' > room/image
 fails_with "not enough, and not with --tails either" 2 "" "$say not enough for a repair: need 3 have 1"
 
-# A repair that fails: all is as it was.
+# After a repair that fails, all is as before.
 furnish 4 5 first.txt abcdefgh second.txt ijklmnop third.txt qrst 'sub/in sub' uvwx
 mv room/second.txt room/first.txt
 mv 'room/sub/in sub' room/other
@@ -231,7 +235,7 @@ ends "after that" 0 "rename x to first.txt
 complete" ""
 whole_now "after that"
 
-# Names that are refused, whatever else could be done; what lies there stays as it is.
+# Some names are refused, whatever else could be repaired. The files at these paths stay as they are.
 printf 'abcdefgh' > content
 refused() {
     local name=$1 shown=$2
@@ -239,7 +243,7 @@ refused() {
     "$one_set" room/set.par2 4 5 whole bad.txt "$name"
     mv room/good.txt room/x
     mv room/bad.txt room/y
-    # The file may be repaired, or have another name, or be there.
+    # The file could be repaired, or renamed, or is there already.
     fails_with "a name that is refused: $shown" 4 "" "$named $shown is refused: $3
 $refused_names"
     rm room/y
@@ -264,7 +268,7 @@ refused .verify_and_repair/moves .verify_and_repair/moves "$own"
 refused $'../\xff\n' '../\xff\x0a' "$out"
 [ "$(find "$work" -maxdepth 1 -newer content | grep -c outside)" -eq 0 ] || fails "something was written elsewhere"
 
-# Other things at a name, or on the way to it.
+# Something other than a regular file is at a name, or on the way to it.
 furnish 4 5 good.txt ijkl 'sub/bad.txt' abcdefgh
 mv room/good.txt room/x
 mkdir outer
@@ -299,7 +303,7 @@ ln -s "$work/outer/set.par2" room/set.par2
 fails_with "packet files that are links" 3 "" "$say set.par2 is a link, and isn't read
 $say no packet file"
 
-# Names of which not both can be there, or that are too long.
+# Names that can't exist side by side, or that are too long.
 furnish 4 5 one abcdefgh two ijkl
 for name in one/two "$(printf 'x%.0s' $(seq 300))"; do
     "$one_set" room/set.par2 4 5 whole two "$name"
@@ -316,7 +320,7 @@ for name in one/two "$(printf 'x%.0s' $(seq 300))"; do
     cp whole/* room
 done
 
-# Several sets in a folder, of which one is chosen; what has a name of the other keeps it.
+# Several sets in a folder, of which one is chosen. A file that has a name of the other set keeps it.
 furnish 4 5 first.txt abcdefgh
 mkdir two
 printf 'abcdefgh' > two/second.txt
@@ -339,7 +343,7 @@ rm room/second.txt
 ends "a set behind another in one packet file" 0 "repair first.txt
 complete" "" --set "$id"
 
-# Files and folders that one who isn't root can't read or write.
+# Files and folders that a user who isn't root can't read or write.
 user=()
 [ "$(id -u)" -ne 0 ] || user=(setpriv --reuid 65534 --regid 65534 --clear-groups)
 furnish 4 5 first.txt abcdefgh second.txt ijkl

@@ -1,6 +1,8 @@
 #!/usr/bin/env bash
-# Sets that a repair once failed at, or took too long for: two sets that share names, an empty file, names that par2
-# writes in other ways, many long names of unprintable bytes, and a subfolder on another file system.
+# If this fails, a repair may fail, or take too long, for sets like those that were once a problem.
+#
+# These are: two sets that share names, an empty file, names that par2 writes differently, many long names of
+# unprintable bytes, and a subfolder on another file system.
 . "$(dirname "$0")/with/wants.sh"
 . "$tools/checks/with/commands.sh"
 . "$tools/checks/with/rooms.sh"
@@ -10,7 +12,8 @@ one_set=$tools/make/one_set.py
 stand_in=$tools/stand_in/par2.py
 real=$(type -P par2) || echo "not run: repairs by par2 itself: it isn't installed"
 
-# ends NAME STATUS LAST WORDS..: a command over `room` ends so, with this last line, and no other message.
+# ends NAME STATUS LAST WORDS..: wants a command over `room` to end with this status and last line, and without a
+# message.
 ends() {
     local name=$1 status=$2 last=$3
     shift 3
@@ -23,7 +26,7 @@ ends() {
     fi
 }
 
-# Two sets of logs that were rotated in between: log.1 of the first week is log.2 of the second.
+# Two sets of logs, with a rotation in between: log.1 of the first week is log.2 of the second.
 rm -rf room week1 week2
 mkdir room week1 week2
 printf 'the first week' > week1/log.1
@@ -41,7 +44,7 @@ whole_now "a name of another set: a file that is copied and makes way" log.1.1 '
 ends "once more" 0 complete "${repair_set[@]}" "$id"
 ends "once more, as a trial" 0 complete "${repair_set_dry[@]}" "$id"
 
-# repaired NAME FILE WORDS..: of `room`, in which this file of `whole` is damaged, all is complete then.
+# repaired NAME FILE WORDS..: wants `room`, in which this file of `whole` is damaged, to be complete after the repair.
 repaired() {
     local name=$1 file=$2 par2
     for par2 in "$stand_in" ${real:+"$real"}; do
@@ -75,7 +78,7 @@ mkdir 'whole/Wait...'
 tail -c 4000 "$parv" > 'whole/Wait.../one.mp3'
 repaired "a damaged file below a folder 'Wait...'" 'Wait.../one.mp3'
 
-# 40 names of 3.8 KB of unprintable bytes, 20 folders deep; a second of the processor is plenty for one.
+# 40 names of 3.8 KB of unprintable bytes, 20 folders deep. A second of processor time must be enough.
 rm -rf room
 mkdir room
 PYTHONPATH=$tools python3 "$tools/checks/repairs_names.py"
@@ -83,7 +86,7 @@ ends "long names of unprintable bytes" 0 complete bash -c 'ulimit -t 40 && exec 
 [ "$(find room -type f -empty | wc -l)" -eq 40 ] || fails "long names of unprintable bytes: not each file was made"
 ends "long names of unprintable bytes that are there" 0 complete bash -c 'ulimit -t 40 && exec "$@"' - "${repair[@]}"
 
-# A subfolder that is another file system: a file that is moved there would be copied.
+# A subfolder on another file system: a file that is moved there would have to be copied.
 if can_mount "a subfolder on another file system"; then
     furnish 4 0 sub/first.txt abcdefgh second.txt ijklmnop
     mv room/sub/first.txt room/stray

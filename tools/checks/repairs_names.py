@@ -1,4 +1,5 @@
-"""Writes the set of 40 empty files with long names of bytes that are not shown, in room."""
+"""For repairs.sh, which protects repairs that were once a problem: writes into `room` the set of 40 empty files with
+long names of unprintable bytes."""
 from make.packets import desc_body, file_id, main_body, set_of
 deep = b"\xff" * 200 + b"/" + (b"\xfe" * 200 + b"/") * 18
 names = [deep + b"%05d" % number for number in range(40)]

@@ -1,20 +1,22 @@
 #!/usr/bin/env bash
-# parv-rescue: what it copies out of files is compared with the originals by an independent search, and
-# the holes that it lists; images of discs, with short last slices where they are expected, decoys in their place, and
-# some elsewhere; runs that go on, that were stopped, or have other files; slices that are seen at each offset.
+# If this fails, parv-rescue may copy wrong bytes out of a disc image, or miss bytes that are there.
+#
+# Its copies, and the holes that it lists, are compared with the originals by an independent search. There are images of
+# discs whose short last slices are at the expected places, elsewhere, or replaced by decoys; runs that continue an
+# earlier one, that were stopped, or that have other files; and slices that are found at each offset.
 . "$(dirname "$0")/with/wants.sh"
 cd "$work" || exit 1
-export PARV=$parv TMPDIR=$said      # a kill leaves links there
+export PARV=$parv TMPDIR=$said      # a killed run leaves links there
 extract=$top/commands/bin/parv-rescue
 demo=$top/demo
 record=.parv-rescue
 
-# leaves NAME FOLDER: the folder has the files of `wanted`, and the record.
+# leaves NAME FOLDER: wants the folder to have the files of `wanted`, apart from the record.
 leaves() {
     diff -r --exclude=$record "$2" wanted > differ 2>&1 || fails "$1: $(head -c 300 differ)"
 }
-# extracts NAME STATUS COPIED ORIGINALS FOLDER [--tails] FILES: the files and lines of the independent search, and without
-# --tails a line for the short slices that are missing.
+# extracts NAME STATUS COPIED ORIGINALS FOLDER [--tails] FILES: wants the files and lines of the independent search and,
+# without --tails, a line about the missing short slices.
 extracts() {
     local name=$1 status=$2 copied=$3 originals=$4 folder=$5 tails=() line=
     shift 5
@@ -33,8 +35,8 @@ extracts() {
     leaves "$name" "$folder"
 }
 
-# Some zeros, a file whose last slice is a byte further on, the end of another at other places, one that was damaged, and
-# a short one.
+# The image has zeros, a file whose last slice is one byte further on, the end of another file at a different alignment,
+# a damaged file, and a short file.
 {
     head -c 20000 /dev/zero
     head -c 19456 "$demo/beach.raw"
@@ -53,7 +55,7 @@ extracts "the same with --tails" 1 33 "$demo" out --tails "${words[@]}"
 grep -q '^hole ' lines || fails "there is no hole"
 extracts "with --tails where the rest is there" 1 1 "$demo" 'out 1/in' --tails "${words[@]}"
 
-# The calls of parv, and those that are made again.
+# Records the calls of parv, so that repeated ones are seen.
 cat > logs << 'END'
 #!/bin/sh
 echo "$*" >> "$calls"
@@ -68,7 +70,7 @@ if grep -q '^set ' calls && ! grep -q '^find ' calls; then
 else
     fails "parv was asked $(cat calls)"
 fi
-# The rest in another file.
+# The remaining slices are in another file.
 head -c 4000 "$demo/harbour.raw" > more.bin
 cat "$demo/tower.raw" >> more.bin
 rm -rf wanted
@@ -101,7 +103,7 @@ complete notes.txt
 complete tower.raw
 slices 38/38, copied now 38" "" "$extract" --tails joined.out "$demo/photos.par2" joined
 
-# Images of discs: all files whole, by short slices at the places where they are expected.
+# Images of discs: all files are whole, and their short slices are at the expected places.
 "$tools/make/rescue_discs.py" . || exit 1
 image=(disc.par2 disc.img)
 rm calls
@@ -118,7 +120,7 @@ fi
 sed -i '/^slice/d; s/^at expected/at plain/' "disc out/$record"
 extracts "a search of an earlier version is done once more" 0 19 disc "disc out" "${image[@]}"
 PARV=$work/logs extracts "and not once more" 0 0 disc "disc out" "${image[@]}"
-# Decoys where they are expected.
+# There are decoys at the expected places.
 decoys=(disc.par2 decoys.img)
 extracts "one with the same CRC-32, and one with another byte" 1 17 disc decoys "${decoys[@]}"
 extracts "the same with --tails" 1 0 disc decoys --tails "${decoys[@]}"
@@ -134,7 +136,7 @@ gives "it has them in a later run" 0 lines "" "$extract" later disc.par2 again.i
 extracts "one with another CRC-32" 1 18 disc crc other_crc.par2 disc.img
 extracts "the same with --tails" 1 18 disc crc_tails --tails other_crc.par2 disc.img
 extracts "one far behind the slice that is there" 1 2 disc gap disc.par2 gap.img
-# More lengths than parv looks for with --tails, unless it is for a few of them.
+# More different lengths than parv looks for with --tails; it can look only for a few of them.
 cat > sorts << 'END'
 #!/bin/bash
 "$@" | sort
@@ -153,12 +155,12 @@ $(seq -f 'hole 400 %g' 300 | awk '{ printf "%s %03d\n", $0, $3 }' | sort)
 slices 300/600, copied now 300" "" ./sorts "$extract" none many.par2 no_lasts.img
 wants "too many lengths are missing, with --tails" 4 "" "parv-rescue: no usable set: too many tails" \
     "$extract" --tails none many.par2 no_lasts.img
-# After the end of a file, if zeros would make the slice whole.
+# The image ends within the slice or before it. The bytes that are missing there are zeros of the slice.
 extracts "the file ends within a slice" 1 1 cut cut_within cut.par2 cut.img
 extracts "the file ends before a slice" 1 1 cut cut_before cut.par2 cut_off.img
 extracts "the same with --tails" 1 0 cut cut_before --tails cut.par2 cut_off.img
 
-# Stopped: parv ends after 9 lines, or the command is killed while it waits for more.
+# Stopped runs: parv ends after 9 lines, or the command is killed while it waits for more.
 cat > ends << 'END'
 #!/bin/bash
 [ "$1" = find ] || exec "$parv" "$@"
@@ -191,7 +193,7 @@ head -c -3 killed/$record > short && cat short > killed/$record
 extracts "it goes on behind the last whole line of its record" 1 0 "$demo" killed --tails "${words[@]}"
 extracts "and once more" 1 0 "$demo" killed --tails "${words[@]}"
 
-# A slice is copied if its bytes are still there, and not if they were there.
+# A slice is copied if its bytes are there when they are copied, and not if they were there only when parv read them.
 cat > shifts << 'END'
 #!/bin/bash
 [ "$1" = find ] || exec "$parv" "$@"
@@ -213,7 +215,7 @@ complete notes.txt
 complete tower.raw
 slices 6/38, copied now 1" "" "$extract" --tails changed "$demo/photos.par2" notes tower
 
-# Slices that are seen at many offsets, whole ones and short ones, an empty file, and one without known sums.
+# Full-length and short slices that are found at many offsets, an empty file, and a file whose slices have no checksums.
 "$tools/make/rescue_sets.py" . || exit 1
 for tails in "" --tails; do
     rm -f calls
@@ -227,7 +229,7 @@ for tails in "" --tails; do
         fails "they take $searches searches"
     fi
 done
-# Begun again at each sighting of a slice that is there.
+# The same when the search begins again after each match of a slice that is already there.
 script=$extract
 extract=$tools/checks/rescue_anew.py
 for tails in "" --tails; do
@@ -236,8 +238,8 @@ for tails in "" --tails; do
         1 21 repeated "again$tails anew" $tails repeated.par2 repeated.img
 done
 extract=$script
-# Half a GiB of zeros, of which parv would take an MD5 of 64 KiB at each offset, before a file and after it; one slice
-# of that has another byte.
+# Half a GiB of zeros surrounds a file. parv would take an MD5 of 64 KiB at each offset in them. One slice of the file
+# has a changed byte.
 mkdir large
 { head -c 300000 /dev/zero; head -c 100000 "$parv"; head -c 200000 /dev/zero; printf 'end'; } > large/zeros
 PYTHONPATH=$tools python3 "$tools/checks/rescue_large.py"
@@ -258,7 +260,7 @@ else
     fails "the file takes $(stat -c '%b blocks for %s bytes' zeros/zeros)"
 fi
 
-# All slices are there, and the file isn't that of the set.
+# All slices are found, but together they aren't the file of the set.
 PYTHONPATH=$tools python3 "$tools/checks/rescue_wrong.py"
 printf 'efgXabcd' > pieces
 wants "a file that isn't that of the set" 1 "wrong wrong 2/2

@@ -1,5 +1,6 @@
 #!/usr/bin/env python3
-"""parv-rescue, which begins a search anew at each match that it has had; `commands` is its folder."""
+"""For rescue.sh, which protects what parv-rescue copies: runs parv-rescue so that it begins its search again after each
+match that it has had. The variable `commands` names the folder of the command's modules."""
 import os
 import sys
 sys.path.insert(0, os.environ["commands"])

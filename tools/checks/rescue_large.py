@@ -1,4 +1,4 @@
-"""Writes large.par2, the set of large/zeros."""
+"""For rescue.sh, which protects what parv-rescue copies: writes large.par2, the set of large/zeros."""
 from make.packets import desc_body, ifsc_body, main_body, set_of
 with open("large/zeros", "rb") as file:
     content = file.read()

@@ -1,7 +1,10 @@
 #!/usr/bin/env bash
-# parv-rescue with packets that anyone may have made: names that lead out of the folder, things that are in it already,
-# links on the way, and things that were put there between two runs. Nothing around it is made or changed, and
-# nothing in it written over. Folders that it doesn't take, words that are none, and files that it can't read.
+# If this fails, somebody's set could make parv-rescue write outside its folder, or overwrite a file there.
+#
+# Anyone may have made the packets: their names lead out of the folder, meet files that are already there or links on
+# the way, or files that somebody put there between two runs. Nothing around the folder may be made or changed, and
+# nothing in it overwritten. It also tries folders that the command refuses, wrong arguments, and files that it can't
+# read.
 . "$(dirname "$0")/with/wants.sh"
 cd "$work" || exit 1
 export PARV=$parv LC_ALL=C
@@ -13,7 +16,7 @@ mkdir room
 "$tools/make/rescue_sets.py" room || exit 1
 cd room || exit 1
 names=(--tails names.par2 names.img)
-# The line about each name that leads elsewhere.
+# The lines about names that lead elsewhere.
 cat > refusals << END
 $PWD/absolute: its name is absolute
 /absolute: its name is absolute
@@ -45,7 +48,7 @@ $(printf 'y%.0s' {1..255})
 back\\\\slash
 END
 
-# All that is around the folder `out`, with its times and contents.
+# Prints everything around the folder `out`, with its times and contents.
 around() {
     find . -path ./out -prune -o ! -path . -printf '%p %y %s %T@ %n %l\n' | sort
     find . -path ./out -prune -o -type f -print0 | sort -z | xargs -0 md5sum
@@ -53,8 +56,9 @@ around() {
 begins() {
     around > "$said/around"
 }
-# tells NAME COPIED COMPLETE [REFUSAL ..]: `out` gets the files of the set, those of this pattern are complete, and
-# what is said of others is this, beside what is said of the names. The files around stay as they are.
+# tells NAME COPIED COMPLETE [REFUSAL ..]: wants `out` to get the files of the set. Those that match the pattern
+# COMPLETE are complete; the refusals are about the others, in addition to those about names. The files around stay as
+# they are.
 tells() {
     local name=$1 copied=$2 complete=$3
     shift 3
@@ -83,7 +87,7 @@ tells "names that lead out of the folder" 20 ".*"
 diff -r --exclude=$record out names || fails "the other files aren't as they were"
 tells "the same once more" 0 ".*"
 
-# A file of the set was begun; at the names of the others there are other things.
+# One file of the set was begun; something else is at the names of the others.
 cp -r names elsewhere
 printf 'mine' > elsewhere/mine
 head -c 1024 names/fine > begun
@@ -111,7 +115,7 @@ rm -r out/late out/in out/way out/both out/-dash 'out/back\slash'
 tells "all of it, once that is gone" 14 ".*"
 diff -r --exclude=$record out names || fails "the other files aren't as they were"
 
-# The file that was begun was replaced or changed.
+# Somebody replaced or changed the file that was begun.
 others="(both.*|in/.*|new.*|way.*|late|y*|-dash|back.*)"
 left="fine: what is in its place isn't what was left there"
 again
@@ -159,7 +163,7 @@ around > "$said/now"
 sed -i '/parv-rescue /d' "$said/around" "$said/now"
 cmp -s "$said/around" "$said/now" || fails "around the folder: $(diff "$said/around" "$said/now")"
 
-# Folders that aren't taken.
+# Folders that the command refuses.
 rm -rf out
 mkdir out
 printf 'mine' > out/mine
@@ -184,7 +188,7 @@ flock 9
 wants "another run at work" 3 "" "$me: another run is at work in out" "$extract" out "${names[@]}"
 exec 9<&-
 
-# A file that can't have its length.
+# A limit on the size of files, below the lengths of two files of the set.
 rm -rf out
 wants "files above a limit" 1 "refused harbour.raw
 refused beach.raw
@@ -195,7 +199,7 @@ $me: refused: harbour.raw: it can't have 12288 bytes: File too large" \
     bash -c 'ulimit -f 8; exec "$@"' - "$extract" out "$top/demo/photos.par2" "$top"/demo/{beach,harbour,tower}.raw \
     "$top/demo/notes.txt"
 
-# Words, and files that can't be read.
+# Wrong arguments, and files that can't be read.
 wants "no files" 3 "" "$me: there is no FOLDER, or there are no FILES
 $usage" "$extract" new
 wants "an option that there isn't" 3 "" "$me: unrecognized arguments: --tail
@@ -219,7 +223,7 @@ for name in ./none parv-that-is-not-there; do
         env PARV=$name "$extract" new names.par2
 done
 [ ! -e new ] || fails "a folder was made for nothing"
-# A name that isn't UTF-8, which parv takes only by a link.
+# A name that isn't UTF-8, which parv accepts only through a link.
 odd=$'\xff\n.img'
 cp "$top/demo/notes.txt" "$odd"
 cp "$top/demo/photos.par2" $'\xff.par2'
@@ -234,7 +238,7 @@ for how in full closed; do
     wants "a $how standard output" 6 "" "$me: cannot write standard output: $why" \
         bash -c "$command" - "$extract" $how "$top/demo/photos.par2" "$top/demo/notes.txt"
 done
-# Its help has its usage first, each option, each exit status, and a call for an image.
+# The help begins with the usage, and has each option, each exit status, and an example with an image.
 help=$("$extract" -h)
 [ "${help%%$'\n'*}" = "${usage#"$me: "}" ] || fails "its help begins with ${help%%$'\n'*}"
 for word in --tails --set 0 1 3 4 6 8 'parv-rescue saved'; do

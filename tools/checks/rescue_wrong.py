@@ -1,4 +1,5 @@
-"""Writes wrong.par2: each slice has its checksums, and the file has the MD5 of another."""
+"""For rescue.sh, which protects what parv-rescue copies: writes wrong.par2. Each slice has its checksums, but the MD5
+of the file belongs to another file."""
 from make.packets import desc_body, ifsc_body, main_body, set_of
 owner = bytes(16)
 with open("wrong.par2", "wb") as out:

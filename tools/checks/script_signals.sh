@@ -1,13 +1,15 @@
 #!/usr/bin/env bash
-# Commands that are ended while parv reads, by a signal of their own or by Ctrl-C: parv ends with them, nothing of theirs
-# stays, and their exit status is that of the signal.
+# If this fails, parv may keep running for hours after you press Ctrl-C, or temporary files may stay.
+#
+# Commands are ended while parv reads, by a signal to the command or by Ctrl-C. parv must end with them, no temporary
+# file may stay, and the exit status must be that of the signal.
 . "$(dirname "$0")/with/wants.sh"
 . "$tools/checks/with/commands.sh"
 . "$tools/checks/with/rooms.sh"
 cd "$work" || exit 1
 export ORIGINALS=$work/whole GIVEN=$work/given PAR2=$tools/stand_in/par2.py
 
-# Three sets with a file that parv reads for hours.
+# Three sets, each with a file that takes parv hours to read.
 furnish 8 5 first.txt abcdefgh second.txt ijklmnop
 rm room/second.txt
 truncate -s 1T room/image
@@ -18,7 +20,7 @@ cp --sparse=always -r room tree/3
 mkdir packets
 truncate -s 1T packets/large.par2
 
-# tells NAME TEXT HOW SIGNAL READERS COMMAND..
+# tells NAME TEXT HOW SIGNAL READERS COMMAND..: wants TEXT from script_signals_ends.py with these arguments.
 tells() {
     rm -rf temporary out parts
     mkdir temporary
@@ -30,7 +32,7 @@ tells() {
     fi
 }
 
-# each_tells TEXT HOW SIGNAL: each command that has parv read for long.
+# each_tells TEXT HOW SIGNAL: does that for each command, while it has parv read for long.
 each_tells() {
     tells "a tree, one by one" "$1" "$2" "$3" 1 "${tree[@]}" tree
     tells "a tree, side by side" "$1" "$2" "$3" 3 "${tree_beside[@]}" 3 tree
@@ -48,7 +50,7 @@ for signal in INT:130 TERM:143 HUP:129; do
 done
 each_tells "begun and goes on" ignored SIGHUP
 
-# A signal at calls by which a temporary folder is made and removed, and a file is made.
+# The signal comes at a call that makes or removes a temporary folder, or makes a file.
 if strace -o trace true 2> "$said/strace"; then
     cp "$top/demo/photos.par2" "$top/demo/beach.raw" .
     for call in mkdir openat unlinkat rmdir; do
@@ -65,7 +67,7 @@ if strace -o trace true 2> "$said/strace"; then
                         "${command[@]}" "${files[@]}" > text 2> line
                 } 2> "$said/ended"
                 status=$?
-                # (It may be over by then, or not have begun.)
+                # (The command may have ended by then, or not yet have begun.)
                 if [[ $status =~ ^(0|1|143)$ ]] && [ -z "$(ls temporary)" ] && ! grep -q Traceback line; then
                     echo "ok: $name: SIGTERM at $call $number: status $status"
                 else

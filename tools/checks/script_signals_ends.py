@@ -1,7 +1,11 @@
-"""Starts a command in a session of its own, sends a signal to it or to all of them once so many parv read, and tells its
-exit status, whether anything of the session goes on, and what stays in TMPDIR.
+"""For script_signals.sh, which protects you from programs and files that stay after Ctrl-C: starts a command in a
+session of its own, and sends it a signal once READERS programs of it read. Prints its exit status, how many programs of
+the session go on, and how many files stay in TMPDIR.
 
-usage: script_signals_ends.py HOW SIGNAL READERS COMMAND..     HOW is `alone`, `all` as by Ctrl-C, or `ignored` as by nohup
+usage: script_signals_ends.py HOW SIGNAL READERS COMMAND..
+
+HOW is `alone` (the signal goes to the command only), `all` (it goes to the whole session, as by Ctrl-C), or `ignored`
+(the command starts with the signal ignored, as by nohup).
 """
 import os
 import signal
@@ -22,7 +26,7 @@ def as_begun():
 
 
 def running(session):
-    """The programs of a session that haven't ended."""
+    """Returns the programs of a session that haven't ended, as pairs of number and arguments."""
     found = []
     for pid in filter(str.isdigit, os.listdir("/proc")):
         try:

@@ -1,7 +1,10 @@
 #!/usr/bin/env bash
-# parv-parts: whole, stopped and resumed, a search finds what the independent search finds. A folder with other files
-# is left as it is, a part that a loss of power has cut isn't taken for a whole one, only one run at a time works in a
-# folder, and a program that isn't parv is reported.
+# If this fails, a search in parts may miss slices or report them twice after it was interrupted, or overwrite files in
+# its folder.
+#
+# parv-parts must find what an independent search finds: in one go, stopped and resumed. It must leave a folder with
+# other files as it is, must not take a part that a power failure has cut for a whole one, must allow only one run in a
+# folder at a time, and must report a program that isn't parv.
 . "$(dirname "$0")/with/wants.sh"
 . "$tools/checks/with/commands.sh"
 . "$tools/checks/with/rooms.sh"
@@ -9,7 +12,7 @@ mkdir "$work/long"
 cd "$work/long" || exit 1
 demo=$top/demo
 
-# A long file: the files of the set, cut at other places and with bytes between.
+# A long file: the files of the set, cut at other offsets and with bytes between them.
 head -c 300000 /dev/zero > 'disc image'
 { cat "$demo/beach.raw"; printf 'x'; tail -c 9001 "$demo/harbour.raw"; } >> 'disc image'
 cat "$demo/tower.raw" "$demo/notes.txt" >> 'disc image'
@@ -29,7 +32,7 @@ for tails in "" --tails; do
         fi
     done
 done
-# Stopped: the last part is gone, and of the one before there is a beginning.
+# The run was stopped: the last part is missing, and the one before it has only its beginning.
 last=$(find parts7 -name '[0-9]*' | wc -l)
 head -c 50 "parts7/$((last - 1))" > parts7/new
 rm "parts7/$last" "parts7/$((last - 1))"
@@ -38,7 +41,8 @@ if "${search[@]}" parts7 7 "${words[@]}" > found 2> told && cmp -s found wanted 
 else
     fails "a search that goes on: $(cmp found wanted 2>&1), $(cat told)"
 fi
-# Other files: a part is not taken up, and a search that is over isn't asked again. A cursor of the first version is.
+# The files have changed: the search isn't resumed from its parts, unless a cursor is of version 1. A search that is
+# over isn't repeated.
 mkdir parts
 cp -r parts7 parts/marked
 rm "parts/marked/$last"
@@ -75,7 +79,8 @@ words=(photos.par2 image)
 "$tools/models/find_slices.py" "${words[@]}" | sed '$d' > wanted
 [ "$(wc -l < wanted)" -gt 30 ] || fails "there is little to find"
 
-# refuses NAME FOLDER: a search in this folder ends with 3 and one line, and all below `room` is as it was.
+# refuses NAME FOLDER: wants a search in this folder to end with 3 and one line, and everything below `room` to be as
+# before.
 refuses() {
     listed room > before
     "${search[@]}" "$2" 100 "${words[@]}" > found 2> told
@@ -104,7 +109,7 @@ if [ $status -eq 3 ] && [ "$(cat room/novel/new)" = 'my novel' ]; then
 else
     fails "no name: status $status, $(cat room/novel/* told)"
 fi
-# (By one who may not write there.)
+# (By a user who may not write there.)
 user=()
 [ "$(id -u)" -ne 0 ] || user=(setpriv --reuid 65534 --regid 65534 --clear-groups)
 mkdir public
@@ -124,7 +129,7 @@ else
     fails "a file as a folder for parts: status $status, $(cat told)"
 fi
 
-# whole NAME FOLDER LIMIT: a search there finds what the independent search finds, once each.
+# whole NAME FOLDER LIMIT: wants a search there to find what the independent search finds, each match once.
 whole() {
     "${search[@]}" "$2" "$3" "${words[@]}" > found 2> told
     local status=$?
@@ -150,7 +155,7 @@ whole "a link \`new\` among parts" linked 5
 [ "$(cat room/elsewhere/thesis)" = 'my thesis' ] || fails "what a link leads to is written"
 { [ -f linked/3 ] && [ ! -L linked/3 ]; } || fails "a part is a link"
 
-# What a loss of power leaves of a part: nothing, a beginning of a line, or whole lines.
+# After a power failure, a part may be empty, have the beginning of a line, or only some of its lines.
 last=$(find empty -name '[0-9]*' | wc -l)
 for part in 1 3 "$last"; do
     for length in 0 5 200 -1; do
@@ -158,14 +163,14 @@ for part in 1 3 "$last"; do
         cp -r empty cut
         truncate -s "$([ $length -ge 0 ] && echo $length || echo $(($(stat -c %s "empty/$part") - 1)))" "cut/$part"
         whole "part $part is cut to $length bytes" cut 5
-        # Once more, with parts that were longer than those before.
+        # The same again, with parts that are longer than the earlier ones.
         cp -r empty/. cut
         truncate -s "$([ $length -ge 0 ] && echo $length || echo $(($(stat -c %s "empty/$part") - 1)))" "cut/$part"
         whole "part $part is cut to $length bytes, and parts are longer then" cut 11
         whole "once more, and all is there" cut 11
     done
 done
-# One part is gone, and a run with longer parts is ended after its first.
+# One part is missing, and a run with longer parts is ended after its first part.
 cp -r empty gap
 rm gap/3
 cat > once << 'END'
@@ -180,7 +185,7 @@ export REAL=$parv BEGUN=$work/begun
 for _ in $(seq 100); do flock -n gap true && break; sleep 0.1; done
 rm begun
 whole "a part that is gone, and a run that was ended" gap 11
-# The words are cut, and so are they where parts are there already.
+# The record of the arguments, `words`, is cut, and there is no part: the search begins again.
 for length in 0 1 20; do
     rm -rf cut
     mkdir cut
@@ -207,7 +212,7 @@ printf 'my own' > "mine/$((last + 1))"
 whole "a number after the last part" mine 5
 [ "$(cat "mine/$((last + 1))")" = 'my own' ] || fails "a file after the last part has gone"
 
-# Two runs in one folder: the first one waits before its second part until the other has ended.
+# Two runs in one folder. Before its second part, the first run waits until the other has ended.
 cat > waits << 'END'
 #!/usr/bin/env bash
 "$REAL" "$@"
@@ -230,7 +235,7 @@ else
 fi
 whole "the same folder once one run has ended" two 7
 
-# One that is ended leaves no parv, and its folder to the next.
+# A run that is ended leaves no parv running, and leaves its folder to the next run.
 truncate -s 1T endless
 "${search[@]}" ended 5 photos.par2 image endless > found 2> told &
 for _ in $(seq 300); do [ ! -e ended/8 ] || break; sleep 0.1; done
@@ -244,7 +249,7 @@ else
     fails "a search that is ended: status $status, $(cat told)"
 fi
 
-# No part comes of a program that writes no last line.
+# A program that doesn't write the last line leaves no part.
 for program in true echo false; do
     PARV=$(type -P $program) timeout 20 "${search[@]}" "no$program" 5 "${words[@]}" > found 2> told
     status=$?

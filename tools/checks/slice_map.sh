@@ -1,7 +1,10 @@
 #!/usr/bin/env bash
-# parv-map: its signs are those of an independent search at every offset, of whole files, damaged ones, and
-# slices that are seen again and again; its widths, colours, pages and drawings, of which one is docs/slice_map.svg;
-# names that lead elsewhere or are markup; files that are there already.
+# If this fails, parv-map may show a slice as found that isn't there, or a name in the set may put a script into its
+# page.
+#
+# Its signs are compared with an independent search at each offset, for whole files, damaged files, and slices that are
+# found again and again. Further tests: widths, colours, pages and drawings (one of these is docs/slice_map.svg); names
+# that lead elsewhere or are markup; and files that exist already.
 . "$(dirname "$0")/with/wants.sh"
 cd "$work" || exit 1
 export PARV=$parv LC_ALL=C
@@ -12,7 +15,7 @@ demo=$top/demo
 set="set 589c76e09f0580b9203c5b64963b8957 size 1024 slices 38"
 legend="# in place  + moved  ? not known  . missing"
 
-# maps NAME [--tails] FILES: the signs are those of the independent search, and what is needed is that of parv verify.
+# maps NAME [--tails] FILES: wants the signs of the independent search, and the numbers of parv verify.
 maps() {
     local name=$1 got needed
     shift
@@ -30,7 +33,8 @@ maps() {
     fi
 }
 
-# Renamed, with a byte more inside, and whole; then with a byte changed, with more behind, cut off, and gone.
+# Files that are renamed, have a byte more inside, or are whole; then files with a changed byte, with more bytes after
+# them, cut off, and missing.
 mkdir photos
 cd photos || exit 1
 cp "$demo"/photos*.par2 "$demo/notes.txt" "$demo/tower.raw" .
@@ -86,7 +90,7 @@ wants "names with their folder, of one that is in place" 0 "$moved" "" "$map" ph
 wants "the name of -B ends in a slash" 0 "$(sed 's/2 moved/2 in place/; s/++/##/' <<< "$moved")" "" \
     "$map" --base renamed/ photos/photos.par2 renamed/beach.raw
 
-# Slices that are seen at many offsets, and files whose sums aren't known.
+# Slices that are found at many offsets, and files whose slices have no checksums.
 "$tools/make/rescue_sets.py" . || exit 1
 cd repeated || exit 1
 for tails in "" --tails; do
@@ -108,7 +112,7 @@ truncate -s 2400 renamed
 maps "sums that aren't known, of a file that was cut" ../repeated.par2 renamed ends
 cd "$work" || exit 1
 
-# Widths. Of twenty slices in eight cells each shows the worst of two or three.
+# Widths. If twenty slices have eight cells, each cell shows the worst of its two or three slices.
 head -c 7000 "$demo/beach.raw" > photos/beach.raw
 head -c 6144 "$demo/beach.raw" | tail -c 3072 > 'a disc'
 tail -c +8193 "$demo/beach.raw" | head -c 1024 >> 'a disc'
@@ -156,7 +160,7 @@ for columns in 7 30 79; do
     done
 done
 
-# Colours on a terminal alone, whose width is taken.
+# Only a terminal gets colours, and its width is used.
 cat > painted << 'END'
 set 589c76e09f0580b9203c5b64963b8957 size 1024 slices 38
 [32m#[0m in place
@@ -199,7 +203,7 @@ else
     echo "not run: there is no script"
 fi
 
-# The drawing in docs/ is that of demo/ with a file renamed, one damaged, and one missing.
+# The drawing in docs/ shows demo/ with one file renamed, one damaged, and one missing.
 mkdir drawn
 cd drawn || exit 1
 cp "$demo"/photos.par2 "$demo"/photos.vol00+1.par2 "$demo/beach.raw" .
@@ -232,7 +236,7 @@ for text in 38 "harbour.raw: 12 moved" "slice 3: moved, in ./port.raw at 3072" "
     "slice 1: missing" "slice 0: in place" "24 in place, 12 moved, 2 missing; need 2 have 1"; do
     grep -qxF "$text" read || fails "neither page nor drawing has $text"
 done
-# Neither writes over what is there.
+# Neither option overwrites a file that exists.
 cp page.html kept
 printf 'mine' > mine
 ln -s mine link
@@ -246,7 +250,7 @@ done
 wants "a folder that isn't there" 6 "" "$me: cannot write none/page.html: No such file or directory" \
     "$map" --html none/page.html photos.par2
 
-# Names that are markup or lead elsewhere; what they lead to isn't opened, though a FIFO is there.
+# Names that are markup or lead elsewhere. parv-map doesn't open what they lead to, which would be a FIFO.
 PYTHONPATH=$tools python3 "$tools/checks/slice_map_names.py"
 rm page.html drawing.svg
 cd odd || exit 1
@@ -262,7 +266,7 @@ else
     fails "odd names: status $status $(cat line) $(head -c 600 text)"
 fi
 
-# Words, and files that can't be read.
+# Wrong arguments, and files that can't be read.
 usage="$me: usage: $me [--tails] [--set ID] [-B DIR] [--width N] [--html FILE] [--svg FILE] FILES"
 wants "no files" 3 "" "$me: there are no FILES
 $usage" "$map"
@@ -279,12 +283,12 @@ cp "$demo/notes.txt" ./-notes
 "$map" photos.par2 ./-notes > text
 gives "names that begin with a dash, after --" 0 text "" "$map" -- -photos.par2 -notes
 gives "an option between names" 0 text "" "$map" photos.par2 --width 80 -- -notes
-# That there is no parv is said before all else.
+# If there is no parv, that is said before everything else.
 for name in ./none parv-that-is-not-there; do
     wants "no program: $name" 6 "" "$me: cannot run $name: put parv in PATH, or name it by PARV" \
         env PARV=$name "$map" --svg drawing.svg photos.par2 none.raw
 done
-# Its help has its usage first, each option, and each exit status.
+# The help begins with the usage, and has each option and each exit status.
 help=$("$map" -h)
 [ "${help%%$'\n'*}" = "${usage#"$me: "}" ] || fails "its help begins with ${help%%$'\n'*}"
 for word in --tails --set -B --width --html --svg 0 3 4 6 8; do

@@ -1,4 +1,5 @@
-"""Writes odd.par2 and its files, whose names are markup or lead elsewhere."""
+"""For slice_map.sh, which protects you from names in a set: writes odd.par2 and its files. Their names are markup, or
+lead elsewhere."""
 import os
 from make.packets import desc_body, file_id, ifsc_body, main_body, set_of
 names = [b"<script>alert('1')</script>", b"a&b\"c\".bin", b"\x1b[31mred\n", os.path.realpath(b"fifo"), b"../odd/fifo"]

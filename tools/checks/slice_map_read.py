@@ -1,4 +1,5 @@
-"""Reads a page and a drawing: all that is opened is closed, and nothing comes from elsewhere."""
+"""For slice_map.sh, which protects you from names in a set: reads a page and a drawing of parv-map. Each element must
+be closed, and nothing may be loaded from elsewhere. Prints the texts."""
 import html.parser
 import xml.etree.ElementTree
 

@@ -1,12 +1,14 @@
 #!/usr/bin/env bash
-# Tails: short last slices that stand before other bytes are found with --tails alone, in the order of the slices
-# at each place; searches that go on with the flag and without it; verdicts; too many lengths; words that are no plan.
+# If this fails, `--tails` may miss the short last slice of a file inside an image, or report it in the wrong place.
+#
+# Short last slices before other bytes are found only with --tails, in the order of the slices at each offset. Further
+# tests: searches that go on with and without the option, verdicts, too many lengths, and wrong arguments.
 . "$(dirname "$0")/with/wants.sh"
 cd "$work" || exit 1
 export PARV=$parv
 "$tools/make/tail_sets.py" . || exit 1
 
-# sightings FILE [OFFSET:ID:SLICE ..]: their lines, the ID as one of its sixteen equal bytes.
+# sightings FILE [OFFSET:ID:SLICE ..]: prints the lines of these matches. ID is one of the sixteen equal bytes of an ID.
 sightings() {
     local file=$1 sighting offset id slice
     shift
@@ -16,7 +18,8 @@ sightings() {
     done
 }
 
-# finds NAME SET FILE PLAIN TAILS: the sightings without --tails and with it; the independent search has the same.
+# finds NAME SET FILE PLAIN TAILS: wants the matches PLAIN without --tails and TAILS with it, as the independent search
+# has them.
 finds() {
     local name=$1 set=$2 file=$3 words option
     for option in "" --tails; do
@@ -44,7 +47,7 @@ two=2b5d19a47ee4561a2c85b51d7f6d65c4
 three=3fb741695895a858b9947b2d67b83ef3
 two_at=2:$two:$("$tools/models/cursor_texts.py" turned)
 three_at=2:$three:$("$tools/models/cursor_texts.py" abcd)
-# goes_on NAME WORDS FILE [SIGHTING ..] LAST: the lines of `find` with these words, and the last one.
+# goes_on NAME WORDS FILE [SIGHTING ..] LAST: wants these lines from `find` with these words, and the last line.
 goes_on() {
     local name=$1 words=$2 file=$3
     # shellcheck disable=SC2086 # (these are words)
@@ -86,7 +89,7 @@ missing a 1/1
 need 0 have 0
 result possible" "" "$parv" verify --tails three.par2 abcd
 
-# As many lengths as may be looked for, and one more.
+# The greatest number of lengths, and one more.
 many=()
 for length in $(seq 257); do many+=("$(printf %03d "$length")"); done
 "$tools/models/find_slices.py" --tails 256.par2 003 turned 256 > wanted
@@ -111,7 +114,7 @@ wants "257 lengths without --tails" 0 end "" "$parv" find 257.par2 turned
 wants "the verdict on 257 lengths without --tails" 0 "need 0 have 0
 result complete" "" "$parv" verify -q 257.par2 "${many[@]}"
 
-# By disturb.c's account the packet file alone is read.
+# disturb.so reports that only the packet file is read.
 gcc -shared -fPIC -O1 -o disturb.so "$tools/disturb/disturb.c" -ldl || exit 1
 reads() {
     rm -f report

@@ -1,5 +1,7 @@
 #!/usr/bin/env bash
-# Verdicts on the set in demo/, whose lines follow from what was done to its files.
+# If this fails, parv may call a damaged file complete, or say that a repair can be tried when it can't.
+#
+# It damages and renames files of the set in demo/. The expected lines follow from that damage.
 . "$(dirname "$0")/with/wants.sh"
 cd "$top/demo" || exit 1
 

@@ -1,6 +1,8 @@
 #!/usr/bin/env bash
-# parv-watch: the line and the exit status of a check while the files of a set come, and a folder that is checked until
-# its last file is there.
+# If this fails, parv-watch may report a download as complete too early, or never.
+#
+# It compares the line and the exit status of one check while the files of a set arrive, and watches a folder until its
+# last file is there.
 . "$(dirname "$0")/with/wants.sh"
 . "$tools/checks/with/commands.sh"
 cd "$work" || exit 1
@@ -27,7 +29,7 @@ checked "with all files" 0 "complete"
 wants "a folder that isn't there" 6 "" "parv-watch: cannot open none: No such file or directory" \
     "${watch[@]}" none 0 1
 
-# The last file comes while the folder is checked.
+# The last file arrives while the folder is watched.
 mv "$room/tower.raw" tower.raw
 timeout 60 "${watch[@]}" "$room" 0.1 > watched &
 for _ in $(seq 100); do [ -s watched ] && break; sleep 0.1; done
@@ -41,14 +43,14 @@ else
     fails "a folder that is checked: status $status, $(sort -u watched)"
 fi
 
-# Two files of the set, whose last slices are short, in one that begins with neither.
+# One file contains two files of the set, whose last slices are short, and begins with neither.
 mkdir joined
 cp "$demo/photos.par2" "$demo/harbour.raw" joined
 cat "$demo/notes.txt" "$demo/tower.raw" "$demo/beach.raw" "$demo/harbour.raw" > 'joined/disc image'
 wants "a folder with files that are joined" 2 "not enough for a repair: need 3 have 0" "" "${watch[@]}" joined 0 1
 wants "the same with --tails" 1 "a repair can be tried: need 0 have 0" "" "${watch[@]}" --tails joined 0 1
 
-# Its help has its usage first, each option, and each exit status.
+# The help begins with the usage, and has each option and each exit status.
 help=$("${watch[@]}" -h)
 [ "${help%%$'\n'*}" = "usage: parv-watch [--tails] FOLDER [SECONDS [CHECKS]]" ] || fails "its help begins with ${help%%$'\n'*}"
 for word in --tails SECONDS CHECKS 0 1 2 3 4 6 8; do

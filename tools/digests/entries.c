@@ -1,9 +1,11 @@
-/* Runs a program and counts how often each of some places of it is entered: a breakpoint stands at each, and what
-   stood there is run by itself at each stop.
-   Usage: entries COUNTS NAME=ADDRESS[,ADDRESS..].. -- PROGRAM WORD..
-   An ADDRESS is hexadecimal, as `nm` shows it for the program, which is loaded wherever the system likes. The file
-   COUNTS gets a line for each NAME, with how often its places were entered. The exit status is that of the program,
-   124 after a minute of the clock, or 125, with a line, where something else failed. */
+/* Runs a program and counts how often it enters each of some functions. It puts a breakpoint at each address.
+   At each stop it runs the instruction that was there by itself, and goes on.
+
+   usage: entries COUNTS NAME=ADDRESS[,ADDRESS..].. -- PROGRAM WORD..
+
+   An ADDRESS is hexadecimal, as `nm` shows it for the program, wherever the system loads that. The file COUNTS
+   gets a line for each NAME: how often its addresses were entered. The exit status is that of the program, 124
+   after a minute on the clock, or 125, with a line on standard error, if something else failed. */
 #define _GNU_SOURCE
 #include <errno.h>
 #include <stdio.h>
@@ -52,13 +54,13 @@ static void poke(unsigned long at, long word)
         fail("a word can't be written");
 }
 
-/* The word with a breakpoint in its lowest byte. */
+/* Returns the word with a breakpoint in its lowest byte. */
 static long stopping(long word)
 {
     return (word & ~0xffL) | 0xcc;
 }
 
-/* Where the program is loaded: the least address that its file is mapped at. */
+/* Returns where the program is loaded: the least address at which its file is mapped. */
 static unsigned long base_of(const char *program)
 {
     char path[64], line[4096 + 128], whole[4096];
@@ -96,7 +98,7 @@ static void read_places(char **words, int count)
     }
 }
 
-/* Goes on to the next stop with this signal, and answers how the program stopped. */
+/* Runs the program on to its next stop, with this signal, and returns how it stopped. */
 static int go_on(enum __ptrace_request how, long signal)
 {
     int status;
@@ -105,7 +107,7 @@ static int go_on(enum __ptrace_request how, long signal)
     return status;
 }
 
-/* Counts the place at which the program stopped, if it is one of them, and runs what stood there. */
+/* Counts the address at which the program stopped, if it is one of them, and runs the instruction that was there. */
 static int passes_place(int *status)
 {
     struct user_regs_struct now;

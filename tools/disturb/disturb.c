@@ -1,18 +1,27 @@
-/* Preloaded into a program: refuses the allocation whose number stands in REFUSE, or that in REFUSE_LATER
-   and all later ones, fails the opening whose number stands in FAIL_OPEN, the question for a file's kind and
-   length in FAIL_STAT and the read in FAIL_READ, lets the file end at the read in CUT_READ, and of the writes
-   to standard output fails the one in FAIL_WRITE and takes nothing at the one in EMPTY_WRITE, each counted
-   from 1. ERROR is the error's number for an opening, a question, a read or a write that fails (EIO). Where SHORT
-   is a number, no read and no write to standard output or standard error moves more bytes.
-   As the program ends, the file that REPORT names gets one line of eight numbers: 1 where any of that was
-   done (where an allocation is to be refused, 1 where it was), or 0; the allocations that were not given
-   back; the files that were not closed; how many allocations there were; the reads behind the one that
-   failed or ended, and the reads and writes behind the write that failed or took nothing; the writes to
-   standard output; the openings for more than reading; and the reads.
-   The file that CALLS names gets a line for each call on a file, as it is made: `statx PATH FLAGS` or
-   `statx NUMBER FLAGS`, `open PATH FLAGS NUMBER`, `pread NUMBER OFFSET SIZE GIVEN` and `close NUMBER`. NUMBER
-   is that of the opening, from 1 (0: none); FLAGS are hexadecimal; SIZE is what was asked for, and GIVEN what
-   it gave (-1: it failed). */
+/* Disturbs a program and records what it does. It is loaded by LD_PRELOAD, and these variables say what to
+   disturb. Numbers count from 1.
+
+   REFUSE=N         refuses the allocation number N
+   REFUSE_LATER=N   refuses the allocation number N and all later ones
+   FAIL_OPEN=N      fails the opening number N
+   FAIL_STAT=N      fails the question number N about the kind and length of a file
+   FAIL_READ=N      fails the read number N
+   CUT_READ=N       ends the file at the read number N
+   FAIL_WRITE=N     fails the write number N to standard output
+   EMPTY_WRITE=N    takes no byte at the write number N to standard output
+   ERROR=N          the error number of an opening, question, read or write that fails (EIO if it isn't set)
+   SHORT=N          no read, and no write to standard output or standard error, moves more than N bytes
+
+   When the program ends, the file that REPORT names gets one line of eight numbers: 1 if the disturbance
+   happened, or 0 (if an allocation is to be refused, 1 if that happened); the allocations that were not freed;
+   the files that were not closed; the number of allocations; the reads after the one that failed or ended, and
+   the reads and writes after the write that failed or took nothing; the writes to standard output; the openings
+   for more than reading; and the reads.
+
+   The file that CALLS names gets a line for each call on a file, as it is made: `statx PATH FLAGS` or `statx
+   NUMBER FLAGS`, `open PATH FLAGS NUMBER`, `pread NUMBER OFFSET SIZE GIVEN` and `close NUMBER`. NUMBER is that
+   of the opening, from 1 (0 if it failed). FLAGS are hexadecimal. SIZE is the number of bytes requested, and
+   GIVEN the number returned (-1 if the read failed). */
 #define _GNU_SOURCE
 #include <dlfcn.h>
 #include <errno.h>
@@ -24,22 +33,22 @@
 #include <sys/syscall.h>
 #include <unistd.h>
 
-static long refused, later, unopened, unknown, failing, cut, full, empty, most; /* the numbers asked for; 0: none */
-static int error;                               /* the number of a fault */
-static long allocations, opens, stats, reads, writes, done; /* how many there were, and whether one was met */
-static long live, opened;                       /* what is taken and not yet given back */
+static long refused, later, unopened, unknown, failing, cut, full, empty, most; /* N of each variable, or 0 */
+static int error;                               /* the error number of a failure */
+static long allocations, opens, stats, reads, writes, done; /* counts; whether the disturbance happened */
+static long live, opened;                       /* allocations not yet freed, files not yet closed */
 static long changing;                           /* openings for more than reading */
 static long reads_before;                       /* the reads before the write that was disturbed */
-static char early[4096];                        /* dlsym itself asks for a little */
-static int calls = -1;                          /* the file that gets the calls */
-static long numbers[1 << 17];                   /* the number of the opening of each open file */
+static char early[4096];                        /* memory for dlsym, which itself allocates a little */
+static int calls = -1;                          /* the file that CALLS names */
+static long numbers[1 << 17];                   /* for each descriptor, the number of its opening */
 
 static void *next_of(const char *name)
 {
     return dlsym(RTLD_NEXT, name);
 }
 
-/* Writes a line about a call, without a call of the program. */
+/* Writes a line about a call to the file of CALLS, without any of the functions that are recorded here. */
 __attribute__((format(printf, 1, 2))) static void tell(const char *form, ...)
 {
     char line[8192];
@@ -55,7 +64,7 @@ __attribute__((format(printf, 1, 2))) static void tell(const char *form, ...)
     errno = error_before;
 }
 
-/* The number of the opening of a file. */
+/* Returns the place for the number of a file's opening. */
 static long *number_of(int file)
 {
     static long none;
@@ -72,7 +81,7 @@ static int is_refused(void)
     return is_met;
 }
 
-/* Something else was disturbed. */
+/* Notes that the disturbance happened, unless the disturbance is a refused allocation. */
 static void met(void)
 {
     done |= !refused && !later;
@@ -119,7 +128,7 @@ void *realloc(void *old, size_t size)
         return NULL;
     place = next(old, size);
     live += !old && place;
-    live -= old && !size && !place; /* given back */
+    live -= old && !size && !place; /* freed */
     return place;
 }
 
@@ -209,7 +218,7 @@ int close(int file)
     return status;
 }
 
-/* What a read gives. */
+/* Makes a read, or disturbs it, and returns what the program gets. */
 static ssize_t give(int file, void *place, size_t size, off_t offset)
 {
     static ssize_t (*next)(int, void *, size_t, off_t);

@@ -1,18 +1,24 @@
 #!/usr/bin/env bash
-# Disturbs a run of the built program once at each place in turn: REFUSE refuses an allocation, FAIL_OPEN
-# fails an opening, FAIL_STAT a question for a file's kind and length, FAIL_READ a read and FAIL_WRITE a write
-# (by the error ERROR), CUT_READ ends the file at a read, and EMPTY_WRITE takes nothing at a write.
-# The run must end with 8, or with 6 and its line, and what it wrote must be a beginning of the undisturbed
-# text; after a refusal it may also be the undisturbed run, where room was only asked for ahead and then had
-# one by one. Past the last place it is the undisturbed run. Each run gives back every allocation and closes
-# every file, opens none for more than reading, and reads nothing more behind a read that failed or ended.
-# The last line has the lines of openings and reads that failed, each once, in the order in which they came.
-# Where the environment of REFUSE lets a read, an opening or a write fail too, the undisturbed run fails so.
-# SHORT lets every read and every write of a run move at most 1, then 3, then 64 bytes: each is the
-# undisturbed run.
-# Usage: disturb.sh REFUSE|FAIL_OPEN|FAIL_STAT|FAIL_READ|CUT_READ|FAIL_WRITE|EMPTY_WRITE|SHORT ARGUMENTS, in the
-# folder of the files. DISTURB, where it is set, is the library that disturbs, built there by the first that lacks it.
-# BEFORE is a library that is loaded before it.
+# Disturbs one call of a run of the built program, and repeats the run for each call in turn.
+#
+# usage: disturb.sh DISTURBANCE ARGUMENTS, in the folder of the files
+#
+# DISTURBANCE is the name of a variable of disturb.c: REFUSE refuses an allocation; FAIL_OPEN fails an opening,
+# FAIL_STAT a question about a file's kind and length, FAIL_READ a read and FAIL_WRITE a write (by the error ERROR);
+# CUT_READ ends the file at a read; EMPTY_WRITE takes nothing at a write.
+#
+# The run must end with 8, or with 6 and its line, and its text must be a beginning of the undisturbed text. After a
+# refusal it may also be like the undisturbed run, if the memory was only requested ahead and then taken bit by bit.
+# After the last call, it is like the undisturbed run. Each run frees each allocation and closes each file, opens none
+# for more than reading, and reads nothing after a read that failed or ended. If the environment makes a read, an
+# opening or a write fail in addition to REFUSE, the undisturbed run fails in the same way.
+#
+# The last line contains the messages about openings and reads that failed, each once, in the order in which they came.
+# With SHORT, each read and each write moves at most 1, then 3, then 64 bytes, and each run must be like the undisturbed
+# one.
+#
+# DISTURB, if it is set, is the path of the library that disturbs; the first script that doesn't find it there builds
+# it. BEFORE is a library that is loaded before that one.
 set -uo pipefail
 here=$(cd "$(dirname "$0")" && pwd)
 parv=${PARV:-$here/../../crates/parv/out/parv}
@@ -26,7 +32,8 @@ fail() {
     exit 1
 }
 
-# The run that is disturbed at place n (0: nowhere), and what it left: `status`, `text`, `err`, `line` and `met`.
+# run WORDS..: runs the program with the call number n disturbed (0: none). It sets `status`, `line` and `met`, and
+# leaves the files `text` and `err`.
 run() {
     : > "$work/report"
     timeout 20 env "$what=$n" REPORT="$work/report" LD_PRELOAD="${BEFORE-} $library" "$parv" "$@" \
@@ -40,12 +47,12 @@ run() {
     [ "$live $opened" = "0 0" ] || fail "$live allocations not given back, $opened files not closed, status $status"
 }
 
-# Whether the end is the one that the disturbance asks for.
+# ends_so: whether the run ended as the disturbance demands.
 ends_so() {
     case $what in
     REFUSE) [ $status -eq 8 ] && [ "$line" = "parv: out of memory" ] ;;
     FAIL_OPEN | FAIL_STAT)
-        # (nothing is written before all files are open)
+        # (Nothing is written before all files are open.)
         [ -s "$work/text" ] && return 1
         if [ "${ERROR-}" = 12 ]; then
             [ $status -eq 8 ] && [ "$line" = "parv: out of memory" ]

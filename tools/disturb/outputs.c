@@ -1,9 +1,14 @@
-/* Records what a run writes, by LD_PRELOAD: OUTPUTS names a file that gets a line for each write, with the
-   descriptor, how many bytes were given, and how many were taken (-1 if it failed).
+/* Records what a run writes. It is loaded by LD_PRELOAD. The file that OUTPUTS names gets a line for each
+   write: the descriptor, the number of bytes given, and the number of bytes taken (-1 if the write failed).
 
-   WRONG names a fault that a check must see, "first": a text stands before all others on standard output,
-   "last": one stands behind them, "twice": each write is made twice, "half": each is made in two halves,
-   "elsewhere": each is made to descriptor 3 too, "silent": none is made, and all is said to be taken. */
+   WRONG names a bug that a check must notice:
+
+   first      some text comes before everything else on standard output
+   last       some text comes after everything else
+   twice      each write is made twice
+   half       each write is made in two halves
+   elsewhere  each write is also made to descriptor 3
+   silent     no write is made, and each one returns as if it had been */
 #define _GNU_SOURCE
 #include <dlfcn.h>
 #include <fcntl.h>

@@ -1,13 +1,14 @@
 #!/usr/bin/env python3
-"""Refuses each allocation of each test of some crates in turn, or each and all that come later, or none.
+"""Refuses each allocation of each test of a test program in turn, or each and all later ones, or none.
 
 usage: refuse_tests.py LIBRARY one|later|none PROGRAM [WORD [SAID,SAID..]]
 
-LIBRARY is disturb.c, built; PROGRAM is what `rt test` and `rt ci` leave at crates/NAME/out/NAME_tests.
-Of the tests whose names have WORD, each run must pass, or fail and name want of memory: a test that fails
-in any other way saw another answer in its place. What was taken is given back and what was opened is closed,
-also where nothing is refused, and past the last allocation the test passes. A test that takes more than a
-thousand times memory is refused each one hundredth. Each SAID is what some test says that ended so.
+LIBRARY is disturb.c, built. PROGRAM is the program that `rt test` and `rt ci` leave at crates/NAME/out/NAME_tests.
+Only tests whose names contain WORD run. Each run must pass, or fail with a message about being out of memory: a test
+that fails in any other way got a wrong result instead of that error. Each run must free its memory and close its
+files, also if nothing is refused, and a test must pass if the refused allocation is beyond its last one. Of a test
+with more than a thousand allocations, about a hundred are refused, spread evenly. Each SAID must be in the message of
+some run that failed.
 """
 
 import os
@@ -20,7 +21,8 @@ WANT = ("error: AllocError", "Error: AllocError", "error: AllocFailed", "OutOfMe
 
 
 def run(library, program, test, variable, number, folder):
-    """The exit status, what was said, and the report: whether it was refused, what was not given back, taken."""
+    """Returns the exit status, the messages, and the report: whether it refused, how much wasn't freed, how much was
+    taken."""
     report = os.path.join(folder, f"{test}-{number}")
     env = {"LD_PRELOAD": library, variable: str(number), "REPORT": report}
     ran = subprocess.run([program, test], env=env, cwd=folder, capture_output=True, timeout=120)
@@ -35,7 +37,7 @@ def run(library, program, test, variable, number, folder):
 
 
 def refuse(library, program, test, variable, folder):
-    """How many runs there were, how many ended early, and what those said; or what was wrong."""
+    """Returns the number of runs, how many of them failed, and their messages; or a text that says what was wrong."""
     status, said, _, whole, taken = run(library, program, test, variable or "REFUSE", 10**9, folder)
     if status != 0 or whole is None:
         return f"{test} fails undisturbed, or leaves no report: {said[:200]}"
@@ -53,7 +55,7 @@ def refuse(library, program, test, variable, folder):
             return f"{test}, allocation {number}: status {status}, {said[:300]}"
         if not met:
             return f"{test}, allocation {number}: it was not refused"
-        # A failed assert ends a test with no report.
+        # A failed assertion aborts a test without a report.
         if status != -6 and (left is None or left):
             return f"{test}, allocation {number}: {left} allocations and files not given back"
     return runs, ended, ends

@@ -1,6 +1,6 @@
-/* Preloaded into a program, before disturb.c: what the system is asked, and what the program is answered, if
-   disk.rt or what reads by it had the fault that WRONG names, or the system another answer. A run that comes to
-   no place of that name ends with 125, unless UNMET is set. */
+/* Changes calls of the system, as if disk.rt, or the code that reads through it, had the bug that WRONG names,
+   or as if the system gave another answer. It is loaded by LD_PRELOAD, before disturb.c, which records the
+   changed calls. A run that never comes to a place where the bug would show ends with 125, unless UNMET is set. */
 #define _GNU_SOURCE
 #include <dlfcn.h>
 #include <errno.h>
@@ -12,9 +12,9 @@
 #include <unistd.h>
 
 enum { MOST = 1 << 17 };
-static int files[MOST];                         /* what was opened, in order */
+static int files[MOST];                         /* the descriptors that were opened, in order */
 static int count;
-static char last[4096];                         /* the path of the last one */
+static char last[4096];                         /* the path of the last file opened */
 static struct { int file; size_t size; off_t offset; } reads[MOST];
 static int asked, failed;
 static int met;
@@ -79,7 +79,7 @@ int statx(int folder, const char *path, int flags, unsigned mask, struct statx *
     return status;
 }
 
-/* A read, which is kept. */
+/* Makes a read, and keeps its arguments. */
 static ssize_t ask(int file, void *place, size_t size, off_t offset)
 {
     ssize_t (*next)(int, void *, size_t, off_t) = dlsym(RTLD_NEXT, "pread");

@@ -1,1 +1,1 @@
-"""Faults that are planted, and what plants each and runs what must see it."""
+"""Injected bugs, and the programs that inject them and run what must notice them."""

@@ -1,4 +1,4 @@
-"""A fault that can be planted, as its file says; run.py tells how such a file is written."""
+"""An injected bug, as its file describes it. The head of run.py describes these files."""
 
 import glob
 import os
@@ -10,7 +10,7 @@ INDENT = "    "
 
 
 class Misfit(Exception):
-    """Why a fault can't be planted, or isn't written as it must be."""
+    """The reason why a bug can't be injected, or why its file is wrong."""
 
 
 class Fault:
@@ -40,7 +40,7 @@ class Fault:
         return {os.path.join("crates", self.crate, at) for at, _, _ in self.edits}
 
     def planted(self, top):
-        """The texts of its files below this folder, by their paths, with the fault in them."""
+        """Returns the texts of its files below this folder, by path, with the bug in them."""
         texts = {}
         for at, old, new in self.edits:
             path = os.path.join(top, "crates", self.crate, at)
@@ -61,7 +61,7 @@ class Fault:
 
 
 def fields_of(text):
-    """The keys of a file with their values; a line that begins with blanks goes on with the value above."""
+    """Returns the keys of a file with their values. A line that begins with blanks continues the value above it."""
     found = []
     for line in text.splitlines():
         if line.startswith(INDENT) and found:
@@ -73,7 +73,7 @@ def fields_of(text):
 
 
 def parts_of(said):
-    """What says something of a fault: a check with a text, or a crate's test; the text may be empty."""
+    """Splits the name of what notices a bug: a check with a text, or a crate and its test. The text may be empty."""
     what, name, *text = said.split(" ", 2)
     return what, name, text[0] if text else ""
 
@@ -83,7 +83,8 @@ def paths_of(folder=HERE):
 
 
 def misfits(folder):
-    """What is wrong with the faults of a folder: a line for each that doesn't apply, or names what isn't there."""
+    """Returns what is wrong with the files of a folder: a line for each that doesn't apply, or that names something
+    that doesn't exist."""
     with open(os.path.join(TOP, "crates.txt"), encoding="utf-8") as file:
         crates = {line.split(":")[0].split()[0] for line in file if ":" in line}
     lines, known = [], {}

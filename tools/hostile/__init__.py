@@ -1,1 +1,1 @@
-"""Hostile packet files, and the runs of the program over them."""
+"""Hostile packet files, and programs that run parv over them."""

@@ -1,15 +1,15 @@
 #!/usr/bin/env python3
-"""Fuzzes the built program: hostile packet files, and real ones that are damaged, under any words.
+"""Fuzzes the built program, with hostile packet files and damaged real ones, and with any arguments.
 
 usage: fuzz.py [--seed N] [--cases N] [--jobs N] [--keep FOLDER]
 
-Each case, made from the seed and its own number, is some files and one run over them by random
-words: any command, options in their form and out of it, files that are there and that are not. A
-run must end within 20 seconds, by no signal, with a status of 0 to 4, 6 or 8; it must write
-printable ASCII and line feeds alone, and take no more memory than `most_memory` says. FOLDER gets
-the files of the first case that doesn't, and its words. The slowest run and the largest are told.
+Each case follows from the seed and its number. It has some files, and one run over them with random arguments: any
+command, right and wrong options, and files that exist or not. A run must end within 20 seconds, not by a signal, with a
+status of 0 to 4, 6 or 8. It may write only printable ASCII and line feeds, and take at most the memory that
+`most_memory` allows. FOLDER gets the files and arguments of the first case that fails. The slowest run and the one with
+the most memory are reported.
 
-PARV is the program (crates/parv/out/parv). It is run from /dev/shm, where that is there.
+PARV is the program (crates/parv/out/parv). It runs in /dev/shm, if that exists.
 """
 
 import argparse
@@ -20,7 +20,7 @@ import random
 import sys
 from concurrent.futures import ProcessPoolExecutor
 
-sys.path[0] = os.path.dirname(os.path.dirname(os.path.realpath(__file__)))  # tools/, where imports begin
+sys.path[0] = os.path.dirname(os.path.dirname(os.path.realpath(__file__)))  # imports are relative to tools/
 
 from hostile.hostile_files import case, change
 from hostile.runs import TOP, Runner, as_text
@@ -56,7 +56,7 @@ DATA = [data[:6000] for data in read_all("demo/*.raw")] + [b"XXabcdefgh"]
 
 
 def spliced(chance, parts):
-    """Bytes of some parts, one behind the other, some of them from within."""
+    """Returns the bytes of some parts, one after the other, some of them from within a part."""
     whole = b""
     for part in chance.choices(parts, k=chance.choice([1, 1, 2, 3])):
         first = chance.choice([0, 0, chance.randrange(len(part) + 1)])
@@ -65,7 +65,7 @@ def spliced(chance, parts):
 
 
 def files_of(chance):
-    """The files of a case, by name."""
+    """Returns the files of a case, by name."""
     if chance.randrange(5) < 3:
         packet_files, scanned = case(chance)
         if chance.randrange(2):
@@ -79,7 +79,7 @@ def files_of(chance):
 
 
 def cursor_of(chance, owner, marks, numbers, odd):
-    """A cursor of either version, or nearly one."""
+    """Returns a cursor of either version, or a text that is nearly one."""
     parts = [owner, *numbers[:chance.choice([3, 2]) if odd else 3]]
     head = chance.choice([[], ["2"], ["2"], ["3"], ["02"]] if odd else [[], ["2"], ["2"]])
     if head and not (odd and chance.randrange(3) == 0):
@@ -88,7 +88,7 @@ def cursor_of(chance, owner, marks, numbers, odd):
 
 
 def option(chance, command, owners, marks):
-    """An option, mostly one of the command and in its form."""
+    """Returns an option, mostly one of the command and in the right form."""
     owner = chance.choice([*owners, "0" * 32])
     odd = chance.randrange(6) == 0
     numbers = [chance.choice(ODD_NUMBERS if odd else "00123") for _ in range(3)]
@@ -107,7 +107,7 @@ def option(chance, command, owners, marks):
 
 
 def words_of(chance, names, owners, marks):
-    """A command, some options and some of the files, now and then with an odd word among them."""
+    """Returns a command, some options and some of the files, sometimes with an odd word among them."""
     command = chance.choice(COMMANDS if chance.randrange(40) else ODD_WORDS)
     words = [command]
     for _ in range(chance.choice([0, 0, 0, 1, 1, 2, 3])):
@@ -120,7 +120,7 @@ def words_of(chance, names, owners, marks):
 
 
 def window_of(packets, choice):
-    """The slice size of the set where some slice has sums, or 0, and the number of slices."""
+    """Returns the slice size of the set if some slice has checksums, or 0, and the number of slices."""
     try:
         found = set_of(packets, choice)
     except NoSet:
@@ -130,13 +130,13 @@ def window_of(packets, choice):
 
 
 def most_memory(given, packets, size, slices):
-    """The peak in bytes that a run may have: three times the packet files given, the list of their
-    packets, the slices of the set, one window where a slice has sums, and 16 MiB for all else."""
+    """Returns the peak in bytes that a run may have: three times the packet files given, the list of their packets, the
+    slices of the set, one window if a slice has checksums, and 16 MiB for everything else."""
     return 3 * sum(map(len, given)) + PACKET * packets + SLICE * slices + size + 16 * MIB
 
 
 def fault_of(ran, most):
-    """What a run did that it must not, or nothing."""
+    """Returns what a run did wrong, or None."""
     if ran.hung or ran.status not in STATUSES:
         return as_text(ran)
     if set(ran.out + ran.err) - PLAIN:
@@ -147,7 +147,8 @@ def fault_of(ran, most):
 
 
 def chunk(seed, numbers, keep):
-    """Some cases: their statuses, the slowest and the largest run with its case, and the faults."""
+    """Runs some cases. Returns their statuses, the slowest run and the largest one with their cases, and what was
+    wrong."""
     runner, statuses = Runner(), collections.Counter()
     slowest, largest, wrong = (0, 0), (0, 0), []
     for number in numbers:

@@ -3,21 +3,20 @@
 
 usage: hostile.py [--joined | --repeated] [--seed N] [--cases N] [--jobs N] [--keep FOLDER]
 
-Each case is made by the grammar of hostile_files.py from the seed and its own number. `packets` and
-`set`, one of them with --set too, and `find` and `verify`, without --tails and with it, where there
-is a set, now and then also where there is none, must give the status, standard output and standard
-error that list_packets.py, describe_set.py, find_slices.py, tell_states.py and cursor_texts.py have
-by their own reading. Cursors are of both versions, also of another set or of other files, or damaged.
-FOLDER gets a folder with the files of each case that differs. From 1,000 cases on each reason, cause, state
-and result must come, each answer to a cursor, a tail before other bytes, and more tails than may be
-looked for.
+Each case follows from the seed and its number, by the grammar of hostile_files.py. Over its files run `packets` and
+`set`, one of them with --set too; and, if there is a set, `find` and `verify`, without --tails and with it (sometimes
+also if there is no set). Each run must have the status, standard output and standard error of the models:
+list_packets.py, describe_set.py, find_slices.py, tell_states.py and cursor_texts.py. Cursors are of both versions, and
+may be of another set or of other files, or damaged. FOLDER gets a folder with the files of each case that differs. In
+1,000 or more cases, these must all occur: each reason, cause, state and result, each answer to a cursor, a tail before
+other bytes, and more tails than may be looked for.
 
-With --joined the cases are made by the grammar of joined_files.py: files that are joined, as on the image
-of a disc. Only `find` and `verify` run over them, and most runs tell everything. From 1,000 cases on there must
-be some whose short slices are all right after the slice before them, and some with a short slice elsewhere only.
+With --joined, the cases follow the grammar of joined_files.py: files that are joined, as on the image of a disc. Only
+`find` and `verify` run over them, and most runs print everything. In 1,000 or more cases, there must be some whose
+short slices all come right after the slice before them, and some with a short slice that is only elsewhere.
 
-With --repeated they are made by the grammar of repeated_files.py: files whose bytes repeat. From 1,000 cases
-on there must be some in which slices that were found before are met at 2,000 offsets, while others are missing.
+With --repeated, they follow the grammar of repeated_files.py: files whose bytes repeat. In 1,000 or more cases, there
+must be some in which slices that were found before are met at 2,000 offsets, while others are missing.
 
 PARV is the program (crates/parv/out/parv).
 """
@@ -31,7 +30,7 @@ import sys
 from concurrent.futures import ProcessPoolExecutor
 from typing import Callable, NamedTuple
 
-sys.path[0] = os.path.dirname(os.path.dirname(os.path.realpath(__file__)))  # tools/, where imports begin
+sys.path[0] = os.path.dirname(os.path.dirname(os.path.realpath(__file__)))  # imports are relative to tools/
 
 from hostile import hostile_files, joined_files, repeated_files
 from hostile.runs import Runner, as_text
@@ -64,7 +63,7 @@ AGAIN = 2_000           # offsets, more than a survey stops at in vain before it
 
 
 class Grammar(NamedTuple):
-    """What cases are made of, and what must come in a thousand of them."""
+    """The grammar of the cases, and what must occur in a thousand of them."""
     case: Callable
     wanted: str
 
@@ -77,20 +76,20 @@ GRAMMARS = {
 
 
 class Case:
-    """Files of a case, and what the model has of them."""
+    """The files of a case, and what the model says about them."""
 
     def __init__(self, kind, seed, number):
         self.chance = random.Random(f"{seed} {number}")
         self.searched = kind != "hostile"
         self.files, self.scanned = GRAMMARS[kind].case(self.chance)
-        # Whether searches begin at the beginning and are told as a whole.
+        # Whether searches begin at the beginning and are printed as a whole.
         self.whole = self.searched and self.chance.randrange(4) > 0
         self.packets = packets_of(self.files)
         self.owners = sorted({owner for _, _, _, owner, _ in self.packets})
         self.met = collections.Counter()
 
     def set(self, choice):
-        """The set, or the line that tells why there is none."""
+        """Returns the set, or the line that says why there is none."""
         try:
             found = set_of(self.packets, choice)
         except NoSet as cause:
@@ -101,21 +100,21 @@ class Case:
         return found, ""
 
     def choice(self):
-        """A set ID for --set, or none."""
+        """Returns a set ID for --set, or None."""
         if not self.owners or self.chance.randrange(10) == 0:
             return "%032x" % self.chance.getrandbits(128)
         return self.chance.choice(self.owners)
 
 
 class Given(NamedTuple):
-    """How scanned files are given: options, the words that name them, and the names that they have."""
+    """How the scanned files are given: the options, the arguments that name them, and the names that they get."""
     options: list
     words: list
     names: list
 
 
 def given_in(made):
-    """The scanned files of a case, with -B now and then."""
+    """Returns the scanned files of a case, sometimes with -B."""
     names = [name for name, _ in made.scanned]
     if not names or made.chance.randrange(6):
         return Given([], names, names)
@@ -125,7 +124,7 @@ def given_in(made):
 
 
 def words_of(made, command, options, given):
-    """The words of a command over the files of a case."""
+    """Returns the arguments of a command over the files of a case."""
     files = [name for name, _ in made.files]
     between = given.words + files if made.chance.randrange(4) == 0 else files + given.words
     return [command, *options, *given.options, *between]
@@ -153,7 +152,7 @@ def set_run(made, choice):
 
 
 def place_near(made, slices, near):
-    """The numbers of a cursor near one of these sightings, or anywhere."""
+    """Returns the numbers of a cursor near one of these matches, or anywhere."""
     parts = [max(0, part + made.chance.choice([0, 0, 0, 1, -1]))
              for part in made.chance.choice(near or [(0, 0, 0)])]
     if made.chance.randrange(6) == 0:
@@ -163,7 +162,8 @@ def place_near(made, slices, near):
 
 
 def other_mark(chance, names, lengths):
-    """The mark of a list that is mostly another one: files renamed, grown, left out or in another order."""
+    """Returns the fingerprint of a file list that mostly differs: files are renamed, longer, left out or in another
+    order."""
     listed = list(zip(names, lengths))
     at = chance.randrange(len(listed)) if listed else 0
     name, length = listed[at] if listed else (b"x", 0)
@@ -186,7 +186,7 @@ ODD_NUMBERS = ["00", "", "+1", "-0", " 0", "0x0", "1.0", "x", "\u0661", "9" * 30
 
 
 def damaged(chance, text):
-    """A cursor's text with one fault; now and then it is still a cursor."""
+    """Returns a cursor's text with one mistake. Sometimes it is still a cursor."""
     parts = text.split(":")
     at, place = chance.randrange(len(parts)), chance.randrange(len(text) + 1)
     number = chance.randrange(len(parts) - 3, len(parts))
@@ -211,7 +211,7 @@ def damaged(chance, text):
 
 
 def cursor_near(made, found, slices, near, names):
-    """The text of a cursor, mostly of this set and of these files."""
+    """Returns the text of a cursor, mostly of this set and of these files."""
     chance, lengths = made.chance, [len(data) for _, data in made.scanned]
     owner = "0" * 32 if found is None or chance.randrange(6) == 0 else found.id
     marks = [None, None, other_mark(chance, names, lengths), "0" * 32]
@@ -221,7 +221,7 @@ def cursor_near(made, found, slices, near, names):
 
 
 def refused_cursor(made, found, cursor, names):
-    """What a run must give where the cursor isn't one of this set or not of these files; else nothing."""
+    """Returns the expected output of a run if the cursor isn't of this set or these files; otherwise None."""
     cause = None
     if cursor.set != found.id:
         cause = "cursor of another set"
@@ -232,7 +232,7 @@ def refused_cursor(made, found, cursor, names):
 
 
 def refusal(made, command, found, line, tails):
-    """What a run must give where there is no set, or one of too many tails; else nothing."""
+    """Returns the expected output of a run if there is no set, or if it has too many tails; otherwise None."""
     if found is None:
         return 4, b"", text([line])
     if tails and has_too_many_tails(found):
@@ -242,7 +242,7 @@ def refusal(made, command, found, line, tails):
 
 
 def find_run(made, found, line, tails, seen, near):
-    """A search whose sightings are `seen`, from a cursor near one of `near` or from the beginning."""
+    """Returns a search whose matches are `seen`, from a cursor near one of `near` or from the beginning."""
     options, begun, start, limit, given = ["--tails"] * tails, None, (0, 0, 0), None, given_in(made)
     slices = [] if found is None else slices_of(found)
     if not made.whole and made.chance.randrange(2):
@@ -291,7 +291,7 @@ def verify_run(made, found, line, tails, seen):
 
 
 def note_tails(made, found):
-    """Notes how many lengths below the slice size there are to look for."""
+    """Records how many lengths below the slice size are to be looked for."""
     tails = len({own for _, _, own, sums in slices_of(found) if sums and own < found.size})
     made.met["1 tail"] += tails == 1
     made.met["2 to 16 tails"] += 1 < tails <= 16
@@ -300,7 +300,7 @@ def note_tails(made, found):
 
 
 def short_slices(made, found):
-    """The short slices that `verify --tails` looks for: those with checksums, of files that aren't there whole."""
+    """Returns the short slices that `verify --tails` looks for: those with checksums, of files that aren't complete."""
     short, first = set(), 0
     for file in found.files:
         first += file.slices
@@ -311,7 +311,7 @@ def short_slices(made, found):
 
 
 def note_short_slices(made, found, seen):
-    """Notes where these slices are: right after the slice before them in their file, elsewhere only, or nowhere."""
+    """Records where these slices are: right after the slice before them in their file, only elsewhere, or nowhere."""
     slices, short = slices_of(found), short_slices(made, found)
     before = [(place, offset, at) for place, offset, at in seen
               if at + 1 in short and slices[at][0] == slices[at + 1][0]]
@@ -328,7 +328,8 @@ def note_short_slices(made, found, seen):
 
 
 def note_repeats(made, found, seen):
-    """Notes if slices are met at very many offsets where all that are met were found before, and some are missing."""
+    """Records whether slices are met at very many offsets after all of them were found, while other slices are
+    missing."""
     met, again, offsets = set(), 0, collections.defaultdict(list)
     for place, offset, at in seen:
         offsets[place, offset].append(at)
@@ -340,7 +341,7 @@ def note_repeats(made, found, seen):
 
 
 def searches_of(made):
-    """The runs of `find` and `verify`."""
+    """Returns the runs of `find` and `verify`."""
     found, line = made.set(None)
     if found is None and made.chance.randrange(5):
         return []
@@ -363,7 +364,7 @@ def searches_of(made):
 
 
 def runs_of(made):
-    """The words of each run, and the status, output and errors that it must have."""
+    """Returns the arguments of each run, and the status, output and errors that it must have."""
     if made.searched:
         return searches_of(made)
     choice = made.choice()
@@ -378,7 +379,7 @@ def keep_files(made, folder):
 
 
 def chunk(kind, seed, numbers, keep):
-    """Some cases: how many runs there were, what came in them, and how they differ."""
+    """Runs some cases. Returns how many runs there were, what occurred in them, and how they differ."""
     runner, runs, met, wrong = Runner(HUNG), 0, collections.Counter(), []
     for number in numbers:
         made = Case(kind, seed, number)

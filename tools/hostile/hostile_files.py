@@ -1,9 +1,9 @@
-"""A grammar of hostile packet files, which hostile.py and fuzz.py run parv on.
+"""A grammar of hostile packet files, over which hostile.py and fuzz.py run parv.
 
-A case is made from a random.Random and from nothing else: packet files, and files to scan, as pairs
-of name and bytes. The packets of hostile_packets.py get other lengths, hashes, types and set IDs,
-and are cut, changed, repeated, laid over and put into one another. A hash that no longer fits is
-made anew more often than not, so that a change comes as far as what reads the bodies.
+A case follows only from a random.Random. It has packet files, and files to scan, as pairs of name and bytes. The
+packets of hostile_packets.py get other lengths, hashes, types and set IDs, and are cut, changed, repeated, laid over
+and put into one another. If a hash doesn't fit any more, it is usually made again, so that a change gets as far as the
+readers of bodies.
 """
 
 from hostile.hostile_packets import K32, K63, K64, MANY, OTHER_TYPES, packets_of, some_bytes
@@ -17,7 +17,7 @@ SCANNED = [b"s.bin", b"two words", b"back\\slash", "\u00e9".encode(), b"par2"]
 
 
 def places(data):
-    """Each place of the magic."""
+    """Returns each place of the magic."""
     found, at = [], data.find(MAGIC)
     while at >= 0:
         found.append(at)
@@ -26,8 +26,8 @@ def places(data):
 
 
 def make_hashes_anew(data):
-    """Each place of the magic gets the hash that its length asks for, or would ask for by a sum
-    that wraps or an end that is too far; the last place first, since it may lie in a body."""
+    """Gives each packet the hash that fits its length field, or that would fit if a sum wraps around or an end is too
+    far. The last packet comes first, since it may be in a body."""
     for at in reversed(places(data)):
         end = at + int.from_bytes(data[at + 8:at + 16], "little")
         if end > len(data):
@@ -37,7 +37,7 @@ def make_hashes_anew(data):
 
 
 def lengths_at(data, at):
-    """Lengths around the end of the file, and such as wrap to a place inside it."""
+    """Returns lengths around the end of the file, and lengths that wrap around to a place inside it."""
     rest = len(data) - at
     around = [rest + more for more in (-4, -1, 0, 1, 4)] + [rest // 4 * 4, rest // 4 * 4 + 4]
     return around + [K32 + rest, K63 + rest, K64 - at, K64 - at + 64, K64 - at // 4 * 4, K64 - rest]
@@ -83,7 +83,7 @@ def take_out(chance, data):
 
 
 def repeat(chance, data):
-    """A part from one packet to a later one, again and again; rarely some thousand times."""
+    """Repeats a part from one packet to a later one, several times, and rarely some thousand times."""
     begins = [*places(data), len(data)]
     first, last = sorted(chance.choices(begins, k=2))
     part = data[first:last]
@@ -93,7 +93,7 @@ def repeat(chance, data):
 
 
 def lay_over(chance, data):
-    """Headers before a packet, whose bodies hold it whole, or a part of it, or all that comes."""
+    """Puts headers before a packet. Their bodies contain all of it, a part of it, or everything that follows."""
     for _ in range(chance.choice([1, 1, 2, 3, 20])):
         at = chance.choice(places(data) or [0])
         rest = (len(data) - at) // 4
@@ -108,7 +108,7 @@ CHANGES = [other_length, other_length, other_bytes, other_type, other_owner, cut
 
 
 def change(chance, data):
-    """The bytes after some changes."""
+    """Returns the bytes after some changes."""
     data = bytearray(data)
     for _ in range(chance.choice([0, 0, 0, 1, 1, 1, 2, 4])):
         chance.choice(CHANGES)(chance, data)
@@ -118,7 +118,7 @@ def change(chance, data):
 
 
 def is_file_name(name):
-    """Whether a file of this name can stand in a folder and be scanned, and is no option."""
+    """Returns whether a file of this name can be in a folder and be scanned, and isn't an option."""
     try:
         name.decode()
     except UnicodeDecodeError:
@@ -129,7 +129,7 @@ def is_file_name(name):
 
 
 def scanned_of(chance, members):
-    """Files to scan: some of the set as they are or damaged, some of another name, and others."""
+    """Returns files to scan: some of the set, as they are or damaged, some of another name, and others."""
     members = members if len(members) < MANY else chance.sample(members, 4)
     files = []
     for _, name, content in members:
@@ -148,7 +148,7 @@ def scanned_of(chance, members):
 
 
 def case(chance):
-    """The packet files and the files to scan of one case; no two have one name."""
+    """Returns the packet files and the files to scan of one case. No two have the same name."""
     packets, members = packets_of(chance)
     parts = [bytearray() for _ in range(chance.choice([1, 1, 1, 2, 3]))]
     for packet in packets:

@@ -1,7 +1,6 @@
 """Hostile packets, which hostile_files.py puts into files: a grammar of bodies, and sets of them.
 
-Everything is made from a random.Random and from nothing else. Of a body one thing or another stands
-at a bound, or beside it.
+All follows only from a random.Random. In each body, something is at a limit, or close to one.
 """
 
 import struct
@@ -28,7 +27,7 @@ EXPONENTS = [0, 1, 5, 65533, 65534, 65535, 65536, K32 - 1]
 
 
 def some_bytes(chance, count):
-    """Bytes among which slices are often equal."""
+    """Returns bytes in which slices are often equal."""
     return bytes(chance.choices(chance.choice([b"ab", b"abcd\0", b"\0"]), k=count))
 
 
@@ -83,7 +82,7 @@ def slice_of(chance, size):
 
 
 def large_bodies(chance, size, owner):
-    """Bodies at those bounds that make them large, and the bodies of a set around them."""
+    """Returns bodies at the limits that make them large, and the bodies of a set around them."""
     count = MOST + chance.choice([-1, 0, 1])
     most = LIMIT + chance.choice([0, 4])
     many = ids_of(count, 1)
@@ -110,7 +109,7 @@ def large_bodies(chance, size, owner):
 
 
 def nested_creators(length):
-    """So many bytes of headers of Creator packets, each with all that comes for its body."""
+    """Returns headers of Creator packets, of this length in all. The body of each is everything that follows."""
     main = main_body(4, [])
     owner, behind = md5(main), set_of(main)
     data = bytearray(length // 64 * 64) + behind
@@ -121,10 +120,10 @@ def nested_creators(length):
     return bytes(data)
 
 
-# Sets, and files of their packets.
+# Sets, and files with their packets.
 
 def members_of(chance, size):
-    """The files of a set: ID, name and content of each."""
+    """Returns the files of a set: the ID, name and content of each."""
     members = []
     for number in range(chance.choice([0, 1, 1, 1, 2, 2, 3, 5])):
         count = chance.choice([0, 1, size - 1, size, size + 1, 2 * size, 3 * size + 2, 5 * size])
@@ -137,7 +136,7 @@ def members_of(chance, size):
 
 
 def members_with_tails(chance, size):
-    """Files of one slice each, of about as many lengths below the slice size as may be looked for."""
+    """Returns files of one slice each. The number of their lengths below the slice size is near the limit."""
     lengths = chance.sample(range(1, size), chance.choice(TAILS))
     lengths += chance.choice([[], lengths[:2], [size], [size, size]])
     contents = [some_bytes(chance, length) for length in lengths]
@@ -145,7 +144,7 @@ def members_with_tails(chance, size):
 
 
 def bodies_of(chance, size, members):
-    """The bodies of a set, Main first; each may be changed, left out or there twice."""
+    """Returns the bodies of a set, Main first. Each may be changed, left out or repeated."""
     others = ids_of(chance.choice([0, 0, 1, 3]), 7)
     ids = [owner for owner, _, _ in members]
     wrong = chance.choice([0, 0, 0.1, 0.3] if len(members) < MANY else [0, 0.001, 0.003])
@@ -176,7 +175,7 @@ def bodies_of(chance, size, members):
 
 
 def packets_of(chance):
-    """The packets of one set or of two, and the members of the sets."""
+    """Returns the packets of one set or of two, and the members of the sets."""
     packets, all_members = [], []
     for _ in range(chance.choice([1, 1, 1, 1, 2])):
         size = chance.choice(SIZES)

@@ -1,7 +1,7 @@
-"""A grammar of files that are joined, as on the image of a disc, which hostile.py runs parv on.
+"""A grammar of files that are joined, as on the image of a disc, over which hostile.py runs parv.
 
-A case is made from a random.Random only: a packet file, and files to scan, as pairs of name and bytes. The set
-has files of 1 to 257 lengths below the slice size, and many of its slices may be equal. The scanned files are
+A case follows only from a random.Random. It has a packet file, and files to scan, as pairs of name and bytes. The files
+of the set have 1 to 257 lengths below the slice size, and many of their slices may be equal. The scanned files are
 images, in which files of the set are padded, shifted, laid over one another or damaged, and some files of the set.
 """
 
@@ -21,7 +21,8 @@ ODDS = [0, 0, 0.2, 0.8, 1]
 
 
 class Joined:
-    """What the files of a case have in common: chance, a slice size, and the bytes that they are made of."""
+    """What the files of a case have in common: the random numbers, a slice size, and the bytes that they are made
+    of."""
 
     def __init__(self, chance):
         self.chance = chance
@@ -30,13 +31,13 @@ class Joined:
         self.equal_fronts, self.equal_ends, self.zero_ends = chance.choices(ODDS, k=3)
 
     def prepare(self):
-        """Chooses the slice size and what the bytes are like."""
+        """Chooses the slice size, and what the bytes are like."""
         self.many = self.chance.randrange(15) == 0
         self.size = self.chance.choice(SIZES_OF_MANY if self.many else SIZES)
         self.letters = b"" if self.many else self.chance.choice(LETTERS)
 
     def some(self, length):
-        """So many bytes of the case's letters, or any bytes."""
+        """Returns bytes of this length, from the letters of the case, or any bytes."""
         if not self.letters:
             return self.chance.randbytes(length)
         return bytes(self.chance.choices(self.letters, k=length))
@@ -45,7 +46,7 @@ class Joined:
         return self.chance.random() < odds
 
     def lengths(self):
-        """The lengths of the files: some are shorter than a slice, and some have no short slice."""
+        """Returns the lengths of the files. Some are shorter than a slice, and some have no short slice."""
         chance, size = self.chance, self.size
         if self.many:
             return [chance.randrange(2) * size + tail for tail in chance.sample(range(1, size), chance.choice(MANY))]
@@ -56,7 +57,7 @@ class Joined:
 
 
 def content_of(joined, length):
-    """The bytes of a file, whose full-length slices and whose last slice may be those of other files."""
+    """Returns the bytes of a file. Its full-length slices and its last one may be those of other files."""
     tail = length % joined.size
     front = joined.front if joined.is_so(joined.equal_fronts) else joined.some(length)
     end = joined.end[:tail] if joined.is_so(joined.equal_ends) else joined.some(tail)
@@ -67,18 +68,18 @@ def content_of(joined, length):
 
 
 def members_of(joined):
-    """The files of the set: pairs of name and content."""
+    """Returns the files of the set, as pairs of name and content."""
     return [(b"%03d.bin" % number, content_of(joined, length)) for number, length in enumerate(joined.lengths())]
 
 
 def wrong_sums(joined, sums):
-    """The body of IFSC in which a slice has another MD5, but its CRC-32."""
+    """Returns the body of IFSC with another MD5 for one slice, whose CRC-32 stays."""
     at = 16 + joined.chance.randrange((len(sums) - 16) // 20) * 20
     return sums[:at] + bytes(16) + sums[at + 16:]
 
 
 def packet_file(joined, members):
-    """The packets of the set. Few files have no checksums of slices, or wrong ones."""
+    """Returns the packets of the set. A few files have no checksums of slices, or wrong ones."""
     ids = [file_id(name, content) for name, content in members]
     bodies, without, wrong = [], joined.chance.choice([0, 0, 0.1]), joined.chance.choice([0, 0, 0.1])
     for owner, (name, content) in zip(ids, members):
@@ -125,7 +126,7 @@ CHANGES = [flip_some, flip_some, take_out, put_in, zero_some, turn, cut]
 
 
 def damaged(joined, data):
-    """The bytes after one change or some."""
+    """Returns the bytes after one or more changes."""
     data = bytearray(data)
     for _ in range(joined.chance.choice([1, 1, 2, 4])):
         if data:
@@ -134,7 +135,7 @@ def damaged(joined, data):
 
 
 def parts_of(joined, contents):
-    """What an image has in turn: whole files, mostly, and in some images parts of them."""
+    """Yields the parts of an image, in order: whole files, mostly, and in some images parts of them."""
     chance, size, odds = joined.chance, joined.size, joined.chance.choice([0, 0, 0.3])
     for content in contents:
         if joined.is_so(odds):
@@ -145,7 +146,7 @@ def parts_of(joined, contents):
 
 
 def image_of(joined, contents, most):
-    """An image of these contents, of at most so many bytes."""
+    """Returns an image of these contents, of at most `most` bytes."""
     chance, size = joined.chance, joined.size
     unit, zeros, over = chance.choice(UNITS), chance.randrange(2), chance.choice([0, 0, 0, 0.3])
     image = bytearray(joined.some(chance.choice([0, 0, 1, size - 1, size, chance.randrange(4 * size)])))
@@ -161,7 +162,7 @@ def image_of(joined, contents, most):
 
 
 def contents_for(joined, contents):
-    """The contents that an image has: all of them, or some, some of them twice."""
+    """Returns the contents in an image: all of them, or some, some of them twice."""
     chance = joined.chance
     some = [content for content in contents if chance.randrange(5)]
     return chance.choice([contents, some, some, chance.sample(contents, len(contents)),
@@ -169,7 +170,7 @@ def contents_for(joined, contents):
 
 
 def most_scanned(joined, contents):
-    """How many bytes are scanned at most, so that a search ends soon."""
+    """Returns how many bytes are scanned at most, so that a search ends soon."""
     equal = collections.Counter(filled(part, joined.size) for content in contents
                                 for part in slices(content, joined.size))
     lengths = {len(content) % joined.size for content in contents} | {0}
@@ -177,7 +178,7 @@ def most_scanned(joined, contents):
 
 
 def scanned_of(joined, members):
-    """The files to scan: one image or two, and some files of the set, as they are, renamed or damaged."""
+    """Returns the files to scan: one image or two, and some files of the set, as they are, renamed or damaged."""
     chance, contents = joined.chance, [content for _, content in members]
     left, files = most_scanned(joined, contents), {}
     for name in [b"disc.img", b"other.img"][:chance.choice([1, 1, 2])]:
@@ -192,11 +193,11 @@ def scanned_of(joined, members):
 
 
 def case_of(joined):
-    """The packet file and the files to scan of a case."""
+    """Returns the packet file and the files to scan of a case."""
     members = members_of(joined)
     return [(b"set.par2", packet_file(joined, members))], scanned_of(joined, members)
 
 
 def case(chance):
-    """The packet file and the files to scan of one case."""
+    """Returns the packet file and the files to scan of one case."""
     return case_of(Joined(chance))

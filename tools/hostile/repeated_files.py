@@ -1,8 +1,8 @@
-"""A grammar of content that repeats, as in disk images, bitmaps and sound, which hostile.py runs parv on.
+"""A grammar of content that repeats, as in disk images, bitmaps and sound, over which hostile.py runs parv.
 
-A case is made as in joined_files.py, of other bytes: runs of zeros, of one byte and of two letters, and the same
-few bytes again and again, with other bytes now and then. So most slices are equal to other ones, and a search
-meets slices at very many offsets after it has found all that are equal to them.
+A case is made as in joined_files.py, from other bytes: runs of zeros, of one byte and of two letters, and the same few
+bytes again and again, with other bytes here and there. So most slices are equal to other ones, and a search meets
+slices at very many offsets after it has found all that are equal to them.
 """
 
 from hostile.joined_files import Joined, case_of
@@ -14,7 +14,7 @@ MOST_SLICES = [20, 60, 150, 400]
 
 
 class Repeated(Joined):
-    """A case's bytes repeat."""
+    """A case whose bytes repeat."""
 
     def prepare(self):
         chance = self.chance
@@ -25,7 +25,7 @@ class Repeated(Joined):
         self.islands = chance.choice([0, 0.05, 0.3, 0.6])
 
     def some(self, length):
-        """So many bytes, most of which repeat."""
+        """Returns bytes of this length, most of which repeat."""
         data = bytearray()
         while len(data) < length:
             run = self.chance.randrange(1, self.longest + 1)
@@ -37,11 +37,11 @@ class Repeated(Joined):
         return bytes(data[:length])
 
     def lengths(self):
-        """One file or a few, of many slices."""
+        """Returns the lengths of one file or a few, with many slices."""
         count, most = self.chance.choice([1, 1, 2, 3, 6]), self.chance.choice(MOST_SLICES)
         return [self.chance.randrange(1, 1 + most * self.size // count) for _ in range(count)]
 
 
 def case(chance):
-    """The packet file and the files to scan of one case."""
+    """Returns the packet file and the files to scan of one case."""
     return case_of(Repeated(chance))

@@ -1,9 +1,11 @@
-/* Runs programs for a script: the peak memory of a process begins with that of the one that it was
-   copied from, so this one is small. For each request on standard input, 8 bytes with its length
-   and then words, each ended by a zero byte, it runs the words with nothing to read; their standard
-   output goes to the file `out` and their standard error to `err`. The answer on standard output is
-   four numbers of 8 bytes: the status as wait gives it, the peak memory in KiB, the microseconds of
-   the processor, and 1 where the run was stopped after the seconds that the argument gives. */
+/* Runs programs for a script. It is small, because the peak memory of a process begins with that of the process
+   that started it.
+
+   For each request on standard input it runs a program, whose standard input is empty. A request is its length
+   in 8 bytes, and then the program and its arguments, each ended by a zero byte. Standard output goes to the
+   file `out` and standard error to `err`. The answer on standard output is four numbers of 8 bytes: the status
+   as `wait` returns it, the peak memory in KiB, the processor time in microseconds, and 1 if the run was
+   stopped after the number of seconds in the argument of this program. */
 #define _GNU_SOURCE
 #include <fcntl.h>
 #include <signal.h>

@@ -1,6 +1,6 @@
-"""Runs the built program for scripts, many times a second: hostile.py, fuzz.py and hostile_cost.py.
+"""Runs the built program many times a second, for hostile.py, fuzz.py and hostile_cost.py.
 
-PARV is the program (crates/parv/out/parv). Each run has 20 seconds, or as many as are given.
+PARV is the program (crates/parv/out/parv). Each run may take 20 seconds, or as many as the script says.
 """
 
 import os
@@ -18,7 +18,8 @@ WHERE = "/dev/shm" if os.access("/dev/shm", os.W_OK) else None
 
 
 class Run(NamedTuple):
-    """How it ended (below 0: by that signal), what it wrote, peak KiB, seconds, whether it hung."""
+    """How a run ended (below 0: by that signal), its output, its peak in KiB, its seconds, and whether it was
+    stopped."""
     status: int
     out: bytes
     err: bytes
@@ -28,7 +29,7 @@ class Run(NamedTuple):
 
 
 class Runner:
-    """A folder in memory where programs run one after the other, and what starts them."""
+    """A folder in memory in which programs run one after the other, and the small program that starts them."""
 
     def __init__(self, seconds=20):
         self.held = tempfile.TemporaryDirectory(dir=WHERE)
@@ -40,7 +41,7 @@ class Runner:
                                         stdin=subprocess.PIPE, stdout=subprocess.PIPE)
 
     def run(self, words):
-        """One run of these words, which are bytes or text; the first is a program."""
+        """Runs these words, which are bytes or text. The first is a program."""
         text = b"".join(os.fsencode(word) + b"\0" for word in words)
         self.process.stdin.write(struct.pack("<Q", len(text)) + text)
         status, memory, micros, hung = struct.unpack("<4q", self.process.stdout.read(32))
@@ -67,7 +68,7 @@ class Runner:
 
 
 def as_text(run):
-    """How a run ended, in a line."""
+    """Returns a line about how a run ended."""
     if run.hung:
         return "it hung"
     name = f"status {run.status}" if run.status >= 0 else signal.Signals(-run.status).name

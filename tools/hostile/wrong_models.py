@@ -1,12 +1,11 @@
 #!/usr/bin/env python3
-"""Turns the model that hostile.py compares with wrong, one edit at a time: each must be noticed.
+"""Makes mistakes in the models that hostile.py compares parv with, one at a time. hostile.py must notice each.
 
 usage: wrong_models.py [CASES]
 
-Each edit is made in a copy of the tools, and hostile.py runs its first 200 cases there; those that
-no case notices then run the first CASES (4000). An edit after which every case still agrees shows
-that no case comes to that bound. One whose model takes more than 2 GiB is noticed too: it goes on
-with a set of more slices than there may be.
+Each edit is made in a copy of the tools, where hostile.py runs its first 200 cases. If none of these differs from parv,
+the first CASES (4000) run. If they all agree with parv too, no case tests the limit that the edit changes. A model that
+takes more than 2 GiB counts as noticed too: it goes on with a set of more slices than there may be.
 
 PARV is the program (crates/parv/out/parv).
 """
@@ -20,7 +19,7 @@ import sys
 import tempfile
 from concurrent.futures import ThreadPoolExecutor
 
-sys.path[0] = os.path.dirname(os.path.dirname(os.path.realpath(__file__)))  # tools/, where imports begin
+sys.path[0] = os.path.dirname(os.path.dirname(os.path.realpath(__file__)))  # imports are relative to tools/
 
 from hostile.runs import HERE, PARV, TOOLS
 
@@ -86,13 +85,14 @@ EDITS = [
     ("find_slices.py", "offset + own <= len(data)", "True"),
     ("find_slices.py", "range(len(data))", "range(0, len(data), found.size)"),
     ("find_slices.py", "for at, own in same if", "for at, own in same[:1] if"),
-    # Tails that are looked for by all of the window, or where they aren't asked for; full slices that then aren't.
+    # Tails that are compared as whole windows, or also if they aren't asked for; full-length slices that aren't found
+    # then.
     ("find_slices.py", "looked = own if tails else found.size", "looked = found.size"),
     ("find_slices.py", "looked = own if tails else found.size", "looked = own"),
     ("find_slices.py", "if sums is not None:", "if sums is not None and not (tails and own == found.size):"),
     ("find_slices.py", "data[offset:offset + looked].ljust(found.size,", "data[offset:offset + looked].ljust(looked,"),
     ("find_slices.py", "offset + own <= len(data)", "tails or offset + own <= len(data)"),
-    # Tails at the ends of files alone, in another order, or by the MD5 of a place before.
+    # Tails only at the ends of files, in another order, or by the MD5 of the offset before.
     ("find_slices.py", "if crc in crcs[looked]:",
      "if crc in crcs[looked] and (looked == found.size or offset + looked >= len(data)):"),
     ("find_slices.py", "in sorted(seen)", "in seen"),
@@ -109,7 +109,7 @@ EDITS = [
     ("find_slices.py", "len({own for _, _, own, sums in slices_of(found) if sums and own < found.size})",
      "len([own for _, _, own, sums in slices_of(found) if sums and own < found.size])"),
     ("hostile.py", "if tails and has_too_many_tails(found):", "if has_too_many_tails(found):"),
-    # Cursors: their causes in another order, marks that aren't looked at, that tell less, or the wrong version.
+    # Cursors: the order of their errors, fingerprints that aren't compared or cover less, or the wrong version.
     ("hostile.py", "refused = found and refused_cursor(",
      "refused = found and not (tails and has_too_many_tails(found)) and refused_cursor("),
     ("hostile.py", "if cursor.set != found.id:",
@@ -143,7 +143,7 @@ EDITS = [
 
 
 def notices(edit, cases):
-    """The first line that says how the wrong model differs, or nothing."""
+    """Returns the first line that says how the wrong model differs from parv, or None."""
     module, old, new = edit
     with tempfile.TemporaryDirectory() as folder:
         for part in ("hostile", "make", "models"):

@@ -1,1 +1,1 @@
-"""What makes packet files, and other files to run the program on."""
+"""Programs that make packet files, and other files on which parv runs."""

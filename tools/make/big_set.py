@@ -1,17 +1,17 @@
 #!/usr/bin/env python3
-"""Writes a large recovery set, to measure with: many small files, every packet in every volume.
+"""Writes a large recovery set for measurements: many small files, with all packets in each volume.
 
 usage: big_set.py FOLDER FILES VOLUMES
 
-Each of FILES files has one slice of 4 bytes. FOLDER gets VOLUMES packet files, each with the Main
-packet, a FileDesc and an IFSC packet of every file, and one recovery slice of its own.
+Each of FILES files has one slice of 4 bytes. FOLDER gets VOLUMES packet files. Each has the Main packet, a FileDesc
+and an IFSC packet for every file, and one recovery slice of its own.
 """
 
 import os
 import struct
 import sys
 
-sys.path[0] = os.path.dirname(os.path.dirname(os.path.realpath(__file__)))  # tools/, where imports begin
+sys.path[0] = os.path.dirname(os.path.dirname(os.path.realpath(__file__)))  # imports are relative to tools/
 
 from make.packets import desc_body, file_id, ifsc_body, main_body, md5, packet, recvslic_body, set_of
 

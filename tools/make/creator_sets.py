@@ -1,16 +1,16 @@
 #!/usr/bin/env python3
-"""Writes sets as other creators lay theirs out.
+"""Writes sets as other creators lay them out.
 
 usage: creator_sets.py FOLDER
 
-FOLDER gets a folder for each set of SETS, with its packet files and the files that they are of. Slices
-have 8 bytes; what stands for recovery data is the exponent, so no repair succeeds.
+FOLDER gets a folder for each set of SETS, with its packet files and the files that they describe. Slices have 8 bytes.
+The recovery data of a slice is only its exponent, so no repair succeeds.
 """
 
 import os
 import sys
 
-sys.path[0] = os.path.dirname(os.path.dirname(os.path.realpath(__file__)))  # tools/, where imports begin
+sys.path[0] = os.path.dirname(os.path.dirname(os.path.realpath(__file__)))  # imports are relative to tools/
 
 from make.packets import (MAGIC, NO_ID, desc_body, file_id, filled, ifsc_body, main_body, md5, numbers, packet,
                           recvslic_body, slices)
@@ -26,13 +26,13 @@ RECOVERY_SUMS = b"PAR 2.0\0RFSC\0\0\0\0"
 PACKED_MAIN = b"PAR 2.0\0PkdMain\0"
 PACKED_SLICE = b"PAR 2.0\0PkdRecvS"
 
-# Files are pairs of name and content; these three stand in the order of their IDs.
+# Files are pairs of name and content. These three are in the order of their IDs.
 FILES = [(b"first.txt", b"one two three four five"), (b"second.txt", b"seconds."), (b"third.dat", b"third")]
 TEXT = b"Created by par2cmdline version 0.8.1."
 
 
 class Packets:
-    """The packets of the set of these files; a packed one has the size of its parts of slices."""
+    """The packets of the set of these files. If the set is packed, `packed` is the size of the parts of its slices."""
 
     def __init__(self, files, others=(), ids=None, packed=b""):
         self.main_body = packed + main_body(SIZE, ids or [file_id(*file) for file in files],
@@ -53,8 +53,8 @@ class Packets:
 
 
 def interleaved_volume(recovery, critical, creator):
-    """Behind each recovery slice its share of the critical packets, which all come once more for each
-    doubling of the slices; the creator at the end."""
+    """Puts after each recovery slice its share of the critical packets. All of them are repeated once more for each
+    doubling of the number of slices. The creator comes last."""
     copies, laid, written = len(recovery).bit_length(), [], 0
     for number, piece in enumerate(recovery, 1):
         share = number * copies * len(critical) // len(recovery)
@@ -64,7 +64,7 @@ def interleaved_volume(recovery, critical, creator):
 
 
 def interleaved():
-    """As par2cmdline does it, byte by byte but for recovery data."""
+    """As par2cmdline does it, byte by byte, except for the recovery data."""
     made = Packets(FILES)
     volumes = {f"set.vol{first}+{count}.par2": interleaved_volume(
         made.slices(*range(first, first + count)), made.critical, made.creator())
@@ -73,8 +73,8 @@ def interleaved():
 
 
 def at_the_end():
-    """The creator first, recovery slices, and behind them all others again and again; Main lists the
-    files in another order, and suffixes are in capitals."""
+    """The creator comes first, then recovery slices, and after them all other packets several times. Main lists the
+    files in a different order, and the suffixes are in capitals."""
     made = Packets(FILES, ids=[file_id(*file) for file in reversed(FILES)])
     first, rest = made.creator(b"One of 2004"), [*made.sums, *made.descs, made.main]
     return FILES, {
@@ -85,7 +85,7 @@ def at_the_end():
 
 
 def optional():
-    """Optional packets beside the others; the name is in Latin-1, and in Unicode in a packet of its own."""
+    """Optional packets are among the others. The name is in Latin-1, and again in Unicode in a packet of its own."""
     file = (b"caf\xe9.txt", b"black, with milk")
     owner, made = file_id(*file), Packets([file])
     comment = made.of(COMMENT, filled(b"a comment", 4))
@@ -104,15 +104,15 @@ def optional():
 
 
 def packed():
-    """Slices in parts of four bytes: Main and recovery slices have types of their own."""
+    """Slices have parts of four bytes. Main and recovery slices have types of their own."""
     made = Packets(FILES, packed=numbers(4))
     return FILES, {"set.par2": [*made.critical, made.creator(),
                                 *[made.of(PACKED_SLICE, recvslic_body(at, numbers(at))) for at in range(2)]]}
 
 
 def others():
-    """Of three more files, one of them empty and one a folder, there is no recovery data; all have
-    descriptions and sums."""
+    """For three further files, one of them empty and one a folder, there is no recovery data. All files have
+    descriptions and checksums."""
     more = [(b"plain.txt", b"not recoverable"), (b"empty.txt", b""), (b"folder/", b"")]
     made = Packets(FILES[:1], more)
     return [*FILES[:1], more[0]], {
@@ -122,7 +122,7 @@ def others():
 
 
 def gaps():
-    """Exponents from other places than 0, with gaps, and some twice."""
+    """Exponents that don't begin at 0, with gaps, and some twice."""
     made = Packets(FILES)
     return FILES, {
         "set.par2": [*made.critical, made.creator()],
@@ -132,7 +132,7 @@ def gaps():
 
 
 def bare():
-    """Volumes alone and no creator: one without Main, and one where it comes last."""
+    """Only volumes, and no creator: one has no Main packet, and in the other it comes last."""
     made = Packets(FILES)
     return FILES, {
         "set.vol0+1.par2": [*made.slices(0), *made.descs, *made.sums],
@@ -141,7 +141,8 @@ def bare():
 
 
 def names():
-    """Folders by either slash, and names filled with no zero to seven of them, where IDs are of the filled ones."""
+    """Folders with either slash, and names with none to seven zeros after them, of which the IDs are made with these
+    zeros."""
     files = [(name, b"%d" % at) for at, name in enumerate([
         b"sub/one.bin", b"sub\\two.bin", b"a", b"ab", b"abc", b"abcd", b"abcde\0\0\0", b"abcdef\0\0\0\0\0\0",
         b"abcdefgh\0\0\0\0"])]
@@ -151,14 +152,14 @@ def names():
 
 
 def long_creator():
-    """A creator with some pages of text in lines, behind one of zeros alone."""
+    """A creator packet with some pages of text in lines, after one with only zeros."""
     made = Packets(FILES)
     text = "A creator\u00a0of sets,\r\n\ta \\ in each line\n".encode() * 2500
     return FILES, {"set.par2": [made.creator(bytes(8)), *made.critical, made.creator(text), made.creator()]}
 
 
 def mixed():
-    """Packets of two sets, which share a file, in turn in one file."""
+    """Packets of two sets that share a file, alternating in one packet file."""
     fourth = (b"fourth", b"a fourth one")
     one, two = Packets(FILES), Packets([FILES[1], fourth])
     pairs = zip([*one.descs, *one.sums, *one.slices(0, 1), one.creator()],
@@ -167,8 +168,8 @@ def mixed():
 
 
 def junk():
-    """Packets with other bytes before, between and behind them: a line, zeros up to the next 512 bytes,
-    the magic alone, a front of a packet, and a packet of which a byte is another."""
+    """Packets with other bytes before, between and after them: a line, zeros up to a multiple of 512 bytes, only the
+    magic, the beginning of a packet, and a packet in which a byte was changed."""
     made = Packets(FILES)
     laid = [b"begin 644 set.par2\r\n", made.main, b"!", *made.descs]
     laid.append(bytes(-len(b"".join(laid)) % 512))
@@ -181,7 +182,7 @@ SETS = [interleaved, at_the_end, optional, packed, others, gaps, bare, names, lo
 
 
 def write(folder, made):
-    """The files and packet files of a set."""
+    """Writes the files and packet files of a set."""
     files, packet_files = made
     contents = [*files, *[(os.fsencode(name), b"".join(parts)) for name, parts in packet_files.items()]]
     for name, content in contents:

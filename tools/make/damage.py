@@ -1,8 +1,8 @@
-"""Damages bytes: each of these changes a bytearray, and `in_file` the bytes of a file."""
+"""Damages bytes: each function here changes a bytearray, and `in_file` applies one to a file."""
 
 
 def flip(data, at, count=1, bits=0xFF):
-    """Turns these bits of so many bytes."""
+    """Inverts these bits in `count` bytes."""
     for place in range(at, at + count):
         data[place] ^= bits
 
@@ -16,27 +16,27 @@ def remove(data, at, count):
 
 
 def cut(data, length):
-    """Leaves so many bytes."""
+    """Keeps only the first `length` bytes."""
     del data[length:]
 
 
 def zero(data, at, count):
-    """So many bytes become zeros, as far as there are any."""
+    """Overwrites bytes with zeros, as far as there are any."""
     data[at:at + count] = bytes(len(data[at:at + count]))
 
 
 def turn(data, at):
-    """What stands before this place stands at the end."""
+    """Moves the bytes before this place to the end."""
     data[:] = data[at:] + data[:at]
 
 
 def swap(data, at, size):
-    """Two parts of this size, one behind the other, change places."""
+    """Exchanges two parts of this size that follow one another."""
     data[at:at + 2 * size] = data[at + size:at + 2 * size] + data[at:at + size]
 
 
 def in_file(path, damage, *words):
-    """Damages the bytes of a file, which has them anew."""
+    """Damages the bytes of a file, and writes them back."""
     with open(path, "rb") as file:
         data = bytearray(file.read())
     damage(data, *words)

@@ -1,11 +1,11 @@
 #!/usr/bin/env python3
-"""Makes sets with par2 and damages their files as downloads and discs are.
+"""Makes sets with par2 and damages their files in the ways in which downloads and discs are damaged.
 
 usage: damaged_sets.py FOLDER [--count N] [--seed N]
 
-Each of N sets (200) has 8 to 48 MiB in 1 to 60 files and slices of 512 bytes to 1 MiB, all by the
-seed and the set's number, and then some damages, one after the other. FOLDER gets a folder for each,
-by its number, with the packet files and what is left of the others. Needs par2 (Debian package par2).
+Each of N sets (200) has 8 to 48 MiB in 1 to 60 files, and slices of 512 bytes to 1 MiB. Then its files are damaged,
+once or several times. All follows from the seed and the number of the set. FOLDER gets a folder for each set, named by
+its number, with the packet files and the remaining files. Needs par2 (Debian package par2).
 """
 
 import argparse
@@ -14,7 +14,7 @@ import random
 import subprocess
 import sys
 
-sys.path[0] = os.path.dirname(os.path.dirname(os.path.realpath(__file__)))  # tools/, where imports begin
+sys.path[0] = os.path.dirname(os.path.dirname(os.path.realpath(__file__)))  # imports are relative to tools/
 
 from make import damage
 
@@ -24,13 +24,13 @@ SECTOR = 2048
 
 
 def lengths_of(chance, total):
-    """The lengths of 1 to 60 files that have so many bytes together, none of them empty."""
+    """Returns the lengths of 1 to 60 files, none of them empty, that have `total` bytes together."""
     ends = sorted(chance.sample(range(1, total), chance.randrange(chance.choice([5, 60]))))
     return [end - first for first, end in zip([0, *ends], [*ends, total])]
 
 
 def shape_of(chance):
-    """A slice size, small ones as often as large ones, and lengths of files, of not too many slices."""
+    """Returns a slice size, small ones as often as large ones, and the lengths of files with not too many slices."""
     while True:
         lengths = lengths_of(chance, chance.randrange(8 * MIB, 48 * MIB + 1))
         size = 4 * round(2 ** chance.uniform(7, 18))
@@ -41,7 +41,7 @@ def shape_of(chance):
 # Damages of files, which are bytearrays by their names.
 
 def one_of(chance, files):
-    """One of the files, and a place in it."""
+    """Returns one of the files, and a place in it."""
     data = files[chance.choice(sorted(files))]
     return data, chance.randrange(len(data) + 1)
 
@@ -57,7 +57,7 @@ def left_out(chance, files):
 
 
 def zeroed(chance, files):
-    """Some sectors in turn."""
+    """Overwrites some consecutive sectors with zeros."""
     data, at = one_of(chance, files)
     damage.zero(data, at // SECTOR * SECTOR, SECTOR * chance.choice([1, 1, 4, 32, 200]))
 
@@ -68,7 +68,7 @@ def cut(chance, files):
 
 
 def joined(chance, files):
-    """Some files, or all, behind one another as in the image of a disc, each up to a whole sector or not."""
+    """Joins some files, or all, as in the image of a disc. Each may be padded to a whole sector."""
     names = chance.sample(sorted(files), chance.choice([len(files), chance.randrange(1, len(files) + 1)]))
     unit = chance.choice([1, 1, SECTOR])
     whole = bytearray(chance.randbytes(chance.choice([0, 0, 10 * SECTOR])))
@@ -84,7 +84,7 @@ def turned_round(chance, files):
 
 
 def swapped(chance, files):
-    """The contents of two files, or two parts of one."""
+    """Exchanges the contents of two files, or two parts of one file."""
     if chance.randrange(2):
         one, two = (chance.choice(sorted(files)) for _ in range(2))
         files[one], files[two] = files[two], files[one]
@@ -97,7 +97,7 @@ DAMAGES = [put_in, left_out, zeroed, cut, joined, turned_round, swapped]
 
 
 def make(folder, seed, number):
-    """Puts one set into the folder, which is there, and tells of it in a line."""
+    """Puts one set into the folder, which exists, and describes it in a line."""
     chance = random.Random(f"damaged {seed} {number}")
     size, lengths = shape_of(chance)
     files = {f"{at:02}.bin": bytearray(chance.randbytes(length)) for at, length in enumerate(lengths)}

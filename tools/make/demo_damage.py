@@ -1,4 +1,6 @@
-"""Damages a volume of the demo, from the back to the front so that the offsets stay true: demo_damage.py SOURCE TARGET"""
+"""Damages a volume of the demo, from its end to its beginning, so that earlier offsets stay valid.
+
+usage: demo_damage.py SOURCE TARGET"""
 
 import struct
 import sys
@@ -19,19 +21,19 @@ while at < len(data):
         recovery[struct.unpack_from("<I", data, at + 64)[0]] = at, length
     at += length
 
-# The end is cut off in the middle of the last packet.
+# Cuts the end off, in the middle of the last packet.
 at, length = packets[-1]
 cut(data, at + length // 2)
 
-# Five bytes come in before a packet, so it and those after it stand at odd offsets.
+# Inserts five bytes before a packet, so this packet and those after it begin at odd offsets.
 at, length = recovery[5]
 insert(data, at, b"#####")
 
-# Sixteen bytes in the middle of a packet are flipped.
+# Inverts sixteen bytes in the middle of a packet.
 at, length = recovery[4]
 flip(data, at + length // 2, 16)
 
-# A line of text comes in before the first packet.
+# Inserts a line of text before the first packet.
 insert(data, 0, b"This line of text stands ahead of the first packet.\n")
 
 with open(target, "wb") as file:

@@ -1,4 +1,4 @@
-"""Writes the pictures of the demo here: the first bytes of SHAKE-256 of each one's own name."""
+"""Writes the pictures of the demo into the current folder. Each has the first bytes of SHAKE-256 of its own name."""
 
 import hashlib
 

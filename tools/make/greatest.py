@@ -3,25 +3,25 @@
 
 usage: greatest.py FOLDER HOLES
 
-FOLDER gets all but the files with long holes, large.bin and far.par2, which HOLES gets.
+HOLES gets the files with long holes, large.bin and far.par2. FOLDER gets all others.
 
-million.par2  The set of g.bin, 130,000 packets more of it, 70,000 that are put aside, and others up to a million.
-bodies.par2   The set of g.bin, and of each kind bodies of 1,048,576 bytes and of four more.
-names.par2    Names of 4,096 bytes and of more, of which one has 1,048,520.
-others.par2   Main with 32,768 IDs, of which one is that of g.bin and others aren't in the recovery set.
-wide.par2     Slices of 268,435,456 bytes and files whose lengths are about 2^32, and 2^42.
-long.par2     One file of 2^43 bytes, with the sums of its 32,768 slices; longer.par2 has a byte more.
-large.par2    A file of 268,435,461 bytes, in slices of 268,435,456; large.bin holds it behind two other bytes.
-far.par2      A recovery slice of 2^32 bytes, all zeros, and the set of g.bin behind it.
+million.par2  The set of g.bin, 130,000 more packets of this set, 70,000 that are rejected, and others up to a million.
+bodies.par2   The set of g.bin, and for each kind bodies of 1,048,576 bytes and of four more.
+names.par2    Names of 4,096 bytes and longer ones, of which one has 1,048,520.
+others.par2   Main with 32,768 IDs: one is that of g.bin, and the others are in the list of non-recoverable files.
+wide.par2     Slices of 268,435,456 bytes, files whose lengths are near 2^32, and one of 2^42 bytes.
+long.par2     One file of 2^43 bytes, with the checksums of its 32,768 slices; longer.par2 has a byte more.
+large.par2    A file of 268,435,461 bytes, in slices of 268,435,456. large.bin contains it after two other bytes.
+far.par2      A recovery slice of 2^32 bytes, all zeros, and the set of g.bin after it.
 one.par2      A file of one byte.
-lengths.par2  1,100 files, each of another length: the folder lengths has them.
+lengths.par2  1,100 files of different lengths, which are in the folder lengths.
 """
 
 import os
 import struct
 import sys
 
-sys.path[0] = os.path.dirname(os.path.dirname(os.path.realpath(__file__)))  # tools/, where imports begin
+sys.path[0] = os.path.dirname(os.path.dirname(os.path.realpath(__file__)))  # imports are relative to tools/
 
 from make.packet_files import G, G_SET, SLICE_SIZE, WHOLE_G, whole_set
 from make.packets import (MAGIC, NO_ID, TYPES, desc_body, ids_of, ifsc_body, main_body, numbers, packet, recvslic_body,
@@ -63,7 +63,7 @@ def long(length):
 
 
 def large(holes):
-    """Both slices have but few bytes that aren't zeros."""
+    """Writes a file of two slices that have only a few bytes other than zeros, and its set."""
     front, behind = b"front", b"hello"
     with open(os.path.join(holes, "large.bin"), "wb") as out:
         out.write(b"XX" + front)
@@ -76,7 +76,7 @@ def large(holes):
 
 
 def far(holes):
-    """The MD5 is that of what stands behind it in the packet, by md5sum."""
+    """Writes far.par2. The MD5 in its header was computed by md5sum from the bytes of the packet that it covers."""
     size = 1 << 32
     with open(os.path.join(holes, "far.par2"), "wb") as out:
         out.write(MAGIC + numbers(68 + size) + bytes.fromhex("94ac6aaa1b9a3eef61edb2e0a89324f0"))

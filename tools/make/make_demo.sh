@@ -1,6 +1,6 @@
 #!/bin/bash
-# Makes the files of demo/ anew: four small data files, a PAR2 set over them, and one damaged
-# volume. Needs par2 (Debian package par2) and python3. demo/README.md is kept by hand.
+# Makes the files of demo/ again: four small data files, their PAR2 set, and one damaged volume. Needs par2 (Debian
+# package par2) and python3. It doesn't write demo/README.md.
 set -euo pipefail
 
 tools=$(cd "$(dirname "$0")/.." && pwd)
@@ -19,12 +19,12 @@ tower.raw    the old light, from the pier
 They hold pseudo-random bytes, so no two slices are alike.
 END
 
-# The first bytes of SHAKE-256 of the file's own name.
+# Each picture has the first bytes of SHAKE-256 of its own name.
 python3 "$tools/make/demo_pictures.py"
 
 par2 create -q -q -s1024 -c15 photos.par2 beach.raw harbour.raw tower.raw notes.txt
 
-# Damage one volume, from the back to the front so that the offsets stay true.
+# Damages one volume, from its end to its beginning, so that earlier offsets stay valid.
 PYTHONPATH=$tools PYTHONDONTWRITEBYTECODE=1 \
     python3 "$tools/make/demo_damage.py" photos.vol03+4.par2 photos.vol03+4.damaged.par2
 rm photos.vol03+4.par2

@@ -1,17 +1,17 @@
 #!/usr/bin/env python3
-"""Writes files of packets with other bytes between them, no two files alike.
+"""Writes files of packets with other bytes between them. No two files are the same.
 
 usage: many_packets.py COUNT FILE...
 
-Each FILE gets COUNT packets of every kind. Their bodies have up to 1,500 bytes, but for the first
-recovery slice, which has 300,000; one packet in eight is broken: a byte of it is another.
+Each FILE gets COUNT packets, of every kind. Their bodies have up to 1,500 bytes, except the first recovery slice, which
+has 300,000. One packet in eight is broken: one of its bytes was changed.
 """
 
 import os
 import random
 import sys
 
-sys.path[0] = os.path.dirname(os.path.dirname(os.path.realpath(__file__)))  # tools/, where imports begin
+sys.path[0] = os.path.dirname(os.path.dirname(os.path.realpath(__file__)))  # imports are relative to tools/
 
 from make.damage import flip
 from make.packets import TYPES, md5, packet
@@ -20,7 +20,7 @@ KINDS = [*TYPES, b"PAR 2.0\0Another\0"]
 
 
 def written(name, number, chance):
-    """The bytes of one packet of this file."""
+    """Returns the bytes of one packet of this file."""
     kind = KINDS[number % len(KINDS)]
     size = 300_000 if number == KINDS.index("recvslic") else 4 * chance.randrange(376)
     data = bytearray(packet(md5(name.encode()), kind, chance.randbytes(size)))

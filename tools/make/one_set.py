@@ -3,21 +3,21 @@
 
 usage: one_set.py FILE SIZE RECOVERY FOLDER [OLD NEW]..
 
-FILE gets the set of all files below FOLDER, by their paths from there, in slices of SIZE bytes, with so
-many recovery slices. The first is right, so one slice can be repaired by it; the others hold zeros. The file
-OLD stands there as NEW, whatever that is.
+FILE gets the set of all files below FOLDER, by their paths from there, in slices of SIZE bytes, with RECOVERY recovery
+slices. The first of these is right, so it can repair one slice; the others contain zeros. The set names the file OLD
+as NEW, whatever that is.
 """
 
 import os
 import sys
 
-sys.path[0] = os.path.dirname(os.path.dirname(os.path.realpath(__file__)))  # tools/, where imports begin
+sys.path[0] = os.path.dirname(os.path.dirname(os.path.realpath(__file__)))  # imports are relative to tools/
 
 from make.packets import desc_body, file_id, filled, ifsc_body, main_body, recvslic_body, set_of, slices
 
 
 def files_below(folder):
-    """The paths of files from there and their bytes."""
+    """Returns the paths of the files below a folder, from there, and their bytes."""
     found = {}
     for at, _, names in sorted(os.walk(os.fsencode(folder))):
         for name in sorted(names):
@@ -28,7 +28,7 @@ def files_below(folder):
 
 
 def first_recovery_slice(contents, size):
-    """The recovery data of the exponent 0: all slices, xored."""
+    """Returns the recovery data of the exponent 0: the exclusive or of all slices."""
     total = 0
     for piece in (piece for content in contents for piece in slices(content, size)):
         total ^= int.from_bytes(filled(piece, size), "little")

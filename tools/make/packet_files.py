@@ -1,17 +1,17 @@
 #!/usr/bin/env python3
-"""Writes the packet files that tests run whole commands on, as Rattle source files.
+"""Writes the packet files on which tests run whole commands, as Rattle source files.
 
 usage: packet_files.py FOLDER
 
-FOLDER gets packet_files.rt, packet_sets.rt and packet_edges.rt, to lie in crates/runs_tests/src/runs, and each
-packet file as NAME.par2. All hashes come from hashlib and zlib alone.
+FOLDER gets packet_files.rt, packet_sets.rt and packet_edges.rt, which belong into crates/runs_tests/src/runs, and each
+packet file as NAME.par2. All hashes come from hashlib and zlib.
 """
 
 import os
 import struct
 import sys
 
-sys.path[0] = os.path.dirname(os.path.dirname(os.path.realpath(__file__)))  # tools/, where imports begin
+sys.path[0] = os.path.dirname(os.path.dirname(os.path.realpath(__file__)))  # imports are relative to tools/
 
 from make.packets import (MAGIC, NO_ID, TYPES, desc_body, file_id, ifsc_body, main_body, md5, numbers, packet,
                           recvslic_body, set_of)
@@ -22,7 +22,7 @@ LARGE = 1048580
 
 
 def whole_set(members, exponents=()):
-    """A set of files (byte of the ID, name, content, whether it has sums), with recovery slices."""
+    """Returns a set of files (byte of the ID, name, content, whether it has checksums), with recovery slices."""
     rest = []
     for byte, name, content, known in members:
         owner = bytes([byte]) * 16
@@ -34,11 +34,11 @@ def whole_set(members, exponents=()):
 
 
 def with_length(data, length):
-    """The packet with another length field, and the hash that it had."""
+    """Returns the packet with another length field and its old hash."""
     return data[:8] + numbers(length) + data[16:]
 
 
-# The set of the one file g.bin, which holds abcdefgh; its recovery slice has 8 bytes and not 4.
+# The set of the one file g.bin, with the content abcdefgh. Its recovery slice has 8 bytes instead of 4.
 G = file_id(NAME, CONTENT)
 G_MAIN = main_body(SLICE_SIZE, [G])
 G_SET = md5(G_MAIN)
@@ -49,7 +49,7 @@ CREATOR = packet(NO_ID, "creator", b"")
 
 
 def listings():
-    """Files for `packets`."""
+    """Returns files for `packets`."""
     second = packet(NO_ID, "creator", b"abcd")
     return {
         "empty": b"",
@@ -67,7 +67,7 @@ def listings():
 
 
 def sets_of_g():
-    """The set of g.bin, its beginnings, and what it lacks or has beside it."""
+    """Returns the set of g.bin, beginnings of it, and sets that lack something or have something more."""
     other = packet(G_SET, "filedesc", desc_body(G, NAME, b"other", 8))
     main_of_zeros = packet(NO_ID, "main", main_body(SLICE_SIZE, []))
     return {
@@ -93,19 +93,19 @@ def sets_of_g():
             ("ifsc", ifsc_body(G, CONTENT, SLICE_SIZE) + bytes(4)),
             ("recvslic", recvslic_body(65535, b"data")),
         ]),
-        # The front of a packet whose body is LARGE zeros.
+        # The header of a packet whose body has LARGE zeros.
         "large_creator_front": packet(G_SET, "creator", bytes(LARGE))[:64],
         "creator_of_g": packet(G_SET, "creator", b"abcd"),
     }
 
 
 def other_sets():
-    """Sets of other files."""
+    """Returns sets of other files."""
     ones, twos = b"\x01" * 16, b"\x02" * 16
     main_of_ones = main_body(SLICE_SIZE, [ones])
     lengths = {f"of_length_{name}": set_of(main_of_ones, ("filedesc", desc_body(ones, b"n", b"", length)))
                for name, length in [("131072", 131072), ("131073", 131073), ("greatest", GREATEST)]}
-    # IDs compare by their last byte first, and the Main packet has the greater one first.
+    # IDs are compared by their last byte first. The Main packet has the greater one first.
     smaller, greater = b"\xff" + bytes(14) + b"\x01", b"\x01" + bytes(14) + b"\x02"
     pairs = {name: set_of(main_body(SLICE_SIZE, [greater, smaller]),
                           ("filedesc", desc_body(greater, second, b"", lengths[1])),
@@ -133,7 +133,7 @@ def other_sets():
         "a_with_a_slice": whole_set([(1, b"a.bin", b"abcdef", True)], [0]),
         "a_with_a_slice_twice": whole_set([(1, b"a.bin", b"abcdef", True)], [0, 0]),
         "z": whole_set([(1, b"z.bin", b"", False)]),
-        # Short slices: one of two bytes, one whose second byte is a zero, and two beside a whole one.
+        # Short slices: one of two bytes, one whose second byte is a zero, and two beside a full-length one.
         "ij": whole_set([(1, b"ij", b"ij", True)]),
         "i_and_zero": whole_set([(1, b"i", b"i\0", True)]),
         "ab_abcd_a": whole_set([(1, b"ab", b"ab", True), (2, b"abcd", b"abcd", True), (3, b"a", b"a", True)]),
@@ -141,13 +141,13 @@ def other_sets():
 
 
 def with_hashed_length(length, count):
-    """A header with this length field, and the hash that is right where it has so many bytes behind that."""
+    """Returns a header with this length field, and the hash that is right if `count` bytes follow it."""
     hashed = NO_ID + TYPES["creator"] + CREATOR
     return MAGIC + numbers(length) + md5(hashed[:count]) + hashed[:32]
 
 
 def edges():
-    """Packets at both sides of limits, each of them alone and in sets."""
+    """Returns packets at both sides of limits, each by itself and in sets."""
     twice = main_body(SLICE_SIZE, [G], [G])
     mains = [
         main_body(SLICE_SIZE, [])[:8], main_body(SLICE_SIZE, []), main_body(SLICE_SIZE, []) + bytes(4),
@@ -187,7 +187,7 @@ def edges():
 
 
 def large_bodies():
-    """Large bodies: the kind, the bytes that differ, and those behind them, which tests put there."""
+    """Returns large bodies: the kind, the bytes that differ, and the bytes after them, which tests add."""
     of_length, over_length = bytes(1048576), bytes(LARGE)
     ids = main_body(SLICE_SIZE, [])
     letters = desc_body(G, b"")
@@ -204,7 +204,7 @@ def large_bodies():
 
 
 def literal(data):
-    """The lines of a byte string in 92 columns; each packet begins a line."""
+    """Returns the lines of a byte string in 92 columns; each packet begins a line."""
     rows, row = [], ""
     for at, byte in enumerate(data):
         after = data[at + 1:at + 2]
@@ -222,9 +222,9 @@ def literal(data):
 
 
 def write_archive(folder, module, name_of_all, what, files):
-    """The packet files as one byte string in a source file, and each in a file of its own."""
+    """Writes the packet files as one byte string into a source file, and each into a file of its own."""
     lines = [f"// {what}, as tools/make/packet_files.py writes them.", "",
-             "/// Of each packet file a line with its name and how many bytes it has, and then those.",
+             "/// For each packet file a line with its name and its number of bytes, and then the bytes.",
              f'pub static {name_of_all}: &[u8] = b"\\']
     for name, data in files.items():
         lines += [f"{name} {len(data)}\\n\\", *[f"    {row}\\" for row in literal(data) if row]]

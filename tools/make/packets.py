@@ -1,7 +1,7 @@
-"""Builds packets and sets of them, from the definitions, with hashlib and zlib alone.
+"""Builds packets and sets from their definitions, with hashlib and zlib.
 
-All that makes packet files takes them from here. A body is built as it is told, also where no
-reader may take it: counts, IDs, lengths and contents need not fit one another.
+All programs that make packet files use it. It builds a body as it is told, even if a reader has to reject it: counts,
+IDs, lengths and contents need not fit one another.
 """
 
 import hashlib
@@ -26,22 +26,22 @@ def md5(data):
 
 
 def numbers(*values):
-    """Numbers of 8 bytes, each but for what doesn't fit into them."""
+    """Returns numbers of 8 bytes each, without the bits that don't fit."""
     return b"".join(struct.pack("<Q", value % (1 << 64)) for value in values)
 
 
 def filled(data, unit):
-    """The data with zeros up to a multiple of the unit."""
+    """Returns the data with zeros after it, up to a multiple of the unit."""
     return data + bytes(-len(data) % unit)
 
 
 def slices(content, size):
-    """The slices of the content, the last one as it is."""
+    """Returns the slices of the content; the last one isn't padded."""
     return [content[at:at + size] for at in range(0, len(content), size)]
 
 
 def ids_of(count, seed=0):
-    """So many different IDs."""
+    """Returns `count` different IDs."""
     return [numbers(number, seed) for number in range(count)]
 
 
@@ -50,30 +50,31 @@ def file_id(name, content):
 
 
 def packet(owner, kind, body):
-    """A packet of the set with this ID; a kind is a word of TYPES, or the sixteen bytes themselves."""
+    """Returns a packet of the set with the ID `owner`. A kind is a word of TYPES, or the sixteen bytes themselves."""
     hashed = owner + TYPES.get(kind, kind) + body
     return MAGIC + numbers(32 + len(hashed)) + md5(hashed) + hashed
 
 
 def set_of(main, *rest):
-    """The packets of the set with this Main body; the rest are pairs of kind and body."""
+    """Returns the packets of the set with this Main body. The rest are pairs of kind and body."""
     owner = md5(main)
     return b"".join(packet(owner, kind, body) for kind, body in [("main", main), *rest])
 
 
 def main_body(slice_size, recovery, others=()):
-    """The body of Main; the file IDs stand in the order given."""
+    """Returns the body of a Main packet, with the file IDs in the order given."""
     return struct.pack("<QI", slice_size, len(recovery)) + b"".join([*recovery, *others])
 
 
 def desc_body(owner, name, content=b"", length=None):
-    """The body of FileDesc for this file ID, whose length field may not be that of the content."""
+    """Returns the body of a FileDesc packet for this file ID. Its length field can differ from the length of the
+    content."""
     length = len(content) if length is None else length
     return owner + md5(content) + md5(content[:16384]) + numbers(length) + filled(name, 4)
 
 
 def ifsc_body(owner, content, slice_size):
-    """The body of IFSC for this file ID."""
+    """Returns the body of an IFSC packet for this file ID."""
     pieces = [filled(piece, slice_size) for piece in slices(content, slice_size)]
     return owner + b"".join(md5(piece) + struct.pack("<I", zlib.crc32(piece)) for piece in pieces)
 

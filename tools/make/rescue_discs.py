@@ -1,30 +1,30 @@
 #!/usr/bin/env python3
-"""Writes sets with images of discs, of which some have decoys where short last slices are expected.
+"""Writes sets with images of discs. Some images have decoys where short last slices are expected.
 
 usage: rescue_discs.py FOLDER
 
-FOLDER gets the packet files disc.par2, many.par2 and cut.par2, and their files below a folder of the
-same name. Slices have 4,000 bytes, or 400 in many.par2. In other_crc.par2 the files of disc.par2 have
-the same sums, but that the CRC-32 of the last slice of `one_byte` is another one. FOLDER gets these
-images too, in which no short last slice has zeros behind it up to the slice size:
+FOLDER gets the packet files disc.par2, many.par2 and cut.par2, and their files below folders of the same names. Slices
+have 4,000 bytes, or 400 in many.par2. other_crc.par2 has the files and checksums of disc.par2, except that the CRC-32
+of the last slice of `one_byte` differs. FOLDER also gets these images. In none of them do zeros follow a short last
+slice up to the slice size.
   disc.img      the files of disc.par2, each padded to 2,048 bytes, between other bytes
-  decoys.img    the same with other last slices: of `same_crc` one with its CRC-32, of `one_byte` one with
+  decoys.img    the same with other last slices: for `same_crc` one with the same CRC-32, for `one_byte` one with
                 a byte changed
   again.img     `same_crc` and `one_byte` once more, at other offsets
-  elsewhere.img the last slices of these two, with other bytes around
-  gap.img       `one_byte`, of which all whole slices but the first are damaged
-  many.img      300 files of as many lengths, each with a byte behind it
-  few.img       the same, of which the last slices of two stand behind all the others
+  elsewhere.img the last slices of these two, between other bytes
+  gap.img       `one_byte`, of which all full-length slices but the first are damaged
+  many.img      300 files of 300 lengths, each with a byte after it
+  few.img       the same, but the last slices of two files are after all the others
   no_lasts.img  the same without their last slices
   cut.img       a file that ends with zeros, without the last ones
-  cut_off.img   a whole slice, behind which its file has zeros
+  cut_off.img   a full-length slice, after which its file has zeros
 """
 
 import os
 import sys
 import zlib
 
-sys.path[0] = os.path.dirname(os.path.dirname(os.path.realpath(__file__)))  # tools/, where imports begin
+sys.path[0] = os.path.dirname(os.path.dirname(os.path.realpath(__file__)))  # imports are relative to tools/
 
 from make.content import noise, write
 from make.packets import desc_body, file_id, filled, ifsc_body, main_body, set_of
@@ -35,7 +35,8 @@ SECTOR = 2048
 
 
 def set_of_files(files, size, other_crc=None):
-    """The packets of these files, which are pairs of name and content, with another CRC-32 of one's last slice."""
+    """Returns the packets of these files, which are pairs of name and content. `other_crc` names a file whose last
+    slice gets a wrong CRC-32."""
     ids = [file_id(name, content) for name, content in files]
     bodies = []
     for owner, (name, content) in zip(ids, files):
@@ -46,12 +47,12 @@ def set_of_files(files, size, other_crc=None):
 
 
 def crc_of(data):
-    """The CRC-32 of a slice that has these bytes and zeros."""
+    """Returns the CRC-32 of a slice that has these bytes and then zeros."""
     return zlib.crc32(filled(data, SIZE))
 
 
 def with_crc(data, crc):
-    """The data with other first bytes, by which it has this CRC-32 with zeros up to a slice."""
+    """Returns the data with other first bytes, chosen so that it has this CRC-32 when zeros fill it up to a slice."""
     zeros = bytes(len(data))
     rows = []               # by the highest bit of a change of the CRC-32: that and the change of bytes which makes it
     for bit in range(32):
@@ -69,7 +70,7 @@ def with_crc(data, crc):
 
 
 def image_of(contents):
-    """The contents as on a disc."""
+    """Returns the contents as on a disc."""
     for content in contents:
         own = len(content) % SIZE
         if own and own + -len(content) % SECTOR >= SIZE:
@@ -78,12 +79,12 @@ def image_of(contents):
 
 
 def joined(contents):
-    """The contents with a byte behind each."""
+    """Returns the contents with a byte after each."""
     return b"".join(content + b"?" for content in contents)
 
 
 def discs():
-    """The set of disc.par2, and its images."""
+    """Returns the set of disc.par2, and its images."""
     lengths = {b"same_crc": 5 * SIZE + 700, b"one_byte": 4 * SIZE + 1001, b"whole": 2 * SIZE,
                b"in/folder": 3 * SIZE + 2000, b"empty": 0, b"last": SIZE + 1}
     files = {name: noise(name, length) for name, length in lengths.items()}
@@ -100,7 +101,7 @@ def discs():
 
 
 def many():
-    """The set of many.par2, and its images."""
+    """Returns the set of many.par2, and its images."""
     files = {b"%03d" % number: noise(b"many %d" % number, MANY_SIZE + number) for number in range(1, 301)}
     contents = list(files.values())
     few = [content[:MANY_SIZE] for content in contents[98:100]] + contents[:98] + contents[100:]
@@ -110,7 +111,7 @@ def many():
 
 
 def cut():
-    """The set of cut.par2, and its images."""
+    """Returns the set of cut.par2, and its images."""
     files = {b"cut": noise(b"cut", SIZE + 500) + bytes(100), b"cut_off": noise(b"cut off", SIZE) + bytes(100)}
     return files, {"cut": files[b"cut"][:-1], "cut_off": files[b"cut_off"][:-100]}
 

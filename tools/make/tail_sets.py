@@ -1,21 +1,21 @@
 #!/usr/bin/env python3
-"""Writes sets with short last slices, and files to look for these in.
+"""Writes sets with short last slices, and files in which these are to be found.
 
 usage: tail_sets.py FOLDER
 
-FOLDER gets each of the sets as NAME.par2, and what is scanned for them. Slices have 4 bytes, but for
-those of the sets of many lengths, which have 260: the file 007 has 7 bytes, and so on.
+FOLDER gets each set as NAME.par2, and the files that are scanned for it. Slices have 4 bytes, except in the sets of
+many lengths, where they have 260: there the file 007 has 7 bytes, and so on.
 """
 
 import os
 import sys
 
-sys.path[0] = os.path.dirname(os.path.dirname(os.path.realpath(__file__)))  # tools/, where imports begin
+sys.path[0] = os.path.dirname(os.path.dirname(os.path.realpath(__file__)))  # imports are relative to tools/
 
 from make.packet_files import whole_set
 from make.packets import desc_body, ids_of, ifsc_body, main_body, set_of
 
-# The files of each set in the order of their IDs, as pairs of name and content.
+# The files of each set, in the order of their IDs, as pairs of name and content.
 SETS = {
     "one": [(b"one", b"ij")],
     "zero": [(b"zero", b"i\0")],
@@ -32,7 +32,7 @@ def of_length(length):
 
 
 def set_of_many(files, without_sums=()):
-    """The set of these files, some of which have no sums."""
+    """Returns the set of these files, some of which have no checksums."""
     ids = ids_of(len(files), 1)
     bodies = []
     for owner, (name, content) in zip(ids, files):
@@ -52,7 +52,7 @@ def main():
         files[name + ".par2"] = whole_set([(byte, *member, True) for byte, member in enumerate(members, 1)])
     files["256.par2"] = set_of_many(many[:256])
     files["257.par2"] = set_of_many(many)
-    # 256 lengths, one of them twice, a slice that isn't short, and one of another length that has no sums.
+    # 256 lengths, one of them twice, a slice that isn't short, and one of another length without checksums.
     files["beside.par2"] = set_of_many(many + beside, [b"257"])
     for name, data in files.items():
         with open(os.path.join(folder, name), "wb") as out:

@@ -1,16 +1,16 @@
 #!/usr/bin/env python3
-"""Writes the common test set to a file and prints the values that the tests expect of it.
+"""Writes the common test set to a file, and prints the values that tests expect of it.
 
 usage: vectors.py v.par2 > vectors.txt
 
-All values come from the definitions, with hashlib and zlib alone.
+All values come from the definitions, with hashlib and zlib.
 """
 
 import os
 import sys
 import zlib
 
-sys.path[0] = os.path.dirname(os.path.dirname(os.path.realpath(__file__)))  # tools/, where imports begin
+sys.path[0] = os.path.dirname(os.path.dirname(os.path.realpath(__file__)))  # imports are relative to tools/
 
 from make.packets import NO_ID, desc_body, file_id, ifsc_body, main_body, md5, packet, recvslic_body, slices
 
@@ -24,9 +24,9 @@ def header_md5(packet):
 
 
 def common_set():
-    """The packets of the common test set, as pairs of kind and bytes.
+    """Returns the packets of the common test set, as pairs of kind and bytes.
 
-    The recovery slice is 8 bytes long, twice the slice size, so it can't be used.
+    The recovery slice has 8 bytes, twice the slice size, so it can't be used.
     """
     owner = file_id(NAME, CONTENT)
     main = main_body(SLICE_SIZE, [owner])
@@ -40,7 +40,7 @@ def common_set():
 
 
 def print_listing(name, packets):
-    """What `parv packets` prints of a file with these packets (offset, kind, bytes)."""
+    """Prints the lines of `parv packets` for a file with these packets (offset, kind, bytes)."""
     for at, kind, data in packets:
         print(name, at, len(data), kind, data[32:48].hex())
     print("packets", len(packets))

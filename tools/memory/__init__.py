@@ -1,1 +1,1 @@
-"""A reading of the sources for answers of want of memory, and for rooms that are asked for."""
+"""Reads the sources of the crates, and finds where they return out of memory and where they ask for capacity."""

@@ -1,13 +1,14 @@
 #!/usr/bin/env python3
-"""Compares the sources with the list of places where they answer want of memory or ask for room.
+"""Compares the sources with the list of places where they return out of memory or ask for capacity.
 
 usage: answers.py read | check | amend
 
-`read` reads the sources of all crates but those of tests, and wants each place in the list
-(tools/checks/memory_answers.txt), with a reason, and nothing else there. `check` does that, and then plants each
-fault of tools/faults that `check memory_answers` must see, or let pass, in a copy of the sources: there must be
-a line with the text that the fault's file has for it, or none. `amend` writes the list anew: reasons stay with their places, and a new place has a `?`, with the reason
-of one that went from the same function or had the same code, where there is one.
+`read` reads the sources of all crates except those of tests. Each place must be in the list
+(tools/checks/memory_answers.txt), with a reason, and the list may contain nothing else. `check` does that, and then
+injects each bug of tools/faults that `check memory_answers` must notice, or let pass, into a copy of the sources. There
+must be a line with the text that the bug's file names, or no line. `amend` writes the list again. Reasons stay with
+their places. A new place gets a `?`, followed by the reason of a place that has gone from the same function, or had the
+same code, if there is one.
 """
 
 import collections
@@ -18,7 +19,7 @@ import sys
 import tempfile
 
 HERE = os.path.dirname(os.path.realpath(__file__))
-sys.path[0] = os.path.dirname(HERE)  # tools/, where imports begin
+sys.path[0] = os.path.dirname(HERE)  # imports are relative to tools/
 sys.dont_write_bytecode = True
 
 from faults.fault import Fault, Misfit, parts_of, paths_of
@@ -27,14 +28,14 @@ from memory.reading import Place, Source, places_of
 TOP = os.path.dirname(os.path.dirname(HERE))
 LIST = os.path.join(TOP, "tools/checks/memory_answers.txt")
 PARTS = ("answers", "rooms")
-CHECK = "memory_answers"   # the check that this is
-# The texts that faults have for its lines; the empty one is of those after which there must be none.
+CHECK = "memory_answers"   # the name of this check
+# The texts that the bugs' files name for its lines. The empty text belongs to those for which there must be no line.
 KINDS = {"answers that aren't in", "rooms that aren't in", "of memory_answers.txt that aren't in the sources", ""}
-FIXTURES = "parfixtures"   # what tests are made over; their crates end in _tests
+FIXTURES = "parfixtures"   # a crate that only tests use, besides those whose names end in _tests
 
 
 class Sources:
-    """The sources below a folder; one that was read before isn't taken apart again."""
+    """The sources below a folder. A source that was read before isn't parsed again."""
 
     def __init__(self, top, known=None):
         self.top, self.known = top, known or {}
@@ -61,7 +62,7 @@ class Sources:
 
 
 def listed():
-    """What stands in front of the list, and its places with their reasons."""
+    """Returns the head of the list, and its places with their reasons."""
     head, entries, part = [], [], ""
     with open(LIST, encoding="utf-8") as file:
         lines = file.read().splitlines()
@@ -83,7 +84,7 @@ def listed():
 
 
 def differences(places, entries):
-    """The places that aren't listed, and the listed ones that aren't there, as often as they aren't."""
+    """Returns the places that aren't listed, and the listed ones that don't exist, each as often as it is missing."""
     wanted = collections.Counter(place.key for place in entries)
     wanted.subtract(place.key for place in places)
     new, gone = [], []
@@ -105,7 +106,8 @@ def lines_of(new, gone):
 
 
 def faults():
-    """Each fault of which this check must say something, with the texts of its lines; none, if it must say nothing."""
+    """Returns each bug about which this check must print lines, with their texts, and each harmless change, with no
+    text."""
     found = []
     for path in paths_of():
         fault = Fault(path)
@@ -116,7 +118,7 @@ def faults():
 
 
 def judged(sources, fault, texts, entries, before):
-    """What is wrong with the lines to a fault; nothing, if they are those that are wanted."""
+    """Says what is wrong with the lines for a bug; nothing if they are the expected ones."""
     try:
         wrong = fault.planted(sources.top)
     except Misfit as why:
@@ -149,7 +151,8 @@ def write(texts):
 
 
 def read():
-    """Compares the sources with the list: the sources as they were read, what differs, and whether nothing is wrong."""
+    """Compares the sources with the list. Returns the sources as they were read, the differences, and whether nothing
+    is wrong."""
     read_now, entries = Sources(TOP), listed()[1]
     places, known = read_now.places(), [place for place, _ in entries]
     new, gone = differences(places, known)
@@ -204,7 +207,8 @@ def amend():
 
 
 def lost_reason(lost, place):
-    """The reason of a place that went from the same function, or had the same code, to be read again."""
+    """Returns the reason of a place that has gone from the same function, or had the same code, with a `?` before
+    it."""
     for same in (slice(0, 3), slice(3, 4)):
         for entry in lost:
             if entry[0].part == place.part and entry[0].key[same] == place.key[same]:

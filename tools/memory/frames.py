@@ -1,4 +1,4 @@
-"""What is gone through in a source, and the places that are found there."""
+"""The position in a source while it is read, and the places that are found there."""
 
 import re
 
@@ -10,7 +10,8 @@ BEFORE_OPERANDS = ("return", "in", "else", "match", "if", "while", "move", "brea
 
 
 class Place:
-    """Where want of memory is answered, or room is asked for: the file, what of it, and the code up to there."""
+    """A place where out of memory is returned or capacity is requested: the file, the item, and the code up to the
+    place."""
 
     def __init__(self, part, file, owner, code):
         self.part, self.file, self.owner, self.code = part, file, owner, code
@@ -18,7 +19,7 @@ class Place:
 
 
 class Frame:
-    """Nodes that are gone through, and at which of them; those of a statement, or inside other nodes."""
+    """The nodes of a statement, or inside another node, and the position in them."""
 
     def __init__(self, nodes, up=None, is_statement=True):
         self.nodes, self.up, self.is_statement, self.at = nodes, up, is_statement, 0
@@ -35,7 +36,7 @@ class Frame:
         return frame
 
     def code(self):
-        """The statement, and in front of it what it stands under, as one line."""
+        """Returns the statement as one line, after the beginnings of the statements around it."""
         front, frame = "", self.statement()
         whole = line_of(frame.nodes, [at for at in groups_of(frame.nodes)
                                       if at > frame.at or at < frame.at and frame.nodes[at + 1] == "else"])
@@ -46,7 +47,7 @@ class Frame:
         return front + whole
 
     def front(self):
-        """The statement up to the node that is gone through."""
+        """Returns the statement up to the current node."""
         text = line_of(self.nodes[:self.at], [at for at in groups_of(self.nodes[:self.at])
                                               if self.nodes[at + 1] == "else"])
         if self.is_statement:
@@ -57,19 +58,19 @@ class Frame:
 
 
 def groups_of(nodes):
-    """The places of braces."""
+    """Returns the positions of groups in braces."""
     return [at for at, node in enumerate(nodes) if node.opens("{")]
 
 
 def first_group(nodes, start, end):
-    """The place of the first braces in a range, or its end."""
+    """Returns the position of the first group in braces in a range, or its end."""
     while start < end and not nodes[start].opens("{"):
         start += 1
     return start
 
 
 def words_of(nodes):
-    """All names, also those in a text between braces."""
+    """Returns all names, also those in a text between braces."""
     words = set()
     for node in nodes:
         if node.kind == "group":
@@ -94,13 +95,13 @@ def has_arrow(nodes):
 
 
 def is_literal(nodes):
-    """Whether braces hold the fields of a value."""
+    """Returns whether braces contain the fields of a value."""
     return len(nodes) > 0 and (nodes[0] == ".." or len(nodes) > 1 and nodes[0].kind == "word" and (
         nodes[1] == ":" or nodes[1] == ","))
 
 
 def begins_operand(nodes, at):
-    """Whether an operand is due here, so that a bar begins a closure."""
+    """Returns whether an operand is expected here, so that a bar begins a closure."""
     if at == 0:
         return True
     before = nodes[at - 1]
@@ -110,7 +111,8 @@ def begins_operand(nodes, at):
 
 
 def behind_types(nodes, at, end):
-    """The place behind the types in angles that begin here, or this one where there is more than types."""
+    """Returns the position after the types in angle brackets that begin here, or this one if they contain more than
+    types."""
     close = behind_angles(nodes, at)
     for node in nodes[at:close]:
         if node.kind in ("string", "number", "char") or node.opens("{") or node.kind == "op" and node.text not in (
@@ -120,7 +122,7 @@ def behind_types(nodes, at, end):
 
 
 def behind_result(nodes, at, end):
-    """The place behind the type that a closure says it gives."""
+    """Returns the position after the return type of a closure."""
     return first_group(nodes, at, end) if at < end and nodes[at] == "->" else at
 
 
@@ -146,13 +148,15 @@ def end_of_statement(nodes, start):
 
 
 def is_pattern(nodes, is_inside=False):
-    """Whether nodes may be a pattern, or the patterns and plain types of a closure: they have nothing else."""
+    """Returns whether nodes may be a pattern, or the patterns and plain types of a closure: whether they contain
+    nothing else."""
     return all(is_pattern(node.items, True) if node.kind == "group" else node.kind != "op" or node.text in (
         "::", "|", "..", "..=", "&", "@", "-", ":") or node.text in (",", "<", ">") and is_inside for node in nodes)
 
 
 def end_of_arm(nodes, arrow):
-    """The place behind what an arm gives: behind its block, or the last comma before the next arm's pattern."""
+    """Returns the position after the value of an arm: after its block, or the last comma before the next arm's
+    pattern."""
     next_arrow = first_at(nodes, arrow + 1, len(nodes), "=>")
     first = nodes[arrow + 1]
     if first.opens("{") or first.kind == "word" and first.text in BLOCKS:
@@ -168,13 +172,14 @@ def end_of_arm(nodes, arrow):
 
 
 def ends_with(pattern, variants):
-    """Whether a pattern is one of these variants, whatever it holds."""
+    """Returns whether a pattern is one of these variants, whatever that contains."""
     nodes = pattern[:-1] if pattern and pattern[-1].kind == "group" else pattern
     return bool(nodes) and nodes[-1].kind == "word" and nodes[-1].text in variants
 
 
 def is_unused(frame, at):
-    """Whether a call stands by itself: an answer that may be want of memory has to be used."""
+    """Returns whether a call is a statement by itself. If a call may return out of memory, its result has to be
+    used."""
     nodes, first = frame.nodes, frame.nodes[0]
     while at < len(nodes) and not nodes[at].opens("("):
         at += 1

@@ -1,4 +1,4 @@
-"""The items of a source: functions, impls, enums, uses and the like, from its tokens."""
+"""The items of a source, from its tokens: functions, impls, enums, uses and the like."""
 
 from memory.tokens import first_at
 
@@ -15,7 +15,7 @@ class Item:
 
 
 def item_at(nodes, start):
-    """The item that begins here, or None where a statement does."""
+    """Returns the item that begins here, or None if a statement begins here."""
     attributes, at = [], start
     while at + 1 < len(nodes) and nodes[at] == "#":
         at += 2 if nodes[at + 1] == "!" else 1
@@ -55,14 +55,14 @@ def with_attributes(attributes, item):
 
 
 def call_at(nodes, at, attributes):
-    """A call of a macro by itself, as among items."""
+    """Returns a call of a macro that is an item by itself."""
     if at + 2 < len(nodes) and nodes[at].kind == "word" and nodes[at + 1] == "!" and nodes[at + 2].opens("{"):
         return Item("call", nodes[at].text, attributes, [], nodes[at + 2], at + 3)
     return None
 
 
 def items_of(nodes):
-    """The items that a module, a trait or an impl has."""
+    """Yields the items in a module, a trait or an impl."""
     at = 0
     while at < len(nodes):
         if nodes[at].kind == "doc" or nodes[at] == ";":
@@ -78,7 +78,7 @@ def items_of(nodes):
 
 
 def behind_angles(nodes, at):
-    """The place behind `<..>`, where these begin here."""
+    """Returns the position after `<..>`, if that begins here."""
     depth = 0
     while at < len(nodes):
         if nodes[at].kind == "op" and nodes[at].text in ("<", ">"):
@@ -90,7 +90,7 @@ def behind_angles(nodes, at):
 
 
 def type_name(nodes):
-    """The last name of a path, without what stands in its angles; nothing for other types."""
+    """Returns the last name of a path, without the part in angle brackets; an empty text for other types."""
     name = ""
     for node in nodes:
         if node == "<" or node == "where":
@@ -101,7 +101,7 @@ def type_name(nodes):
 
 
 def impl_of(item):
-    """Of an impl: the name of its trait, the nodes of the trait's arguments, and the name of its type."""
+    """Returns, for an impl, the name of its trait, the nodes of the trait's arguments, and the name of its type."""
     nodes = item.head
     at = first_at(nodes, 0, len(nodes), "impl") + 1
     if at < len(nodes) and nodes[at] == "<":
@@ -114,7 +114,7 @@ def impl_of(item):
 
 
 def parameters_of(item):
-    """The names and types of a function's parameters, in order."""
+    """Returns the names and types of a function's parameters, in order."""
     nodes = item.head
     at = first_at(nodes, 0, len(nodes), "fn") + 2
     if at < len(nodes) and nodes[at] == "<":
@@ -135,7 +135,7 @@ def parameters_of(item):
 
 
 def variants_of(item):
-    """The variants of an enum: name, doc comment, attributes and what it holds."""
+    """Yields the variants of an enum: name, doc comment, attributes and payload."""
     docs, attributes, at, nodes = "", [], 0, item.body.items
     while at < len(nodes):
         node = nodes[at]
@@ -152,7 +152,7 @@ def variants_of(item):
 
 
 def leaves_of(nodes, path=()):
-    """Of a tree of uses: each path and the name that it gets."""
+    """Yields, for a tree of uses, each path and the name that it gets."""
     for part in parted_by_commas(nodes):
         steps = list(path)
         for at, node in enumerate(part):

@@ -1,4 +1,5 @@
-"""How numbers go to rooms: a call which hands one on to a room is a place too, and so is a constant."""
+"""Follows the numbers that say how much capacity is requested. A call that passes such a number on is a place too, and
+so is a constant with such a number."""
 
 from memory.frames import Place
 
@@ -6,18 +7,18 @@ NUMBERS = {"usize", "u64", "u32", "u16", "u8", "u128", "isize", "i64", "i32", "i
 
 
 def is_number(kind):
-    """Whether a type, as nodes, is one of numbers."""
+    """Returns whether a type, as nodes, is a type of numbers."""
     return len(kind) == 1 and kind[0].text in NUMBERS
 
 
 class Function:
-    """A function: its parameters, names and types, what it binds, and the names in each room that it asks for."""
+    """A function: the names and types of its parameters, its bindings, and the names in each request for capacity."""
 
     def __init__(self, parameters):
         self.parameters, self.bindings, self.rooms = parameters, [], []
 
     def names_to(self, rooms):
-        """The names that tell how much room is asked for."""
+        """Returns the names that say how much capacity is requested."""
         wanted = set().union(*rooms)
         grown = True
         while grown:
@@ -29,7 +30,7 @@ class Function:
         return wanted
 
     def numbers_to(self, rooms):
-        """Those of them that are parameters and numbers, by place."""
+        """Returns those of them that are parameters and numbers, by their positions."""
         wanted = self.names_to(rooms)
         return {at for at, (names, kind) in enumerate(self.parameters)
                 if wanted.intersection(names) and is_number(kind)}
@@ -43,7 +44,7 @@ class Call:
         self.kind, self.is_method, self.arguments = kind, is_method, arguments
 
     def may_be(self, kind, function):
-        """Whether it may call this function, which is of a type of this name, or of none."""
+        """Returns whether the call may be of this function, which belongs to the type of this name, or to none."""
         if self.is_method:
             return bool(function.parameters) and "self" in function.parameters[0][0]
         if kind == "":
@@ -51,7 +52,8 @@ class Call:
         return self.kind == kind or self.kind == "Self" and self.owner.split("::")[0] == kind
 
     def words_for(self, methods, wanted):
-        """The names in what it hands on to a room, or None where it hands on nothing."""
+        """Returns the names in the arguments that it passes on to a request for capacity, or None if it passes on
+        nothing."""
         words = None
         for kind, function in methods.get(self.name, []):
             if wanted[function] and self.may_be(kind, function):
@@ -64,7 +66,7 @@ class Call:
 
 
 def handed_on(readings):
-    """Of each reading the calls that hand a number on to a room, as places."""
+    """Yields, for each source, the calls that pass a number on to a request for capacity, as places."""
     methods, rooms, wanted = {}, {}, {}
     for reading in readings:
         for kind, name, function in reading.functions:
@@ -98,7 +100,8 @@ def handed_on(readings):
 
 
 def constants_of(readings, names):
-    """The constants that tell how much room is asked for: file, name, code and the names in their values."""
+    """Returns the constants that say how much capacity is requested: the file, the name, the code, and the names in
+    their values."""
     known, found = {}, []
     for reading in readings:
         for constant in reading.constants:

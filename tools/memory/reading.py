@@ -1,9 +1,9 @@
-"""The places of sources where want of memory is answered by hand, and where room is asked for.
+"""Finds the places of sources where out of memory is returned by hand, and where capacity is requested.
 
-An answer is made by hand where a name of want of memory stands in code: an error of the allocator, a variant of
-a fault that means it, what the system calls it, its message. Patterns, types and uses make none, and in an impl
-of From what turns one fault of want of memory into another makes none. What could make one without its name
-counts as one too: a default, unsafe code, another allocator, another name for any of these.
+Code returns out of memory by hand if it contains a name of that error: an error of the allocator, an error variant that
+means it, the name that the system has for it, or its message. Patterns, types and uses don't count. In an impl of From,
+an expression that turns one such error into another doesn't count either. Code that could return such an error without
+its name does count: a default, unsafe code, another allocator, or another name for any of these.
 """
 
 import re
@@ -16,14 +16,14 @@ from memory.items import impl_of, item_at, items_of, leaves_of, parameters_of, t
 from memory.numbers import Call, Function, handed_on, is_number
 from memory.tokens import first_at, line_of, parted, trees
 
-ERRORS = {"AllocError", "AllocFailed"}   # what the allocator answers
+ERRORS = {"AllocError", "AllocFailed"}   # the errors of the allocator
 SIGNS = ERRORS | {
     "OutOfMemory", "ENOMEM", "raw_os_error", "from_raw_os_error", "SpawnError", "RefCell", "Allocator", "Bump",
     "LocalHeap", "unsafe", "transmute", "path_from_str", "Default", "default", "unwrap_or_default", "or_default",
 }
 MEANING = re.compile("memory (was|is) refused|memory (ran|runs) out|(no|out of|want of) memory", re.IGNORECASE)
 MESSAGE = re.compile("memory|alloc", re.IGNORECASE)
-PROGRAM = "crates/parv/"                 # its functions have no contract: a status is told like an answer
+PROGRAM = "crates/parv/"                 # its functions have no contract, so an exit status counts too
 STATUSES = {"ExitCode", "exit", "abort"}
 
 ROOMS = {
@@ -34,15 +34,15 @@ ROOMS = {
     "split_off", "insert_str", "replace_range", "sort", "sort_by", "sort_by_key", "sort_by_cached_key", "clone",
     "try_clone", "read_to_end", "read_to_string", "shrink_to", "shrink_to_fit", "allocate", "allocate_zeroed",
 }
-BOXES = ("Box", "Rc", "Arc")             # whose `new` takes room for a value
-FREE = {("Sequence", "from_vec"), ("Text", "from_string")}   # these take over what there is
+BOXES = ("Box", "Rc", "Arc")             # their `new` takes memory for a value
+FREE = {("Sequence", "from_vec"), ("Text", "from_string")}   # these take over memory that was taken before
 MACROS = ("matches", "vec", "format", "write", "writeln", "prove", "unreachable")
-TEXTS = ("format", "write", "writeln")   # as long as what they show, but where a width or a precision is given
+TEXTS = ("format", "write", "writeln")   # as long as the values that they show, unless they have a width or a precision
 WIDE = re.compile(r"\{[^{}]*:[^{}]*[0-9$*][^{}]*\}")
 
 
 class Source:
-    """A source: its items, and what it says for all of them."""
+    """A source: its items, and what these declare for all sources."""
 
     def __init__(self, file, text):
         self.file, self.nodes = file, trees(text)
@@ -74,7 +74,8 @@ class Source:
 
 
 class Names:
-    """What all sources together say: their functions, and the variants of each enum that mean want of memory."""
+    """The declarations of all sources together: their functions, and the variants of each enum that mean out of
+    memory."""
 
     def __init__(self, sources):
         self.functions, self.faults = set(), {}
@@ -91,7 +92,7 @@ class Names:
 
 
 class Reading:
-    """Goes through one source."""
+    """Reads one source."""
 
     def __init__(self, file, nodes, names):
         self.file, self.names = file, names
@@ -236,7 +237,7 @@ class Reading:
                 self.word(frame, at - 1)
 
     def pattern(self, frame, start, end):
-        """A pattern makes nothing; a test for what the system calls want of memory is told all the same."""
+        """Reads a pattern. A pattern makes no error, but a test for the system's name of out of memory counts too."""
         if self.plain or not is_pattern(frame.nodes[start:end]):
             self.expression(frame, start, end)
         elif words_of(frame.nodes[start:end]) & (SIGNS - ERRORS):
@@ -256,7 +257,8 @@ class Reading:
             self.function.bindings.append((words_of(pattern), words_of(value)))
 
     def macro(self, frame, at):
-        """What a macro makes of its arguments isn't known, but of those of `matches!`, which are read as they are."""
+        """Reads the arguments of a macro as code, since nobody knows what it makes of them. Those of `matches!` are
+        read as they are."""
         name, group = frame.nodes[at - 2].text, frame.nodes[at]
         frame.at, outer = at, self.plain
         inner = Frame(group.items, frame, False)
@@ -306,7 +308,7 @@ class Reading:
         self.call(frame, at, before)
 
     def call(self, frame, at, before):
-        """Notes a name that asks for room, and a call of a function of the sources."""
+        """Records a name that requests capacity, and a call of a function of the sources."""
         nodes, text, behind = frame.nodes, frame.nodes[at].text, frame.nodes[at + 1:]
         if text in ("vec", *TEXTS) and len(behind) > 1 and behind[0] == "!":
             inside = behind[1].items
@@ -335,7 +337,7 @@ class Reading:
         self.place("rooms", frame)
 
     def place(self, part, frame):
-        """Notes the statement, once."""
+        """Records the statement, once."""
         nodes = frame.statement().nodes
         if not any(seen is nodes and part == kind for kind, seen in self.seen):
             self.seen.append((part, nodes))
@@ -343,7 +345,7 @@ class Reading:
 
 
 def places_of(sources):
-    """All places of the sources, in order."""
+    """Returns all places of the sources, in order."""
     names = Names(sources)
     readings = [source.read(names) for source in sources]
     found = []
@@ -353,7 +355,7 @@ def places_of(sources):
 
 
 def without_fronts(places):
-    """The places, but for those that are the head of another one."""
+    """Yields the places, except those that are the head of another one."""
     for place in places:
         head = place.key[:3], place.key[3].removesuffix("{..}") + "{"
         if not any(other.key[:3] == head[0] and other.key[3].startswith(head[1]) for other in places

@@ -1,4 +1,4 @@
-"""Sources as trees of tokens, without comments, clauses and what is ghost; and as text of one line."""
+"""Sources as trees of tokens, without comments, clauses and ghost items; and trees as one line of text."""
 
 import re
 
@@ -20,7 +20,7 @@ TOKEN = re.compile(r"""
 
 
 class Node:
-    """A token, or a group with what stands in it. `gap` is what is in front of it: nothing, a space or a line."""
+    """A token, or a group with the nodes in it. `gap` is what comes before it: nothing, a space or a line break."""
 
     __slots__ = ("kind", "text", "gap", "items")
 
@@ -35,7 +35,7 @@ class Node:
 
 
 def behind_block(text, at):
-    """The place behind a comment that begins here and may have others in it."""
+    """Returns the position after a comment that begins here and may contain others."""
     depth = 0
     for mark in re.compile(r"/\*|\*/").finditer(text, at):
         depth += 1 if mark[0] == "/*" else -1
@@ -45,7 +45,7 @@ def behind_block(text, at):
 
 
 def trees(text):
-    """The tokens of a source, in groups; doc comments are tokens too."""
+    """Returns the tokens of a source, in groups. Doc comments are tokens too."""
     stack, gap, at = [Node("group", "", "", [])], "line", 0
     while at < len(text):
         if text.startswith("/*", at):
@@ -76,7 +76,7 @@ def trees(text):
 
 
 def code_of(nodes):
-    """The nodes without clauses and ghost items, at any depth."""
+    """Returns the nodes without clauses and ghost items, at any depth."""
     kept, at = [], 0
     while at < len(nodes):
         node = nodes[at]
@@ -108,7 +108,7 @@ def is_pub(nodes):
 
 
 def after_group(nodes, at):
-    """The place behind the next group of braces, or behind a `;` in front of it."""
+    """Returns the position after the next group in braces, or after a `;` before it."""
     while not nodes[at].opens("{") and nodes[at] != ";":
         at += 1
         if at == len(nodes):
@@ -117,7 +117,7 @@ def after_group(nodes, at):
 
 
 def gap_between(before, node):
-    """What one line has between two nodes, wherever lines are broken."""
+    """Returns what one line has between two nodes, wherever the source breaks its lines."""
     if node.gap == "space":
         return " "
     if node.gap == "":
@@ -128,7 +128,7 @@ def gap_between(before, node):
 
 
 def line_of(nodes, elided=()):
-    """The nodes as one line; of the groups at the places `elided` no more than that they are there."""
+    """Returns the nodes as one line. The groups at the positions `elided` are only shown to be there."""
     text, before = "", None
     for at, node in enumerate(nodes):
         if node.kind == "doc" or node == "," and at == len(nodes) - 1:
@@ -147,7 +147,7 @@ def line_of(nodes, elided=()):
 
 
 def first_at(nodes, start, end, *texts):
-    """The first place in a range where one of these tokens stands, or its end."""
+    """Returns the first position in a range that has one of these tokens, or its end."""
     for at in range(start, end):
         if nodes[at].kind != "group" and nodes[at].text in texts:
             return at
@@ -155,7 +155,7 @@ def first_at(nodes, start, end, *texts):
 
 
 def parted(nodes, separator):
-    """The parts between separators."""
+    """Returns the parts between separators."""
     parts, start = [], 0
     for at, node in enumerate(nodes):
         if node == separator:

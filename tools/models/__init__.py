@@ -1,1 +1,1 @@
-"""Independent readings of packet files. Nothing here knows what makes them."""
+"""Independent programs that read packet files. They take nothing from the programs that make packet files."""

@@ -1,9 +1,9 @@
 #!/usr/bin/env python3
-"""Reads and writes cursors, and takes the mark of a list of scanned files, by its own reading.
+"""Reads and writes cursors, and makes the fingerprint of a file list, independently of parv.
 
 usage: cursor_texts.py [-B DIR] FILE...
 
-Prints the mark of these files, in this order, as `parv find` gives it in its last line.
+Prints the fingerprint of these files, in this order, as `parv find` has it in its last line.
 """
 
 import hashlib
@@ -19,31 +19,31 @@ BOUNDS = (2**32, 2**64, 2**32)
 
 
 class Cursor(NamedTuple):
-    """What a text tells: the set, the mark of the list, where it has one, and the three numbers."""
+    """The content of a cursor: the set, the fingerprint of the file list (None in version 1), and the three numbers."""
     set: str
     mark: Optional[str]
     at: tuple
 
 
 def eight(value):
-    """A number as eight bytes, the least first."""
+    """Returns a number as eight bytes, the least significant first."""
     return value.to_bytes(8, "little")
 
 
 def mark_of(names, lengths):
-    """The mark of a list of scanned files, by their names as they are told and their lengths."""
+    """Returns the fingerprint of a list of scanned files, from their names (without the base) and lengths."""
     listed = [eight(len(name)) + name + eight(length) for name, length in zip(names, lengths)]
     return hashlib.md5(b"".join(listed)).hexdigest()
 
 
 def text_of(cursor):
-    """The text of a cursor, in the second version where it has a mark."""
+    """Returns the text of a cursor: of version 2 if it has a fingerprint."""
     head = [cursor.set] if cursor.mark is None else ["2", cursor.set, cursor.mark]
     return ":".join([*head, *map(str, cursor.at)])
 
 
 def read(text):
-    """The cursor that a text is, or nothing."""
+    """Returns the cursor that a text is, or None."""
     for form in FORMS:
         found = re.fullmatch(form, text)
         if found:
@@ -55,7 +55,7 @@ def read(text):
 
 
 def without(base, name):
-    """The name of a scanned file: what comes after the base and a slash, where it begins so."""
+    """Returns the name of a scanned file: without the base and a slash, if it begins with these."""
     front = base if base.endswith(b"/") else base + b"/"
     return name[len(front):] if base and name.startswith(front) else name
 

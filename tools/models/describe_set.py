@@ -1,11 +1,10 @@
 #!/usr/bin/env python3
-"""Describes the PAR2 recovery set of packet files, by its own reading of the same bytes.
+"""Describes the PAR2 recovery set of packet files, independently of parv.
 
 usage: describe_set.py FILE...
 
-Prints what `parv set` prints; where the files give no set, nothing but the first cause, on standard
-error. Bodies above 1,048,576 bytes are put aside; of several packets for one thing the first by
-file and offset is taken.
+Prints what `parv set` prints. If the files give no set, it prints only the first cause, on standard error. It rejects
+bodies of more than 1,048,576 bytes. If several packets are about one thing, it takes the first by file and offset.
 """
 
 import hashlib
@@ -13,7 +12,7 @@ import os
 import sys
 from typing import NamedTuple
 
-sys.path[0] = os.path.dirname(os.path.dirname(os.path.realpath(__file__)))  # tools/, where imports begin
+sys.path[0] = os.path.dirname(os.path.dirname(os.path.realpath(__file__)))  # imports are relative to tools/
 
 from models.list_packets import packets_in, shown, with_bytes
 
@@ -23,11 +22,11 @@ MOST = 32768
 
 
 class NoSet(Exception):
-    """Why there is no set, in the words of parv."""
+    """The reason why there is no set, in the words of parv."""
 
 
 class File(NamedTuple):
-    """A file of the set; its sums are pairs of MD5 and CRC-32, one after the other, or None."""
+    """A file of the set. Its checksums are pairs of MD5 and CRC-32, one after the other, or None."""
     id: bytes
     length: int
     slices: int
@@ -37,7 +36,7 @@ class File(NamedTuple):
 
 
 class RecoverySet(NamedTuple):
-    """The files stand by their IDs; aside is a list of file name, offset and reason."""
+    """A set. Its files are sorted by their IDs; `aside` is a list of rejected packets: file name, offset and reason."""
     id: str
     size: int
     files: list
@@ -56,7 +55,7 @@ def pieces(data, width):
 
 
 def packets_of(files):
-    """Every packet of files, by file and offset, as (name, offset, kind, set ID, body)."""
+    """Returns each packet of files, by file and offset, as (name, offset, kind, set ID, body)."""
     return [(name, at, kind, owner, data[at + 64:at + length])
             for name, data in files for at, length, kind, owner in packets_in(data)]
 
@@ -118,7 +117,7 @@ def reason(kind, body, owner, size):
 
 
 def files_of(size, ids, descs, sums):
-    """The files of the recovery IDs by ID, or the first cause why there is no set."""
+    """Returns the files of the recovery IDs by ID, or raises NoSet with the first cause."""
     first_desc, first_sums = {}, {}
     for body in descs:
         first_desc.setdefault(body[:16], body)
@@ -144,7 +143,8 @@ def files_of(size, ids, descs, sums):
 
 
 def set_of(packets, choice=None):
-    """The set of packets by file and offset: that of the first usable Main, or of this set ID."""
+    """Returns the set of packets: that of the first usable Main packet by file and offset, or the one with the ID
+    `choice`."""
     body, owner = next(((body, owner) for _, _, kind, owner, body in packets
                         if kind == "main" and choice in (None, owner)
                         and main_reason(body, owner) is None), (None, None))
@@ -171,7 +171,7 @@ def set_line(found):
 
 
 def description(found):
-    """The lines of a set."""
+    """Returns the lines of a set."""
     lines = [set_line(found)]
     for file in found.files:
         known = "no" if file.sums is None else "yes"

@@ -1,12 +1,12 @@
 #!/usr/bin/env python3
-"""Looks for the slices of a PAR2 recovery set at every offset of files, by its own reading.
+"""Looks for the slices of a PAR2 recovery set at every offset of files, independently of parv.
 
 usage: find_slices.py [--tails] FILE...
 
-Prints what `parv find` prints where the packet files (those that end in .par2) give a set. Each
-window is filled with zeros and hashed anew. With --tails that of a slice has the slice's own length
-before the zeros, so that a short one is seen before other bytes too; of more than 256 own lengths
-below the slice size nothing is told but that, on standard error.
+Prints what `parv find` prints if the packet files (whose names end in .par2) give a set. It fills each window with
+zeros and hashes it as a whole. With --tails, a window has the slice's own length before the zeros, so a short slice is
+also found before other bytes. If there are more than 256 own lengths below the slice size, it prints only that, on
+standard error.
 """
 
 import hashlib
@@ -14,7 +14,7 @@ import os
 import sys
 import zlib
 
-sys.path[0] = os.path.dirname(os.path.dirname(os.path.realpath(__file__)))  # tools/, where imports begin
+sys.path[0] = os.path.dirname(os.path.dirname(os.path.realpath(__file__)))  # imports are relative to tools/
 
 from models.describe_set import number, packets_of, set_of
 from models.list_packets import is_packet_file, shown, with_bytes
@@ -24,19 +24,20 @@ TOO_MANY_TAILS = "parv: no usable set: too many tails"
 
 
 def slices_of(found):
-    """Every slice in order: its file ID, its number in the file, its own length and its sums."""
+    """Returns each slice in order: its file ID, its number in the file, its own length (without padding) and its
+    checksums."""
     return [(file.id, at, min(found.size, file.length - at * found.size),
              None if file.sums is None else (file.sums[at][:16], number(file.sums[at][16:])))
             for file in found.files for at in range(file.slices)]
 
 
 def has_too_many_tails(found):
-    """Whether the slices with sums have more own lengths below the slice size than may be looked for."""
+    """Returns whether the slices with checksums have more own lengths below the slice size than may be looked for."""
     return len({own for _, _, own, sums in slices_of(found) if sums and own < found.size}) > MOST_TAILS
 
 
 def wanted_of(found, tails):
-    """Of each length that is looked at, the slices of each pair of sums: their numbers and own lengths."""
+    """Returns, for each compared length, the slices with each pair of checksums: their numbers and own lengths."""
     wanted = {}
     for at, (_, _, own, sums) in enumerate(slices_of(found)):
         if sums is not None:
@@ -46,7 +47,7 @@ def wanted_of(found, tails):
 
 
 def sightings(found, contents, tails=False):
-    """Every sighting in these contents by file, offset and slice: the three numbers."""
+    """Yields each match in these contents, sorted by file, offset and slice, as these three numbers."""
     wanted = wanted_of(found, tails)
     crcs = {looked: {crc for _, crc in by_sums} for looked, by_sums in wanted.items()}
     for place, data in enumerate(contents if wanted else []):
@@ -63,12 +64,12 @@ def sightings(found, contents, tails=False):
 
 
 def line_of(name, offset, entry):
-    """The line of a sighting; an entry is one of slices_of."""
+    """Returns the line of a match; an entry is one of slices_of."""
     return f"{shown(name)} {offset} {entry[0].hex()} {entry[1]}"
 
 
 def tails_and_files(words):
-    """Whether the words begin with --tails, and the names of the files."""
+    """Returns whether the arguments begin with --tails, and the names of the files."""
     tails = words[:1] == ["--tails"]
     return tails, [os.fsencode(word) for word in words[tails:]]
 

@@ -1,10 +1,9 @@
 #!/usr/bin/env python3
-"""Lists the PAR2 packets of files, by the definition of a packet at every offset of the magic.
+"""Lists the PAR2 packets of files, by the definition of a packet at each offset of the magic.
 
 usage: list_packets.py [--set HEX] FILE...
 
-Prints what `parv packets` prints, by an independent reading of the same bytes. Like parv it
-reads only those files whose name ends in .par2.
+Prints what `parv packets` prints, independently of parv. Like parv, it reads only files whose name ends in .par2.
 """
 
 import argparse
@@ -24,7 +23,7 @@ KINDS = {
 
 
 def packet_at(data, at):
-    """The length, kind and set ID of the packet at the offset, or None if none is there."""
+    """Returns the length, kind and set ID of the packet at this offset, or None if no packet is there."""
     if data[at:at + 8] != MAGIC:
         return None
     length = int.from_bytes(data[at + 8:at + 16], "little")
@@ -37,7 +36,7 @@ def packet_at(data, at):
 
 
 def packets_in(data):
-    """Each packet, by its offset: that, its length, its kind and its set ID."""
+    """Yields each packet, by its offset: the offset, its length, its kind and its set ID."""
     at = data.find(MAGIC)
     while at >= 0:
         found = packet_at(data, at)
@@ -47,7 +46,7 @@ def packets_in(data):
 
 
 def shown(name):
-    """The name as text: printable ASCII as it is, other bytes and the backslash escaped."""
+    """Returns the name as text: printable ASCII as it is, other bytes and the backslash escaped."""
     text = ""
     for byte in name:
         if byte == 0x5C:
@@ -66,7 +65,7 @@ def set_id(text):
 
 
 def listing(files, chosen=None):
-    """The lines of files, which are pairs of name and bytes; with a set ID those of its packets."""
+    """Returns the lines of files, which are pairs of name and bytes. With a set ID, only the lines of its packets."""
     lines = [f"{shown(name)} {at} {length} {kind} {owner}" for name, data in files
              for at, length, kind, owner in packets_in(data) if chosen in (None, owner)]
     return [*lines, f"packets {len(lines)}"]
@@ -77,7 +76,7 @@ def is_packet_file(name):
 
 
 def with_bytes(names):
-    """The files of these names, as pairs of name and bytes."""
+    """Returns the files of these names, as pairs of name and bytes."""
     files = []
     for name in names:
         with open(name, "rb") as file:

@@ -1,17 +1,17 @@
 #!/usr/bin/env python3
-"""Maps the slices of a PAR2 set, by its own search at every offset.
+"""Maps the slices of a PAR2 set, by an independent search at every offset.
 
 usage: map_slices.py [--tails] FILE...
 
-Prints for each file of the set a line with its name and one with a sign for each slice, where it has some: `#` where a
-scanned file of its name has the slice at its offset, `+` where it is seen elsewhere alone, `.` where
-it isn't. Of a file whose sums aren't known each is `#`, `+` or `?` by the state of the file.
+For each file of the set, it prints a line with its name and, if it has slices, a line with a sign for each: `#` if a
+scanned file of its name has the slice at its offset, `+` if the slice is found only elsewhere, and `.` if it isn't
+found. If a file's slices have no checksums, each is `#`, `+` or `?` by the state of the file.
 """
 
 import os
 import sys
 
-sys.path[0] = os.path.dirname(os.path.dirname(os.path.realpath(__file__)))  # tools/, where imports begin
+sys.path[0] = os.path.dirname(os.path.dirname(os.path.realpath(__file__)))  # imports are relative to tools/
 
 from models.describe_set import packets_of, set_of
 from models.find_slices import sightings, slices_of, tails_and_files

@@ -1,13 +1,13 @@
 #!/usr/bin/env python3
-"""Puts the slices of a PAR2 set that are found into their places, by its own search, with the bytes of the originals.
+"""Puts the slices of a PAR2 set that are found into their places, by an independent search.
 
 usage: place_slices.py [--tails] ORIGINALS FOLDER FILE...
 
-Takes the bytes of each slice that is seen anywhere from the file of its name in the folder ORIGINALS,
-and not from where it was seen. FOLDER gets what parv-rescue must leave, and standard
-output its lines, the last one without how many were copied. Without --tails a short last slice is seen
-also at its distance from each sighting of another slice of its file. Standard error gets how many short
-slices with known sums are missing, if some are.
+It takes the bytes of each slice that is found anywhere from the file of its name in the folder ORIGINALS, and not from
+the place where it was found. FOLDER gets the files that parv-rescue must leave. Standard output gets the lines of
+parv-rescue; the last one lacks the number of copied slices. Without --tails, a short last slice is also found at its
+distance from each match of another slice of its file. If short slices with checksums are missing, standard error gets
+their number.
 """
 
 import hashlib
@@ -15,7 +15,7 @@ import os
 import sys
 import zlib
 
-sys.path[0] = os.path.dirname(os.path.dirname(os.path.realpath(__file__)))  # tools/, where imports begin
+sys.path[0] = os.path.dirname(os.path.dirname(os.path.realpath(__file__)))  # imports are relative to tools/
 
 from models.describe_set import packets_of, set_of
 from models.find_slices import sightings, slices_of, tails_and_files
@@ -23,7 +23,7 @@ from models.list_packets import is_packet_file, shown, with_bytes
 
 
 def parts_of(found):
-    """Of each file its slices by their numbers in the whole set, as pairs of beginning and end."""
+    """Returns, for each file, its slices by their numbers in the whole set, as pairs of beginning and end."""
     parts = {}
     for at, (owner, number, own, _) in enumerate(slices_of(found)):
         parts.setdefault(owner, {})[at] = number * found.size, number * found.size + own
@@ -31,7 +31,8 @@ def parts_of(found):
 
 
 def led_to(found, slices, lasts, data, offset, at):
-    """The last slice of the same file, where the data has it at its distance from this sighting."""
+    """Returns the last slice of the same file, in a set, if the data has it at its distance from this match; else an
+    empty set."""
     last = lasts[slices[at][0]]
     _, _, own, sums = slices[last]
     begin = offset + (last - at) * found.size
@@ -41,7 +42,7 @@ def led_to(found, slices, lasts, data, offset, at):
 
 
 def seen(found, contents, tails):
-    """The numbers of all slices that are seen."""
+    """Returns the numbers of all slices that are found."""
     slices, there = slices_of(found), set()
     lasts = {owner: at for at, (owner, *_) in enumerate(slices)}
     for place, offset, at in sightings(found, contents, tails):
@@ -52,7 +53,8 @@ def seen(found, contents, tails):
 
 
 def placed(original, parts, there):
-    """The original with zeros where it has no slice that is there, and the lines of these holes' bounds."""
+    """Returns the original, with zeros in place of slices that aren't found, and the beginnings and ends of these
+    holes."""
     data, bounds = bytearray(len(original)), []
     for at, (begin, end) in parts.items():
         if at in there:

@@ -1,17 +1,17 @@
 #!/usr/bin/env python3
-"""Tells the states of the files of a PAR2 recovery set, by its own reading of the same bytes.
+"""Prints the states of the files of a PAR2 recovery set, independently of parv.
 
 usage: tell_states.py [--tails] FILE...
 
-Prints what `parv verify` prints where the packet files (those that end in .par2) give a set, and
-ends with the same status. With --tails it finds what find_slices.py finds with it.
+Prints what `parv verify` prints if the packet files (whose names end in .par2) give a set, and ends with the same
+status. With --tails, it finds what find_slices.py finds with that option.
 """
 
 import hashlib
 import os
 import sys
 
-sys.path[0] = os.path.dirname(os.path.dirname(os.path.realpath(__file__)))  # tools/, where imports begin
+sys.path[0] = os.path.dirname(os.path.dirname(os.path.realpath(__file__)))  # imports are relative to tools/
 
 from models.describe_set import packets_of, set_line, set_of
 from models.find_slices import TOO_MANY_TAILS, has_too_many_tails, sightings, slices_of, tails_and_files
@@ -21,7 +21,7 @@ RESULTS = ["complete", "possible", "impossible"]
 
 
 def state_of(file, scanned):
-    """The state of a file and, where it is renamed, the name that its content has."""
+    """Returns the state of a file and, if it is renamed, the name under which its content was found."""
     same = [name for name, data in scanned
             if len(data) == file.length and hashlib.md5(data).digest() == file.whole]
     if file.name in same:
@@ -32,7 +32,7 @@ def state_of(file, scanned):
 
 
 def verdict(found, scanned, seen):
-    """The exit status and the lines by these sightings."""
+    """Returns the exit status and the lines for these matches."""
     have = {at for _, _, at in seen}
     lines, first, complete = [set_line(found)], 0, True
     for file in found.files:

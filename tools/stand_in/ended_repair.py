@@ -1,9 +1,9 @@
 #!/usr/bin/env python3
-"""Stands for parv-repair in checks, and ends by SIGKILL at one of its moves.
+"""Replaces parv-repair in checks, and ends by SIGKILL at one of its moves.
 
 usage: ended_repair.py NUMBER before|after WORDS..
 
-The moves are those of files of the folder, from 1 on; the journal has its name by then.
+NUMBER counts the moves of files in the folder, from 1. By then the journal has its final name.
 """
 
 import os

@@ -1,19 +1,20 @@
 #!/usr/bin/env python3
-"""Stands in for `par2 repair` in the checks of scripts that call it.
+"""Replaces `par2 repair` in the checks of commands that call it.
 
 usage: par2.py repair -q FILE..
 
-The packet files among FILES and the others are read by the models of models/, in the folder where it is
-run; names as par2cmdline 0.8.1 reads them: a backslash as a slash, a control character and two dots before
-a slash as % and two digits. The set is that of the first packet of the first packet file. It ends with 2
-where more slices are needed than there are recovery slices, a short one being seen where a file ends; else
-it does what par2 does: moves a damaged file to name.1, renames one that is another, for which it makes no
-folder, and writes the rest, which it takes from the folder ORIGINALS, whatever the files are called there. If the set has an empty file, it ends
-with 5 whatever it has done. GIVEN is a file to which it adds a line for each file that it sees, with the
-file's MD5.
+It reads the FILES in the current folder, packet files and others, with the models of models/. It reads names as
+par2cmdline 0.8.1 does: a backslash is a slash; a control character, and two dots before a slash, become % and two
+digits. The set is that of the first packet of the first packet file.
 
-WRONG is how it goes wrong, once something is to be repaired: `fails` with half of a file written, `lies`
-by writing other bytes and ending with 0, or the name of a signal, which then ends what has called it.
+It ends with 2 if more slices are needed than there are recovery slices; it finds a short slice only at the end of a
+file. Otherwise it does what par2 does. It moves a damaged file to NAME.1. It renames a file that is the whole of
+another one, but makes no folder for it. It writes the other files, with bytes from the folder ORIGINALS, whatever they
+are called there. If the set has an empty file, it ends with 5, whatever it has done.
+
+GIVEN is a file to which it adds a line for each file that it gets, with the file's MD5. WRONG is how it goes wrong once
+it has something to repair: `fails` when half of a file is written; `lies` by writing other bytes and ending with 0; or
+the name of a signal, which then ends its caller.
 """
 
 import hashlib
@@ -23,7 +24,7 @@ import signal
 import sys
 import time
 
-sys.path[0] = os.path.dirname(os.path.dirname(os.path.realpath(__file__)))  # tools/, where imports begin
+sys.path[0] = os.path.dirname(os.path.dirname(os.path.realpath(__file__)))  # imports are relative to tools/
 sys.dont_write_bytecode = True
 
 from models.describe_set import NoSet, packets_of, set_of
@@ -35,7 +36,7 @@ WRONG = os.environ.get("WRONG", "")
 
 
 def name_there(name):
-    """The path by which par2 looks for a file of the set."""
+    """Returns the path by which par2 looks for a file of the set."""
     name = name.replace(b"\\", b"/").replace(b"../", b"%2E%2E/")
     return re.sub(rb"[\0-\x1f]", lambda found: b"%%%02X" % found[0][0], name)
 
@@ -59,7 +60,7 @@ def write(path, data):
 
 
 def go_wrong(path, data):
-    """The fault, at the first file that is to be written."""
+    """Goes wrong as WRONG says, at the first file that is to be written."""
     if WRONG == "fails":
         write(path, data[:len(data) // 2])
         end(5, "Repair Failed.")
@@ -70,7 +71,7 @@ def go_wrong(path, data):
 
 
 def original(file):
-    """The bytes that a file of the set has, from some file below ORIGINALS."""
+    """Returns the content of a file of the set, from some file below ORIGINALS."""
     for above, _, names in os.walk(os.fsencode(os.environ["ORIGINALS"])):
         for name in names:
             with open(os.path.join(above, name), "rb") as whole:
@@ -81,7 +82,7 @@ def original(file):
 
 
 def repair(file, scanned, moved):
-    """Makes a file complete; `moved` has where files are now that were moved."""
+    """Makes a file complete. `moved` says where files are that were moved."""
     state, other = state_of(file, scanned)
     if state == "complete":
         return

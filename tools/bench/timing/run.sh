@@ -1,7 +1,7 @@
 #!/usr/bin/env bash
-# Times the window beside `md5`: proves main.rt.txt as src/main.rt of a crate of its own over the
-# libraries that `make test` left, builds it and runs it, in picoseconds a byte of the processor. It
-# takes some three minutes, and is no part of the gate, which takes a .rt file in a crate alone.
+# Times the window, and `md5` for comparison. It proves main.rt.txt as src/main.rt of a crate of its own over the
+# libraries that `make test` left, builds it and runs it. It prints picoseconds of the processor for each byte. It takes
+# about three minutes. It isn't part of the gate: a file whose name ends in .rt would have to be in a crate.
 set -euo pipefail
 here=$(cd "$(dirname "$0")" && pwd)
 crates=$(cd "$here/../../../crates" && pwd)

@@ -1,6 +1,6 @@
-# Read after wants.sh: the commands that people call, each with the words that come first. A check of what becomes of
-# files names no program of its own, so a command that takes the place of another one has its checks. EXAMPLES and
-# COMMANDS name the folders of other scripts and commands.
+# Read after wants.sh: the commands that people call, each with its first arguments. Checks call these variables and
+# name no program themselves, so the same checks also apply to a command that replaces another one. EXAMPLES and
+# COMMANDS can name the folders of other scripts and commands.
 examples=${EXAMPLES:-$top/examples}
 commands=${COMMANDS:-$top/commands/bin}
 repair=("$commands/parv-repair")
@@ -14,16 +14,16 @@ tree_quiet=("${tree[@]}" -q)
 tree_beside=("${tree[@]}" -j)
 watch=("$commands/parv-watch")
 search=("$commands/parv-parts")
-# Below a folder that is repaired: what a run works in, and its list of moves.
+# In a folder that is repaired: the folder in which a run works, and its list of moves.
 repair_stage=.parv-repair
 repair_list=$repair_stage/journal
-# What their messages begin with.
+# The beginning of their messages.
 repair_says="parv-repair:"
 tree_says="parv-tree:"
 search_says="parv-parts:"
 export PARV=$parv LC_ALL=C
 
-# limited KIB COMMAND..: a command that can't make a file longer, as on a disk that is nearly full.
+# limited KIB COMMAND..: runs a command that can't make a file longer than KIB KiB, as on a disk that is nearly full.
 limited() {
     (
         trap '' XFSZ
@@ -32,14 +32,14 @@ limited() {
     )
 }
 
-# mounting COMMAND..: a command that may mount, of which nothing else sees anything.
+# mounting COMMAND..: runs a command that may mount file systems; no other program sees these mounts.
 mounting() {
     local user=(--user --map-root-user)
     [ "$(id -u)" -ne 0 ] || user=()
     unshare "${user[@]}" --mount -- "$@"
 }
 
-# Whether this is allowed; it says so if not.
+# can_mount NAME: whether mounting is allowed. If it isn't, it prints that NAME wasn't run.
 can_mount() {
     mkdir -p "$said/mounted"
     mounting mount -t tmpfs -o size=64k tmpfs "$said/mounted" 2> "$said/mount" && return

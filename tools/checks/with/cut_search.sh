@@ -1,8 +1,11 @@
 #!/usr/bin/env bash
-# Cuts one search into parts by every limit from 1 to the number of sightings, each part resumed from
-# the cursor that the one before has printed: each part but the last has as many lines as the limit
-# and its cursor, and together they have the lines of the whole search.
-# Usage: cut_search.sh [--tails] FILES, in the folder of the files.
+# usage: cut_search.sh [--tails] FILES, in the folder of the files
+#
+# If this fails, a search that is resumed with --cursor misses slices or reports them twice.
+#
+# It cuts one search into parts, by each limit from 1 to the number of matches. Each part is resumed from the cursor
+# that the one before has printed. Each part except the last must have as many lines as the limit, and a cursor.
+# Together the parts must have the lines of the whole search.
 set -euo pipefail
 parv=${PARV:-$(cd "$(dirname "$0")/../../.." && pwd)/crates/parv/out/parv}
 

@@ -1,5 +1,5 @@
-# Read by the checks that disturb runs: the worked set with files that have its slices, and what disturbs a run of
-# the program, by a library that is built once.
+# Read by the checks that disturb runs: a small set, files that contain its slices, and `disturb`, which runs the
+# program with a disturbance. The library for that is built once.
 . "$(dirname "$0")/with/wants.sh"
 cd "$work" || exit 1
 cp "$top/crates/parv/data/v.par2" v.par2

@@ -1,8 +1,8 @@
-# Read after wants.sh by the checks of what is handed on: what BUILD says of the program.
+# Read after wants.sh by the checks of packages: what the file BUILD says about the program.
 version=$(sed -n 's/^## \([0-9.]*\), .*/\1/p' "$top/CHANGELOG.md" | head -n 1)
 
-# has_build FILE: it has the version, the commit from which the program was built, the kit, and the program's sum. Of
-# another program than the built one no commit is known.
+# has_build FILE: whether the file has the version, the commit from which the program was built, the kit, and the
+# checksum of the program. If the program isn't the one that `make build` leaves, its commit isn't known.
 has_build() {
     local commit kit
     commit=$(git -C "$top" rev-parse HEAD 2> "$said/git") || commit=unknown

@@ -1,12 +1,13 @@
-# Read after wants.sh: folders to be repaired, and what has become of them.
+# Read after wants.sh: makes folders to be repaired, and compares them afterwards.
 
-# The paths, kinds and contents of all below a folder, a line each.
+# listed FOLDER: prints the paths, kinds and contents of everything below the folder, a line each.
 listed() {
     (cd "$1" && find . -type f -exec md5sum -- {} + | sort
         find . ! -type f -printf '%y %p %l\n' | sort)
 }
 
-# A folder `room` with the set of these files, which stand in `whole` too: furnish SIZE RECOVERY NAME CONTENT..
+# furnish SIZE RECOVERY NAME CONTENT..: makes a folder `room` with the set of these files, and a folder `whole` with the
+# files.
 furnish() {
     local size=$1 recovery=$2
     shift 2
@@ -22,7 +23,8 @@ furnish() {
     : > given
 }
 
-# whole_now NAME MORE..: `room` has the files of `whole`, the packet files and these, each with its content, and no others.
+# whole_now NAME MORE..: wants `room` to have the files of `whole`, the packet files and the files MORE (a name and a
+# content each), and no others.
 whole_now() {
     local name=$1
     shift
@@ -40,7 +42,7 @@ whole_now() {
     fi
 }
 
-# as_before NAME: `room` is as it was when `before` was listed.
+# as_before NAME: wants `room` to be as it was when `before` was listed.
 as_before() {
     if cmp -s before <(listed room); then
         echo "ok: all is as it was: $1"

@@ -1,5 +1,6 @@
-# Read by each check that runs something: the built program, a folder to work in, and what compares a run to what it
-# must print.
+# Read by each check that runs something. It finds the built program, makes a folder to work in, and compares runs with
+# what they must print. PARV names another program than the built one.
+#
 # Each comparison prints a line that begins with 'ok: ' or 'FAILED: '. A check ends by `exit $failed`.
 set -uo pipefail
 tools=$(cd "$(dirname "${BASH_SOURCE[0]}")/../.." && pwd)
@@ -17,8 +18,8 @@ fails() {
     failed=1
 }
 
-# gives NAME STATUS FILE LINE COMMAND..: the exit status, standard output as in FILE, and standard error, within
-# 60 seconds, or $most.
+# gives NAME STATUS FILE LINE COMMAND..: wants this exit status, the content of FILE on standard output, and LINE on
+# standard error, within $most seconds (60 if that isn't set).
 gives() {
     local name=$1 status=$2 text=$3 line=$4
     shift 4
@@ -31,7 +32,7 @@ gives() {
     fi
 }
 
-# wants NAME STATUS TEXT LINE COMMAND..: the same with the lines of standard output themselves.
+# wants NAME STATUS TEXT LINE COMMAND..: the same, with the text of standard output itself.
 wants() {
     local name=$1 status=$2 text=$3 line=$4
     shift 4
