@@ -112,13 +112,16 @@ impl RollTables {
             // All look-ups share this value, so that the compiler loads both bytes as one number.
             let both = RollTables::with_two(register, come[i], come[i + 1]);
             let between = self.rolled_once(register, both, gone[i]);
+            // Computed before the first test: else `both` is kept on the stack meanwhile, and the
+            // next turn waits for it.
+            let after = self.rolled_twice(register, both, gone[i], gone[i + 1]);
             if set.has(between) {
                 return Roll::hit(i + 1, between);
             }
-            register = self.rolled_twice(register, both, gone[i], gone[i + 1]);
-            if set.has(register) {
-                return Roll::hit(i + 2, register);
+            if set.has(after) {
+                return Roll::hit(i + 2, after);
             }
+            register = after;
         }
         if len % 2 == 0 {
             return Roll::missed(len, register);

@@ -1,4 +1,4 @@
-use Rattle.std.proofs.Common.{◌≡◌, ◌+◌, ◌*◌, ◌-◌, get_or, sym, ap, ◌∙◌, arith, IsTrue}
+use Rattle.std.proofs.Common.{◌≡◌, ◌+◌, ◌*◌, ◌-◌, get_or, sym, ◌∙◌, arith, IsTrue}
 use Rattle.parwindow.specs.Rolling.{rolled_over}
 use Rattle.parwindow.proofs.rolling_laws.RolledLaws.{rolled_over-start, rolled_over-once, rolled_over-twice}
 use Rattle.parwindow.proofs.rolling_laws.RollUntilLaws.{begins, stops, stops_twice, goes_on_twice, ends_at, refuses, told}
@@ -38,7 +38,7 @@ returns-then-has-2 g c =
     (omega arith) (omega arith) c.with_two-both.ensures) in
     let twice = rolled_over-twice n c.args.start c.args.gone.now c.args.come.now i
     c.loop-turn.register _ c.loop-turn.invariant.on.here
-    (c.rolled_twice-register.ensures (get_or c.args.come.now i 0)
+    (c.rolled_twice-after.ensures (get_or c.args.come.now i 0)
     (get_or c.args.come.now (i + 1) 0) (omega arith) (omega arith) c.with_two-both.ensures) in
     rw (c.hit-then-has-2.ensures, ← c.loop-turn.invariant.is_len)
     (stops_twice (λ register. IsTrue (g.S.RegisterSet.has c.args.set.now register))
@@ -57,7 +57,7 @@ loop-turn-preserved g c =
     (omega arith) (omega arith) c.with_two-both.ensures) in
     let twice = rolled_over-twice n c.args.start c.args.gone.now c.args.come.now i
     c.loop-turn.register _ c.loop-turn.invariant.on.here
-    (c.rolled_twice-register.ensures (get_or c.args.come.now i 0)
+    (c.rolled_twice-after.ensures (get_or c.args.come.now i 0)
     (get_or c.args.come.now (i + 1) 0) (omega arith) (omega arith) c.with_two-both.ensures) in
     let next : i + 2 ≡ 2 * (c.loop-turn.turn + 1) = omega arith in
     record {
