@@ -7,7 +7,7 @@ use Rattle.parshelf.proofs.ShelfLaws.{HandsOver-none, HandsOver_more}
 use Rattle.parshelf.proofs.ReadLaws.{ReadsOnly-refl, ReadsOnly_more, FaultsIn_more}
 use Rattle.parsalvage.specs.declared.salvage_fault.SalvageFault.{SalvageFault}
 use Rattle.parsalvage.specs.declared.salvage_fault.SalvageFault.TheVariants.{Read, Memory}
-use Rattle.parsalvage.specs.Leaves.{StopsIn}
+use Rattle.parsalvage.specs.Leaves.{FaultLeaves}
 use Rattle.parsalvage.specs.Hands.{Hands, ReadsAtMost, SalvagesAtMost}
 
 -- one limit is at most the other, by the bytes of this file of any files that read like this
@@ -24,7 +24,7 @@ abbrev pub FaultsAfter : ShelfState → ShelfState → ℕ → (List ℕ → ℕ
 FaultsAfter s t file limit fault = FaultsIn s t file fault × Hands s t file limit
 
 abbrev pub StopsAfter : ShelfState → ShelfState → ℕ → (List ℕ → ℕ) → SalvageFault → Type 0
-StopsAfter s t file limit fault = StopsIn s t file fault × Hands s t file limit
+StopsAfter s t file limit fault = FaultLeaves s t file fault × Hands s t file limit
 
 pub Hands-none : (s : ShelfState) (file : ℕ) (limit : List ℕ → ℕ) → Handed s s file limit
 Hands-none s file limit = (
@@ -108,14 +108,14 @@ pub SalvagesAtMost-more : {A : Type 0} (s t u : ShelfState) (file : ℕ) (m n li
 SalvagesAtMost-more s t u file m n limit (Ok done) a b fits = Hands-more s t u file m n limit a b fits
 SalvagesAtMost-more s t u file m n limit (Err why) a b fits = StopsAfter-more s t u file m n limit why a b fits
 
-pub StopsIn_older : (s t : ShelfState) (file : ℕ) (fault : SalvageFault) → StopsIn s t file fault → Older s t
-StopsIn_older s t file (Read why) stops = stops.older
-StopsIn_older s t file Memory stops = stops.older
+pub FaultLeaves_older : (s t : ShelfState) (file : ℕ) (fault : SalvageFault) → FaultLeaves s t file fault → Older s t
+FaultLeaves_older s t file (Read why) stops = stops.older
+FaultLeaves_older s t file Memory stops = stops.older
 
 pub SalvagesAtMost-older : {A : Type 0} (s t : ShelfState) (file : ℕ) (limit : List ℕ → ℕ) (result : Result A SalvageFault)
     → SalvagesAtMost limit file s t result → Older s t
 SalvagesAtMost-older s t file limit (Ok done) h = h.0.older
-SalvagesAtMost-older s t file limit (Err why) h = StopsIn_older s t file why h.0
+SalvagesAtMost-older s t file limit (Err why) h = FaultLeaves_older s t file why h.0
 
 -- how many bytes were handed over, by files that read like this
 pub Hands-counted : (s t : ShelfState) (file : ℕ) (limit : List ℕ → ℕ) → Hands s t file limit
