@@ -1,16 +1,12 @@
 -- How many bytes are read while the files that may be files of the set are read whole, one after
 -- another.
-use Rattle.std.proofs.Common.{◌≡◌, ◌≢◌, ◌<◌, ◌≤◌, ◌+◌, ℕ, List, [], ◌∷◌, ◌++◌, Option, None, Some, true, false, cond, length, map, take, slice_index, ap, sym, arith, ◌∙◌, inl, inr}
-use Rattle.std.proofs.lemmas.Bool.{cases_lt}
+use Rattle.std.proofs.Common.{◌≡◌, ◌≢◌, ◌<◌, ◌≤◌, ◌+◌, ℕ, List, [], ◌∷◌, ◌++◌, Option, None, Some, true, false, cond, length, map, take, slice_index, ap, sym, arith, ◌∙◌}
 use Rattle.std.proofs.lemmas.List.{take_more, take_all, map-append}
 use Rattle.parfield.specs.Md5.{md5}
 use Rattle.parfield.specs.declared.hash16.Hash16.{Hash16}
-use Rattle.parfield.specs.Added.{added_at, slice_index-added_at_same, slice_index-added_at_other}
 use Rattle.parset.specs.declared.recovery_set.SetFile.{SetFile}
-use Rattle.parshelf.specs.Shelf.{ShelfState, IsShelf, ReadsAs, file_of}
+use Rattle.parshelf.specs.Shelf.{ShelfState, ReadsAs, file_of}
 use Rattle.parshelf.specs.Reads.{ReadsOnly, HandsAtMost}
-use Rattle.parshelf.specs.declared.shelves.reading.ReadFault.{ReadFault}
-use Rattle.parshelf.specs.declared.shelves.reading.ReadFault.TheVariants.{Failed, Ended}
 use Rattle.parreport.specs.Contents.{ReadsCandidates, checked_length_of}
 use Rattle.parreport.specs.States.{has_length, checked_of, length_and_md5}
 use Rattle.parreport.specs.declared.states.contents.LengthAndMd5.{LengthAndMd5}

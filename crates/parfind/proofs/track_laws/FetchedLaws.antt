@@ -1,8 +1,7 @@
 -- How far files are read, and how many of their bytes reads return, over one read after another.
-use Rattle.std.proofs.Common.{◌≡◌, ℕ, ◌+◌, ◌<◌, ◌≤◌, true, false, List, length, min, nat_lt, nat_eq, refl, arith, slice_index, inl, inr}
+use Rattle.std.proofs.Common.{◌≡◌, ℕ, ◌+◌, ◌<◌, ◌≤◌, true, false, List, min, nat_lt, nat_eq, refl, arith, slice_index, inl, inr}
 use Rattle.std.proofs.lemmas.Bool.{cases_lt, cases_eq, lt-ltb, le-ltb, eq-eqb, ne_eqb}
-use Rattle.std.proofs.lemmas.List.{get_or_past}
-use Rattle.parfield.specs.Added.{added_at, length-added_at, slice_index-added_at_same, slice_index-added_at_other}
+use Rattle.parfield.specs.Added.{added_at, slice_index-added_at_other}
 use Rattle.parshelf.proofs.ReadLaws.{added_at-most}
 use Rattle.parfind.specs.Fetched.{Place, upto, HandsUpTo}
 

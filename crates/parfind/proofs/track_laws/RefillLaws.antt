@@ -1,6 +1,6 @@
 -- The result of one read of a track: some bytes of its file, none before the file's noted length,
 -- or a failure.
-use Rattle.std.proofs.Common.{◌≡◌, ℕ, ◌+◌, ◌<◌, ◌≤◌, List, length, take, slice_index, ap, refl, ◌∙◌, arith}
+use Rattle.std.proofs.Common.{◌≡◌, ℕ, ◌+◌, ◌<◌, ◌≤◌, List, length, take, slice_index, ◌∙◌, arith}
 use Rattle.std.proofs.lemmas.List.{length-take-le}
 use Rattle.parshelf.specs.Shelf.{ShelfState, ReadsAs, after_read, file_of}
 use Rattle.parshelf.specs.Reads.{ReadsOnly, FaultsIn, HandsOver}

@@ -1,4 +1,4 @@
-use Rattle.std.proofs.Common.{ap, arith, length}
+use Rattle.std.proofs.Common.{arith}
 use Rattle.std.proofs.lemmas.Grind.{common_steps}
 use Rattle.parshelf.specs.Shelf.{ShelfState}
 use Rattle.parshelf.proofs.ReadLaws.{ReadsOnly_more, FaultsIn_more}

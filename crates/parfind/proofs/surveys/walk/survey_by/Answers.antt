@@ -1,6 +1,6 @@
 use Rattle.std.proofs.lemmas.Grind.{common_steps}
-use Rattle.std.proofs.Common.{Bool, sym, ap, ◌∙◌, arith, inl, inr}
-use Rattle.parfind.specs.Expecting.{ShortState, is_strict}
+use Rattle.std.proofs.Common.{sym, ap, ◌∙◌, arith, inl, inr}
+use Rattle.parfind.specs.Expecting.{ShortState}
 use Rattle.parfind.specs.Smaller.{part_of}
 use Rattle.parfind.specs.Sought.{Sought, sought_of}
 use Rattle.parfind.proofs.survey_laws.SurveyGoesOnLaws.{made_same}

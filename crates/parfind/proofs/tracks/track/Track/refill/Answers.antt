@@ -1,5 +1,5 @@
 use Rattle.std.proofs.lemmas.Grind.{common_steps}
-use Rattle.std.proofs.Common.{ap, ◌+◌, ◌≤◌, arith, length, refl, rules}
+use Rattle.std.proofs.Common.{◌+◌, ◌≤◌, arith, length, refl, rules}
 use Rattle.std.proofs.lemmas.List.{length-take-le, take-append-le}
 use Rattle.parshelf.specs.Shelf.{ShelfState}
 use Rattle.parshelf.proofs.ShelfLaws.{FaultsIn-failed}
