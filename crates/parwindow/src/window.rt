@@ -35,7 +35,8 @@ pub struct Window {
     tables: RollTables,
     tails: Vec<Tail>,
     running: Option<Running>,
-    // How many bytes the next chunk of `push_until` may have. No contract sees it.
+    // How many bytes the next chunk of `push_until` may have. No contract or invariant sees it, so
+    // its bounds are applied where it is read.
     pace: usize,
     digests: Tally,
 }
