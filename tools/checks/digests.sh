@@ -193,8 +193,10 @@ costs "the same for a missing file" "verify -q s.par2 a b other" "result impossi
 
 # Tails look ahead over up to 512 bytes in one go. For each stretch, four tails ask for eight pieces: for each tail the
 # bytes that leave its window and those that enter it. They are stopped where the register of one of them may be that of
-# a slice. That is rare: it happens far less often than once in twenty bytes.
-costs "four tails" "find --tails tails.par2 long" end "pieces<=$((65536 / 4))"
+# a slice, which is rare: half as many pieces again are enough for it. If a window forgot its pace, each of the 16 reads
+# of 4,096 bytes would begin with stretches of 1, 2, 4 .. bytes, and twice as many would be asked for.
+stretches=$((65536 / 512))
+costs "four tails" "find --tails tails.par2 long" end "pieces<=$((stretches * 8 * 3 / 2))"
 # 64 tails ask for no pieces, since one register runs along for all of them. Each has its own register only in stretches
 # of less than 16 bytes, with which a search begins.
 costs "64 tails" "find --tails more_tails.par2 long" end "pieces<=$((65536 / 8))"
