@@ -8,41 +8,25 @@ import glob
 import os
 import sys
 
+sys.path[0] = os.path.dirname(os.path.dirname(os.path.realpath(__file__)))  # imports are relative to tools/
 
-def pairs_of(path):
-    """Yields each file that a mutant names, with each text to be replaced there and its replacement."""
-    named = old = None
-    with open(path, encoding="utf-8") as lines:
-        for line in lines:
-            word, _, text = line.rstrip("\n").partition(": ")
-            if word == "file":
-                named = text.strip()
-            elif word == "old":
-                old = text
-            elif word == "new":
-                yield named, old, text
+from faults.fault import Edits, Misfit, fields_of
 
 
 def why_not(path):
     """Returns the reason why a mutant can't be made, or None."""
-    crate = os.path.dirname(os.path.dirname(path))
-    texts = {}
-    count = 0
-    for named, old, new in pairs_of(path):
-        if named is None or old is None:
-            return "has a text before its file or its old text"
-        if named not in texts:
-            try:
-                with open(os.path.join(crate, named), encoding="utf-8") as file:
-                    texts[named] = file.read()
-            except FileNotFoundError:
-                return f"names {named}, which isn't there"
-        times = texts[named].count(old)
-        if times != 1:
-            return f"has a text that is in {named} {times} times: {old.strip()[:60]}"
-        texts[named] = texts[named].replace(old, new)
-        count += 1
-    return None if count else "replaces nothing"
+    edits = Edits()
+    with open(path, encoding="utf-8") as file:
+        for key, value in fields_of(file.read()):
+            if not edits.take(key, value):
+                return f"has a line that isn't understood: {key}: {value}"
+    if not edits.are_whole():
+        return "replaces nothing"
+    try:
+        edits.made(os.path.dirname(os.path.dirname(path)))
+    except Misfit as why:
+        return str(why)
+    return None
 
 
 def main():

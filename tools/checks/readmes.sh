@@ -1,6 +1,7 @@
 #!/usr/bin/env bash
-# The examples in the READMEs of the crates: the gate runs each of them as the README has it. Only the pages and the
-# sources are read, and no program.
+# If this fails, an example in the README of a crate isn't what the gate runs, so it may no longer compile.
+#
+# It compares the READMEs with the sources of the tests, and runs no program.
 set -uo pipefail
 tools=$(cd "$(dirname "$0")/.." && pwd)
 top=$(dirname "$tools")

@@ -13,27 +13,59 @@ class Misfit(Exception):
     """The reason why a bug can't be injected, or why its file is wrong."""
 
 
+class Edits(list):
+    """Replacements in the files of a crate, in order: for each the file, the text that occurs there once, and the one
+    that takes its place."""
+
+    def __init__(self):
+        super().__init__()
+        self.at = ""
+
+    def take(self, key, value):
+        """Takes a field `file`, `old` or `new`. Returns whether it is one and can follow those that were taken."""
+        if key == "file":
+            self.at = value
+        elif key == "old" and self.at:
+            self.append([self.at, value, None])
+        elif key == "new" and self and self[-1][2] is None:
+            self[-1][2] = value
+        else:
+            return False
+        return True
+
+    def are_whole(self):
+        return bool(self) and all(new is not None for _, _, new in self)
+
+    def made(self, folder):
+        """Returns the texts of the files below this folder, by path, with everything replaced."""
+        texts = {}
+        for at, old, new in self:
+            path = os.path.join(folder, at)
+            if path not in texts:
+                if not os.path.isfile(path):
+                    raise Misfit(f"doesn't apply: there is no {at} in {os.path.basename(folder)}")
+                with open(path, encoding="utf-8") as file:
+                    texts[path] = file.read()
+            if old == new or texts[path].count(old) != 1:
+                raise Misfit(f"doesn't apply: {at} has {texts[path].count(old)} times: {old}")
+            texts[path] = texts[path].replace(old, new)
+        return texts
+
+
 class Fault:
     def __init__(self, path):
         self.name = os.path.basename(path).removesuffix(".fault")
-        self.crate, self.edits, self.beside, self.seen, self.passes = "", [], [], [], []
+        self.crate, self.edits, self.beside, self.seen, self.passes = "", Edits(), [], [], []
         with open(path, encoding="utf-8") as file:
             fields = list(fields_of(file.read()))
-        at = ""
         for key, value in fields:
             if key == "crate":
                 self.crate = value
-            elif key == "file":
-                at = value
-            elif key == "old" and at:
-                self.edits.append([at, value, None])
-            elif key == "new" and self.edits and self.edits[-1][2] is None:
-                self.edits[-1][2] = value
             elif key in ("beside", "seen", "passes"):
                 getattr(self, key).append(value)
-            else:
+            elif not self.edits.take(key, value):
                 raise Misfit(f"has a line that isn't understood: {key}: {value}")
-        if not self.crate or not self.edits or self.edits[-1][2] is None or not self.seen + self.passes:
+        if not self.crate or not self.edits.are_whole() or not self.seen + self.passes:
             raise Misfit("plants nothing, or nothing says of it")
 
     def paths(self):
@@ -41,18 +73,7 @@ class Fault:
 
     def planted(self, top):
         """Returns the texts of its files below this folder, by path, with the bug in them."""
-        texts = {}
-        for at, old, new in self.edits:
-            path = os.path.join(top, "crates", self.crate, at)
-            if path not in texts:
-                if not os.path.isfile(path):
-                    raise Misfit(f"doesn't apply: there is no {at} in {self.crate}")
-                with open(path, encoding="utf-8") as file:
-                    texts[path] = file.read()
-            if old == new or texts[path].count(old) != 1:
-                raise Misfit(f"doesn't apply: {at} has {texts[path].count(old)} times: {old}")
-            texts[path] = texts[path].replace(old, new)
-        return texts
+        return self.edits.made(os.path.join(top, "crates", self.crate))
 
     def plant(self, top):
         for path, text in self.planted(top).items():
