@@ -35,8 +35,8 @@ pub struct Window {
     tables: RollTables,
     tails: Vec<Tail>,
     running: Option<Running>,
-    // How many bytes the next chunk of `push_until` may have. No contract or invariant sees it, so
-    // its bounds are applied where it is read.
+    // How many bytes the next piece of `push_pieces_until` may have. No contract or invariant sees
+    // it, so its bounds are applied where it is read.
     pace: usize,
     digests: Tally,
 }
@@ -161,9 +161,10 @@ impl Window {
         roll.count
     }
 
-    // Does the same with tails: first a single byte, then longer and longer pieces, as long
-    // as no slice is met. If one is met in a piece, the bytes before it are the next piece,
-    // and then a single byte.
+    // Does the same with tails, in pieces that get longer as long as no slice is met. If one is
+    // met in a piece, the bytes before it are the next piece, and then a single byte. The first
+    // piece is as long as the last call would have made its next one, or a single byte if that
+    // call ended at a slice.
     fn push_pieces_until(&mut self, index: &Index, bytes: &[u8]) -> usize
         requires full { length self.old.content ≡ self.old.capacity }
         requires sized { self.old.capacity ≡ index.now.slice_size }
