@@ -21,7 +21,7 @@ def why_not(path):
             if not edits.take(key, value):
                 return f"has a line that isn't understood: {key}: {value}"
     if not edits.are_whole():
-        return "replaces nothing"
+        return "replaces nothing, or lacks the text to put in"
     try:
         edits.made(os.path.dirname(os.path.dirname(path)))
     except Misfit as why:
