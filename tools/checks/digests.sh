@@ -198,8 +198,8 @@ costs "the same for a missing file" "verify -q s.par2 a b other" "result impossi
 stretches=$((65536 / 512))
 costs "four tails" "find --tails tails.par2 long" end "pieces<=$((stretches * 8 * 3 / 2))"
 # 64 tails ask for no pieces, since one register runs along for all of them. Each has its own register only in stretches
-# of less than 16 bytes: of 1, 2, 4 and 8, with which a search begins.
-costs "64 tails" "find --tails more_tails.par2 long" end "pieces<=$((4 * 64 * 2))"
+# of less than 16 bytes. A search begins with a byte that is pushed, and with stretches of 2, 4 and 8 bytes.
+costs "64 tails" "find --tails more_tails.par2 long" end "pieces<=$((3 * 64 * 2))"
 
 # The effect of zeros after a window on its register is worked out by halving their number: for 8,192, for 8,193, and
 # for 1.
