@@ -28,6 +28,11 @@ write("tail", b"x" * 5000 + bytes(60000))
 whole_set("lengths.par2", 64, *((b"%d" % at, bytes(3840 + at)) for at in range(1, 60)), (b"x", b"x" * 64))
 write("zeros", bytes(100000))
 
+# Sixty files of zeros of each length below the slice size, and one of other bytes; and zeros at whose offsets no file is
+# expected to begin: a byte that isn't 0 comes before each multiple of 512.
+whole_set("files.par2", 64, *((b"%d" % at, bytes(at // 60 + 1)) for at in range(59 * 60)), (b"x", b"x" * 60))
+write("between", b"x" + bytes(510) + b"x" + (bytes(511) + b"x") * 100)
+
 # A file whose slices have no checksums.
 write("bare.par2", set_of(main_body(64, [bytes(16)]), ("filedesc", desc_body(bytes(16), b"bare", b"", 64))))
 with open("hole", "wb") as out:
