@@ -28,8 +28,8 @@ write("tail", b"x" * 5000 + bytes(60000))
 whole_set("lengths.par2", 64, *((b"%d" % at, bytes(3840 + at)) for at in range(1, 60)), (b"x", b"x" * 64))
 write("zeros", bytes(100000))
 
-# Sixty files of zeros of each length below the slice size, and one of other bytes; and zeros at whose offsets no file is
-# expected to begin: a byte that isn't 0 comes before each multiple of 512.
+# Sixty files of zeros of each length up to 59, and one of other bytes; and zeros among which no file is expected to
+# begin: a byte that isn't 0 comes before each multiple of 512.
 whole_set("files.par2", 64, *((b"%d" % at, bytes(at // 60 + 1)) for at in range(59 * 60)), (b"x", b"x" * 60))
 write("between", b"x" + bytes(510) + b"x" + (bytes(511) + b"x") * 100)
 
