@@ -23,8 +23,8 @@ wants "the same with --tails" 2 "need 1 have 0
 result impossible" "" "${ten[@]}" verify -q --tails equal.par2 ones more
 wants "zeros and 60 lengths, with --tails" 2 "need 1 have 0
 result impossible" "" "${ten[@]}" verify -q --tails lengths.par2 zeros
-wants "files of 59 lengths full of zeros, with --tails" 2 "need 1 have 0
-result impossible" "" "${ten[@]}" verify -q --tails files.par2 between
+wants "short files of zeros, with --tails" 2 "need 1 have 0
+result impossible" "" "${ten[@]}" verify -q --tails short_files.par2 between
 wants "the verdict on slices longer than a tail of zeros" 2 "need 2 have 0
 result impossible" "" "${ten[@]}" verify -q tail.par2 tail
 wants "no slice without checksums in 1 TiB" 0 end "" "${ten[@]}" find bare.par2 hole

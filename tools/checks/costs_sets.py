@@ -28,9 +28,10 @@ write("tail", b"x" * 5000 + bytes(60000))
 whole_set("lengths.par2", 64, *((b"%d" % at, bytes(3840 + at)) for at in range(1, 60)), (b"x", b"x" * 64))
 write("zeros", bytes(100000))
 
-# Sixty files of zeros of each length up to 59, and one of other bytes; and zeros among which no file is expected to
-# begin: a byte that isn't 0 comes before each multiple of 512.
-whole_set("files.par2", 64, *((b"%d" % at, bytes(at // 60 + 1)) for at in range(59 * 60)), (b"x", b"x" * 60))
+# 200 files of zeros of each length up to 59, and one of other bytes; and zeros among which no file is expected to begin:
+# a byte that isn't 0 comes before each multiple of 512. A survey that looks through all slices for each length at each
+# place takes 36 billion steps.
+whole_set("short_files.par2", 64, *((b"%d" % at, bytes(at // 200 + 1)) for at in range(59 * 200)), (b"x", b"x" * 60))
 write("between", b"x" + bytes(510) + b"x" + (bytes(511) + b"x") * 100)
 
 # A file whose slices have no checksums.
