@@ -1,5 +1,7 @@
 -- The end of the program after it tried to open the files of a plan.
-use Rattle.std.specs.Prelude.{◌≡◌, ℕ, List, [], Option, Result, IfErr, false, unwrap_or}
+use Rattle.std.specs.Prelude.{◌≡◌, ℕ, List, [], Option, IsSome, Result, IfErr, MatchResult, false, unwrap_or}
+use Rattle.std.specs.Global.{Vec}
+use Rattle.std.specs.declared.alloc.AllocError.{AllocError}
 use Rattle.parshelf.specs.Shelf.{ShelfState}
 use Rattle.parplan.specs.Commands.{reads_scanned}
 use Rattle.parreport.specs.RunFiles.{RunFiles, AreReadAs}
@@ -14,10 +16,14 @@ use Rattle.parreport.specs.declared.status.Status.{Status}
 use Rattle.parreport.specs.declared.faults.RunFault.{RunFault}
 use Rattle.parplan.specs.declared.command.Plan.{Plan}
 
--- the exit status and the line on standard error are those of this end, about this argument
-abbrev pub TellsEnd : End × Option (List ℕ) → ℕ → List ℕ → Type 0
-TellsEnd (end, argument) status line =
-    (status ≡ exit_status_of end) × (line ≡ error_line_of (message_of end (unwrap_or argument [])))
+-- the exit status and the line on standard error are those of this end, about this argument. If
+-- memory for the line was refused, there is neither, and the end has a message: something went wrong
+abbrev pub TellsEnd : End × Option (List ℕ) → Result (ℕ × Vec ℕ) AllocError → Type 0
+TellsEnd (end, argument) told =
+    let message = message_of end (unwrap_or argument []) in
+    MatchResult told
+    (λ told. (told.0 ≡ exit_status_of end) × (told.1.items ≡ error_line_of message))
+    (λ _. IsSome message)
 
 -- the files and the output of a run, as contracts see them
 pub record RunState : Type 0 where

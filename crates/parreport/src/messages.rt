@@ -1,4 +1,4 @@
-ghost use Rattle.std.specs.Prelude.{◌≡◌, ◌++◌, IfOk, string_bytes, codes};
+ghost use Rattle.std.specs.Prelude.{◌≡◌, ◌++◌, IfOk, IfErr, IsSome, string_bytes, codes};
 ghost use Rattle.parfield.specs.Shown.{shown};
 ghost use Rattle.parreport.specs.Ends.{exit_status_of, message_of, error_line_of, cause_text};
 
@@ -10,11 +10,13 @@ use parplan::PlanFault;
 use std::alloc::{AllocError, Global};
 
 /// Returns the exit status of an end, and its line for standard error, which is empty if nothing
-/// went wrong. `argument` is the file that could not be opened or read.
+/// went wrong. Only a line that isn't empty takes memory. `argument` is the file that could not be
+/// opened or read.
 pub fn ending(alloc: Global, end: &End, argument: &str) -> Result<(u8, Vec<u8>), AllocError>
     ensures status { IfOk result (λ answer. answer.0 ≡ exit_status_of end.now) }
     ensures line { IfOk result (λ answer. answer.1.items
         ≡ error_line_of (message_of end.now argument.now)) }
+    ensures refused { IfErr result (λ _. IsSome (message_of end.now argument.now)) }
 {
     let line = line(alloc, end, argument)?;
     Ok((exit_status(end), line.into_bytes()))
@@ -34,10 +36,11 @@ fn exit_status(end: &End) -> u8
     }
 }
 
-// Returns the line of an end.
+// Returns the line of an end, which takes no memory if it is empty.
 fn line(alloc: Global, end: &End, argument: &str) -> Result<String, AllocError>
-    ensures { IfOk result (λ line. string_bytes line
+    ensures line { IfOk result (λ line. string_bytes line
         ≡ error_line_of (message_of end.now argument.now)) }
+    ensures refused { IfErr result (λ _. IsSome (message_of end.now argument.now)) }
 {
     let name = Shown(argument.as_bytes());
     match end {

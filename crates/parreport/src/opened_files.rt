@@ -32,11 +32,11 @@ pub fn run_opened<P: Shelf, Q: Shelf, W: Sink>(
         TellsRun plan.now
         (record { packets = P.state files.0; scanned = Q.state files.1; out = W.state out.old })
         (record { packets = P.state after.0; scanned = Q.state after.1; out = W.state out.new })
-        (λ end. IfOk result (λ told. TellsEnd end told.0 told.1.items)))) }
+        (λ end. TellsEnd end result))) }
 
     // If some are not, that is reported, and nothing is read or written.
     ensures unopened { IfErr (opened_of plan.now packets.old scanned.old) (λ end.
-        IfOk result (λ told. TellsEnd end told.0 told.1.items)) }
+        TellsEnd end result) }
     ensures nothing_written { IfErr (opened_of plan.now packets.old scanned.old) (λ _.
         W.state out.new ≡ W.state out.old) }
     ensures packets { IfErr (opened_of plan.now packets.old scanned.old) (λ _.
@@ -80,7 +80,7 @@ fn run_and_tell<P: Shelf, Q: Shelf, W: Sink>(
           scanned = Q.state scanned.new;
           out = W.state out.new;
         })
-        (λ end. IfOk result (λ told. TellsEnd end told.0 told.1.items)) }
+        (λ end. TellsEnd end result) }
 {
     let answer = run(alloc, plan, packets, scanned, out);
     let (end, argument) = run_end(plan, answer);
@@ -89,8 +89,7 @@ fn run_and_tell<P: Shelf, Q: Shelf, W: Sink>(
 
 // Returns the exit status and the line of an end, about this argument.
 fn tell(alloc: Global, end: End, argument: Option<&Text>) -> Result<(u8, Vec<u8>), AllocError>
-    ensures { IfOk result (λ told.
-        TellsEnd (end, option_map (λ file. file.now) argument.entry) told.0 told.1.items) }
+    ensures { TellsEnd (end, option_map (λ file. file.now) argument.entry) result }
 {
     let argument = match argument {
         Some(file) => file.as_str(),

@@ -9,13 +9,14 @@ use Rattle.parshelf.specs.declared.shelves.disk.DiskShelf.{DiskShelf}
 use Rattle.parshelf.specs.declared.shelves.disk.OpenFault.{OpenFault}
 use Rattle.parshelf.specs.declared.shelves.disk.OpenFault.TheVariants.{CannotOpen, Memory}
 use Rattle.parplan.specs.Commands.{scanned_paths_of}
+use Rattle.parplan.specs.Plans.{plan_of}
 use Rattle.parplan.specs.declared.command.Plan.{Plan}
 use Rattle.parreport.specs.Ends.{open_end_of, opened_of}
 use Rattle.parreport.specs.OpenedFiles.{RunState, TellsRun}
 use Rattle.parreport.specs.declared.ends.End.{End}
 use Rattle.parreport.proofs.LeaveLaws.{packets_later, scanned_later}
 use Rattle.parv.specs.declared.program.Run.{Run}
-use Rattle.parv.specs.Performed.{Outcome, NamesFile, AreOpenedAt, AreUnread, TellsOutcome, TellsUnopened, RunsPlan, left_state_of, unread_state_of}
+use Rattle.parv.specs.Performed.{Outcome, NamesFile, AreOpenedAt, AreUnread, TellsOutcome, TellsUnopened, RunsPlan, PerformsPlan, left_state_of, unread_state_of}
 
 -- the result of opening the files at these paths
 abbrev pub Opens : List (List ℕ) → Result DiskShelf OpenFault → Type 0
@@ -118,7 +119,7 @@ module _ (plan : Plan) (came : Outcome) where
         let told : TellsUnopened (open_end_of plan.packets why) run came = tells_unopened plan.packets why packets unread unwritten tells in
         subst (DoneAs run) (sym (ap (λ files. opened_of plan files run.scanned) unopened)) told
 
-    pub performed : (packets scanned : Result DiskShelf OpenFault) → Opens plan.packets packets
+    performed : (packets scanned : Result DiskShelf OpenFault) → Opens plan.packets packets
         → IfOk packets (λ _. Opens (scanned_paths_of plan) scanned)
         → IfOk (opened_of plan packets scanned) (λ files. IsOkAnd (opened_of plan run.packets run.scanned) (λ left.
         TellsRun plan (left_state_of files came.before) (left_state_of left came.after) Tells))
@@ -128,7 +129,7 @@ module _ (plan : Plan) (came : Outcome) where
     performed packets scanned = done packets run.packets scanned run.scanned refl refl
 
   -- if the packet files aren't opened, no other file is opened
-  pub unopened_too : (packets packets_left scanned scanned_left : Result DiskShelf OpenFault) → IfErr packets (λ why. scanned ≡ Err why)
+  unopened_too : (packets packets_left scanned scanned_left : Result DiskShelf OpenFault) → IfErr packets (λ why. scanned ≡ Err why)
       → IfOk (opened_of plan packets scanned) (λ files. IsOkAnd (opened_of plan packets_left scanned_left) (λ left.
       TellsRun plan (left_state_of files came.before) (left_state_of left came.after) Tells))
       → IfErr (opened_of plan packets scanned) (λ _. packets_left ≡ packets) → IfErr (opened_of plan packets scanned) (λ _. scanned_left ≡ scanned)
@@ -139,7 +140,7 @@ module _ (plan : Plan) (came : Outcome) where
   unopened_too (Err why) packets_left scanned scanned_left first ran same also = rw same (also ∙ first)
 
   -- the files that are open after the run are those at the plan's paths
-  pub still_opened : (packets packets_left scanned scanned_left : Result DiskShelf OpenFault) → Opens plan.packets packets
+  still_opened : (packets packets_left scanned scanned_left : Result DiskShelf OpenFault) → Opens plan.packets packets
       → IfOk packets (λ _. Opens (scanned_paths_of plan) scanned) → IfErr packets (λ why. scanned ≡ Err why)
       → IfOk (opened_of plan packets scanned) (λ files. IsOkAnd (opened_of plan packets_left scanned_left) (λ left.
       TellsRun plan (left_state_of files came.before) (left_state_of left came.after) Tells))
@@ -153,3 +154,21 @@ module _ (plan : Plan) (came : Outcome) where
   still_opened (Ok p) (Err why) (Ok q) scanned_left packets scanned first ran same also = absurd ran
   still_opened (Ok p) packets_left (Err why) scanned_left packets scanned first ran same also = (rw same packets.0, rw also tt)
   still_opened (Err why) packets_left scanned scanned_left packets opened first ran same also = (rw same tt, rw (also ∙ first) tt)
+
+  -- if the words have this plan, and its files were tried, the contract follows from what `run_opened` ensures
+  pub performs : (words : List (List ℕ)) (run : Run) (packets scanned : Result DiskShelf OpenFault) → plan_of words ≡ Ok plan
+      → Opens plan.packets packets → IfOk packets (λ _. Opens (scanned_paths_of plan) scanned) → IfErr packets (λ why. scanned ≡ Err why)
+      → IfOk (opened_of plan packets scanned) (λ files. IsOkAnd (opened_of plan run.packets run.scanned) (λ left.
+      TellsRun plan (left_state_of files came.before) (left_state_of left came.after) Tells))
+      → IfErr (opened_of plan packets scanned) Tells → IfErr (opened_of plan packets scanned) (λ _. came.after ≡ came.before)
+      → IfErr (opened_of plan packets scanned) (λ _. run.packets ≡ packets) → IfErr (opened_of plan packets scanned) (λ _. run.scanned ≡ scanned)
+      → PerformsPlan words run came
+  performs words run packets scanned planned packets_tried scanned_tried first ran tells unwritten same also =
+      let still = still_opened packets run.packets scanned run.scanned packets_tried scanned_tried first ran same also in record {
+        plan = plan;
+        planned = planned;
+        packets_opened = still.0;
+        scanned_opened = still.1;
+        packets_first = unopened_too packets run.packets scanned run.scanned first ran same also;
+        done = performed run packets scanned packets_tried scanned_tried ran tells unwritten same also;
+      }

@@ -1,6 +1,7 @@
 -- How the program performs the words after its name: which files it opens and reads,
 -- and what it reports.
 use Rattle.std.specs.Prelude.{◌≡◌, ℕ, List, Option, None, IsSome, Ok, Err, IfOk, IfErr, MatchOption, MatchResult, ⊤}
+use Rattle.std.specs.Global.{Vec}
 use Rattle.parshelf.specs.Disk.{disk_state_of, unread_of}
 use Rattle.parshelf.specs.SinkState.{SinkState}
 use Rattle.parshelf.specs.declared.shelves.disk.DiskShelf.{DiskShelf}
@@ -38,10 +39,9 @@ pub record Outcome : Type 0 where
   pub before : SinkState
   pub after : SinkState
 
--- if memory for the line wasn't refused, the exit status and the line report this end of a run. The
--- end may have an argument, which is the path of a file
+-- the result reports this end of a run, which may have an argument, the path of a file
 abbrev pub TellsOutcome : Outcome → End × Option (List ℕ) → Type 0
-TellsOutcome came end = IfOk came.performed.told (λ told. TellsEnd end told.0 told.1.items)
+TellsOutcome came end = TellsEnd end came.performed.told
 
 -- the plan was run over these files, and the end of that run is reported
 abbrev pub RunsPlan : Plan → DiskShelf × DiskShelf → Outcome → Type 0
@@ -84,15 +84,15 @@ pub record PerformsPlan (words : List (List ℕ)) (run : Run) (came : Outcome) :
       (λ why. TellsUnopened why run came)
 
 -- the words have no plan because of this error, and it is reported
-pub record TellsFault (words : List (List ℕ)) (status : ℕ) (line : List ℕ) : Type 0 where
+pub record TellsFault (words : List (List ℕ)) (answer : ℕ × Vec ℕ) : Type 0 where
   pub fault : PlanFault
   pub refused : plan_of words ≡ Err fault
-  pub told : TellsEnd (end.Plan fault, None) status line
+  pub told : TellsEnd (end.Plan fault, None) (Ok answer)
 
 -- there is no run: the words have no plan, which is reported unless memory was refused,
 -- and nothing is written
 pub record RefusesWords (words : List (List ℕ)) (came : Outcome) : Type 0 where
-  pub told : IfOk came.performed.told (λ told. TellsFault words told.0 told.1.items)
+  pub told : IfOk came.performed.told (TellsFault words)
   pub nothing_written : came.after ≡ came.before
 
 -- the result of these words: their plan was run, or they are refused

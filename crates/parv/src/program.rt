@@ -11,7 +11,8 @@ use std::{env, io};
 /// The result of a command line.
 #[derive(Drop)]
 pub struct Performed {
-    /// The exit status and the line for standard error, unless memory for them was refused.
+    /// The exit status and the line for standard error, unless memory for the line was refused. A
+    /// run that ended without an error has an empty line, which takes none.
     pub told: Result<(u8, Vec<u8>), AllocError>,
     /// The files that the plan was run over, if there is a plan.
     pub run: Option<Run>,

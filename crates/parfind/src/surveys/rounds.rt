@@ -82,8 +82,8 @@ fn look_for_full<H: Shelf>(
         index: &whole,
         mode: Mode::Plain,
     };
-    let mut none = Smaller::none();
-    let answer = survey_by(&sought, &mut none, shelf, window, found, &mut short);
+    let mut smaller = Smaller::none_yet(alloc, found);
+    let answer = survey_by(&sought, &mut smaller, shelf, window, found, &mut short);
     short.note(found);
     answer?;
     Ok(())

@@ -1,4 +1,4 @@
-ghost use Rattle.std.specs.Prelude.{◌≡◌, length, false, None};
+ghost use Rattle.std.specs.Prelude.{◌≡◌, length, count_by, false, None, Some};
 ghost use Rattle.parfind.specs.Smaller.{IsPart, part_of};
 ghost use Rattle.parfind.specs.declared.tracks.mode.Mode.TheVariants.{Tails};
 
@@ -26,6 +26,19 @@ impl Smaller {
             index: None,
             left_out: 0,
             alloc: None,
+        }
+    }
+
+    /// Makes a state without a smaller index, which may get one once more slices are found than now.
+    pub fn none_yet(alloc: Global, found: &[bool]) -> Smaller
+        ensures index { result.index ≡ None }
+        ensures left_out { result.left_out ≡ count_by (λ flag. flag) found.now }
+        ensures alloc { result.alloc ≡ Some alloc }
+    {
+        Smaller {
+            index: None,
+            left_out: found.iter().filter(|found| **found).count(),
+            alloc: Some(alloc),
         }
     }
 

@@ -51,9 +51,9 @@ impl From<(u32, ReadFault)> for SurveyFault {
 /// the survey sets those of the slices that it sees, and clears none. It looks only for slices that
 /// aren't found at the call and have checksums, and ends when it has found them all. It takes
 /// memory for a window, and for a second index if some slices are found at the call and others
-/// aren't. If content repeats, it makes a second index on its way, without the slices that it has
-/// found. If memory for that is refused, it goes on with the given one. It takes no memory if there
-/// is nothing to look for.
+/// aren't, or in `Mode::Tails`. If content repeats, it makes another index on its way, without the
+/// slices that it has found. If memory for that is refused, it goes on without it. It takes no
+/// memory if there is nothing to look for.
 pub fn survey<H: Shelf>(
     alloc: Global,
     index: &Index,
@@ -101,17 +101,12 @@ fn first_smaller(alloc: Global, index: &Index, found: &[bool]) -> Result<Smaller
     requires { length found.now ≡ length index.now.slices }
     ensures { IfOk result (λ smaller. IsPart index.now found.now (part_of index.now smaller.index)) }
 {
-    let left_out = found.iter().filter(|found| **found).count();
-    let index = if left_out > 0 {
-        Some(index.missing(alloc, found)?)
-    } else {
-        None
-    };
-    Ok(Smaller {
-        index,
-        left_out,
-        alloc: Some(alloc),
-    })
+    let none = Smaller::none_yet(alloc, found);
+    if none.left_out == 0 {
+        return Ok(none);
+    }
+    let index = Some(index.missing(alloc, found)?);
+    Ok(Smaller { index, ..none })
 }
 
 // Finds each slice of the set that has a sighting in `Mode::Plain`.

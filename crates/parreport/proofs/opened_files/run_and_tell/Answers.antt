@@ -1,5 +1,4 @@
 use Rattle.std.proofs.Common.{subst}
-use Rattle.std.specs.Result.{IfOk}
 use Rattle.parreport.specs.Ends.{run_end_of}
 use Rattle.parreport.specs.OpenedFiles.{TellsEnd}
 use Rattle.parreport.proofs.opened_files.run_and_tell.Goals as goal
@@ -9,7 +8,7 @@ returns g c =
     let ran = c.run-answer.ensures in
     let end = run_end_of c.args.plan.now c.run-answer.result in record {
       answer = c.run-answer.result;
-      told = subst (λ end. IfOk c.tell.result (λ told. TellsEnd end told.0 told.1.items)) {y = end} c.run_end-end.ensures c.tell.ensures;
+      told = subst (λ end. TellsEnd end c.tell.result) {y = end} c.run_end-end.ensures c.tell.ensures;
       report = λ files reads. record { text = ran.text files reads; lines = ran.lines files reads };
       nothing_written = ran.nothing_written;
       packets_read = ran.packets;

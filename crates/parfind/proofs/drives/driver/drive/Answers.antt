@@ -1,5 +1,5 @@
 use Rattle.std.proofs.lemmas.Grind.{common_steps}
-use Rattle.std.proofs.Common.{◌+◌, List, [], ◌∷◌, ◌++◌, drop, ap, ◌∙◌, arith, subst, Some, None}
+use Rattle.std.proofs.Common.{◌≡◌, ◌+◌, List, [], ◌∷◌, ◌++◌, drop, ap, ◌∙◌, arith, rules, subst, Some, None}
 use Rattle.std.specs.List.{Contains}
 use Rattle.std.proofs.lemmas.List.Elements.{Contains-get_or}
 use Rattle.parfind.specs.Sought.{Sought, sought_of}
@@ -34,7 +34,7 @@ loop-call-preserved g c =
                 (call.Step n) (Some n) w.step.result xs c.put-in-loop-call.new.answers.items (asks_step n) (g.met.H.Shelf.well_formed c.loop-call.shelf)
                 (rw (next_call calls i (call.Step n) _ c.loop-call-test.true w.in-Step.is) at before.so_far)
                 (record { answer = rw before.so_far.mode_is at r.answer; moves = r.moves; advances = r.advances; along = r.along }) r.reads
-                (added ∙ ap (λ (x : Answer). xs ++ x ∷ []) w.answer-is);
+                (added ∙ ap (λ (x : Answer). xs ++ x ∷ []) (search (rules, w.answer-is)));
           })
       | in-Next w ↦
           let r = w.next.ensures in
@@ -46,7 +46,7 @@ loop-call-preserved g c =
                 call.Next None w.next.result xs c.put-in-loop-call.new.answers.items asks_next (g.met.H.Shelf.well_formed c.loop-call.shelf)
                 (rw (next_call calls i call.Next _ c.loop-call-test.true w.in-Next.is) at before.so_far)
                 (record { answer = rw before.so_far.mode_is at r.answer; moves = r.moves; advances = r.advances; along = r.along }) r.reads
-                (added ∙ ap (λ (x : Answer). xs ++ x ∷ []) w.answer-is);
+                (added ∙ ap (λ (x : Answer). xs ++ x ∷ []) (search (rules, w.answer-is)));
           })
       | in-Reopen+in-Ok w ↦
           let r = w.in-Ok.ensures in
@@ -59,7 +59,7 @@ loop-call-preserved g c =
             so_far = drive_reopens sought old s c.args.start c.loop-call.finder w.in-Ok.next calls later xs
                 c.put-in-loop-call.new.answers.items there
                 (rw (next_call calls i call.Reopen _ c.loop-call-test.true w.in-Reopen.is) at before.so_far)
-                (r.cursor ∙ w.cursor-at.ensures) r.mode (added ∙ ap (λ (x : Answer). xs ++ x ∷ []) w.answer-is);
+                (r.cursor ∙ w.cursor-at.ensures) r.mode (added ∙ ap (λ (x : Answer). xs ++ x ∷ []) (search (rules, w.answer-is)));
           })
     ]
 
@@ -100,7 +100,8 @@ returns g c =
     let e = c.drive_of-2.ensures in
     let gave = drive_ends sought old s c.args.start c.drive_of-2.result.cursor c.loop-call.finder calls c.loop-call.answers.items
     so_far (e.cursor ∙ c.cursor.ensures) in
-    rw e.answers (record {
+    let told : c.drive_of-2.result.answers ≡ c.loop-call.answers.items = search (rules, e.answers) in
+    rw told (record {
       answer = gave.answer;
       each = gave.each;
       onward = gave.onward;

@@ -21,7 +21,7 @@ survey_by-answer-requires-clause-each g c =
     c.requires.each ∙ sym (ap (λ (s : SliceSet). length s.slices) whole_is ∙ as_many set.slices lost c.in_ok-lost.ensures.each)
 
 pub survey_by-answer-requires-clause-part : goal.survey_by-answer-requires-clause-part
-survey_by-answer-requires-clause-part g c = rw (c.none-none.ensures) (whole_part c.in_ok-whole.whole c.args.found.now)
+survey_by-answer-requires-clause-part g c = rw (c.none_yet-smaller.ensures.index) (whole_part c.in_ok-whole.whole c.args.found.now)
 
 pub returns-clause-found : goal.returns-clause-found
 returns-clause-found g c = λ files reads.

@@ -21,19 +21,19 @@ pub returns-in_err-command-clause-limit : goal.returns-in_err-command-clause-lim
 returns-in_err-command-clause-limit c = grind (arith, common_steps) steps 100000
 
 pub returns-in_err-set-clause-plan : goal.returns-in_err-set-clause-plan
-returns-in_err-set-clause-plan c = grind (arith, common_steps) steps 100000
+returns-in_err-set-clause-plan c = grind (arith, common_steps) steps 400000
 
 pub returns-in_err-set-clause-taken : goal.returns-in_err-set-clause-taken
-returns-in_err-set-clause-taken c = grind (arith, common_steps) steps 100000
+returns-in_err-set-clause-taken c = grind (arith, common_steps) steps 400000
 
 pub returns-in_err-set-clause-few : goal.returns-in_err-set-clause-few
-returns-in_err-set-clause-few c = grind (arith, common_steps) steps 100000
+returns-in_err-set-clause-few c = grind (arith, common_steps) steps 400000
 
 pub returns-in_err-set-clause-some_packets : goal.returns-in_err-set-clause-some_packets
-returns-in_err-set-clause-some_packets c = grind (arith, common_steps) steps 100000
+returns-in_err-set-clause-some_packets c = grind (arith, common_steps) steps 400000
 
 pub returns-in_err-set-clause-limit : goal.returns-in_err-set-clause-limit
-returns-in_err-set-clause-limit c = grind (arith, common_steps) steps 100000
+returns-in_err-set-clause-limit c = grind (arith, common_steps) steps 400000
 
 pub returns-in_err-base-clause-plan : goal.returns-in_err-base-clause-plan
 returns-in_err-base-clause-plan c = grind (arith, common_steps) steps 400000
@@ -51,7 +51,7 @@ pub returns-in_err-base-clause-limit : goal.returns-in_err-base-clause-limit
 returns-in_err-base-clause-limit c = grind (arith, common_steps) steps 400000
 
 pub returns-in_err-files-clause-plan : goal.returns-in_err-files-clause-plan
-returns-in_err-files-clause-plan c = grind (arith, common_steps) steps 400000
+returns-in_err-files-clause-plan c = search rules
 
 pub returns-in_err-files-clause-taken : goal.returns-in_err-files-clause-taken
 returns-in_err-files-clause-taken c = grind (arith, common_steps) steps 400000

@@ -1,4 +1,4 @@
-use Rattle.std.proofs.Common.{arith, ◌≡◌, ◌∙◌, ◌&&◌, ap, map, subst, sym}
+use Rattle.std.proofs.Common.{arith, rules, ◌≡◌, ◌∙◌, ◌&&◌, ap, map, subst, sym}
 use Rattle.std.proofs.lemmas.Grind.{common_steps}
 use Rattle.std.proofs.lemmas.Result.{err_from_is_err_and}
 use Rattle.std.specs.List.{list_any}
@@ -31,7 +31,7 @@ returns-clause-findings g c = λ contents reads.
     (c.from_vec.ensures ∙ states)
     (λ id. c.in_ok-whole.ensures state asked id
     ∙ ap (list_any (λ (file : SetFile). bytes_eq file.id.0 id.0 && is_intact (state file))) c.files-set_files.ensures.field)
-    (c.from_vec-2.ensures ∙ c.in_ok-found.ensures.found contents reads)
+    (search (c.from_vec-2.ensures, c.in_ok-found.ensures.found contents reads))
 
 pub returns-clause-unsearched : goal.returns-clause-unsearched
 returns-clause-unsearched g c = λ contents reads needs.
@@ -193,7 +193,7 @@ returns-in_err-found-clause-handed g c =
     let now : ShelfState = g.Q.Shelf.state c.contents.new.shelf in
     checked_and_searched c.args.mode c.args.set.now old now (g.Q.Shelf.state c.found_slices.new.shelf) (lengths_same old now c.in_ok-contents.ensures.ok)
     (subst (λ files. ReadsCandidates files old now) c.files-set_files.ensures.field c.in_ok-contents.ensures.bytes)
-    c.found_slices.ensures.handed
+    (search rules)
 
 pub returns-clause-handed : goal.returns-clause-handed
 returns-clause-handed g c =
@@ -201,4 +201,4 @@ returns-clause-handed g c =
     let now : ShelfState = g.Q.Shelf.state c.contents.new.shelf in
     checked_and_searched c.args.mode c.args.set.now old now (g.Q.Shelf.state c.found_slices.new.shelf) (lengths_same old now c.in_ok-contents.ensures.ok)
     (subst (λ files. ReadsCandidates files old now) c.files-set_files.ensures.field c.in_ok-contents.ensures.bytes)
-    c.found_slices.ensures.handed
+    (search rules)

@@ -2,6 +2,7 @@ use Rattle.std.proofs.Common.{◌≡◌, arith, ap, ◌∙◌, length, take}
 use Rattle.std.proofs.lemmas.List.{take_all}
 use Rattle.parwindow.specs.Index.{slice_passes}
 use Rattle.parfind.specs.Fitting.{is_fitting_compared}
+use Rattle.parfind.specs.KeptDigests.{lesser_of}
 use Rattle.parwindow.specs.Window.{WindowState}
 use Rattle.parfind.specs.Sought.{Sought, compared_lengths}
 use Rattle.parfind.proofs.track_laws.TakenDigestLaws.{looks_on, full_digests}
@@ -15,6 +16,7 @@ loop-k-preserved c =
     let next = c.first_seen_at-found.ensures in
     let set = c.args.sought.now.set in
     let sought = c.args.sought.now in
+    let least_is : c.lesser-least.result ≡ lesser_of c.loop-k.least c.first_seen_at-found.result = grind (arith, c.lesser-least.ensures) in
     record {
       all = held.all;
       full = full_digests sought c.loop-k.window c.first_seen_at-found.new.window c.first_seen_at-found.new.window.digests next.stays.window_is held.full;
@@ -22,9 +24,9 @@ loop-k-preserved c =
       keeps = next.keeps;
       stays = looks_on c.args.window.now c.loop-k.window c.first_seen_at-found.new.window c.args.self.now.kept.items c.loop-k.self.kept.items
           c.first_seen_at-found.new.self.kept.items held.stays next.stays;
-      seen = rw c.lesser-least.ensures (first_more set c.args.sought.now.mode c.args.window.now.content c.args.left c.loop-k.k
+      seen = rw least_is (first_more set c.args.sought.now.mode c.args.window.now.content c.args.left c.loop-k.k
           (omega (arith, held.all)) c.args.first c.loop-k.least c.first_seen_at-found.result held.seen (rw held.content at next.first));
-      there = rw c.lesser-least.ensures (lesser_there c.loop-k.least c.first_seen_at-found.result (length set.slices) held.there next.there);
+      there = rw least_is (lesser_there c.loop-k.least c.first_seen_at-found.result (length set.slices) held.there next.there);
     }
 
 pub returns-clause-first : goal.returns-clause-first
