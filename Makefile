@@ -15,7 +15,7 @@ CRATE ?= parv
 SIZE ?= small
 PARV = crates/parv/out/parv
 
-.PHONY: demo build test checks faults bench dist deb check try plant mustfail format install uninstall
+.PHONY: demo build test mutants checks faults bench dist deb check costs try plant format install uninstall
 
 # Builds the proved program and runs it on a damaged set. The log is out/demo.log.
 demo:
@@ -26,17 +26,21 @@ demo:
 # Proves the program and the libraries below it, and builds it as crates/parv/out/parv. The log is
 # out/build.log.
 build:
-	@mkdir -p out
+	@mkdir -p out && : > out/build.log
 	@echo "Proves the program and all below it and builds $(PARV): on four processors up to"
-	@echo "half an hour the first time, then what changed. The log is out/build.log."
-	@set -o pipefail; (cd crates/parv && rt run -- packets data/v.par2) 2>&1 | tee out/build.log \
-		| sed -un 's/^rt: chose --jobs [0-9]* for \([a-z_]*\)$$/proving \1/p' \
-		|| { tail -n 40 out/build.log; exit 1; }
+	@echo "a quarter of an hour the first time, then what changed. The log is out/build.log."
+	@cd crates/parv && ../../tools/proving.py ../../out/build.log rt run -- packets data/v.par2
 
-# Runs the gate: every proof, mutant and test, and then the checks of the program that this leaves.
-# The log is out/gate.log.
+# Runs the gate: every proof, the mutants of must-fail/, every test, and then the checks of the
+# program that this leaves. ANEW=1 takes nothing from earlier runs. The log is out/gate.log.
 test:
-	@tools/gate.sh
+	@ANEW=$(ANEW) tools/gate.sh
+
+# Tries the mutants of all crates, or of CRATE, those of mutants/ too. The logs are in out/mutants.
+# It isn't part of the gate: run it for the crates changed after a change of a clause, a definition
+# or a signature.
+mutants:
+	@PYTHONDONTWRITEBYTECODE=1 tools/mutants.py $(if $(filter file,$(origin CRATE)),,$(CRATE))
 
 # Runs only the checks, which compare the built program with what it must print. The log is
 # out/checks.log.
@@ -62,6 +66,11 @@ bench: $(if $(filter file,$(origin PARV)),build)
 check:
 	rt all check
 
+# Prints what a check of CRATE costs: seconds of a processor and memory, from nothing, with its tests
+# and after an edit, and its slowest functions. CRATE may name several.
+costs:
+	@tools/check_costs.py $(CRATE)
+
 # Runs the tests of CRATE without a proof.
 try:
 	cd crates/$(CRATE) && rt try --test
@@ -69,10 +78,6 @@ try:
 # Tries wrong bodies in a copy of CRATE, and lists those that its contracts let through.
 plant:
 	cd crates/$(CRATE) && rt plant
-
-# Checks that each mutant of CRATE is refused at the clause that it is for.
-mustfail:
-	rt must-fail $(CRATE)
 
 # Lays out the sources of all crates, and writes missing imports.
 format:
