@@ -4,7 +4,7 @@
 usage: fuzz.py [--seed N] [--cases N] [--jobs N] [--keep FOLDER]
 
 Each case follows from the seed and its number. It has some files, and one run over them with random arguments: any
-command, right and wrong options, and files that exist or not. A run must end within 20 seconds, not by a signal, with a
+command, right and wrong options, and files that exist or not. A run must end within 20 seconds of processor time, not by a signal, with a
 status of 0 to 4, 6 or 8. It may write only printable ASCII and line feeds, and take at most the memory that
 `most_memory` allows. FOLDER gets the files and arguments of the first case that fails. The slowest run and the one with
 the most memory are reported.
@@ -28,6 +28,7 @@ from models.cursor_texts import mark_of
 from models.describe_set import NoSet, packets_of, set_of
 from models.list_packets import is_packet_file, shown
 
+SECONDS = 20                                  # of processor time; most runs take a hundredth of one, none takes two
 CHUNK = 250                                   # cases that one process makes at once
 STATUSES = {0, 1, 2, 3, 4, 6, 8}
 PLAIN = set(range(0x20, 0x7F)) | {0x0A}
@@ -139,6 +140,8 @@ def fault_of(ran, most):
     """Returns what a run did wrong, or None."""
     if ran.hung or ran.status not in STATUSES:
         return as_text(ran)
+    if ran.seconds > SECONDS:
+        return f"{ran.seconds} seconds: {as_text(ran)}"
     if set(ran.out + ran.err) - PLAIN:
         return f"a byte that is not shown: {as_text(ran)}"
     if ran.memory * 1024 > most:

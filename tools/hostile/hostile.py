@@ -42,7 +42,6 @@ from models.list_packets import listing, shown
 from models.tell_states import state_of, verdict
 
 CHUNK = 100             # cases that one process makes at once
-HUNG = 200              # seconds; some runs take six, and several times that on a busy machine
 DEAR = 128 << 20        # bytes of windows that the model hashes in a search; slices may have 256 MiB
 
 WANTED = """packets 0,set 0,find 0,find 3,verify 0,verify 1,verify 2,no main,no description,
@@ -380,7 +379,7 @@ def keep_files(made, folder):
 
 def chunk(kind, seed, numbers, keep):
     """Runs some cases. Returns how many runs there were, what occurred in them, and how they differ."""
-    runner, runs, met, wrong = Runner(HUNG), 0, collections.Counter(), []
+    runner, runs, met, wrong = Runner(), 0, collections.Counter(), []
     for number in numbers:
         made = Case(kind, seed, number)
         runner.clear()

@@ -1,6 +1,6 @@
 """Runs the built program many times a second, for hostile.py, fuzz.py and hostile_cost.py.
 
-PARV is the program (crates/parv/out/parv). Each run may take 20 seconds, or as many as the script says.
+PARV is the program (crates/parv/out/parv). A run that takes ten minutes on the clock is stopped, or as many seconds as the script says.
 """
 
 import os
@@ -31,7 +31,7 @@ class Run(NamedTuple):
 class Runner:
     """A folder in memory in which programs run one after the other, and the small program that starts them."""
 
-    def __init__(self, seconds=20):
+    def __init__(self, seconds=600):
         self.held = tempfile.TemporaryDirectory(dir=WHERE)
         self.folder = os.path.join(self.held.name, "run")
         os.mkdir(self.folder)

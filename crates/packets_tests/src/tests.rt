@@ -3,7 +3,6 @@ mod salvage;
 mod set;
 mod texts;
 
-use parfixtures::{joined, packet_of};
 use std::fmt::Debug;
 use std::panic::Expect;
 use std::process::Abort;
@@ -21,26 +20,4 @@ fn holds(rt: &impl Abort, row: &impl Debug, is_so: bool) {
 // Ends the test, and names the row, unless the values are equal.
 fn is<R: Debug, T: Debug + PartialEq>(rt: &impl Abort, row: &R, got: &T, wanted: &T) {
     holds(rt, &(row, got, wanted), got == wanted);
-}
-
-// Returns these bytes, one after another.
-fn join(rt: &(impl Abort + AllocGlobal), parts: &[&[u8]]) -> Vec<u8> {
-    must(rt, joined(rt.alloc(), parts))
-}
-
-// Appends bytes.
-fn extend(rt: &impl Abort, bytes: &mut Vec<u8>, more: &[u8]) {
-    must(rt, bytes.extend_from_slice(more));
-}
-
-// Appends a packet.
-fn put(
-    rt: &(impl Abort + AllocGlobal),
-    bytes: &mut Vec<u8>,
-    set: [u8; 16],
-    kind: [u8; 16],
-    body: &[u8],
-) {
-    let packet = must(rt, packet_of(rt.alloc(), set, kind, body));
-    extend(rt, bytes, &packet);
 }

@@ -26,7 +26,5 @@ pub fn file_of(
     piece: usize,
     failing: &[u64],
 ) -> Result<MemShelf, AllocError> {
-    let mut all = Vec::new(alloc);
-    all.push(Vec::from_slice(alloc, file)?)?;
-    Ok(MemShelf::new(all, piece.max(1), Vec::from_slice(alloc, failing)?))
+    shelf_of(alloc, &[file], piece, failing)
 }

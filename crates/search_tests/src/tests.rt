@@ -1,9 +1,11 @@
 mod cursors;
 mod drives;
 mod fixtures;
+mod indexes;
 mod many_lengths;
 mod places;
 mod readme;
 mod searches;
 mod sets;
+mod surveys;
 mod windows;

@@ -1,17 +1,14 @@
-mod hostile;
-mod model;
-mod packets;
 mod reasons;
-mod sets;
 
-use super::{extend, holds, is, join, must, put};
+use super::{holds, is, must};
 use md5::{Digest, Md5};
 use parfield::Hash16;
-use parfixtures::{CREATOR_TYPE, DESC_TYPE, IFSC_TYPE, MAIN_TYPE, SLICE_TYPE};
+use parfixtures::WORKED;
+use parsalvage::{kept_of, salvage};
 use parset::*;
 use std::process::Abort;
 
-// The ID of the set of one file `g.bin` with the bytes `abcdefgh`, in slices of 4 bytes.
+// The IDs of the worked set and of its file `g.bin`, and the MD5 of the file's bytes `abcdefgh`.
 // `tools/make/vectors.py` writes the set.
 const SET: Hash16 = Hash16(*b"a|\xdcr\xbaS\xd9O\xe7\x13\xfe\xa2\xae\x18\xf7v");
 
@@ -19,109 +16,7 @@ const FILE: Hash16 = Hash16(*b"\xe3E\xea\xcb\xe6V\xc0\xe6\xfd \xedc\xcb{\x06,");
 
 const CONTENT: Hash16 = Hash16(*b"\xe8\xdc@\x81\xb144\xb4Q\x89\xa7 \xb7{h\x18");
 
-const MAIN: &[u8] = b"\x04\0\0\0\0\0\0\0\x01\0\0\0\xe3E\xea\xcb\xe6V\xc0\xe6\xfd \xedc\xcb{\x06,";
-
-const DESC: &[u8] =
-    b"\xe3E\xea\xcb\xe6V\xc0\xe6\xfd \xedc\xcb{\x06,\xe8\xdc@\x81\xb144\xb4Q\x89\xa7 \xb7{h\x18\xe8\xdc@\x81\xb144\xb4Q\x89\xa7 \xb7{h\x18\x08\0\0\0\0\0\0\0g.bin\0\0\0";
-
-// The description of a file `l.bin` of 16,385 letters `a`. The first 16,384 bytes have another MD5
-// than the whole file. Both are as Python's `hashlib` computes them.
-const LONG_DESC: &[u8] =
-    b"\x10\xa1\xa0\xe8\xa38\x16\xd0RjVdEU\xa3\xe7\x8d\x07_r5V\xe7v\xf6\xf5\xdc\xf2\x8eh\x89\xa7\t\xb4|\xf0|\x9d\x0e\xa5\x89\xe0\xe2\xaa}\r5P\x01@\0\0\0\0\0\0l.bin\0\0\0";
-
-const IFSC: &[u8] =
-    b"\xe3E\xea\xcb\xe6V\xc0\xe6\xfd \xedc\xcb{\x06,\xe2\xfcqLG'\xee\x93\x95\xf3$\xcd.\x7f3\x1f\x11\xcd\x82\xed\x1fv\x90\xeb\xdd\x9bL\xaf\x8f\xabI\xca\x17W\xbf'\xb5{3\x08";
-
-// Returns the MD5 of bytes.
-fn digest_of(bytes: &[u8]) -> Hash16 {
-    Hash16(Md5::digest(bytes))
-}
-
-// Runs of equal bytes: the byte of each, and its length.
-type Runs = &'static [(u8, usize)];
-
-// Returns the bytes of these runs.
-fn bytes_of(rt: &(impl Abort + AllocGlobal), runs: Runs) -> Vec<u8> {
-    let mut bytes = Vec::new(rt.alloc());
-    for (byte, count) in runs {
-        must(rt, bytes.resize(bytes.len().saturating_add(*count), *byte));
-    }
-    bytes
-}
-
-// A slice size, the recovery IDs and the other IDs.
-type MainFields<'a> = (u64, &'a [Hash16], &'a [Hash16]);
-
-// Main bodies, their MD5s and their fields.
-static MAINS: [(&[u8], Hash16, MainFields<'static>); 2] = [
-    (MAIN, SET, (4, &[FILE], &[])),
-    (
-        b"\x08\0\0\0\0\0\0\0\x01\0\0\0\x01\x01\x01\x01\x01\x01\x01\x01\x01\x01\x01\x01\x01\x01\x01\x01\x02\x02\x02\x02\x02\x02\x02\x02\x02\x02\x02\x02\x02\x02\x02\x02",
-        Hash16(*b"Z\xa4\xe0\x8c-\x8c\x8a\xe7\xbd\xa6\xa1\xc1\xe4!\xcf\xa0"),
-        (8, &[Hash16([1; 16])], &[Hash16([2; 16])]),
-    ),
-];
-
-// Whether a Main body has these fields.
-fn is_main(main: &Main, fields: &MainFields<'_>) -> bool {
-    main.size == fields.0
-        && main.recovery.as_slice() == fields.1
-        && main.others.as_slice() == fields.2
-}
-
-// Checks the fields of a Main body, in a packet with this set ID.
-fn has_main(rt: &(impl Abort + AllocGlobal), body: &[u8], set: Hash16, fields: &MainFields<'_>) {
-    let main = must(rt, main_body(rt.alloc(), body, set));
-    holds(rt, &set, is_main(&main, fields));
-}
-
-#[test]
-fn the_fields_of_main_bodies_are_read(rt: HostRuntime) {
-    for row in &MAINS {
-        has_main(&rt, row.0, row.1, &row.2);
-    }
-}
-
-// A file ID, the MD5s of the whole file and of its front, its length and its name.
-type DescFields<'a> = ([Hash16; 3], u64, &'a [u8]);
-
-// Bodies of FileDesc packets, and their fields.
-static DESCS: [(&[u8], DescFields<'static>); 2] = [
-    (DESC, ([FILE, CONTENT, CONTENT], 8, b"g.bin")),
-    (
-        LONG_DESC,
-        (
-            [
-                Hash16(*b"\x10\xa1\xa0\xe8\xa38\x16\xd0RjVdEU\xa3\xe7"),
-                Hash16(*b"\x8d\x07_r5V\xe7v\xf6\xf5\xdc\xf2\x8eh\x89\xa7"),
-                Hash16(*b"\t\xb4|\xf0|\x9d\x0e\xa5\x89\xe0\xe2\xaa}\r5P"),
-            ],
-            16_385,
-            b"l.bin",
-        ),
-    ),
-];
-
-// Whether a description has these fields.
-fn is_desc(desc: &Desc, fields: &DescFields<'_>) -> bool {
-    [desc.id, desc.whole, desc.front] == fields.0
-        && desc.length == fields.1
-        && desc.name.as_slice() == fields.2
-}
-
-// Checks the fields of a FileDesc body.
-fn has_desc(rt: &(impl Abort + AllocGlobal), body: &[u8], fields: &DescFields<'_>) {
-    let desc = must(rt, desc_body(rt.alloc(), body));
-    holds(rt, &fields.2, is_desc(&desc, fields));
-}
-
-#[test]
-fn the_fields_of_descriptions_are_read(rt: HostRuntime) {
-    for row in &DESCS {
-        has_desc(&rt, row.0, &row.1);
-    }
-}
-
+// The checksums of its slices.
 static SUMS: [(Hash16, u32); 2] = [
     (
         Hash16(*b"\xe2\xfcqLG'\xee\x93\x95\xf3$\xcd.\x7f3\x1f"),
@@ -133,20 +28,52 @@ static SUMS: [(Hash16, u32); 2] = [
     ),
 ];
 
-// Whether an IFSC body has these fields.
-fn are_sums(ifsc: &Ifsc, id: Hash16, sums: &[(Hash16, u32)]) -> bool {
-    ifsc.id == id && ifsc.sums.as_slice() == sums
+// Returns the MD5 of bytes.
+fn digest_of(bytes: &[u8]) -> Hash16 {
+    Hash16(Md5::digest(bytes))
 }
 
-// Checks the fields of an IFSC body.
-fn has_sums(rt: &(impl Abort + AllocGlobal), body: &[u8], id: Hash16, sums: &[(Hash16, u32)]) {
-    let ifsc = must(rt, ifsc_body(rt.alloc(), body));
-    holds(rt, &sums, are_sums(&ifsc, id, sums));
+// A Main body of slices of eight bytes, with an ID of sixteen bytes 1 and one of sixteen bytes 2 of
+// a file that isn't recovered, and the MD5 of the body.
+const MAIN: &[u8] =
+    b"\x08\0\0\0\0\0\0\0\x01\0\0\0\x01\x01\x01\x01\x01\x01\x01\x01\x01\x01\x01\x01\x01\x01\x01\x01\x02\x02\x02\x02\x02\x02\x02\x02\x02\x02\x02\x02\x02\x02\x02\x02";
+
+const OF_MAIN: Hash16 = Hash16(*b"Z\xa4\xe0\x8c-\x8c\x8a\xe7\xbd\xa6\xa1\xc1\xe4!\xcf\xa0");
+
+#[test]
+fn the_fields_of_a_main_body_are_read(rt: HostRuntime) {
+    let main = must(&rt, main_body(rt.alloc(), MAIN, OF_MAIN));
+    is(&rt, &"size", &main.size, &8);
+    let (recovery, others) = (main.recovery.as_slice(), main.others.as_slice());
+    is(&rt, &"ids", &recovery, &[Hash16([1; 16])].as_slice());
+    is(&rt, &"others", &others, &[Hash16([2; 16])].as_slice());
+}
+
+// The description of a file `l.bin` of 16,385 letters `a`. The first 16,384 bytes have another MD5
+// than the whole file. Both are as Python's `hashlib` computes them.
+const LONG_DESC: &[u8] =
+    b"\x10\xa1\xa0\xe8\xa38\x16\xd0RjVdEU\xa3\xe7\x8d\x07_r5V\xe7v\xf6\xf5\xdc\xf2\x8eh\x89\xa7\t\xb4|\xf0|\x9d\x0e\xa5\x89\xe0\xe2\xaa}\r5P\x01@\0\0\0\0\0\0l.bin\0\0\0";
+
+// Its file ID, and the MD5s of the whole file and of its front.
+static HASHES: [Hash16; 3] = [
+    Hash16(*b"\x10\xa1\xa0\xe8\xa38\x16\xd0RjVdEU\xa3\xe7"),
+    Hash16(*b"\x8d\x07_r5V\xe7v\xf6\xf5\xdc\xf2\x8eh\x89\xa7"),
+    Hash16(*b"\t\xb4|\xf0|\x9d\x0e\xa5\x89\xe0\xe2\xaa}\r5P"),
+];
+
+#[test]
+fn the_fields_of_a_description_are_read(rt: HostRuntime) {
+    let desc = must(&rt, desc_body(rt.alloc(), LONG_DESC));
+    is(&rt, &"hashes", &[desc.id, desc.whole, desc.front], &HASHES);
+    is(&rt, &"length", &desc.length, &16_385);
+    is(&rt, &"name", &desc.name.as_slice(), &b"l.bin".as_slice());
 }
 
 #[test]
 fn the_fields_of_a_checksum_body_are_read(rt: HostRuntime) {
-    has_sums(&rt, IFSC, FILE, &SUMS);
+    let ifsc = must(&rt, ifsc_body(rt.alloc(), &WORKED[284..340]));
+    is(&rt, &"id", &ifsc.id, &FILE);
+    is(&rt, &"sums", &ifsc.sums.as_slice(), &SUMS.as_slice());
 }
 
 // Creator bodies and their texts.
@@ -211,4 +138,58 @@ fn each_reason_has_its_number(rt: HostRuntime) {
     for row in &NUMBERS {
         is(&rt, row, &row.0.number(), &row.1);
     }
+}
+
+// Checks the only file of the worked set.
+fn is_worked_file(rt: &impl Abort, files: &[SetFile]) {
+    let is_so = match files {
+        [file] => {
+            (file.id, file.whole, file.length, file.known) == (FILE, CONTENT, 8, true)
+                && file.name.as_slice() == b"g.bin".as_slice()
+        }
+        _ => false,
+    };
+    holds(rt, &files, is_so);
+}
+
+// Checks the slices of the worked set.
+fn are_worked_slices(rt: &impl Abort, slices: &[SetSlice]) {
+    is(rt, &"slices", &slices.len(), &2);
+    for (slice, number) in slices.iter().zip(0..2u32) {
+        is(
+            rt,
+            &number,
+            &(slice.id, slice.number, slice.length),
+            &(FILE, number, 4),
+        );
+        is(
+            rt,
+            &number,
+            &slice.sums.as_ref(),
+            &SUMS.get(number as usize),
+        );
+    }
+}
+
+// Checks the rejected packet of the worked set.
+fn is_worked_aside(rt: &impl Abort, asides: &[SetAside]) {
+    let slice = SetAside {
+        file: 0,
+        at: 340,
+        reason: Aside::WrongLength,
+    };
+    is(rt, &"aside", &asides, &[slice].as_slice());
+}
+
+#[test]
+fn the_parts_of_the_worked_set_are_read(rt: HostRuntime) {
+    let packets = must(&rt, salvage(rt.alloc(), &WORKED));
+    let kept = must(&rt, kept_of(rt.alloc(), 0, &packets));
+    let set = must(&rt, build(rt.alloc(), &kept, Some(SET)));
+    is(&rt, &"numbers", &(set.id(), set.size()), &(SET, 4));
+    is(&rt, &"counts", &(set.others(), set.have()), &(0, 0));
+    is(&rt, &"creator", &set.creator(), &None);
+    is_worked_file(&rt, set.files());
+    are_worked_slices(&rt, set.slices());
+    is_worked_aside(&rt, set.aside());
 }

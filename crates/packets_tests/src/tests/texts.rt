@@ -3,7 +3,7 @@
 use super::{holds, is, must};
 use parfield::{Hash16, Header, HeaderFault, Kind, Shown, header};
 use parfixtures::WORKED;
-use parsalvage::{Part, kept_of, salvage};
+use parsalvage::{Kept, Part, kept_of, salvage};
 use parset::{Aside, BodyFault, SetFault};
 use std::fmt::{Debug, Display};
 use std::process::Abort;
@@ -61,6 +61,14 @@ fn a_hash_is_told_over_lines(rt: HostRuntime) {
     is(&rt, &"{:#?}", &told.as_str(), &wanted);
 }
 
+// Checks what `{:?}` makes of the body of a packet.
+fn is_told(rt: &(impl Abort + AllocGlobal), packet: Option<&Kept>, wanted: &str) {
+    match packet {
+        Some(packet) => is_debugged(rt, &packet.body, wanted),
+        None => holds(rt, &wanted, false),
+    }
+}
+
 #[test]
 fn bodies_are_told_by_the_bytes_that_are_held(rt: HostRuntime) {
     let packets = must(&rt, salvage(rt.alloc(), &WORKED));
@@ -69,12 +77,8 @@ fn bodies_are_told_by_the_bytes_that_are_held(rt: HostRuntime) {
     let main =
         "Whole([4, 0, 0, 0, 0, 0, 0, 0, 1, 0, 0, 0, 227, 69, 234, 203, 230, 86, 192, 230, 253, 32, 237, 99, 203, 123, 6, 44])";
     let slice = "Front { first: [0, 0, 0, 0], len: 12 }";
-    for (packet, wanted) in [(kept.first(), main), (kept.last(), slice)] {
-        match packet {
-            Some(packet) => is_debugged(&rt, &packet.body, wanted),
-            None => holds(&rt, &wanted, false),
-        }
-    }
+    is_told(&rt, kept.first(), main);
+    is_told(&rt, kept.last(), slice);
 }
 
 #[test]

@@ -1,6 +1,7 @@
-// Checks of runs, and the runs of a table with their checks.
+// Checks of values and of the ends of runs.
+use crate::runs::faults::fails_in_turn;
 use crate::runs::rows::{Row, rows_of};
-use crate::runs::running::{Outcome, READS, ROOMY, ran_row};
+use crate::runs::running::{Outcome, READS, ROOMY, ran};
 use std::fmt::Debug;
 use std::panic::Expect;
 use std::process::Abort;
@@ -13,11 +14,6 @@ pub fn must<T, E: Debug>(rt: &impl Abort, got: Result<T, E>) -> T {
 /// Returns the value, or ends the test if there is none and says what is missing.
 pub fn there<T>(rt: &impl Abort, lacking: &str, got: Option<T>) -> T {
     got.expect(rt, lacking)
-}
-
-/// Ends the test, and names what was checked, unless this holds.
-pub fn holds(rt: &impl Abort, of: &impl Debug, so: bool) {
-    assert!(rt; so, "{of:?}");
 }
 
 /// Ends the test, and names what was checked, unless the values are equal.
@@ -39,9 +35,13 @@ pub fn has_ended(rt: &impl Abort, ran: &Outcome, row: &Row<'_>) {
     is_same(rt, &row.words, &ran.status, &row.status);
 }
 
-/// Runs the command lines of a table with `count` rows, and checks their ends.
-pub fn all_end_so(rt: &(impl Abort + AllocGlobal), table: &str, count: usize) {
-    for row in rows_of(rt, table, count).as_slice() {
-        has_ended(rt, &ran_row(rt, row, READS, ROOMY), row);
+/// Runs the command lines of a table, and checks their ends, also those by each error of a read or
+/// a write if the row is to fail in turn.
+pub fn all_end_so(rt: &(impl Abort + AllocGlobal), table: &str) {
+    for row in rows_of(rt, table).as_slice() {
+        has_ended(rt, &ran(rt, row, READS, ROOMY), row);
+        if !row.failing.is_empty() {
+            fails_in_turn(rt, row);
+        }
     }
 }

@@ -1,6 +1,6 @@
 use crate::runs::{is_same, is_text, must};
-use parreport::{End, PlanFault, RunFault, Sink, Status, WriteSink, ending};
-use parshelf::{Failed, ReadFault};
+use parreport::{End, PlanFault, RunFault, Status, ending};
+use parshelf::ReadFault;
 use std::process::Abort;
 
 const READ: RunFault = RunFault::Read {
@@ -63,18 +63,4 @@ fn each_end_has_its_exit_status_and_line(rt: HostRuntime) {
     for end in &ENDINGS {
         is_told(&rt, end);
     }
-}
-
-// Puts three parts into a sink over bytes. Returns how many bytes of each it takes.
-fn taken(bytes: &mut Vec<u8>) -> [Result<usize, Failed>; 3] {
-    let mut out = WriteSink::new(bytes);
-    [out.put(b""), out.put(b"abc"), out.put(b"d")]
-}
-
-#[test]
-fn writer_sinks_write_what_they_take(rt: HostRuntime) {
-    let mut bytes = Vec::new(rt.alloc());
-    let counts = taken(&mut bytes);
-    is_same(&rt, &"counts", &counts, &[Ok(0), Ok(3), Ok(1)]);
-    is_text(&rt, &"bytes", &bytes, "abcd");
 }

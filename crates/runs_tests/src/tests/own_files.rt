@@ -6,11 +6,12 @@ ghost use Rattle.parplan.specs.Commands.{reads_scanned, LimitIsNotZero};
 ghost use Rattle.parreport.specs.Outcomes.{Answers};
 ghost use Rattle.parreport.specs.Report.{report_of};
 
-use crate::runs::{is_same, is_text, must, plan_of};
+use crate::runs::{is_same, is_text, must, words_of};
 use parfixtures::shelf_of;
-use parreport::{MemSink, Plan, RunFault, Status, reads_scanned, run};
+use parreport::{MemSink, Plan, RunFault, Status, plan, reads_scanned, run};
 use parshelf::{MemShelf, Shelf};
 use std::alloc::Global;
+use std::panic::Expect;
 use std::process::Abort;
 
 // Runs a plan over files in memory. The text and the result are those of the files as they were at
@@ -36,7 +37,7 @@ fn run_in_memory(
 
 #[test]
 fn a_run_over_files_in_memory_tells_of_these(rt: HostRuntime) {
-    let plan = plan_of(&rt, "packets p.par2");
+    let plan = plan(rt.alloc(), &words_of(&rt, "packets p.par2")).expect(&rt, "error");
     let mut packets = must(&rt, shelf_of(rt.alloc(), &[b""], 64, &[]));
     let mut scanned = must(&rt, shelf_of(rt.alloc(), &[], 64, &[]));
     let mut out = must(&rt, MemSink::new(rt.alloc(), 64, 64, false));

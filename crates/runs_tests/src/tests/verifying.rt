@@ -30,20 +30,6 @@ need 0 have 0
 result possible
 = 1
 
-$ verify v.par2 g.bin h.bin i.bin | g | abcdefgX abcdefgh abcdefgh
-set 617cdc72ba53d94fe713fea2ae18f776 size 4 slices 2
-renamed g.bin from h.bin
-need 0 have 0
-result possible
-= 1
-
-$ verify v.par2 h.bin g.bin | g | abcdefgh abcdefgh
-set 617cdc72ba53d94fe713fea2ae18f776 size 4 slices 2
-complete g.bin
-need 0 have 0
-result complete
-= 0
-
 $ verify v.par2 b.bin | a_without_sums | abcdef
 set 2b5d19a47ee4561a2c85b51d7f6d65c4 size 4 slices 2
 renamed a.bin from b.bin
@@ -63,36 +49,30 @@ set 2b5d19a47ee4561a2c85b51d7f6d65c4 size 4 slices 2
 damaged a.bin 1/2
 need 1 have 1
 result possible
-= 1
+= 1 | a.bin 4
+
+$ verify -q v.par2 a.bin | a_with_a_slice_twice | abcd
+need 1 have 1
+result possible
+= 1 | a.bin 4
+
+$ verify -q -q v.par2 a.bin | a_with_a_slice_twice | abcd
+= 1 | a.bin 4
 
 $ verify v.par2 a.bin | a | abcd
 set 2b5d19a47ee4561a2c85b51d7f6d65c4 size 4 slices 2
 damaged a.bin 1/2
 need 1 have 0
 result impossible
-= 2
-
-$ verify -q v.par2 a.bin | a_with_a_slice_twice | abcd
-need 1 have 1
-result possible
-= 1
-
-$ verify -q -q v.par2 a.bin | a_with_a_slice_twice | abcd
-= 1
-
-$ verify -qqq v.par2 a.bin | a_with_a_slice_twice | abcd
-= 1
+= 2 | a.bin 4
 
 $ verify -q v.par2 a.bin | a | abcd
 need 1 have 0
 result impossible
-= 2
+= 2 | a.bin 4
 
 $ verify -q -q v.par2 a.bin | a | abcd
-= 2
-
-$ verify -qqq v.par2 a.bin | a | abcd
-= 2
+= 2 | a.bin 4
 
 $ verify v.par2 | z
 set 2b5d19a47ee4561a2c85b51d7f6d65c4 size 4 slices 0
@@ -100,13 +80,6 @@ missing z.bin 0/0
 need 0 have 0
 result possible
 = 1
-
-$ verify v.par2 z.bin | z | ''
-set 2b5d19a47ee4561a2c85b51d7f6d65c4 size 4 slices 0
-complete z.bin
-need 0 have 0
-result complete
-= 0
 
 $ verify v.par2 g.bin | g_without_sums | abcdefgX
 set 617cdc72ba53d94fe713fea2ae18f776 size 4 slices 2
@@ -126,27 +99,16 @@ $ verify e.par2 | empty
 parv: no usable set: no main
 = 4
 
-$ verify v.par2 g.bin | greatest_lengths | abcdefgh
-parv: no usable set: too many slices
-= 4
-
-# A name that leads out of the folder: the file counts where an argument has that name.
-$ verify p.par2 | many_packets
-set 0bbc1be07c3c8cdcafa6da4fb0539235 size 4 slices 0
-missing ../g\x0a.bin 0/0
-need 0 have 2
+# A file is searched a second time for a short slice before other bytes.
+$ verify --tails v.par2 x.bin | a | Xefabcd
+set 2b5d19a47ee4561a2c85b51d7f6d65c4 size 4 slices 2
+missing a.bin 2/2
+need 0 have 0
 result possible
-= 1
-
-$ verify p.par2 ../g~.bin | many_packets | ''
-set 0bbc1be07c3c8cdcafa6da4fb0539235 size 4 slices 0
-complete ../g\x0a.bin
-need 0 have 2
-result complete
-= 0
+= 1 | x.bin 7
 ";
 
 #[test]
 fn verify_tells_what_of_a_set_is_there(rt: HostRuntime) {
-    all_end_so(&rt, VERDICTS, 24);
+    all_end_so(&rt, VERDICTS);
 }

@@ -1,10 +1,7 @@
 // Texts of cursors.
-mod changes;
-mod refused;
-
 use crate::tests::fixtures::is;
 use parfield::Hash16;
-use parfind::{Cursor, CursorFault, CursorText, Foreign, read_cursor, split_cursor};
+use parfind::{Cursor, CursorFault, CursorText, read_cursor, split_cursor};
 use std::process::Abort;
 use std::test::Fail;
 
@@ -20,14 +17,13 @@ const LIST: Hash16 = Hash16([
     0x53, 0xe1, 0x26, 0x07, 0xa1, 0xd1, 0x1c, 0xab, 0x6b, 0x92, 0x71, 0x47, 0x96, 0x9f, 0xc3, 0x8c,
 ]);
 
-// The cursor of most texts here.
+// A cursor, and its texts in the set, with the fingerprint and without.
 const AT: Cursor = Cursor {
     file: 0,
     offset: 2,
     slice: 1,
 };
 
-// The texts of that cursor in the set, with the fingerprint and without.
 const LISTED: &[u8] = b"2:617cdc72ba53d94fe713fea2ae18f776:53e12607a1d11cab6b927147969fc38c:0:2:1";
 
 const UNLISTED: &[u8] = b"617cdc72ba53d94fe713fea2ae18f776:0:2:1";
@@ -54,126 +50,78 @@ fn is_written(rt: &(impl Abort + AllocGlobal), at: Cursor, wanted: &[u8]) -> Res
 
 #[test]
 fn a_cursor_is_written(rt: HostRuntime) -> Result<(), Fail> {
-    is_written(&rt, AT, LISTED)
-}
-
-#[test]
-fn the_greatest_cursor_has_110_bytes(rt: HostRuntime) -> Result<(), Fail> {
+    is_written(&rt, AT, LISTED)?;
     is_written(&rt, GREATEST, GREATEST_LISTED)
 }
 
-// Texts of both versions, and what they say.
-static TOLD: [(&[u8], CursorText); 6] = [
-    (
-        GREATEST_LISTED,
-        CursorText {
-            set: SET,
-            list: Some(LIST),
-            at: GREATEST,
-        },
-    ),
-    (
-        GREATEST_UNLISTED,
-        CursorText {
-            set: SET,
-            list: None,
-            at: GREATEST,
-        },
-    ),
-    (
-        b"2:617cdc72ba53d94fe713fea2ae18f776:00000000000000000000000000000000:0:2:1",
-        CursorText {
-            set: SET,
-            list: Some(ZEROS),
-            at: AT,
-        },
-    ),
-    (
-        b"2:00000000000000000000000000000000:53e12607a1d11cab6b927147969fc38c:0:2:1",
-        CursorText {
-            set: ZEROS,
-            list: Some(LIST),
-            at: AT,
-        },
-    ),
-    (
-        b"617cdc72ba53d94fe713fea2ae18f776:0:2:1",
-        CursorText {
-            set: SET,
-            list: None,
-            at: AT,
-        },
-    ),
-    (
-        b"00000000000000000000000000000000:0:2:1",
-        CursorText {
-            set: ZEROS,
-            list: None,
-            at: AT,
-        },
-    ),
+// A text, and the fingerprint and the cursor that it tells.
+static TEXTS: [(&[u8], Option<Hash16>, Cursor); 4] = [
+    (LISTED, Some(LIST), AT),
+    (UNLISTED, None, AT),
+    (GREATEST_LISTED, Some(LIST), GREATEST),
+    (GREATEST_UNLISTED, None, GREATEST),
 ];
 
 #[test]
 fn a_text_of_either_version_tells_its_cursor(rt: HostRuntime) {
-    for (text, told) in &TOLD {
-        is(&rt, &split_cursor(text), &Some(*told));
+    for (text, list, at) in &TEXTS {
+        let told = CursorText {
+            set: SET,
+            list: *list,
+            at: *at,
+        };
+        is(&rt, &split_cursor(text), &Some(told));
     }
 }
 
-// A text, the ID of a set, the fingerprint of a list, and whether the cursor is one of another set
-// or another list. A wrong set is reported before a wrong list. A text without a fingerprint fits
+// A text, the ID of a set, the fingerprint of a list, and the cursor, or why it isn't one of that
+// set and that list. A wrong set is reported before a wrong list. A text without a fingerprint fits
 // every list.
-static READ: [(&[u8], Hash16, Hash16, Option<Foreign>); 10] = [
-    (LISTED, SET, LIST, None),
-    (LISTED, ZEROS, LIST, Some(Foreign::OtherSet)),
-    (LISTED, SET, ZEROS, Some(Foreign::OtherList)),
-    (LISTED, ZEROS, ZEROS, Some(Foreign::OtherSet)),
-    (LISTED, LIST, SET, Some(Foreign::OtherSet)),
-    (UNLISTED, SET, LIST, None),
-    (UNLISTED, SET, ZEROS, None),
-    (UNLISTED, SET, SET, None),
-    (UNLISTED, ZEROS, LIST, Some(Foreign::OtherSet)),
-    (UNLISTED, LIST, SET, Some(Foreign::OtherSet)),
+static READ: [(&[u8], Hash16, Hash16, Result<Cursor, CursorFault>); 8] = [
+    (LISTED, SET, LIST, Ok(AT)),
+    (LISTED, ZEROS, LIST, Err(CursorFault::OtherSet)),
+    (LISTED, SET, ZEROS, Err(CursorFault::OtherList)),
+    (LISTED, LIST, SET, Err(CursorFault::OtherSet)),
+    (UNLISTED, SET, LIST, Ok(AT)),
+    (UNLISTED, SET, ZEROS, Ok(AT)),
+    (UNLISTED, LIST, SET, Err(CursorFault::OtherSet)),
+    (b"", ZEROS, ZEROS, Err(CursorFault::Form)),
 ];
 
-// Returns the result of reading a text that has only this mismatch, if any.
-fn read_with(other: Option<Foreign>) -> Result<Cursor, CursorFault> {
-    match other {
-        None => Ok(AT),
-        Some(Foreign::OtherSet) => Err(CursorFault::OtherSet),
-        Some(Foreign::OtherList) => Err(CursorFault::OtherList),
+// Returns the cursor of a text for a set and a list, as `read_cursor` does, in two calls.
+fn told_for(text: &[u8], set: Hash16, list: Hash16) -> Result<Cursor, CursorFault> {
+    match split_cursor(text) {
+        Some(told) => Ok(told.cursor_for(set, list)?),
+        None => Err(CursorFault::Form),
     }
 }
 
 #[test]
 fn a_cursor_is_read_for_its_set_and_its_list(rt: HostRuntime) {
-    for (text, set, list, other) in &READ {
-        is(&rt, &read_cursor(text, *set, *list), &read_with(*other));
+    for (text, set, list, wanted) in &READ {
+        is(&rt, &read_cursor(text, *set, *list), wanted);
+        is(&rt, &told_for(text, *set, *list), wanted);
     }
 }
 
-// Returns the cursor, or this mismatch.
-fn answer_with(other: Option<Foreign>) -> Result<Cursor, Foreign> {
-    match other {
-        None => Ok(AT),
-        Some(why) => Err(why),
-    }
-}
-
-// Returns the cursor of a text for a set and a list, or the mismatch. Returns nothing if the text
-// isn't a cursor's.
-fn told_for(text: &[u8], set: Hash16, list: Hash16) -> Option<Result<Cursor, Foreign>> {
-    Some(split_cursor(text)?.cursor_for(set, list))
-}
+// Texts that aren't a cursor's. `tools/checks/cursors.sh` has more of them.
+static OTHERS: [&[u8]; 11] = [
+    b"",
+    b"00000000000000000000000000000000:0:1",
+    b"00000000000000000000000000000000:0:01:1",
+    b"00000000000000000000000000000000:0:1:4294967296",
+    b"00000000000000000000000000000000:4294967296:0:0",
+    b"00000000000000000000000000000000:0:18446744073709551616:0",
+    b"0000000000000000000000000000000A:0:1:1",
+    b"00000000000000000000000000000000:0:1:1:",
+    b"3:00000000000000000000000000000000:00000000000000000000000000000000:0:2:1",
+    b"2:00000000000000000000000000000000:0:2:1",
+    b"2:00000000000000000000000000000000:00000000000000000000000000000000:0:02:1",
+];
 
 #[test]
-fn what_a_text_tells_is_for_its_set_and_its_list(rt: HostRuntime) {
-    for (text, set, list, other) in &READ {
-        is(
-            &rt,
-            &told_for(text, *set, *list),
-            &Some(answer_with(*other)),
-        );
+fn any_other_text_is_refused(rt: HostRuntime) {
+    for text in &OTHERS {
+        is(&rt, &split_cursor(text), &None);
     }
 }

@@ -1,12 +1,12 @@
-// Fixtures and checks that tests of searches share: rows of tables that are texts, indexes of the
-// slices of a file, files in memory, and comparisons of values.
+// Fixtures and checks that tests share: rows of tables that are texts, indexes of the slices of
+// files, files in memory, and comparisons of values.
 ghost use Rattle.std.specs.Prelude.{◌≡◌, Ok};
 
 use crate::tests::places::{Spot, cursor, sighting};
 use crate::tests::sets::index_of_files;
 use parfind::{Cursor, Step};
-use parfixtures::{set_of, set_with, shelf_of};
-use parset::{RecoverySet, SetFault};
+use parfixtures::{set_with, shelf_of};
+use parset::SetFault;
 use parshelf::{MemShelf, ReadFault};
 use parwindow::Index;
 use std::alloc::{AllocError, Global};
@@ -52,6 +52,11 @@ pub fn number_of(text: &str) -> u64 {
     text.parse::<u64>().unwrap_or(0)
 }
 
+/// Returns the number that a text names, or 0.
+pub fn small_number_of(text: &str) -> u32 {
+    text.parse::<u32>().unwrap_or(0)
+}
+
 /// Checks that at most the number of bytes that a text names was read. An empty text allows any
 /// number.
 pub fn is_at_most(rt: &impl Abort, bytes: u64, most: &str) {
@@ -61,16 +66,13 @@ pub fn is_at_most(rt: &impl Abort, bytes: u64, most: &str) {
     }
 }
 
-/// Returns the number that a text names, or the greatest.
-pub fn small_number_of(text: &str) -> u32 {
-    text.parse::<u32>().unwrap_or(u32::MAX)
-}
-
 // Returns the spot that a text names: a file, an offset and a slice, with colons between.
 fn spot_of(text: &str) -> Spot {
-    let offset = part(text, ':', 1).parse::<u64>().unwrap_or(u64::MAX);
-    let file = small_number_of(part(text, ':', 0));
-    (file, offset, small_number_of(part(text, ':', 2)))
+    (
+        small_number_of(part(text, ':', 0)),
+        number_of(part(text, ':', 1)),
+        small_number_of(part(text, ':', 2)),
+    )
 }
 
 /// Returns the cursor at a spot that a text names.
@@ -89,40 +91,27 @@ pub fn step_named(text: &str) -> Result<Step, ReadFault> {
     }
 }
 
-// Returns a file of a text that has commas between its files.
-fn file_at(files: &str, place: usize) -> &[u8] {
-    part(files, ',', place).as_bytes()
-}
-
-// Returns the number of files of such a text. For `-` it is 0.
-fn file_count(files: &str) -> usize {
-    if files == "-" {
-        return 0;
+// Returns the contents of files that are a text with commas between them. For `-` there are none.
+fn files_of(alloc: Global, files: &str) -> Result<Vec<&[u8]>, AllocError> {
+    let mut all = Vec::new(alloc);
+    if files != "-" {
+        for file in files.split(',') {
+            all.push(file.as_bytes())?;
+        }
     }
-    files.split(',').count()
+    Ok(all)
 }
 
-// Returns the first four files of such a text. Those that it doesn't have are empty.
-fn four_files(files: &str) -> [&[u8]; 4] {
-    [
-        file_at(files, 0),
-        file_at(files, 1),
-        file_at(files, 2),
-        file_at(files, 3),
-    ]
-}
-
-/// Returns a shelf of the first four files of such a text, or of none for `-`. A read gives at most
-/// `piece` bytes, and the reads with these numbers, counted from 1, fail.
+/// Returns a shelf of the files of such a text. A read gives at most `piece` bytes, and the reads
+/// with these numbers, counted from 1, fail.
 pub fn files_in(
     alloc: Global,
     files: &str,
     piece: usize,
     failing: &[u64],
 ) -> Result<MemShelf, AllocError> {
-    let all = four_files(files);
-    let named = all.get(..file_count(files)).unwrap_or(&all);
-    shelf_of(alloc, named, piece, failing)
+    let all = files_of(alloc, files)?;
+    shelf_of(alloc, &all, piece, failing)
 }
 
 /// Returns a file of this length: these bytes, followed by `x`.
@@ -132,28 +121,18 @@ pub fn long_file(rt: &(impl Abort + AllocGlobal), front: &[u8], length: usize) -
     bytes
 }
 
-// Returns an index of the slices of a set.
-fn index_in(alloc: Global, set: RecoverySet) -> Result<Index, AllocError> {
-    Index::new(alloc, &set)
-}
-
 /// Returns an index of the slices of a file of this length, of four bytes each, with these
 /// checksums if their number is right.
 pub fn index_with(alloc: Global, length: u64, pairs: &[u8]) -> Result<Index, SetFault> {
-    Ok(index_in(alloc, set_with(alloc, length, pairs)?)?)
-}
-
-/// Returns an index of the slices of a file of these bytes, of four bytes each, with known
-/// checksums.
-pub fn index_of(alloc: Global, content: &[u8]) -> Result<Index, SetFault> {
-    Ok(index_in(alloc, set_of(alloc, content)?)?)
+    let set = set_with(alloc, length, pairs)?;
+    Ok(Index::new(alloc, &set)?)
 }
 
 /// Returns an index of the slices of the files of such a text, of four bytes each, with known
 /// checksums.
-pub fn index_of_all(alloc: Global, files: &str) -> Result<Index, SetFault> {
-    let all = four_files(files);
-    index_of_files(alloc, 4, all.get(..file_count(files)).unwrap_or(&all))
+pub fn index_of(alloc: Global, files: &str) -> Result<Index, SetFault> {
+    let all = files_of(alloc, files)?;
+    index_of_files(alloc, 4, &all)
 }
 
 /// The slices that are searched for, and the scanned files. A function that has one, or an index,
@@ -173,7 +152,7 @@ pub fn search_of(
     failing: &[u64],
 ) -> Search {
     Search {
-        index: must(rt, index_of_all(rt.alloc(), field(row, 0))),
+        index: must(rt, index_of(rt.alloc(), field(row, 0))),
         shelf: must(rt, files_in(rt.alloc(), field(row, 1), piece, failing)),
     }
 }

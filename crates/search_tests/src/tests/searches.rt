@@ -1,7 +1,4 @@
 mod counting;
 mod finding;
-mod reading;
 pub mod searching;
-mod stepping;
-mod surveying;
 mod tails;

@@ -14,19 +14,13 @@ fn id_of(number: u32) -> [u8; 16] {
     id
 }
 
-// Returns a letter for the last digit of a number.
-fn letter_of(number: u32) -> u8 {
-    b'a' + (number % 10) as u8
-}
-
 // Returns the name of the file with a number below 1,000.
 fn name_of(number: u32) -> [u8; 4] {
-    let (tens, hundreds) = (number / 10, number / 100);
     [
         b'f',
-        letter_of(hundreds),
-        letter_of(tens),
-        letter_of(number),
+        b'a' + (number / 100 % 10) as u8,
+        b'a' + (number / 10 % 10) as u8,
+        b'a' + (number % 10) as u8,
     ]
 }
 

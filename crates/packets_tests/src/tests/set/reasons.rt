@@ -1,264 +1,196 @@
 use super::*;
 use parfield::{Kind, Packet};
-use parsalvage::{Kept, kept_of};
+use parfixtures::joined;
+use parsalvage::Kept;
 use std::alloc::Global;
 
-// The kind of a packet, the first reason to reject its body, if any, and the body, as runs of
-// bytes. A Main body is in a packet whose set ID is its MD5.
-type Row = (Kind, Option<Aside>, Runs);
-
-const USABLE: Option<Aside> = None;
-
-const LENGTH: Option<Aside> = Some(Aside::WrongLength);
-
-const SIZE: Option<Aside> = Some(Aside::SliceSize);
-
-const TWICE: Option<Aside> = Some(Aside::IdTwice);
-
-const NAME: Option<Aside> = Some(Aside::Name);
-
-const LIMIT: Option<Aside> = Some(Aside::OverLimit);
-
+// Bodies: the kind of the packet; the number of the first reason to reject the body, or 0; and the
+// bytes, where `0*11` is eleven bytes of the value 0. The reason is 1 if the length is wrong, 2 if
+// the slice size is, 3 if an ID occurs twice, 5 if the name is wrong, and 7 if a limit is passed.
+//
 // A Main body has eight bytes of slice size, four of count, and the IDs. After small slice sizes
 // come 268,435,456, 268,435,460 and 536,870,912. The last Main bodies have 32,769 IDs, or are as
 // long as a body can be. A FileDesc body has 48 bytes of ID and MD5s, eight of length, and the
 // name. An IFSC body has 16 bytes of ID, and 20 bytes for each slice.
-static BODIES: [Row; 72] = [
-    (Kind::Main, LENGTH, &[]),
-    (Kind::Main, LENGTH, &[(4, 1), (0, 10)]),
-    (Kind::Main, USABLE, &[(4, 1), (0, 11)]),
-    (Kind::Main, LENGTH, &[(4, 1), (0, 12)]),
-    (Kind::Main, LENGTH, &[(4, 1), (0, 11), (b'a', 15)]),
-    (Kind::Main, USABLE, &[(4, 1), (0, 11), (b'a', 16)]),
-    (
-        Kind::Main,
-        LENGTH,
-        &[(4, 1), (0, 11), (b'a', 16), (b'b', 1)],
-    ),
-    (
-        Kind::Main,
-        USABLE,
-        &[(4, 1), (0, 11), (b'a', 16), (b'b', 16)],
-    ),
-    (Kind::Main, LENGTH, &[(4, 1), (0, 7), (1, 1), (0, 3)]),
-    (
-        Kind::Main,
-        USABLE,
-        &[(4, 1), (0, 7), (1, 1), (0, 3), (b'a', 16)],
-    ),
-    (
-        Kind::Main,
-        LENGTH,
-        &[(4, 1), (0, 7), (2, 1), (0, 3), (b'a', 16)],
-    ),
-    (
-        Kind::Main,
-        USABLE,
-        &[(4, 1), (0, 7), (1, 1), (0, 3), (b'a', 16), (b'b', 16)],
-    ),
-    (
-        Kind::Main,
-        USABLE,
-        &[(4, 1), (0, 7), (2, 1), (0, 3), (b'a', 16), (b'b', 16)],
-    ),
-    (
-        Kind::Main,
-        LENGTH,
-        &[(4, 1), (0, 7), (3, 1), (0, 3), (b'a', 16), (b'b', 16)],
-    ),
-    (Kind::Main, LENGTH, &[(4, 1), (0, 7), (255, 4)]),
-    (Kind::Main, LENGTH, &[(6, 1), (0, 7), (1, 1), (0, 3)]),
-    (Kind::Main, SIZE, &[(0, 12)]),
-    (Kind::Main, SIZE, &[(2, 1), (0, 11)]),
-    (Kind::Main, SIZE, &[(6, 1), (0, 11)]),
-    (Kind::Main, SIZE, &[(2, 1), (0, 2), (16, 1), (0, 8)]),
-    (Kind::Main, USABLE, &[(0, 3), (16, 1), (0, 8)]),
-    (Kind::Main, LIMIT, &[(4, 1), (0, 2), (16, 1), (0, 8)]),
-    (Kind::Main, LIMIT, &[(0, 3), (32, 1), (0, 8)]),
-    (
-        Kind::Main,
-        LIMIT,
-        &[(4, 1), (0, 2), (16, 1), (0, 8), (b'a', 32)],
-    ),
-    (Kind::Main, LIMIT, &[(4, 8), (0, 4)]),
-    (
-        Kind::Main,
-        TWICE,
-        &[(4, 1), (0, 7), (1, 1), (0, 3), (b'a', 32)],
-    ),
-    (
-        Kind::Main,
-        TWICE,
-        &[(4, 1), (0, 7), (2, 1), (0, 3), (b'a', 32)],
-    ),
-    (
-        Kind::Main,
-        TWICE,
-        &[(4, 1), (0, 11), (b'a', 16), (b'b', 16), (b'a', 16)],
-    ),
-    (
-        Kind::Main,
-        TWICE,
-        &[(4, 1), (0, 7), (2, 1), (0, 3), (b'b', 16), (b'a', 32)],
-    ),
-    (Kind::Main, LIMIT, &[(4, 1), (0, 11), (7, 524_304)]),
-    (Kind::Main, SIZE, &[(0, 524_316)]),
-    (Kind::Main, LENGTH, &[(0, 1_048_576)]),
-    (Kind::Main, LIMIT, &[(0, 1_048_577)]),
-    (Kind::FileDesc, LENGTH, &[]),
-    (Kind::FileDesc, LENGTH, &[(0, 52)]),
-    (Kind::FileDesc, LENGTH, &[(0, 55)]),
-    (Kind::FileDesc, NAME, &[(0, 56)]),
-    (Kind::FileDesc, NAME, &[(0, 60)]),
-    (Kind::FileDesc, USABLE, &[(0, 56), (b'a', 1), (0, 3)]),
-    (Kind::FileDesc, USABLE, &[(0, 56), (b'a', 4)]),
-    (
-        Kind::FileDesc,
-        USABLE,
-        &[(0, 56), (b'.', 2), (b'/', 1), (b'g', 1)],
-    ),
-    (Kind::FileDesc, USABLE, &[(0, 56), (b'a', 4), (0, 4)]),
-    (Kind::FileDesc, LENGTH, &[(0, 56), (b'a', 3)]),
-    (Kind::FileDesc, LENGTH, &[(0, 56), (b'a', 5)]),
-    (
-        Kind::FileDesc,
-        NAME,
-        &[(0, 56), (b'a', 1), (0, 1), (b'b', 1), (0, 1)],
-    ),
-    (Kind::FileDesc, NAME, &[(0, 57), (b'b', 3)]),
-    (
-        Kind::FileDesc,
-        USABLE,
-        &[(0, 48), (255, 7), (127, 1), (b'a', 1), (0, 3)],
-    ),
-    (
-        Kind::FileDesc,
-        LIMIT,
-        &[(0, 55), (128, 1), (b'a', 1), (0, 3)],
-    ),
-    (
-        Kind::FileDesc,
-        LIMIT,
-        &[(0, 48), (255, 8), (b'a', 1), (0, 3)],
-    ),
-    (
-        Kind::FileDesc,
-        NAME,
-        &[(0, 55), (128, 1), (b'a', 1), (0, 1), (b'b', 1), (0, 1)],
-    ),
-    (Kind::FileDesc, LENGTH, &[(0, 55), (128, 1), (b'a', 5)]),
-    (Kind::FileDesc, USABLE, &[(0, 56), (b'x', 4_096)]),
-    (Kind::FileDesc, USABLE, &[(0, 56), (b'x', 4_096), (0, 4)]),
-    (Kind::FileDesc, NAME, &[(0, 56), (b'x', 4_097), (0, 3)]),
-    (Kind::FileDesc, NAME, &[(0, 56), (b'x', 1_048_520)]),
-    (Kind::FileDesc, LIMIT, &[(0, 56), (b'x', 1_048_521)]),
-    (Kind::Ifsc, LENGTH, &[]),
-    (Kind::Ifsc, LENGTH, &[(0, 15)]),
-    (Kind::Ifsc, USABLE, &[(0, 16)]),
-    (Kind::Ifsc, LENGTH, &[(0, 26)]),
-    (Kind::Ifsc, LENGTH, &[(0, 35)]),
-    (Kind::Ifsc, USABLE, &[(0, 36)]),
-    (Kind::Ifsc, LENGTH, &[(0, 37)]),
-    (Kind::Ifsc, USABLE, &[(0, 655_376)]),
-    (Kind::Ifsc, LENGTH, &[(0, 655_377)]),
-    (Kind::Ifsc, LIMIT, &[(0, 655_396)]),
-    (Kind::Ifsc, LENGTH, &[(0, 1_048_575)]),
-    (Kind::Ifsc, LIMIT, &[(0, 1_048_576)]),
-    (Kind::Ifsc, LIMIT, &[(0, 1_048_577)]),
-    (Kind::Creator, USABLE, &[]),
-    (Kind::Creator, USABLE, &[(0, 1_048_576)]),
-    (Kind::Creator, LIMIT, &[(0, 1_048_577)]),
-];
+const BODIES: &str = "\
+Main 1
+Main 1 4 0*10
+Main 0 4 0*11
+Main 1 4 0*12
+Main 1 4 0*11 97*15
+Main 0 4 0*11 97*16
+Main 1 4 0*11 97*16 98
+Main 0 4 0*11 97*16 98*16
+Main 1 4 0*7 1 0*3
+Main 0 4 0*7 1 0*3 97*16
+Main 1 4 0*7 2 0*3 97*16
+Main 0 4 0*7 1 0*3 97*16 98*16
+Main 0 4 0*7 2 0*3 97*16 98*16
+Main 1 4 0*7 3 0*3 97*16 98*16
+Main 1 4 0*7 255*4
+Main 1 6 0*7 1 0*3
+Main 2 0*12
+Main 2 2 0*11
+Main 2 6 0*11
+Main 2 2 0*2 16 0*8
+Main 0 0*3 16 0*8
+Main 7 4 0*2 16 0*8
+Main 7 0*3 32 0*8
+Main 7 4 0*2 16 0*8 97*32
+Main 7 4*8 0*4
+Main 3 4 0*7 1 0*3 97*32
+Main 3 4 0*7 2 0*3 97*32
+Main 3 4 0*11 97*16 98*16 97*16
+Main 3 4 0*7 2 0*3 98*16 97*32
+Main 7 4 0*11 7*524304
+Main 2 0*524316
+Main 1 0*1048576
+Main 7 0*1048577
+FileDesc 1
+FileDesc 1 0*52
+FileDesc 1 0*55
+FileDesc 5 0*56
+FileDesc 5 0*60
+FileDesc 0 0*56 97 0*3
+FileDesc 0 0*56 97*4
+FileDesc 0 0*56 46*2 47 103
+FileDesc 0 0*56 97*4 0*4
+FileDesc 1 0*56 97*3
+FileDesc 1 0*56 97*5
+FileDesc 5 0*56 97 0 98 0
+FileDesc 5 0*57 98*3
+FileDesc 0 0*48 255*7 127 97 0*3
+FileDesc 7 0*55 128 97 0*3
+FileDesc 7 0*48 255*8 97 0*3
+FileDesc 5 0*55 128 97 0 98 0
+FileDesc 1 0*55 128 97*5
+FileDesc 0 0*56 120*4096
+FileDesc 0 0*56 120*4096 0*4
+FileDesc 5 0*56 120*4097 0*3
+FileDesc 5 0*56 120*1048520
+FileDesc 7 0*56 120*1048521
+Ifsc 1
+Ifsc 1 0*15
+Ifsc 0 0*16
+Ifsc 1 0*26
+Ifsc 1 0*35
+Ifsc 0 0*36
+Ifsc 1 0*37
+Ifsc 0 0*655376
+Ifsc 1 0*655377
+Ifsc 7 0*655396
+Ifsc 1 0*1048575
+Ifsc 7 0*1048576
+Ifsc 7 0*1048577
+Creator 0
+Creator 0 0*1048576
+Creator 7 0*1048577
+";
 
-// The same, for bodies in packets of a set whose slices have four bytes.
-static OTHERS: [Row; 6] = [
-    (Kind::RecvSlic, USABLE, &[(0, 8)]),
-    (Kind::RecvSlic, LENGTH, &[(0, 9)]),
-    (Kind::RecvSlic, LENGTH, &[(0, 12)]),
-    (Kind::RecvSlic, LIMIT, &[(255, 4), (0, 4)]),
-    (Kind::Other([0; 16]), USABLE, &[]),
-    (Kind::Other([0; 16]), USABLE, &[(0, 1_048_577)]),
-];
+// Returns the parts of a text before and after its first space.
+fn parted(text: &str) -> (&str, &str) {
+    text.split_once(' ').unwrap_or((text, ""))
+}
+
+// Appends the bytes of a run.
+fn put_run(rt: &impl Abort, bytes: &mut Vec<u8>, run: &str) {
+    let (byte, count) = run.split_once('*').unwrap_or((run, "1"));
+    let size = bytes.len().saturating_add(must(rt, count.parse::<usize>()));
+    must(rt, bytes.resize(size, must(rt, byte.parse::<u8>())));
+}
+
+// Returns the bytes of these runs.
+fn bytes_of(rt: &(impl Abort + AllocGlobal), runs: &str) -> Vec<u8> {
+    let mut bytes = Vec::new(rt.alloc());
+    for run in runs.split_whitespace() {
+        put_run(rt, &mut bytes, run);
+    }
+    bytes
+}
 
 // Returns why a body in a packet of this kind and set has no fields, if so.
-fn fault_in(alloc: Global, kind: Kind, body: &[u8], set: Hash16) -> Option<BodyFault> {
+fn fault_in(alloc: Global, kind: &str, body: &[u8], set: Hash16) -> Option<BodyFault> {
     match kind {
-        Kind::Main => main_body(alloc, body, set).err(),
-        Kind::FileDesc => desc_body(alloc, body).err(),
-        Kind::Ifsc => ifsc_body(alloc, body).err(),
+        "Main" => main_body(alloc, body, set).err(),
+        "FileDesc" => desc_body(alloc, body).err(),
+        "Ifsc" => ifsc_body(alloc, body).err(),
         _ => creator_body(alloc, body).err(),
     }
 }
 
-// Returns a reason as the functions return it that read bodies.
-fn fault_of(reason: Option<Aside>) -> Option<BodyFault> {
-    match reason {
-        Some(reason) => Some(BodyFault::Aside(reason)),
-        None => None,
+// Returns the number of that reason, or 0 if the body has its fields.
+fn reason_in(alloc: Global, kind: &str, body: &[u8], set: Hash16) -> u8 {
+    match fault_in(alloc, kind, body, set) {
+        None => 0,
+        Some(BodyFault::Aside(reason)) => reason.number(),
+        Some(BodyFault::Memory) => u8::MAX,
     }
 }
 
-// Returns the reason to reject the same body in a packet of another set.
-fn reason_in_another(kind: Kind, reason: Option<Aside>) -> Option<Aside> {
-    if kind == Kind::Main && reason.is_none() {
-        Some(Aside::SetId)
+// Returns the kind of a row, the number of its reason, and its bytes.
+fn body_of<'t>(rt: &(impl Abort + AllocGlobal), row: &'t str) -> (&'t str, u8, Vec<u8>) {
+    let (kind, rest) = parted(row);
+    let (reason, runs) = parted(rest);
+    (kind, must(rt, reason.parse::<u8>()), bytes_of(rt, runs))
+}
+
+// Returns the number of the reason to reject the same body in a packet of another set. A Main body
+// is rejected there at the latest for the set ID.
+fn in_another(kind: &str, reason: u8) -> u8 {
+    if kind == "Main" && reason == 0 {
+        4
     } else {
         reason
     }
 }
 
 // Checks the reason of a body, in a packet of its own set and in one of another set.
-fn has_reason(rt: &(impl Abort + AllocGlobal), row: &Row) {
-    let (kind, reason, runs) = *row;
-    let body = bytes_of(rt, runs);
-    let own = fault_in(rt.alloc(), kind, &body, digest_of(&body));
-    let another = fault_in(rt.alloc(), kind, &body, SET);
-    let wanted = (fault_of(reason), fault_of(reason_in_another(kind, reason)));
-    is(rt, &runs, &(own, another), &wanted);
-}
-
-// These two functions return the tables. A table is proved again in each function that names it.
-fn bodies() -> &'static [Row] {
-    &BODIES
-}
-
-fn others() -> &'static [Row] {
-    &OTHERS
+fn has_reason(rt: &(impl Abort + AllocGlobal), row: &str) {
+    let (kind, reason, body) = body_of(rt, row);
+    let own = reason_in(rt.alloc(), kind, &body, digest_of(&body));
+    let another = reason_in(rt.alloc(), kind, &body, SET);
+    is(
+        rt,
+        &row,
+        &(own, another),
+        &(reason, in_another(kind, reason)),
+    );
 }
 
 #[test]
 fn bodies_have_their_first_reason(rt: HostRuntime) {
-    for row in bodies() {
+    for row in BODIES.lines() {
         has_reason(&rt, row);
     }
 }
 
 // The number of recovery IDs and of all IDs of a Main body, which are all different, the number of
-// zeros after them, and the reason. One of the IDs is zeros.
-static LONG_MAINS: [(u32, u32, usize, Option<Aside>); 6] = [
-    (0, 32_768, 0, None),
-    (0, 32_769, 0, Some(Aside::OverLimit)),
-    (32_767, 32_768, 0, None),
-    (32_768, 32_769, 0, Some(Aside::OverLimit)),
-    (0, 32_767, 16, Some(Aside::IdTwice)),
-    (0, 32_768, 16, Some(Aside::OverLimit)),
+// zeros after them, and the number of the reason, or 0. One of the IDs is zeros.
+static LONG_MAINS: [(u32, u32, usize, u8); 6] = [
+    (0, 32_768, 0, 0),
+    (0, 32_769, 0, 7),
+    (32_767, 32_768, 0, 0),
+    (32_768, 32_769, 0, 7),
+    (0, 32_767, 16, 3),
+    (0, 32_768, 16, 7),
 ];
 
-// Returns a Main body with these numbers of recovery IDs and of all IDs.
-fn long_main(rt: &(impl Abort + AllocGlobal), count: u32, ids: u32) -> Vec<u8> {
-    let mut body = join(rt, &[b"\x04\0\0\0\0\0\0\0", &count.to_le_bytes()]);
-    for id in 0..ids {
-        extend(rt, &mut body, &u128::from(id).to_le_bytes());
+// Returns the Main body of such a row.
+fn long_main(rt: &(impl Abort + AllocGlobal), row: &(u32, u32, usize, u8)) -> Vec<u8> {
+    let size = b"\x04\0\0\0\0\0\0\0";
+    let mut body = must(rt, joined(rt.alloc(), &[size, &row.0.to_le_bytes()]));
+    for id in 0..row.1 {
+        must(rt, body.extend_from_slice(&u128::from(id).to_le_bytes()));
     }
+    must(rt, body.resize(body.len().saturating_add(row.2), 0));
     body
 }
 
-// Checks the reason of the body of such a row.
-fn has_reason_of(rt: &(impl Abort + AllocGlobal), row: &(u32, u32, usize, Option<Aside>)) {
-    let mut body = long_main(rt, row.0, row.1);
-    must(rt, body.resize(body.len().saturating_add(row.2), 0));
-    let fault = fault_in(rt.alloc(), Kind::Main, &body, digest_of(&body));
-    is(rt, row, &fault, &fault_of(row.3));
+// Checks the reason of that body.
+fn has_reason_of(rt: &(impl Abort + AllocGlobal), row: &(u32, u32, usize, u8)) {
+    let body = long_main(rt, row);
+    let found = reason_in(rt.alloc(), "Main", &body, digest_of(&body));
+    is(rt, row, &found, &row.3);
 }
 
 #[test]
@@ -285,7 +217,29 @@ fn checksums_have_a_pair_for_each_twenty_bytes(rt: HostRuntime) {
     }
 }
 
-// Appends a packet of the set of `g.bin`. Its offset is the number of packets before it.
+// More bodies in packets of a set whose slices have four bytes.
+const OTHERS: &str = "\
+RecvSlic 0 0*8
+RecvSlic 1 0*9
+RecvSlic 1 0*12
+RecvSlic 7 255*4 0*4
+Other 0
+Other 0 0*1048577
+";
+
+// Returns the kind that a word names.
+fn kind_of(word: &str) -> Kind {
+    match word {
+        "Main" => Kind::Main,
+        "FileDesc" => Kind::FileDesc,
+        "Ifsc" => Kind::Ifsc,
+        "Creator" => Kind::Creator,
+        "RecvSlic" => Kind::RecvSlic,
+        _ => Kind::Other([0; 16]),
+    }
+}
+
+// Appends a packet of the worked set. Its offset is the number of packets before it.
 fn keep(rt: &(impl Abort + AllocGlobal), packets: &mut Vec<Kept>, kind: Kind, body: &[u8]) {
     let packet = Packet {
         at: packets.len(),
@@ -298,55 +252,63 @@ fn keep(rt: &(impl Abort + AllocGlobal), packets: &mut Vec<Kept>, kind: Kind, bo
     must(rt, packets.append(&mut kept));
 }
 
-// Appends the entry of a rejected packet with this body, at this offset, if it is rejected.
-fn put_aside(rt: &impl Abort, asides: &mut Vec<SetAside>, at: usize, row: &Row) {
-    if let Some(reason) = reason_in_another(row.0, row.1) {
-        let aside = SetAside {
-            file: 0,
-            at: at as u64,
-            reason,
-        };
-        must(rt, asides.push(aside));
+// Offsets of rejected packets, and the numbers of the reasons.
+type Asides = Vec<(u64, u8)>;
+
+// Appends the packet of a row, and an entry if it is rejected.
+fn keep_row(
+    rt: &(impl Abort + AllocGlobal),
+    packets: &mut Vec<Kept>,
+    asides: &mut Asides,
+    row: &str,
+) {
+    let (kind, reason, body) = body_of(rt, row);
+    let reason = in_another(kind, reason);
+    if reason > 0 {
+        must(rt, asides.push((packets.len() as u64, reason)));
+    }
+    keep(rt, packets, kind_of(kind), &body);
+}
+
+// Checks that these packets are rejected.
+fn are_aside(rt: &impl Abort, found: &[SetAside], wanted: &[(u64, u8)]) {
+    is(rt, &"rejected", &found.len(), &wanted.len());
+    for (aside, row) in found.iter().zip(wanted) {
+        is(rt, row, &(aside.at, aside.reason.number()), row);
     }
 }
 
-// Appends a packet for each of these bodies, and an entry for each that is rejected.
+// Checks that a set of these packets has one file, one recovery slice and no text, and that these
+// packets are rejected.
+fn has_asides(rt: &(impl Abort + AllocGlobal), packets: &[Kept], wanted: &[(u64, u8)]) {
+    let set = must(rt, build(rt.alloc(), packets, None));
+    is(rt, &"parts", &(set.files().len(), set.have()), &(1, 1));
+    is(rt, &"creator", &set.creator(), &None);
+    are_aside(rt, set.aside(), wanted);
+}
+
+// Appends the packets of the rows of a table, and an entry for each that is rejected.
 fn keep_rows(
     rt: &(impl Abort + AllocGlobal),
     packets: &mut Vec<Kept>,
-    asides: &mut Vec<SetAside>,
-    rows: &[Row],
+    asides: &mut Asides,
+    table: &str,
 ) {
-    for row in rows {
-        put_aside(rt, asides, packets.len(), row);
-        keep(rt, packets, row.0, &bytes_of(rt, row.2));
+    for row in table.lines() {
+        keep_row(rt, packets, asides, row);
     }
 }
 
-// Whether a set has these rejected packets, one file, one recovery slice and no text.
-fn has_aside(built: &RecoverySet, asides: &[SetAside]) -> bool {
-    built.aside() == asides
-        && built.files().len() == 1
-        && built.have() == 1
-        && built.creator().is_none()
-}
-
-// Checks that for the set of these packets.
-fn puts_aside(rt: &(impl Abort + AllocGlobal), packets: &[Kept], asides: &[SetAside]) {
-    let built = must(rt, build(rt.alloc(), packets, None));
-    holds(rt, &asides, has_aside(&built, asides));
-}
-
-// Checks that each unusable body is rejected, in the packets of all these bodies, followed by the
-// Main packet of the set of `g.bin` and its description.
+// Keeps the packets of the rows of two tables, then a Main packet and a description, and checks
+// which of all these the set rejects.
 fn all_put_aside(rt: &(impl Abort + AllocGlobal)) {
-    let mut asides = Vec::new(rt.alloc());
     let mut packets = Vec::new(rt.alloc());
-    keep_rows(rt, &mut packets, &mut asides, bodies());
-    keep_rows(rt, &mut packets, &mut asides, others());
-    keep(rt, &mut packets, Kind::Main, MAIN);
-    keep(rt, &mut packets, Kind::FileDesc, DESC);
-    puts_aside(rt, &packets, &asides);
+    let mut asides = Vec::new(rt.alloc());
+    keep_rows(rt, &mut packets, &mut asides, BODIES);
+    keep_rows(rt, &mut packets, &mut asides, OTHERS);
+    keep(rt, &mut packets, Kind::Main, &WORKED[64..92]);
+    keep(rt, &mut packets, Kind::FileDesc, &WORKED[156..220]);
+    has_asides(rt, &packets, &asides);
 }
 
 #[test]

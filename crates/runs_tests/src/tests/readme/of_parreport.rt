@@ -1,4 +1,4 @@
-use crate::runs::{is_same, is_text, must, packet_file, words_of};
+use crate::runs::{is_same, is_text, must, packet_file, replaced, words_of};
 use parreport::{PlanFault, Sink, files_to_scan, plan, run_opened};
 use parshelf::DiskShelf;
 use std::fs::{File, Files};
@@ -29,15 +29,37 @@ fn lists(
     line: &str,
 ) {
     let mut out = must(rt, parreport::MemSink::new(rt.alloc(), 4096, 4096, false));
-    let words = must(rt, format!(in rt.alloc(); "packets {path}"));
-    let (ended, told) = must(
-        rt,
-        run_arguments(rt, &words_of(rt, words.as_str()), &mut out),
-    );
+    let words = words_of(rt, replaced(rt, "packets PATH", "PATH", path).as_str());
+    let (ended, told) = must(rt, run_arguments(rt, &words, &mut out));
     is_same(rt, &path, &ended, &status);
-    is_text(rt, &path, out.text(), text);
-    is_text(rt, &path, &told, line);
+    is_text(
+        rt,
+        &path,
+        out.text(),
+        replaced(rt, text, "PATH", path).as_str(),
+    );
+    is_text(rt, &path, &told, replaced(rt, line, "PATH", path).as_str());
 }
+
+// Packet files, and the texts of `packets` over them.
+static LISTED: [(&str, &str); 3] = [
+    (
+        "creator",
+        "PATH 0 64 creator 00000000000000000000000000000000\npackets 1\n",
+    ),
+    (
+        "packet_in_packet",
+        "PATH 3 132 recvslic 00000000000000000000000000000000\n\
+        PATH 71 64 creator 00000000000000000000000000000000\npackets 2\n",
+    ),
+    (
+        "g",
+        "PATH 0 92 main 617cdc72ba53d94fe713fea2ae18f776\n\
+        PATH 92 128 filedesc 617cdc72ba53d94fe713fea2ae18f776\n\
+        PATH 220 120 ifsc 617cdc72ba53d94fe713fea2ae18f776\n\
+        PATH 340 76 recvslic 617cdc72ba53d94fe713fea2ae18f776\npackets 4\n",
+    ),
+];
 
 #[test]
 fn the_readme_of_parreport_lists_packets(rt: HostRuntime) {
@@ -47,13 +69,10 @@ fn the_readme_of_parreport_lists_packets(rt: HostRuntime) {
         format!(in rt.alloc(); "/tmp/parv_{number}_readme.par2"),
     );
     let path = path.as_str();
-    must(&rt, fs::write(&rt, path, packet_file(&rt, "creator")));
-    let text = must(
-        &rt,
-        format!(in rt.alloc(); "{path} 0 64 creator 00000000000000000000000000000000\npackets 1\n"),
-    );
-    lists(&rt, path, 0, text.as_str(), "");
+    for (name, text) in &LISTED {
+        must(&rt, fs::write(&rt, path, packet_file(&rt, name)));
+        lists(&rt, path, 0, text, "");
+    }
     must(&rt, fs::remove_file(&rt, path));
-    let line = must(&rt, format!(in rt.alloc(); "parv: cannot open {path}\n"));
-    lists(&rt, path, 6, "", line.as_str());
+    lists(&rt, path, 6, "", "parv: cannot open PATH\n");
 }

@@ -1,11 +1,8 @@
-// Scripts of calls that are refused memory, and what they return.
-ghost use Rattle.std.specs.Prelude.{All};
-ghost use Rattle.parfind.specs.Runs.{HasBudget};
-
-use crate::tests::drives::{are_told, behind, call_on, calls_of};
-use crate::tests::fixtures::{Search, cursor_of, index_of, is, must, part};
+// Scripts of calls that are refused memory, and what they leave.
+use crate::tests::drives::{are_told, call_of, calls_of, driven};
+use crate::tests::fixtures::{cursor_of, index_of, is, part};
 use crate::tests::places::{START, Spot, cursor};
-use parfind::{Answer, Call, Cursor, Drive, Mode, drive};
+use parfind::{Answer, Call, Drive, Mode, drive};
 use parfixtures::file_of;
 use parshelf::MemShelf;
 use parwindow::Index;
@@ -15,48 +12,45 @@ use std::test::Fail;
 
 // Calls, and their results if no memory is refused. The call after a reopening finds a match at the
 // cursor of that reopening.
-static UNDISTURBED: &str = "\
-next failed
-reopen reopened
-next 0:0:0
-reopen reopened
-2 0:0:1
-1 spent
-reopen reopened
-next 0:1:0
-";
+static UNDISTURBED: &str = "next failed,reopen reopened,next 0:0:0,reopen reopened,2 0:0:1,\
+    1 spent,reopen reopened,next 0:1:0";
 
-static REOPENED_FIRST: &str = "\
-reopen reopened
-next 0:0:0
-";
+static REOPENED_FIRST: &str = "reopen reopened,next 0:0:0";
 
-// Returns the cursor of the match that a call finds.
-fn sighted(call: &str) -> Cursor {
-    cursor_of(part(call, ' ', 1))
+// Returns a script without this number of calls at its front.
+fn rest_of(script: &str, count: usize) -> &str {
+    let mut rest = script;
+    for _ in 0..count {
+        rest = match rest.split_once(',') {
+            Some((_, behind)) => behind,
+            None => "",
+        };
+    }
+    rest
 }
 
-// Checks the results up to a reopening that was refused memory, the result of the reopening, and
-// the cursor, at which the next call finds a match. Returns the next call.
-fn stopped_at<'s>(rt: &impl Abort, done: &Drive, script: &'s str) -> &'s str {
+// Checks the results up to a reopening that was refused memory, and the cursor, at which the next
+// call finds a match. Another search from there finds what the script has then.
+fn goes_on(
+    rt: &(impl Abort + AllocGlobal),
+    done: &Drive,
+    index: &Index,
+    shelf: &mut MemShelf,
+    script: &str,
+    end: Spot,
+) {
     let (last, before) = done.answers.as_slice().split_last().expect(rt, "no answer");
     is(rt, last, &Answer::NoMemory);
     are_told(rt, before, script);
-    let refused = call_on(part(script, '\n', before.len()));
-    is(rt, &refused, &Call::Reopen);
-    let next = part(script, '\n', done.answers.len());
-    is(rt, &done.cursor, &sighted(next));
-    next
-}
-
-// Checks that another search, which begins there, finds the match of the next call.
-fn goes_on(rt: &(impl Abort + AllocGlobal), next: &str, index: &Index, shelf: &mut MemShelf) {
-    let at = sighted(next);
-    let done = must(
+    is(rt, &call_of(part(script, ',', before.len())), &Call::Reopen);
+    let rest = rest_of(script, done.answers.len());
+    is(
         rt,
-        drive(rt.alloc(), &[Call::Next], index, shelf, at, Mode::Plain),
+        &done.cursor,
+        &cursor_of(part(part(rest, ',', 0), ' ', 1)),
     );
-    let _ = behind(rt, &done, next);
+    let at = driven(rt, index, shelf, done.cursor, Mode::Plain, rest);
+    is(rt, &at, &cursor(end));
 }
 
 // Checks the results of calls, one of which may be a reopening that was refused memory.
@@ -68,60 +62,24 @@ fn came_to(
     script: &str,
     end: Spot,
 ) -> Result<(), Fail> {
-    let count = done.answers.len();
-    if count >= script.lines().count() {
-        is(rt, &behind(rt, done, script), &cursor(end));
+    let handed = shelf.handed();
+    if done.answers.as_slice().last() != Some(&Answer::NoMemory) {
+        are_told(rt, done.answers.as_slice(), script);
+        is(rt, &rest_of(script, done.answers.len()), &"");
+        is(rt, &done.cursor, &cursor(end));
         return Ok(());
     }
-    let next = stopped_at(rt, done, script);
-    if count == 1 {
-        is(rt, &shelf.handed(), &0);
+    goes_on(rt, done, index, shelf, script, end);
+    if done.answers.len() == 1 {
+        is(rt, &handed, &0);
         return Err("NoMemory told at a first reopening".into());
     }
-    goes_on(rt, next, index, shelf);
     Err("NoMemory told at a reopening".into())
 }
 
-// Makes these calls after memory was refused before the first. Nothing was read by then, so a read
-// that has to fail still fails.
-fn comes_again(
-    rt: &(impl Abort + AllocGlobal),
-    calls: &[Call],
-    index: &Index,
-    shelf: &mut MemShelf,
-    script: &str,
-    end: Spot,
-) -> Result<(), Fail>
-    requires { All HasBudget calls.now }
-{
-    is(rt, &shelf.handed(), &0);
-    let done = must(
-        rt,
-        drive(rt.alloc(), calls, index, shelf, cursor(START), Mode::Plain),
-    );
-    came_to(rt, &done, index, shelf, script, end)?;
-    Err("OutOfMemory before the first call".into())
-}
-
-// Makes these calls.
+// Makes the calls of a script. If memory was refused before the first, nothing was read by then, so
+// a read that has to fail still fails when they are made again.
 fn comes_to(
-    rt: &(impl Abort + AllocGlobal),
-    calls: &[Call],
-    index: &Index,
-    shelf: &mut MemShelf,
-    script: &str,
-    end: Spot,
-) -> Result<(), Fail>
-    requires { All HasBudget calls.now }
-{
-    match drive(rt.alloc(), calls, index, shelf, cursor(START), Mode::Plain) {
-        Ok(done) => came_to(rt, &done, index, shelf, script, end),
-        Err(_) => comes_again(rt, calls, index, shelf, script, end),
-    }
-}
-
-// Makes the calls of a script.
-fn makes(
     rt: &(impl Abort + AllocGlobal),
     index: &Index,
     shelf: &mut MemShelf,
@@ -129,7 +87,16 @@ fn makes(
     end: Spot,
 ) -> Result<(), Fail> {
     let calls = calls_of(rt.alloc(), script)?;
-    comes_to(rt, &calls, index, shelf, script, end)
+    let start = cursor(START);
+    match drive(rt.alloc(), &calls, index, shelf, start, Mode::Plain) {
+        Ok(done) => came_to(rt, &done, index, shelf, script, end),
+        Err(_) => {
+            is(rt, &shelf.handed(), &0);
+            let at = driven(rt, index, shelf, start, Mode::Plain, script);
+            is(rt, &at, &cursor(end));
+            Err("OutOfMemory before the first call".into())
+        }
+    }
 }
 
 // Makes them in six zeros, for two slices of zeros.
@@ -139,23 +106,18 @@ fn searches_zeros(
     script: &str,
     end: Spot,
 ) -> Result<(), Fail> {
-    let shelf = file_of(rt.alloc(), &[0; 6], 1, &[failing])?;
-    let index = index_of(rt.alloc(), &[0; 8])?;
-    let mut search = Search { index, shelf };
-    let came = makes(rt, &search.index, &mut search.shelf, script, end);
-    drop(search);
+    let mut shelf = file_of(rt.alloc(), &[0; 6], 1, &[failing])?;
+    let index = index_of(rt.alloc(), "\0\0\0\0\0\0\0\0")?;
+    let came = comes_to(rt, &index, &mut shelf, script, end);
+    drop(index);
     came
 }
 
-// The first read fails. If memory is refused, the test ends with an error, after it has checked
-// what was left. `tools/checks/refused_tests.sh` refuses the memory.
+// The first read of one search fails, and another one is reopened before anything is read. If
+// memory is refused, the test ends with an error, after it has checked what was left.
+// `tools/checks/refused_tests.sh` refuses the memory.
 #[test]
 fn refused_memory_is_told_where_it_is_wanted(rt: HostRuntime) -> Result<(), Fail> {
-    searches_zeros(&rt, 1, UNDISTURBED, (0, 1, 1))
-}
-
-// If a reopening is refused memory before anything was read, it returns the same.
-#[test]
-fn refused_memory_is_told_at_a_first_reopening(rt: HostRuntime) -> Result<(), Fail> {
+    searches_zeros(&rt, 1, UNDISTURBED, (0, 1, 1))?;
     searches_zeros(&rt, 0, REOPENED_FIRST, (0, 0, 1))
 }

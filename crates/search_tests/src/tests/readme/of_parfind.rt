@@ -20,7 +20,7 @@ fn has_match(alloc: Global, index: &Index, shelf: &mut impl Shelf) -> Result<boo
 
 #[test]
 fn the_readme_of_parfind_looks_for_a_match(rt: HostRuntime) {
-    let index = must(&rt, index_of(rt.alloc(), b"abcdefgh"));
+    let index = must(&rt, index_of(rt.alloc(), "abcdefgh"));
     for (files, wanted) in [("abc,XXefgh", true), ("abc,XXefg", false), ("-", false)] {
         let mut shelf = must(&rt, files_in(rt.alloc(), files, 64, &[]));
         let found = must(&rt, has_match(rt.alloc(), &index, &mut shelf));

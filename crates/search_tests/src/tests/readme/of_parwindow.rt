@@ -13,7 +13,7 @@ fn slice_with(alloc: Global, index: &Index, bytes: &[u8]) -> Result<Option<u32>,
 
 #[test]
 fn the_readme_of_parwindow_finds_the_first_slice(rt: HostRuntime) {
-    let index = must(&rt, index_of(rt.alloc(), b"abcdabcdij"));
+    let index = must(&rt, index_of(rt.alloc(), "abcdabcdij"));
     for (bytes, wanted) in [
         ("abcd", Some(0)),
         ("ij\0\0", Some(2)),

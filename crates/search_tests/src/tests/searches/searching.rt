@@ -4,7 +4,7 @@ ghost use Rattle.parshelf.specs.Memory.{shelf_state_of};
 ghost use Rattle.parfind.specs.Finders.{BelongsTo};
 
 use crate::tests::fixtures::{
-    Search, cursor_of, field, holds, is, is_at_most, is_row, must, part, search_of, step_named,
+    cursor_of, field, holds, is, is_at_most, is_row, must, part, search_of, step_named,
 };
 use parfind::{Cursor, Finder, Mode, StartFault, Step};
 use parshelf::{MemShelf, ReadFault};
@@ -12,11 +12,11 @@ use parwindow::Index;
 use std::alloc::Global;
 use std::process::Abort;
 
-// A walk is a text with bars between its fields: the bytes of the file whose slices are searched
-// for; the files, separated by commas; the cursor at which the search begins; its steps, separated
-// by commas; and the greatest number of bytes that may be read, if that has to be checked. A step
-// has spaces between its parts: its budget, or `next`; its result; and the cursor after it, if that
-// has to be checked, or after `..=` the greatest cursor that is allowed.
+// A walk is a text with bars between its fields: the files whose slices are searched for, separated
+// by commas; the scanned files; the cursor at which the search begins; its steps, separated by
+// commas; and the greatest number of bytes that may be read, if that has to be checked. A step has
+// spaces between its parts: its budget, or `next`; its result; and the cursor after it, if that has
+// to be checked, or after `..=` the greatest cursor that is allowed.
 
 /// Opens a search from a cursor on.
 pub fn opened(
@@ -74,8 +74,8 @@ pub fn steps_give(
     }
 }
 
-// Makes the steps of a walk over these files and for these slices.
-fn walks_with(
+/// Makes the steps of a walk over these files and for these slices.
+pub fn walks_in(
     rt: &(impl Abort + AllocGlobal),
     index: &Index,
     shelf: &mut MemShelf,
@@ -89,18 +89,6 @@ fn walks_with(
     Ok(())
 }
 
-/// Makes the steps of a walk in this search.
-pub fn walks_in(
-    rt: &(impl Abort + AllocGlobal),
-    mut search: Search,
-    walk: &str,
-    mode: Mode,
-) -> Result<(), StartFault> {
-    let walked = walks_with(rt, &search.index, &mut search.shelf, walk, mode);
-    drop(search);
-    walked
-}
-
 /// Makes the steps of a walk in its files, which are read `piece` bytes at a time. The read with
 /// this number fails; 0 is no read.
 pub fn walks(
@@ -110,7 +98,10 @@ pub fn walks(
     failing: u64,
     mode: Mode,
 ) -> Result<(), StartFault> {
-    walks_in(rt, search_of(rt, walk, piece, &[failing]), walk, mode)
+    let mut search = search_of(rt, walk, piece, &[failing]);
+    let walked = walks_in(rt, &search.index, &mut search.shelf, walk, mode);
+    drop(search);
+    walked
 }
 
 /// Makes the steps of each walk of a table.

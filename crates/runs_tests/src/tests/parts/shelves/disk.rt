@@ -47,21 +47,30 @@ const OF_LONG: Hash16 = Hash16(
     *b"\xd5\x81\x6f\x35\x91\x6d\x1d\x94\x82\xfb\x0f\x1e\xc2\x01\x10\x1d",
 );
 
-// Checks the length and the MD5 of each of these files, and reads a part of the first one.
-fn are_read(rt: &impl Abort, shelf: &mut DiskShelf) {
-    is(rt, &digested(rt, shelf, 0), &(3, Ok(OF_ABC)));
-    is(rt, &digested(rt, shelf, 1), &(0, Ok(OF_NOTHING)));
-    is(rt, &digested(rt, shelf, 2), &(100_000, Ok(OF_LONG)));
-    let mut buf = [0; 2];
-    is(rt, &filled(rt, shelf, 1, &mut buf), &Ok(()));
-    is(rt, &buf, b"bc");
-}
+// The lengths and the MD5s of these files.
+static OF_THREE: [(u32, u64, Hash16); 3] = [
+    (0, 3, OF_ABC),
+    (1, 0, OF_NOTHING),
+    (2, 100_000, OF_LONG),
+];
 
 #[test]
 fn files_on_disk_are_read_whole(rt: HostRuntime) -> Result<(), OpenFault> {
     let mut shelf = three_files(&rt, process::id(rt.process()))?;
-    are_read(&rt, &mut shelf);
+    for (file, length, digest) in &OF_THREE {
+        is(
+            &rt,
+            &digested(&rt, &mut shelf, *file),
+            &(*length, Ok(*digest)),
+        );
+    }
     Ok(())
+}
+
+#[test]
+fn a_file_that_is_not_there_cannot_be_opened(rt: HostRuntime) {
+    let fault = DiskShelf::open(&rt, rt.alloc(), &["/tmp/parv_has_no_such_file"]).err();
+    is(&rt, &fault, &Some(OpenFault::CannotOpen(0)));
 }
 
 // Reads from two files of the same length: the file, the offset, and the two bytes that are read.
@@ -73,22 +82,20 @@ static EACH: [(u32, u64, [u8; 2]); 5] = [
     (1, 2, *b"zw"),
 ];
 
-// Checks that a read of a file from an offset on gives these bytes.
-fn is_read(rt: &impl Abort, shelf: &mut DiskShelf, file: u32, offset: u64, bytes: [u8; 2]) {
-    let mut buf = *b"??";
-    assert!(rt; file < shelf.count());
-    is(rt, &shelf.read_at(file, offset, &mut buf), &Ok(2));
-    is(rt, &buf, &bytes);
-}
-
 #[test]
 fn files_on_disk_of_one_length_are_told_apart(rt: HostRuntime) {
     let own = process::id(rt.process());
     let first = written(&rt, own, 'a', b"abcd");
     let second = written(&rt, own, 'b', b"xyzw");
     let mut shelf = must(&rt, opened(&rt, &[first.as_str(), second.as_str()]));
-    for row in &EACH {
-        is_read(&rt, &mut shelf, row.0, row.1, row.2);
+    for (file, offset, bytes) in &EACH {
+        let mut buf = *b"??";
+        is(
+            &rt,
+            &read(&rt, &mut shelf, *file, *offset, &mut buf),
+            &Ok(2),
+        );
+        is(&rt, &buf, bytes);
     }
 }
 
@@ -135,7 +142,7 @@ fn gives(
     bytes: [u8; 4],
 ) {
     let mut buf = *b"????";
-    is(rt, &read(rt, shelf, offset, &mut buf), &answer);
+    is(rt, &read(rt, shelf, 0, offset, &mut buf), &answer);
     is(rt, &buf, &bytes);
 }
 
