@@ -10,6 +10,7 @@ import contextlib
 import ctypes
 import errno
 import os
+import stat
 from typing import Callable, Iterator, Optional, Union
 
 Observer = Callable[[str, str], None]
@@ -17,6 +18,7 @@ observer: Optional[Observer] = None
 
 _MOST = 1 << 30         # the greatest number of bytes that one call writes
 _NOREPLACE = 1          # the flag RENAME_NOREPLACE
+_NO_LINK = (errno.EPERM, errno.EOPNOTSUPP, errno.EMLINK)    # errors of a link to a folder, or where there are no links
 _libc = ctypes.CDLL(None, use_errno=True)
 Data = Union[bytes, memoryview]
 
@@ -58,10 +60,10 @@ def new_file(place: int, name: bytes) -> Iterator[int]:
         os.close(opened)
 
 
-def make_path(path: bytes) -> None:
-    """Makes a folder, and those above it, if they aren't there."""
+def make_path(path: bytes, mode: int = 0o777) -> None:
+    """Makes a folder, and those above it, if they aren't there. The mode is that of the folder itself."""
     with _change("mkdir"):
-        os.makedirs(path, exist_ok=True)
+        os.makedirs(path, mode, exist_ok=True)
 
 
 def open_file(place: int, name: bytes, makes: bool = False) -> int:
@@ -103,6 +105,11 @@ def set_length(opened: int, length: int) -> None:
 def set_mode(opened: int, mode: int) -> None:
     with _change("fchmod"):
         os.fchmod(opened, mode)
+
+
+def set_owner(opened: int, user: int, group: int) -> None:
+    with _change("fchown"):
+        os.fchown(opened, user, group)
 
 
 def set_times(opened: int, accessed: int, changed: int) -> None:
@@ -150,6 +157,21 @@ def move(place: int, name: bytes, new_place: int, new_name: bytes) -> None:
         _move_by_link(place, name, new_place, new_name)
     elif fault:
         raise OSError(fault, os.strerror(fault))
+
+
+def move_entry(place: int, name: bytes, new_name: bytes) -> None:
+    """Gives an entry of any kind another name in its folder, which must not be used yet. (A folder has no links. Where
+    `move` can't be done in one call, it is renamed, which never replaces more than an empty folder.)"""
+    if not stat.S_ISDIR(os.stat(name, dir_fd=place, follow_symlinks=False).st_mode):
+        move(place, name, place, new_name)
+        return
+    try:
+        move(place, name, place, new_name)
+    except OSError as fault:
+        if fault.errno not in _NO_LINK:
+            raise
+        with _change("rename"):
+            os.rename(name, new_name, src_dir_fd=place, dst_dir_fd=place)
 
 
 def replace(place: int, name: bytes, new_name: bytes) -> None:

@@ -8,20 +8,24 @@ a file, except one of two names of the same file.
 from __future__ import annotations
 
 import contextlib
+import errno
 import os
 import re
 import stat
-from typing import Callable, Iterator, List, NamedTuple, Optional, Sequence, Union
+from typing import Callable, Iterator, List, NamedTuple, Optional, Sequence, Set, Union
 
 from . import changes
 from .faults import FILES, Fault, Refused
 from .folders import Folder, Identity
-from .names import base_of, folders_of, is_plain, numbered, shown
+from .names import base_of, is_plain, is_reserved, numbered, shown
 
-HEAD = b"parv-repair journal 1"
+HEAD = b"parv-repair journal 2"
 END = b"end"
 MOST = 1 << 28          # the greatest number of bytes in a journal
+PIECE = 1 << 20
+ASIDE = b"aside"        # the folder of the stage into which files are moved
 _FIELDS = 5
+_DEPTH = re.compile(rb"[1-9][0-9]{0,3}")
 _NUMBERS = re.compile(rb"([0-9]{1,20}) ([0-9]{1,20}) (-?[0-9]{1,20})")     # a file may be older than 1970
 
 
@@ -34,8 +38,9 @@ class Move(NamedTuple):
 
 
 class Made(NamedTuple):
-    """A folder is made."""
+    """A folder is made, and those above it that aren't there: `depth` in all."""
     path: bytes
+    depth: int = 1
 
 
 Step = Union[Move, Made]
@@ -46,7 +51,7 @@ def encoded(steps: Sequence[Step]) -> bytes:
     fields: List[bytes] = [HEAD]
     for step in steps:
         if isinstance(step, Made):
-            fields += [b"folder", b"", step.path, b"", b""]
+            fields += [b"folder", b"%d" % step.depth, step.path, b"", b""]
         else:
             length, changed = step.file.length, step.file.changed
             fields += [b"keep" if step.is_kept else b"move",
@@ -58,15 +63,15 @@ def encoded(steps: Sequence[Step]) -> bytes:
 
 
 def decoded(data: bytes) -> List[Step]:
-    """Returns the steps of a journal. If the journal wasn't written completely, it is refused."""
+    """Returns the steps of a journal. One of another version is refused."""
     fields = data.split(b"\0")
     if fields[0] != HEAD or fields[-2:] != [END, b""] or (len(fields) - 3) % _FIELDS:
         raise Refused("it is no journal of this version")
     steps: List[Step] = []
     for at in range(1, len(fields) - 2, _FIELDS):
         kind, about, origin, target, _ = fields[at:at + _FIELDS]
-        if kind == b"folder":
-            steps.append(Made(origin))
+        if kind == b"folder" and _DEPTH.fullmatch(about) and int(about) <= origin.count(b"/") + 1:
+            steps.append(Made(origin, int(about)))
             continue
         numbers = _NUMBERS.fullmatch(about)
         if kind not in (b"move", b"keep") or numbers is None:
@@ -75,17 +80,18 @@ def decoded(data: bytes) -> List[Step]:
     return steps
 
 
-def read_file(folder: Folder, name: bytes) -> bytes:
-    """Returns the bytes of a file that a run has left. Anything but a regular file is refused."""
+def read_file(folder: Folder, name: bytes, most: int = MOST) -> bytes:
+    """Returns the bytes of a file that a run has left. Anything but a regular file is refused, and so is a longer one
+    than any run has left."""
     opened = folder.open_to_read(name)
     try:
         now = os.fstat(opened)
         if not stat.S_ISREG(now.st_mode):
             raise Refused("it is no regular file")
-        if now.st_size > MOST:
+        if now.st_size > most:
             raise Refused("it is too long")
         data = bytearray()
-        while piece := os.read(opened, 1 << 20):
+        while len(data) <= most and (piece := os.read(opened, min(PIECE, most + 1 - len(data)))):
             data += piece
         return bytes(data)
     finally:
@@ -94,12 +100,27 @@ def read_file(folder: Folder, name: bytes) -> bytes:
 
 class Moves:
     """The steps of a journal, and the folder in which they are made. `stage` contains the files of the command
-    itself."""
+    itself. Steps that no run makes are refused."""
 
     def __init__(self, folder: Folder, stage: bytes, steps: Sequence[Step], say: Sayer) -> None:
         self.folder, self.stage, self.steps, self.say = folder, stage + b"/", list(steps), say
         self.by_origin = {step.origin: step for step in self.moves()}
         self.ends = {end for step in self.moves() for end in (step.origin, step.target)}
+        self._refuse_wrong()
+
+    def _refuse_wrong(self) -> None:
+        """Refuses steps with a name that leads out of the folder or is kept for the commands, moves to a name from
+        itself, and two steps to one name. (What is removed with the stage is never the target of a move.)"""
+        targets: Set[bytes] = set()
+        for step in self.steps:
+            name, target = (step.path, step.path) if isinstance(step, Made) else (step.origin, step.target)
+            for end, inside in (name, self.stage), (target, self.stage + ASIDE + b"/"):
+                is_inside = end.startswith(inside) and end.count(b"/") == 2
+                if not is_plain(end) or is_reserved(end) and not is_inside:
+                    raise Refused(f"no run moves a file to {shown(end)} or from there")
+            if isinstance(step, Move) and name == target or target in targets:
+                raise Refused(f"no run moves a file to {shown(target)} from itself or twice")
+            targets.add(target)
 
     def is_staged(self, name: bytes) -> bool:
         """Returns whether a name is in the stage, where nobody else puts files."""
@@ -109,18 +130,19 @@ class Moves:
         return (step for step in self.steps if isinstance(step, Move))
 
     def has(self, move: Move, name: bytes) -> bool:
-        """Returns whether the file of a move is at a name. Outside the stage, it must be unchanged. In the stage, any
-        file is taken for it, since inodes differ in a copy of the folder."""
+        """Returns whether the file of a move is at a name. Outside the stage, it must be unchanged. (In the stage, a
+        program that has it open may still have written to it.)"""
         now = self.folder.look(name)
         if self.is_staged(name):
-            return now is not None and stat.S_ISREG(now.st_mode)
+            return now is not None and stat.S_ISREG(now.st_mode) and now.st_ino == move.file.inode
         return move.file.fits(now)
 
     def has_two_names(self, move: Move) -> bool:
-        """Returns whether the file of a move is at both names: a move that takes two calls was ended between them."""
+        """Returns whether the file of a move is at both names: a move that takes two calls was ended between them. (If
+        it has only one link, these are one name in two forms, on a file system that doesn't tell them apart.)"""
         now, then = self.folder.look(move.origin), self.folder.look(move.target)
         return (now is not None and then is not None and os.path.samestat(now, then)
-                and now.st_ino == move.file.inode)
+                and now.st_ino == move.file.inode and now.st_nlink > 1)
 
     def carry(self, name: bytes, new_name: bytes) -> None:
         """Moves a file to a name that isn't used."""
@@ -130,7 +152,10 @@ class Moves:
         try:
             self.folder.move(name, new_name, True)
         except OSError as fault:
-            raise Refused(f"cannot move {shown(name)} to {shown(new_name)}: {fault.strerror}") from fault
+            more = ""
+            if fault.errno in (errno.EPERM, errno.EOPNOTSUPP):
+                more = " (some file systems can't move a file without the danger of replacing another one)"
+            raise Refused(f"cannot move {shown(name)} to {shown(new_name)}: {fault.strerror}{more}") from fault
         now = self.folder.look(new_name)
         if before is not None and now is not None and not os.path.samestat(before, now):
             with contextlib.suppress(OSError):      # somebody has put another file there meanwhile
@@ -143,10 +168,13 @@ class Moves:
 
     def sync(self) -> None:
         """Writes the present names of files to the disk, before the journal is removed."""
-        for path in sorted({part for end in self.ends if is_plain(end) for part in [b"", *folders_of(end)]}):
+        for path in sorted({end.rpartition(b"/")[0] for end in self.ends}):
             with contextlib.suppress(FileNotFoundError, NotADirectoryError):
                 with self.folder.above(path + b"/" if path else b"") as place:
                     changes.sync_folder(place)
+        for step in self.steps:
+            if isinstance(step, Made):
+                self.folder.sync_folders(step.path, step.depth)
 
     # Making the steps.
 
@@ -155,8 +183,7 @@ class Moves:
         for step in self.steps:
             if isinstance(step, Made):
                 try:
-                    with self.folder.above(step.path) as place:
-                        changes.make_folder(place, base_of(step.path))
+                    self.folder.make_folders(step.path, step.depth)
                 except OSError as fault:
                     raise Refused(f"cannot make the folder {shown(step.path)}: {fault.strerror}") from fault
             elif not self.has(step, step.origin):
@@ -168,7 +195,7 @@ class Moves:
         """Makes the steps that an earlier run hasn't made, unless somebody has changed their files or folders."""
         for step in self.steps:
             if isinstance(step, Made):
-                if is_plain(step.path) and self.folder.is_free(step.path):
+                if self.folder.is_free(step.path):
                     self._make_again(step.path)
             elif self.has_two_names(step):
                 self._remove_name(step.origin)
@@ -182,14 +209,13 @@ class Moves:
         self.bring_out()
 
     def _is_done(self, step: Move) -> bool:
-        """Returns whether a move was made: whether its file is at the target. (In the stage, a file is recognized only
-        by its place, so the target decides.)"""
+        """Returns whether a move was made: whether its file is at the target."""
         return step.file.fits(self.folder.look(step.target))
 
     def _make_again(self, path: bytes) -> None:
         try:
-            with self.folder.above(path, True) as place:
-                changes.make_folder(place, base_of(path))
+            with self.folder.above(path + b"/", True):
+                pass
         except OSError as fault:
             raise Refused(f"cannot make the folder {shown(path)}: {fault.strerror}") from fault
 
@@ -204,7 +230,7 @@ class Moves:
         failed: List[str] = []
         for step in reversed(self.steps):
             if isinstance(step, Made):
-                self._remove_folder(step.path)
+                self.folder.remove_folders(step.path, step.depth)
                 continue
             try:
                 self._undo_move(step)
@@ -253,18 +279,13 @@ class Moves:
         further = self.by_origin.get(left.target)
         return further is not None and self.has(further, further.target)
 
-    def _remove_folder(self, path: bytes) -> None:
-        if is_plain(path):
-            with contextlib.suppress(OSError), self.folder.above(path) as place:
-                changes.remove_folder(place, base_of(path))
-
     # Files that are left in the stage.
 
     def bring_out(self) -> None:
         """Moves each file of the folder out of the stage: to its new name, to its old one, or to an unused name like
         these."""
         for into in self.moves():
-            if not self.is_staged(into.target) or not self.folder.is_file(into.target):
+            if not self.is_staged(into.target) or not self.has(into, into.target):
                 continue
             further = self.by_origin.get(into.target)
             names = [*([further.target] if further else []), into.origin]

@@ -9,11 +9,11 @@ from typing import Callable, Dict, Generator, Iterator, List, NamedTuple, Option
 from . import answers, changes, names
 from .answers import SetAnswer, Verdict
 from .beside import Call
+from .contents import is_same
 from .faults import POSSIBLE, faults_of
 from .folders import Folder, Identity
 from .names import shown
 from .parv import MOST_FILES, SPARE_FILES, Parv, path_below
-from .plan import is_same
 from .programs import Answer
 from .reach import Ways, files_there, preferred, subfolders_of
 from .signals import wait_point

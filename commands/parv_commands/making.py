@@ -8,11 +8,11 @@ import stat
 from typing import Dict, NoReturn, Optional, Sequence, Set
 
 from . import changes
+from .contents import is_same
 from .faults import NO_REPAIR, Fault, Refused, faults_of
 from .packets import recovery_lines
 from .par2 import Bench, files_of, name_for
 from .placing import fill
-from .plan import is_same
 from .scene import Found, Scene
 from .search import Scanned
 from .stage import FILES_OF_PAR2, Stage, path_of
@@ -30,9 +30,9 @@ class Making:
         """Returns the paths of the files that were made, by their numbers."""
         with contextlib.closing(self.place.opened.inner(FILES_OF_PAR2)) as inner:
             bench = Bench(inner, self.found.set)
+            self._link(bench)
             bench.write_packets(self.found.files,
                                 recovery_lines(self.found.answer, self.found.files, self.found.lines))
-            self._link(bench)
             linked = set(self.sources)
             further = [path for path in self.scanned if path not in linked]
             others = files_of(further)

@@ -7,9 +7,9 @@ import os
 import shutil
 from typing import List, NamedTuple, Optional
 
-from . import drawing, output, pictures, programs, signals, words
+from . import drawing, output, pictures, signals, words
 from .faults import USAGE, Fault
-from .given import Given, read_given
+from .given import Given, most_at_once, read_given
 from .mapping import maps_of
 from .new_files import NewFiles
 from .parv import Links, Parv, temporary_folder
@@ -71,7 +71,7 @@ class Asked(NamedTuple):
 def draw(asked: Asked) -> int:
     """Runs the command, and returns its exit status."""
     program = words.needed_parv()
-    programs.raise_file_limit()
+    most_files = most_at_once()
     writers = [(path, text_of) for path, text_of in
                ((asked.page, pictures.page_of), (asked.picture, pictures.svg_of)) if path is not None]
     with contextlib.closing(NewFiles([path for path, _ in writers])) as new:
@@ -82,7 +82,7 @@ def draw(asked: Asked) -> int:
             parv = Parv(program, Links(temporary, ()))
             given = Given(parv.links, asked.files)
             answer, found = read_given(parv, given, asked.chosen)
-            maps = maps_of(found, answer, given, parv, asked.tails, asked.base)
+            maps = maps_of(found, answer, given, parv, asked.tails, asked.base, most_files)
         has_colours = os.isatty(1) and not os.environ.get("NO_COLOR")
         lines = drawing.lines_of(found, maps, asked.width or shutil.get_terminal_size().columns or USUAL_WIDTH,
                                  has_colours)
@@ -110,6 +110,8 @@ def main() -> int:
             parser.error("there are no FILES")
         if given.width is not None and given.width < 1:
             parser.error("a line has one character at least")
+        if b"" in (given.html, given.svg):
+            parser.error("a page or a picture needs a name")
         return draw(Asked(list(map(os.fsencode, given.names)), given.tails, given.set, os.fsencode(given.base),
                           given.width, given.html, given.svg))
     return words.ended("parv-map", run)

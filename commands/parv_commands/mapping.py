@@ -7,13 +7,14 @@ from typing import BinaryIO, Dict, List, NamedTuple, Sequence, Set, Tuple
 
 from . import progress
 from .answers import SetAnswer, State
-from .faults import faults_of
+from .faults import FILES, Fault, faults_of
 from .given import Given
+from .holes import has_slice
 from .names import shown
 from .packets import Member, RecoverySet
 from .parv import Parv
-from .placing import is_there, md5_of, pieces_of_file, told
-from .search import Search
+from .placing import md5_of, pieces_of_file, told
+from .search import Scanned, Search
 from .signals import wait_point
 
 IN_PLACE, MOVED, NOT_KNOWN, MISSING = range(4)      # from the best to the worst
@@ -51,7 +52,7 @@ def _is_in_place(found: RecoverySet, file: Member, number: int, opened: BinaryIO
     own, offset = found.own_length(file, number), number * found.size
     behind = os.fstat(opened.fileno()).st_size - offset
     looked = own if tails else max(own, min(found.size, behind))
-    return file.sums is not None and is_there(opened.fileno(), offset, looked, found.size, file.sums[number])
+    return file.sums is not None and has_slice(opened.fileno(), offset, looked, found.size, file.sums[number])
 
 
 def _map_in_place(found: RecoverySet, file: Member, paths: Sequence[bytes], tails: bool) -> Map:
@@ -81,19 +82,32 @@ def _map_of_unknown(file: Member, state: State, paths: Sequence[bytes]) -> Map:
     return Map(file, [IN_PLACE if any(_has_content(path, file) for path in paths) else MOVED] * file.slices, {})
 
 
-def maps_of(found: RecoverySet, answer: SetAnswer, given: Given, parv: Parv, tails: bool, base: bytes) -> List[Map]:
-    """Returns the maps of all files."""
+def _may_be_whole(found: RecoverySet, given: Given, most_files: int) -> List[Scanned]:
+    """Returns the searched files that may have the content of a file whose slices have no checksums: those with the
+    length of one."""
+    lengths = {file.length for file in found.files if file.sums is None and file.slices}
+    candidates = [scanned for scanned in given.scanned if scanned.length in lengths]
+    if len(candidates) > most_files - len(given.packet_words):
+        raise Fault(FILES, f"{len(candidates)} files have the length of one without checksums of slices; parv takes "
+                           f"{max(0, most_files - len(given.packet_words))} here")
+    return candidates
+
+
+def maps_of(found: RecoverySet, answer: SetAnswer, given: Given, parv: Parv, tails: bool, base: bytes,
+            most_files: int) -> List[Map]:
+    """Returns the maps of all files. parv gets `most_files` at once."""
     by_name: Dict[bytes, List[bytes]] = {}
     for scanned in given.scanned:
         path = given.paths[scanned.word]
         by_name.setdefault(bare(path, base), []).append(path)
     maps = [_map_in_place(found, file, by_name.get(file.name, []), tails) for file in found.files]
-    if any(file.sums is None for file in found.files):
-        most = sum(scanned.length for scanned in given.scanned) * 2
-        verdict = parv.verify(answer, given.packet_words, [scanned.word for scanned in given.scanned], False, most)
+    if any(file.sums is None and file.slices for file in found.files):
+        candidates = _may_be_whole(found, given, most_files)
+        most = sum(scanned.length for scanned in candidates) * 2
+        verdict = parv.verify(answer, given.packet_words, [scanned.word for scanned in candidates], False, most)
         maps = [_map_of_unknown(each.file, state, by_name.get(each.file.name, [])) if each.file.sums is None else each
                 for each, state in zip(maps, verdict.states)]
-    _take_moved(maps, Search(found, parv, given.scanned, tails, _missing(maps)))
+    _take_moved(maps, Search(found, parv, given.scanned, tails, _missing(maps), most_files=most_files))
     return maps
 
 

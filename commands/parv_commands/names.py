@@ -3,11 +3,14 @@
 from __future__ import annotations
 
 import bisect
+import functools
 import re
-from typing import Dict, Iterable, List, Optional, Sequence
+import unicodedata
+from typing import Dict, Iterable, Optional, Pattern, Sequence, Set, Tuple
 
 LONGEST_PART = 255
 MOST_FOLDERS = 200      # the most folders in a name: each look at a name opens all of them
+RESERVED = (b".parv-repair", b".parv-rescue", b".verify_and_repair", b".extract_found")     # the commands' own entries
 
 
 def shown(name: bytes) -> str:
@@ -32,9 +35,9 @@ def base_of(name: bytes) -> bytes:
     return name.rsplit(b"/", 1)[-1]
 
 
-def folders_of(name: bytes) -> List[bytes]:
-    """Returns the folders on the way to a name, the outermost first."""
-    return [name[:at] for at, byte in enumerate(name) if byte == 0x2f]
+def above(name: bytes) -> bytes:
+    """Returns the path of the folder that a name is in, which is empty for the outermost."""
+    return name.rpartition(b"/")[0]
 
 
 def is_plain(name: bytes) -> bool:
@@ -46,8 +49,29 @@ def has_too_many_folders(name: bytes) -> bool:
     return name.count(b"/") > MOST_FOLDERS
 
 
+def _as_compared(name: bytes) -> bytes:
+    """Returns a name as a file system may compare it that folds case and ignores some characters."""
+    if name.isascii():
+        return name.lower()
+    text = unicodedata.normalize("NFKC", name.decode("utf-8", "replace")).casefold()
+    return text.encode("ascii", "ignore")
+
+
+@functools.lru_cache(maxsize=4)
+def _pattern(reserved: Tuple[bytes, ...]) -> Pattern[bytes]:
+    """Returns what finds a reserved name as any part of a name. (Some file systems ignore dots and spaces at its end,
+    or what comes after a colon.)"""
+    return re.compile(rb"(?:^|/)(?:%s)[. ]*(?:[/:]|$)" % b"|".join(map(re.escape, reserved)))
+
+
+def is_reserved(name: bytes, reserved: Iterable[bytes] = RESERVED) -> bool:
+    """Returns whether a part of a name is one of these, in any case."""
+    kept = tuple(reserved)
+    return bool(kept) and _pattern(kept).search(_as_compared(name)) is not None
+
+
 def refusal(name: bytes, reserved: Iterable[bytes]) -> Optional[str]:
-    """Returns why a name of a set is refused, or None. The reserved names are those of the command's own entries."""
+    """Returns why a name of a set is refused, or None. The reserved names are those of the commands' own entries."""
     parts = name.split(b"/")
     if parts[0] == b"":
         return "its name is absolute"
@@ -55,7 +79,7 @@ def refusal(name: bytes, reserved: Iterable[bytes]) -> Optional[str]:
         return "its name leads out of the folder"
     if b"" in parts or b"." in parts or b"\0" in name:
         return "its name isn't that of a file"
-    if parts[0] in reserved:
+    if is_reserved(name, reserved):
         return "its name is kept for the command itself"
     if has_too_many_folders(name):
         return "its name has too many folders"
@@ -76,6 +100,24 @@ def refusals(names: Sequence[bytes], reserved: Iterable[bytes]) -> Dict[int, str
         if number not in why and at < len(fine) and fine[at].startswith(name + b"/"):
             why[number] = "its name is that of another file's folder"
     return why
+
+
+class Taken:
+    """Names of files that are used, and those of the folders on the way to them."""
+
+    def __init__(self, members: Iterable[bytes]) -> None:
+        self._members = sorted(members)
+        self._more: Set[bytes] = set()
+
+    def add(self, name: bytes) -> None:
+        self._more.add(name)
+
+    def __contains__(self, name: object) -> bool:
+        if not isinstance(name, bytes):
+            return False
+        at, below = bisect.bisect_left(self._members, name), bisect.bisect_left(self._members, name + b"/")
+        return (name in self._more or self._members[at:at + 1] == [name]
+                or below < len(self._members) and self._members[below].startswith(name + b"/"))
 
 
 def numbered(name: bytes, number: int) -> bytes:

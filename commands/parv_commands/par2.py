@@ -4,11 +4,12 @@ their own, so par2 reads no packet that parv hasn't chosen, and no name of the s
 from __future__ import annotations
 
 import contextlib
+import errno
 import os
 from typing import Dict, List, NamedTuple, Optional, Sequence
 
 from . import changes, progress
-from .faults import NO_REPAIR, NoProgram, faults_of
+from .faults import FILES, NO_REPAIR, Fault, NoProgram, faults_of
 from .folders import Folder
 from .names import shown
 from .packets import PacketFiles, RecoverySet, write_for_par2
@@ -17,6 +18,7 @@ from .programs import Program, answer_of, find_program
 from .signals import wait_point
 
 PACKETS = b"set.par2"
+_NO_LINKS = (errno.EPERM, errno.EOPNOTSUPP, errno.ENOSYS)
 UP = b"../../"          # from the folder in which par2 works to the one that is repaired
 
 
@@ -58,7 +60,14 @@ class Bench:
     def link(self, name: bytes, path: bytes) -> None:
         """Shows par2 a file of the folder, under a name."""
         with faults_of("make a link in", self.place.shown):
-            changes.make_link(self.place.place, name, UP + path)
+            try:
+                changes.make_link(self.place.place, name, UP + path)
+            except OSError as fault:
+                if fault.errno not in _NO_LINKS:
+                    raise
+                raise Fault(FILES, f"cannot make a link in {self.place.shown}: {fault.strerror}: this file system has "
+                                   "no links, by which par2 gets the files; copy the folder to another one, and "
+                                   "repair it there") from fault
 
     def clear(self) -> None:
         """Removes everything except the packet file."""

@@ -23,7 +23,7 @@ LONGEST_LAST = 4096     # the most bytes in the last line of a part
 PIECE = 1 << 20
 _ODD = re.compile(rb"[^ -~\n]")       # bytes that aren't in any line of parv
 _LAST = re.compile(rb"(end|cursor [0-9a-f:]+)\n")
-_SPECIAL = re.compile(rb"[ !\"$&'()*,;<>?\[\\\]^`{|}]|^[#~]|(?<=[:=])~")
+_OTHERS = b"parv: cursor of other files\n"      # a cursor has the lengths of the files
 
 USAGE_TEXT = """usage: parv-parts [--tails] PARTS LIMIT FILES
 
@@ -65,17 +65,10 @@ class Part(NamedTuple):
     length: int
 
 
-def quoted(word: bytes) -> bytes:
-    """Returns a word as `printf %q` of bash writes it, if it is printable ASCII. search_in_parts.sh kept the words in
-    this way."""
-    if re.fullmatch(rb"[ -~]+", word):
-        return _SPECIAL.sub(rb"\\\g<0>", word)
-    return b"$'%s'" % re.sub(rb"[^ -&(-\[\]-~]", lambda odd: b"\\%03o" % odd[0][0], word) if word else b"''"
-
-
 def text_of(asked: Asked) -> bytes:
     """Returns the arguments by which the folder of a search is recognized. LIMIT isn't one of them."""
-    return b"".join(line + b"\n" for line in [*([b"find --tails"] if asked.tails else []), *map(quoted, asked.files)])
+    lines = ["parv-parts 1", *(["--tails"] if asked.tails else []), *(f"file {shown(file)}" for file in asked.files)]
+    return "".join(line + "\n" for line in lines).encode("ascii")
 
 
 class Parts:
@@ -238,6 +231,8 @@ def find(program: Program, asked: Asked, cursor: Sequence[bytes]) -> Iterator[by
                 raise answers.NoAnswer("find")
             yield b"".join(line + b"\n" for line in lines)
         status = programs.status_of(process)
+    if status == USAGE and bytes(said) == _OTHERS:
+        raise Fault(USAGE, "a searched file has another length than when this search began")
     if status != 0:
         raise fault_of(program, status, bytes(said), "find", {})
     if rest:

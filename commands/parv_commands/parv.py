@@ -20,6 +20,7 @@ MOST_FILES = 65_535         # the most files in one command line
 SPARE_FILES = 32            # files that are open in addition to those that are named
 LONGEST_LINE = 1 << 17      # the most bytes in the line of a match
 _FAULTS = (USAGE, NO_SET, FILES, MEMORY)
+_OTHERS = b"parv: cursor of other files\n"      # the lengths of files are in a cursor
 _PRINTABLE = re.compile("[ -~]*")
 _ABOUT = re.compile(rb"parv: (cannot open|read fault in) ([^\n]*)\n?")
 
@@ -43,8 +44,8 @@ class Links:
 
 def _clear(folder: Folder) -> None:
     """Removes everything in a temporary folder, which has only files and links."""
-    for name in os.listdir(folder.place):
-        changes.remove_file(folder.place, os.fsencode(name))
+    for name in folder.names():
+        changes.remove_file(folder.place, name)
 
 
 @contextlib.contextmanager
@@ -166,6 +167,8 @@ class Parv:
                 if len(rest) > LONGEST_LINE:
                     raise answers.NoAnswer("find")
             status = status_of(process)
+        if status == USAGE and bytes(said) == _OTHERS:      # the command itself has made the cursor
+            raise Fault(FILES, "a file that is searched has another length now than before")
         if status != 0:
             raise self.fault_of(status, bytes(said), "find")
         raise answers.NoAnswer("find")

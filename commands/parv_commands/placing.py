@@ -3,16 +3,18 @@ file."""
 
 from __future__ import annotations
 
+import functools
 import hashlib
 import os
 import zlib
-from typing import Iterable, Iterator
+from typing import Iterable, Iterator, List, Optional, Tuple
 
 from . import changes, progress
 from .faults import Refused
 from .signals import wait_point
 
 BLOCK = 4096        # zeros become a hole if they fill a block of this length, at a multiple of it
+SECTOR = 512        # a disk writes a sector of this length, at a multiple of it, completely or not at all
 PIECE = 1 << 20
 
 
@@ -67,28 +69,57 @@ def told(pieces: Iterable[bytes]) -> Iterator[bytes]:
         progress.show(done)
 
 
-def _bytes_of(opened: int, length: int, at: int) -> bytes:
-    """Returns bytes at an offset of a file that is long enough. It doesn't read holes."""
+def _is_hole(opened: int, length: int, at: int) -> bool:
     try:
-        is_hole = os.lseek(opened, at, os.SEEK_DATA) >= at + length
+        return os.lseek(opened, at, os.SEEK_DATA) >= at + length
     except OSError:
-        is_hole = True      # (up to the end of the file)
-    return bytes(length) if is_hole else os.pread(opened, length, at)
+        return True     # (up to the end of the file)
+
+
+@functools.lru_cache(maxsize=1)
+def _runs_of_data(data: bytes, shift: int) -> List[Tuple[int, int]]:
+    """Returns the beginnings and ends of the runs of blocks that aren't only zeros, if the data are written at this
+    offset within a block. (The same data may be written to thousands of places.)"""
+    return _runs_that_differ(data, None, shift)
+
+
+def _runs_that_differ(data: bytes, now: Optional[bytes], shift: int) -> List[Tuple[int, int]]:
+    """Returns the beginnings and ends of the runs of blocks in which the data differ from what is there now (None are
+    zeros). Only zeros may be replaced, in whole sectors; otherwise the file is refused."""
+    zeros, start = bytes(BLOCK), 0
+    runs: List[Tuple[int, int]] = []
+    while start < len(data) and now != data:
+        end = min(len(data), start + BLOCK - (shift + start) % BLOCK)
+        there = zeros[:end - start] if now is None else now[start:end]
+        if data[start:end] != there:
+            if there != zeros[:end - start] and not _is_begun(data, there, start, end, shift):
+                raise Refused("it has other bytes where a slice belongs")
+            if runs and runs[-1][1] == start:
+                runs[-1] = (runs[-1][0], end)
+            else:
+                runs.append((start, end))
+        start = end
+    return runs
+
+
+def _is_begun(data: bytes, there: bytes, start: int, end: int, shift: int) -> bool:
+    """Returns whether each sector of a block has the bytes of the data, or only zeros, as a loss of power leaves it."""
+    at = start
+    while at < end:
+        after = min(end, at + SECTOR - (shift + at) % SECTOR)
+        now = there[at - start:after - start]
+        if now != data[at:after] and now != bytes(after - at):
+            return False
+        at = after
+    return True
 
 
 def fill(opened: int, data: bytes, at: int) -> None:
-    """Writes the blocks of the data that aren't in the file yet. A block may only replace zeros; otherwise the file is
-    refused."""
-    now, zeros, start, begin = _bytes_of(opened, len(data), at), bytes(BLOCK), 0, -1
-    while start < len(data) and now != data:
-        end = min(len(data), start + BLOCK - (at + start) % BLOCK)
-        if data[start:end] != now[start:end]:
-            if now[start:end] != zeros[:end - start]:
-                raise Refused("it has other bytes where a slice belongs")
-            begin = start if begin < 0 else begin
-        elif begin >= 0:
-            changes.write_at(opened, memoryview(data)[begin:start], at + begin)
-            begin = -1
-        start = end
-    if begin >= 0:
-        changes.write_at(opened, memoryview(data)[begin:], at + begin)
+    """Writes the blocks of the data that aren't in a file yet, which is long enough. It doesn't read holes. Only zeros
+    may be replaced, in whole sectors; otherwise the file is refused, and nothing is written."""
+    if _is_hole(opened, len(data), at):
+        runs = _runs_of_data(data, at % BLOCK)
+    else:
+        runs = _runs_that_differ(data, os.pread(opened, len(data), at), at % BLOCK)
+    for start, end in runs:
+        changes.write_at(opened, memoryview(data)[start:end], at + start)

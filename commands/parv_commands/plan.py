@@ -5,16 +5,14 @@ from __future__ import annotations
 import os
 from typing import Callable, Dict, List, NamedTuple, Optional, Sequence, Set, Tuple
 
-from . import progress
+from .contents import Alike
 from .faults import Refused
 from .folders import Folder, Identity
-from .journal import Made, Move, Step
-from .names import folders_of, shown
+from .journal import ASIDE, Made, Move, Step
+from .names import Taken, is_reserved, shown
 from .packets import Member
 from .signals import wait_point
-from .stage import ASIDE, MADE, path_of
-
-PIECE = 1 << 20
+from .stage import MADE, path_of
 
 
 class Copy(NamedTuple):
@@ -29,28 +27,6 @@ class Backup(NamedTuple):
     number: int
     kept: bytes
     file: Identity
-
-
-def is_same(folder: Folder, name: bytes, other: bytes) -> bool:
-    """Returns whether two files have the same bytes."""
-    opened = [folder.open_to_read(name)]
-    try:
-        opened.append(folder.open_to_read(other))
-        if os.fstat(opened[0]).st_size != os.fstat(opened[1]).st_size:
-            return False
-        at = 0
-        while True:
-            wait_point()
-            pieces = [os.pread(each, PIECE, at) for each in opened]
-            if pieces[0] != pieces[1]:
-                return False
-            if not pieces[0]:
-                return True
-            at += len(pieces[0])
-            progress.show(at)
-    finally:
-        for each in opened:
-            os.close(each)
 
 
 class Plan:
@@ -68,30 +44,36 @@ class Plan:
         self.copies: List[Copy] = []
         self.backups: List[Backup] = []
         self._stays = names_kept | {file.name for file, source in zip(files, sources) if file.name == source}
+        self._alike = Alike(folder, there)
+        self._by_inode: Optional[Dict[int, bytes]] = None
         self._used: Set[bytes] = set()
         self._leaves: Set[bytes] = set()
-        self._folders: Set[bytes] = set()
         self._asides: Dict[bytes, bytes] = {}
-        # The names of files and folders of the set, and the names under which other files are kept.
-        self._names = {part for file in files for part in [*folders_of(file.name), file.name]}
-        # For each move: the file, or None for a folder; its origin and its target; whether it is kept as a backup.
-        self._moves: List[Tuple[Optional[bytes], bytes, bytes, bool]] = []
+        self._names = Taken(file.name for file in files)      # and the names under which other files are kept
+        self._made: List[Made] = []
+        # For each move: the file, its origin and its target, and whether it is kept as a backup.
+        self._moves: List[Tuple[bytes, bytes, bytes, bool]] = []
         origins = {number: origin for number in range(len(files)) for origin in [self._decide(number)]
                    if origin is not None}
         for number in origins:
             self._make_way(number)
+        self._ways = len(self._moves)       # the folders are made after these moves, and before the others
+        self._make_folders([self.files[number].name for number in origins])
         for number, origin in origins.items():
-            self._move_in(number, origin)
+            name = self.files[number].name
+            self._moves.append((origin, self._asides.get(origin, origin), name, False))
 
     def _is_spare(self, name: bytes) -> bool:
         """Returns whether a file may be renamed: it doesn't keep its name, and isn't used for a file of the set yet."""
-        return name not in self._stays and name not in self._used
+        return name not in self._stays and name not in self._used and not is_reserved(name)
 
     def _spare_like(self, source: bytes) -> Optional[bytes]:
-        """Returns another file with the same bytes that may be renamed, or None."""
-        length = self.there[source].length
-        return next((name for name, now in self.there.items() if now.length == length and self._is_spare(name)
-                     and is_same(self.folder, source, name)), None)
+        """Returns another file with the same bytes that may be renamed, or None. (A file that isn't spare now won't be
+        spare later.)"""
+        alike = self._alike.of(source)
+        while alike and not self._is_spare(alike[0]):
+            alike.popleft()
+        return alike[0] if alike else None
 
     def _decide(self, number: int) -> Optional[bytes]:
         """Returns what gets the name of a file, if that doesn't have it yet: a file that is there, or one that is to be
@@ -118,35 +100,54 @@ class Plan:
         """Moves the file that has the name of a file of the set: through the stage if it is to be renamed, otherwise to
         a free name."""
         name = self.files[number].name
-        if self.folder.is_free(name):
+        now = self.folder.look(name)
+        if now is None:
             return
-        if name in self._leaves:
-            self._asides[name] = path_of(ASIDE, b"%d" % number)
-            self._moves.append((name, name, self._asides[name], False))
-            return
-        if name not in self.there:
+        here = name if name in self.there else self._name_of(now)
+        if here is None:
             raise Refused(f"{shown(name)} has come meanwhile")
+        if here != name and here in self._stays:
+            raise Refused(f"{shown(name)} and {shown(here)} are one name in this file system")
+        if here in self._leaves:
+            self._asides[here] = path_of(ASIDE, b"%d" % number)
+            self._moves.append((here, here, self._asides[here], False))
+            return
         kept = self.folder.free_name(name, self._names)
         self._names.add(kept)
-        self._moves.append((name, name, kept, True))
-        self.backups.append(Backup(number, kept, self.there[name]))
-        self.told.append(f"keep {shown(name)} as {shown(kept)}")
+        self._moves.append((here, here, kept, True))
+        self.backups.append(Backup(number, kept, self.there[here]))
+        self.told.append(f"keep {shown(here)} as {shown(kept)}")
 
-    def _move_in(self, number: int, origin: bytes) -> None:
-        """Adds the folders of a name that are to be made, and the move to that name."""
-        name = self.files[number].name
-        for path in folders_of(name):
-            if path not in self._folders and self.folder.is_free(path):
-                self._folders.add(path)
-                self._moves.append((None, path, path, False))
-        self._moves.append((origin, self._asides.get(origin, origin), name, False))
+    def _name_of(self, now: os.stat_result) -> Optional[bytes]:
+        """Returns the name of a file that is found by another form of it, as on a file system that folds case."""
+        if self._by_inode is None:
+            self._by_inode = {there.inode: name for name, there in self.there.items()}
+        name = self._by_inode.get(now.st_ino)
+        there = None if name is None else self.folder.look(name)
+        return name if there is not None and os.path.samestat(there, now) else None
+
+    def _make_folders(self, members: Sequence[bytes]) -> None:
+        """Adds the folders of these names that are to be made. (In their order, names that share a folder come one
+        after another.)"""
+        before: List[bytes] = []
+        for name in sorted(members):
+            wait_point()
+            parts = name.split(b"/")[:-1]
+            there = self.folder.depth(name)
+            shared = next((at for at, pair in enumerate(zip(before, parts)) if pair[0] != pair[1]),
+                          min(len(before), len(parts)))
+            missing = len(parts) - max(there, shared)
+            if there < len(parts):
+                before = parts
+                if missing > 0:
+                    self._made.append(Made(b"/".join(parts), missing))
 
     def steps(self, identity: Callable[[bytes], Identity]) -> List[Step]:
         """Returns the steps for the journal, once everything is made. Each file is recognized by its identity."""
-        return [Made(path) if name is None else Move(self.there.get(name) or identity(name), origin, path, kept)
-                for name, origin, path, kept in self._moves]
+        moves: List[Step] = [Move(self.there.get(name) or identity(name), origin, path, kept)
+                             for name, origin, path, kept in self._moves]
+        return [*moves[:self._ways], *self._made, *moves[self._ways:]]
 
     def made(self) -> List[bytes]:
         """Returns the paths of files in the stage that get a name."""
-        return [origin for name, origin, _, _ in self._moves if name is not None and name not in self.there]
-
+        return [origin for name, origin, _, _ in self._moves if name not in self.there]

@@ -3,8 +3,10 @@
 from __future__ import annotations
 
 import contextlib
+import errno
+import os
 import stat
-from typing import Dict, Iterable, List, Sequence, Set, Tuple
+from typing import Dict, Iterable, List, Optional, Sequence, Set, Tuple
 
 from . import names
 from .faults import faults_of
@@ -50,9 +52,10 @@ def subfolders_of(ways: Ways, members: Iterable[bytes]) -> List[bytes]:
     return sorted(found)
 
 
-def files_there(folder: Folder, members: Set[bytes], folders: Sequence[bytes]) -> Dict[bytes, Identity]:
+def files_there(folder: Folder, members: Set[bytes], folders: Sequence[bytes],
+                unread: Optional[Dict[bytes, str]] = None) -> Dict[bytes, Identity]:
     """Returns the files in these folders (an empty path is the folder itself). Packet files are included only if the
-    set has them."""
+    set has them. Links, and files that this user can't read, aren't: `unread` gets them, with the reason."""
     there: Dict[bytes, Identity] = {}
     for path in folders:
         wait_point()
@@ -60,9 +63,28 @@ def files_there(folder: Folder, members: Set[bytes], folders: Sequence[bytes]) -
             inner = folder.inner(path[:-1] or b".")
         with contextlib.closing(inner):
             for name, now in inner.entries().items():
-                if stat.S_ISREG(now.st_mode) and (path + name in members or not names.is_packet_file(name)):
+                if path + name not in members and names.is_packet_file(name):
+                    continue
+                why = None if unread is None else why_unread(inner, name, now, path + name in members)
+                if why is not None and unread is not None:
+                    unread[path + name] = why
+                elif stat.S_ISREG(now.st_mode):
                     there[path + name] = identity_of(now)
     return there
+
+
+def why_unread(folder: Folder, name: bytes, now: os.stat_result, is_wanted: bool) -> Optional[str]:
+    """Returns why the content at a name of a folder isn't read, or None if it is, or if none is there. (A link that
+    leads to no file has none, but it may be at a name that is wanted.)"""
+    if stat.S_ISLNK(now.st_mode):
+        try:
+            is_file = stat.S_ISREG(os.stat(name, dir_fd=folder.place).st_mode)
+        except OSError as fault:
+            is_file = fault.errno != errno.ENOENT
+        return "a link" if is_wanted or is_file else None
+    if stat.S_ISREG(now.st_mode) and not os.access(name, os.R_OK, dir_fd=folder.place, effective_ids=True):
+        return os.strerror(errno.EACCES)
+    return None
 
 
 def preferred(there: Dict[bytes, Identity], members: Set[bytes], lengths: Set[int]) -> List[bytes]:

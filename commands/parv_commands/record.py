@@ -1,106 +1,247 @@
-"""The record of a rescue, in a file of lines in its folder: which files it makes and has made, which slices are there,
-which files were complete and when they last changed, and how far each list of files was searched."""
+"""The record of a rescue, in a file of lines in its folder: which files it makes, which slices are in their places, how
+the files were left, and how far each list of files was searched.
+
+Each line has a seal, so that only a record that this user's runs have written in this very folder is believed. Of
+another one, such as that of a copied folder, only the ID of its set is read; then the files are known by their content.
+"""
 
 from __future__ import annotations
 
+import errno
 import fcntl
 import os
+import re
 import stat
-from typing import Dict, List, Optional, Set, Tuple
+from typing import Dict, Iterable, List, NamedTuple, Optional, Set, Tuple
 
-from . import changes
+from . import changes, output, seals
 from .faults import FILES, USAGE, Fault, faults_of
 from .folders import Folder
+from .names import shown
 from .search import Place
+from .seals import Chain
 
-NAME = b".parv-rescue"
-EARLIER = b".extract_found"     # the record of extract_found.py of version 0.4.0, which is continued in the same way
-NAMES = (NAME, EARLIER)
-_HEADS = {NAME: "parv-rescue", EARLIER: "extract_found"}
+NAME, NEW = b".parv-rescue", b".parv-rescue.new"
+KEPT = b"parv-rescue.kept"
+KIND = b"parv-rescue"     # of seals
+_LONGEST_HEAD = 200         # the most bytes in the first line
+_HEAD = re.compile(rb"parv-rescue [0-9]+ ([0-9a-f]{32})( [^\n]*)?")
 
 
-def name_in(folder: Folder) -> Optional[bytes]:
-    """Returns the name of the record in a folder, or None if it has none."""
-    return next((name for name in NAMES if not folder.is_free(name)), None)
+class Left(NamedTuple):
+    """How a run has left a file: its inode, and the time of its last change, also of a name or a mode."""
+    inode: int
+    changed: int
+
+
+def left_by(now: os.stat_result) -> Left:
+    return Left(now.st_ino, now.st_ctime_ns)
+
+
+def runs_of(numbers: Iterable[int]) -> str:
+    """Returns numbers as the record has them: `3-5 7` for 3, 4, 5 and 7."""
+    runs: List[Tuple[int, int]] = []
+    for number in sorted(numbers):
+        if runs and runs[-1][1] == number - 1:
+            runs[-1] = runs[-1][0], number
+        else:
+            runs.append((number, number))
+    return " ".join(str(first) if first == last else f"{first}-{last}" for first, last in runs)
+
+
+def numbers_of(runs: Iterable[str]) -> Set[int]:
+    found: Set[int] = set()
+    for run in runs:
+        first, _, last = run.partition("-")
+        found.update(range(int(first), int(last or first) + 1))
+    return found
+
+
+def is_in(folder: Folder) -> bool:
+    """Returns whether a folder has a record, or a run was ended while it made one."""
+    return not folder.is_free(NAME) or not folder.is_free(NEW)
 
 
 class Record:
-    """The record of a folder for the set with an ID. While it is open, no other run can open it."""
+    """The record of a folder for the set with an ID. While it is open, no other run can open it.
+
+    `made` has the IDs of files that runs have made, or were about to make. If it `is_copy`, there may be more of them.
+    """
 
     def __init__(self, folder: Folder, owner: str) -> None:
-        name = name_in(folder) or NAME
-        self.shown = f"{folder.shown}/{name.decode()}"
+        self.folder, self.shown = folder, f"{folder.shown}/{NAME.decode()}"
+        self.head = f"parv-rescue 2 {owner}"
+        self.made: Set[str] = set()
+        self.there: Set[int] = set()
+        self.left: Dict[str, Left] = {}
+        self.reached: Dict[Tuple[str, str], Place] = {}
+        self.is_copy = False
+        self.news: List[str] = []
+        self.end = 0
+        self._finish_aside()
+        is_new = folder.is_free(NAME)
+        self.place = self._opened(NAME, is_new)
+        lines = self._lines()
+        if lines is None:
+            self._set_aside()
+        elif not self.end:
+            self._begin([self.head])
+            self._sync_folder()
+        for number, line in enumerate(lines or [], 2):
+            try:
+                self._take(*line.split(" "))
+            except (TypeError, ValueError) as fault:
+                raise Fault(FILES, f"line {number} of {self.shown} is damaged") from fault
+
+    def _opened(self, name: bytes, makes: bool) -> int:
+        """Opens a record, and keeps other runs out."""
         with faults_of("open", self.shown):
-            self.place = changes.open_file(folder.place, name, True)
-        now = os.fstat(self.place)
+            place = changes.open_file(self.folder.place, name, makes)
+        now = os.fstat(place)
         if not stat.S_ISREG(now.st_mode) or now.st_nlink != 1:
             raise Fault(FILES, f"{self.shown} is a link or no file")
         try:
-            fcntl.flock(self.place, fcntl.LOCK_EX | fcntl.LOCK_NB)
+            fcntl.flock(place, fcntl.LOCK_EX | fcntl.LOCK_NB)
         except BlockingIOError as fault:
-            raise Fault(USAGE, f"another run is at work in {folder.shown}") from fault
+            raise Fault(USAGE, f"another run is at work in {self.folder.shown}") from fault
         except OSError as fault:
             raise Fault(FILES, f"cannot lock {self.shown}: {fault.strerror}") from fault
-        self.making: Set[str] = set()
-        self.made: Set[str] = set()
-        self.there: Set[int] = set()
-        self.whole: Dict[str, int] = {}
-        self.reached: Dict[Tuple[str, str], Place] = {}
-        self.end = 0
-        self.news: List[str] = []
-        self._read(f"{_HEADS[name]} 1 {owner}")
+        return place
 
-    def _read(self, head: str) -> None:
-        """Reads the lines. If the last one was not completely written, it is removed."""
+    # One that isn't this user's own.
+
+    def _set_aside(self) -> None:
+        """Gives the record another name, once there is a new one."""
+        kept = self.folder.free_name(KEPT)
+        old, self.place = self.place, self._opened(NEW, True)
+        try:
+            self._begin([self.head, "copy"])
+            self._rename(NAME, kept)
+            self._name_new()
+        finally:
+            os.close(old)
+        self.is_copy = True
+        output.say(f"{self.shown} isn't shown to be of a run of yours in this folder, which may be a copy: it is now "
+                   f"{shown(kept)}, and the files are read again")
+
+    def _finish_aside(self) -> None:
+        """Gives the new record its name if a run was ended before it did."""
+        if not self.folder.is_free(NEW) and self.folder.is_free(NAME):
+            self.place = self._opened(NEW, False)
+            if self._lines() is None or not self.end:
+                raise Fault(USAGE, f"{self.folder.shown}/{NEW.decode()} isn't a record of yours: remove it")
+            self._name_new()
+            os.close(self.place)
+
+    def _name_new(self) -> None:
+        self._rename(NEW, NAME)
+        self._sync_folder()
+
+    def _rename(self, name: bytes, new_name: bytes) -> None:
+        """Gives a record another name, which isn't used. (On a file system without links, such as exFAT, there may be
+        no call that makes sure of that.)"""
+        with faults_of("rename", self.shown):
+            try:
+                changes.move(self.folder.place, name, self.folder.place, new_name)
+            except OSError as fault:
+                if fault.errno not in (errno.EPERM, errno.EOPNOTSUPP):
+                    raise
+                changes.replace(self.folder.place, name, new_name)
+
+    # Reading and writing lines.
+
+    def _begin(self, lines: List[str]) -> None:
+        """Brings the first lines to the disk, and the secret of the seals before them. A run may have been ended while
+        it wrote them."""
+        self.chain = Chain(seals.seal_to_write(KIND, self.folder.place, self.place))
+        data = b"".join(self.chain.line(line.encode()) for line in lines)
+        with faults_of("write", self.shown):
+            if not data.startswith(os.pread(self.place, len(data) + 1, 0)):
+                raise Fault(USAGE, f"{self.folder.shown}/{NEW.decode()} isn't a record of yours: remove it")
+            changes.write_at(self.place, data, 0)
+            changes.sync(self.place)
+        self.end = len(data)
+
+    def _sync_folder(self) -> None:
+        with faults_of("write in", self.folder.shown):
+            changes.sync_folder(self.folder.place)
+
+    def _lines(self) -> Optional[List[str]]:
+        """Returns the lines after the first if the record is of a run of this user in this folder, and otherwise None.
+        Ends the command if it is of another set."""
+        self.end = 0
+        with faults_of("read", self.shown):
+            first, line_feed, _ = os.pread(self.place, _LONGEST_HEAD, 0).partition(b"\n")
+        seal, is_cut = seals.seal_to_read(KIND, self.folder.place, self.place), not first
+        if seal is not None:
+            self.chain = Chain(seal)
+            whole = self.chain.line(self.head.encode())
+            if first + line_feed == whole:
+                return self._sealed(len(whole))
+            is_cut = whole.startswith(first)
+        about = _HEAD.fullmatch(first)
+        if line_feed and about is not None and about[1].decode() == self.head[-32:]:
+            return None
+        if not line_feed and is_cut:        # a run was ended while it wrote it, before it made any file
+            return []
+        raise Fault(USAGE, f"{self.shown} is of another set")
+
+    def _sealed(self, at: int) -> List[str]:
+        """Returns the lines from an offset on, up to the first one without its seal. A run may have been ended while it
+        wrote that one. If more follows, lines may be lost, so the files are known by their content."""
         with faults_of("read", self.shown):
             data = os.pread(self.place, os.fstat(self.place).st_size, 0)
-        lines = data[:data.rfind(b"\n") + 1].decode("ascii", "replace").split("\n")[:-1]
-        if lines and lines[0] != head or not lines and not head.encode().startswith(data):
-            raise Fault(USAGE, f"{self.shown} is of another set")
-        for number, line in enumerate(lines[1:], 2):
-            kind, _, rest = line.partition(" ")
-            try:
-                self._take(kind, *rest.split(" "))
-            except (TypeError, ValueError) as fault:
-                raise Fault(FILES, f"line {number} of {self.shown} is damaged") from fault
-        self.end = data.rfind(b"\n") + 1
-        if self.end != len(data):
+        lines: List[str] = []
+        while at < len(data):
+            end = data.find(b"\n", at)
+            text = self.chain.take(data[at:end]) if end >= 0 else None
+            if text is None:
+                break
+            lines.append(text.decode("ascii", "replace"))
+            at = end + 1
+        self.end = at
+        if at < len(data):
             with faults_of("write", self.shown):
-                changes.set_length(self.place, self.end)
-        if not lines:
-            self.write(head + "\n")
+                changes.set_length(self.place, at)
+            if b"\n" in data[at:]:
+                self.news.append("copy")
+                lines.append("copy")
+        return lines
 
-    def _take(self, kind: str, about: str = "", value: str = "") -> None:
+    def _take(self, kind: str, *given: str) -> None:
         """Takes a line."""
         if kind == "making":
-            self.making.add(about)
-        elif kind == "made":
-            self.made.add(about)
-        elif kind == "slice":
-            self.there.add(int(about))
-        elif kind == "whole":
-            self.whole[about] = int(value)
+            self.made.update(given)
+        elif kind == "copy":
+            self.is_copy = True
+        elif kind == "slices":
+            self.there |= numbers_of(given)
+        elif kind == "lost":
+            self.there -= numbers_of(given)
+            self.reached.clear()
+        elif kind == "left":
+            owner, inode, changed = given
+            self.left[owner] = Left(int(inode), int(changed))
         elif kind == "at":
-            _, _, mark, file, offset, number = value.split(":")
-            self.reached[about, mark] = (int(file), int(offset), int(number))
+            way, mark, file, offset, number = given
+            self.reached[way, mark] = (int(file), int(offset), int(number))
         elif kind == "again":
             self.reached.clear()
         else:
             raise ValueError(kind)
 
-    def write(self, text: str) -> None:
-        """Writes text after the last whole line."""
-        with faults_of("write", self.shown):
-            changes.write_at(self.place, text.encode("ascii"), self.end)
-        self.end += len(text)
-
     def tell(self, *words: object) -> None:
         """Adds a line, which is written when the record is saved next."""
-        self.news.append(" ".join(map(str, words)) + "\n")
+        text = " ".join(map(str, words))
+        self._take(*text.split(" "))
+        self.news.append(text)
 
     def save(self) -> None:
+        """Brings the new lines to the disk."""
         if self.news:
-            self.write("".join(self.news))
+            data = b"".join(self.chain.line(text.encode("ascii")) for text in self.news)
+            with faults_of("write", self.shown):
+                changes.write_at(self.place, data, self.end)
+                changes.sync(self.place)
+            self.end += len(data)
             self.news = []
-        with faults_of("write", self.shown):
-            changes.sync(self.place)

@@ -10,7 +10,7 @@ import re
 import stat
 from typing import Callable, Iterator, List, NamedTuple, Optional, Sequence, Set, Tuple
 
-from . import changes, earlier, names, output, packets, progress, programs, signals, stage, words
+from . import changes, names, output, packets, progress, programs, seals, signals, stage, words
 from .answers import Verdict
 from .faults import FILES, IMPOSSIBLE, NO_REPAIR, NO_SET, POSSIBLE, Fault, NoProgram, Refused, faults_of
 from .folders import Folder, Identity, identity_of
@@ -50,7 +50,7 @@ The exit status:
   3  wrong words, no packet file, or several sets
   4  no set, or one that is refused
   5  par2 has failed
-  6  a file can't be read, made or moved, or parv can't be run
+  6  undecided, or a file can't be read, made or moved, or parv can't be run
   8  no memory
 PARV and PAR2 name the programs, if they aren't in PATH. man parv-repair has more.
 """
@@ -77,14 +77,19 @@ class Repair:
         with contextlib.closing(found.files):
             self.scene.gather(found)
             scanned = self.scene.to_scan(found)
-            looked = self.scene.look(found, scanned)
-            if looked.verdict.status == IMPOSSIBLE:
-                looked = self._look_again(found, scanned, looked.verdict)
+            looked = self.scene.look_at_all(found, scanned)
+            if looked.verdict.status == IMPOSSIBLE and None in looked.sources:
+                looked = self._look_again(found, scanned, looked)
             sources = self.scene.settled(found, looked.sources)
             if self.scene.is_complete(found, sources):
+                self.scene.say_unread()
                 self._say_of_earlier_backups(found)
                 return 0, ["complete"]
             self.scene.refuse_names(found)
+            self.scene.refuse_unread(found, sources, looked.verdict.counts)
+            self._refuse_mounted({names.above(file.name) for file, source in zip(found.set.files, sources)
+                                  if source != file.name})
+            self.scene.say_unread()
             others = packets.names_of_others(found.answer, found.files, found.lines)
             repairs = {number for number, source in enumerate(sources)
                        if source is None and found.set.files[number].length > 0}
@@ -92,17 +97,27 @@ class Repair:
                 return self._told(found, sources, repairs, others, looked.verdict)
             return 0, self._repair(found, sources, repairs, others, scanned)
 
-    def _look_again(self, found: Found, scanned: Sequence[bytes], before: Verdict) -> Looked:
+    def _look_again(self, found: Found, scanned: Sequence[bytes], before: Looked) -> Looked:
         """Verifies again with --tails, which may find missing slices."""
         try:
-            looked = self.scene.look(found, scanned, True)
+            looked = self.scene.look_at_all(found, scanned, True)
         except Fault as fault:
             if fault.status != NO_SET:
                 raise
-            raise Fault(IMPOSSIBLE, f"not enough for a repair: {before.counts}; {fault}") from fault
+            raise self._too_few(found, before, f"; {fault}") from fault
         if looked.verdict.status == IMPOSSIBLE:
-            raise Fault(IMPOSSIBLE, f"not enough for a repair: {looked.verdict.counts}")
+            raise self._too_few(found, looked)
         return looked
+
+    def _too_few(self, found: Found, looked: Looked, more: str = "") -> Fault:
+        """Returns the error that not enough is left for a repair. If something wasn't looked at, nobody knows that."""
+        self.scene.find_links(found, looked.sources)
+        self.scene.find_kept()
+        nothing = "" if any(state.found for state in looked.verdict.states) else "; nothing of the set is found"
+        unread, counts = self.scene.told_unread(), looked.verdict.counts + more + nothing
+        if unread:
+            return Fault(FILES, f"can't tell whether enough is left for a repair: {counts}; not looked at: {unread}")
+        return Fault(IMPOSSIBLE, f"not enough for a repair: {counts}")
 
     def _origins(self, found: Found, sources: Sequence[Optional[bytes]]) -> List[bytes]:
         """Returns the path that has or will have the content of each file. An empty file is made, even if others are
@@ -132,7 +147,7 @@ class Repair:
     def _repair(self, found: Found, sources: Sequence[Optional[bytes]], repairs: Set[int], others: Set[bytes],
                 scanned: Sequence[bytes]) -> List[str]:
         """Makes all files complete, and returns the lines that say what was done."""
-        place = Stage(self.folder, self.say)
+        place = Stage(self.folder, seals.needed_secret(), self.say)
         moves: Optional[Moves] = None
         try:
             place.make()
@@ -141,6 +156,7 @@ class Repair:
             if repairs:
                 made = Making(self.scene, found, place, sources, repairs, scanned).made()
                 origins = [made.get(number, origin) for number, origin in enumerate(origins)]
+            self._keep_closed(found, origins)
             plan = self._plan(found, origins, repairs, others)
             self._copy(place, plan)
             moves = self._moves(plan)
@@ -213,6 +229,20 @@ class Repair:
         finally:
             os.close(source)
 
+    def _keep_closed(self, found: Found, origins: Sequence[bytes]) -> None:
+        """Gives each file that was made the mode of the file that it replaces, and its owner if that can be given. So
+        what was private isn't readable for others, as a file that par2 makes may be."""
+        for file, origin in zip(found.set.files, origins):
+            before = None if origin in self.scene.there else self.folder.look(file.name)
+            if before is None or not stat.S_ISREG(before.st_mode):
+                continue
+            with faults_of("write in", self.folder.shown):
+                opened = self.folder.open_to_read(origin)
+                try:
+                    _set_like(opened, before)
+                finally:
+                    os.close(opened)
+
     def _moves(self, plan: Plan) -> Moves:
         """Returns the moves of a plan. Within one file system, a move is done completely or not at all."""
         def identity(path: bytes) -> Identity:
@@ -221,19 +251,27 @@ class Repair:
                 raise Refused(f"{shown(path)} has changed meanwhile")
             return identity_of(now)
         moves = Moves(self.folder, stage.NAME, plan.steps(identity), self.say)
-        device = self.folder.device
-        for step in moves.moves():
-            for path in step.origin, step.target:
-                for part in [*names.folders_of(path), path]:
-                    now = self.folder.look(part)
-                    if now is not None and now.st_dev != device:
-                        raise Refused("it reaches into another file system")
+        ends = [end for step in moves.moves() for end in (step.origin, step.target)]
+        self._refuse_mounted(set(map(names.above, ends)))
+        for path in ends:
+            # (Only now is the stage there, so only now can another form of its name be seen.)
+            why = None if moves.is_staged(path) else self.folder.obstacle(path, stage.NAME)
+            if why is not None:
+                raise Refused(f"{shown(path)} can't be used: {why}")
         return moves
+
+    def _refuse_mounted(self, folders: Set[bytes]) -> None:
+        """Ends the run if one of these subfolders isn't in the file system of the folder, or is mounted from there:
+        no file can be moved into it in one call."""
+        for path in sorted(folders):
+            signals.wait_point()
+            if self.folder.is_elsewhere(path):
+                raise Refused("it reaches into another file system")
 
     def _verify(self, found: Found) -> None:
         """Ends the run unless all files are complete now."""
         self.scene.gather(found)
-        looked = self.scene.look(found, self.scene.to_scan(found))
+        looked = self.scene.look_at_all(found, self.scene.to_scan(found))
         if not self.scene.is_complete(found, self.scene.settled(found, looked.sources)):
             raise Fault(NO_REPAIR, f"it isn't complete after the repair: {looked.verdict.counts}")
 
@@ -278,6 +316,20 @@ class Repair:
             return True
 
 
+def _set_like(opened: int, before: os.stat_result) -> None:
+    """Gives a file the owner and the mode of another one. If it can't have that group, its group gets no rights. (It
+    loses the bits by which it would run as its owner.)"""
+    now, mode = os.fstat(opened), stat.S_IMODE(before.st_mode) & 0o777
+    if (now.st_uid, now.st_gid) != (before.st_uid, before.st_gid):
+        try:
+            changes.set_owner(opened, before.st_uid, before.st_gid)
+        except OSError:
+            if now.st_gid != before.st_gid:
+                mode &= ~stat.S_IRWXG
+    if stat.S_IMODE(now.st_mode) != mode:
+        changes.set_mode(opened, mode)
+
+
 @contextlib.contextmanager
 def locked(folder: Folder) -> Iterator[None]:
     """Keeps other runs out of a folder. (Programs that are run don't inherit the lock.)"""
@@ -297,14 +349,12 @@ def _run(asked: Asked, folder: Folder, program: Program) -> Tuple[int, List[str]
         output.say(f"{folder.shown}: {text}")
     with locked(folder):
         purge = asked.purge
-        for module in (earlier, stage):
-            if not module.is_there(folder):
-                continue
-            if asked.dry:
-                raise Fault(FILES, "a run was ended here, and is finished or undone by the next without --dry-run")
+        if asked.dry:
+            stage.told_of(folder, say)
+        else:
             with progress.waiting("a run that was ended is finished"):
-                module.recover(folder, say)
-            if purge:
+                found = stage.recover(folder, say)
+            if found and purge:
                 say("so --remove-backups removes nothing")      # a backup may be a file that somebody has written since
                 purge = False
         most_open = programs.raise_file_limit()

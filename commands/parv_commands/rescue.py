@@ -7,16 +7,17 @@ import os
 import time
 from typing import List, NamedTuple, Optional, Set, Tuple
 
-from . import changes, output, programs, signals, words
-from .faults import NO_SET, USAGE, Fault, faults_of
+from . import changes, output, seals, signals, words
+from .faults import FILES, NO_SET, USAGE, Fault, faults_of
 from .folders import Folder
-from .given import Given, read_given
+from .given import Given, most_at_once, read_given
 from .names import shown
 from .packets import Member, RecoverySet
 from .parv import Links, Parv, temporary_folder
 from .placing import crc_of, md5_of
-from .record import NAMES, Record, name_in
+from .record import KIND, NAME, Record, is_in
 from .search import Scanned, Search
+from .states import States
 from .writer import Writer
 
 EXPECTED, TAILS = "expected", "tails"   # the two kinds of search, as the record names them
@@ -35,15 +36,17 @@ disc, into files of the set below a new folder.
 
 FILES are packet files of the set and files to be searched; they are only read.
 FOLDER is made, or is empty, or was filled by this command. Nothing in it is
-overwritten. A run that was stopped goes on when it is called again.
+overwritten. A run that was stopped goes on when it is called again. Files that
+have changed since are searched again.
 
 The last slice of a file is mostly shorter than the others. It is found at its
 distance from another slice of its file. With --tails it is found wherever it is,
 and so are files that are shorter than a slice. That can take long. Leave it out
 at first: if a line says that it might find more, go on with it in the same FOLDER.
 
-At the end a line for each file says `complete`, `damaged`, `wrong`, `missing`
-or `refused`. After a damaged one, each hole has a line `hole OFFSET LENGTH NAME`.
+At the end a line for each file says `complete`, `damaged`, `wrong`, `unverified`,
+`missing` or `refused`. After a damaged one, each hole has a line `hole OFFSET
+LENGTH NAME`.
 
 The exit status:
   0  each file of the set is complete
@@ -69,8 +72,8 @@ def open_folder(path: bytes) -> Folder:
     with faults_of("make", shown(path)):
         changes.make_path(path)
     folder = Folder.opened(path)
-    if folder.entries() and name_in(folder) is None:
-        raise Fault(USAGE, f"{folder.shown} isn't empty, and has no {NAMES[0].decode()}")
+    if folder.entries() and not is_in(folder):
+        raise Fault(USAGE, f"{folder.shown} isn't empty, and has no {NAME.decode()}")
     return folder
 
 
@@ -88,24 +91,22 @@ def bytes_at(source: Scanned, offset: int, own: int, size: int) -> Tuple[bytes, 
 
 
 class Rescue:
-    """A run over a folder."""
+    """A run over a folder. parv gets `most_files` of the searched files at once."""
 
-    def __init__(self, found: RecoverySet, given: Given, parv: Parv, writer: Writer) -> None:
-        self.found, self.given, self.parv, self.writer = found, given, parv, writer
+    def __init__(self, found: RecoverySet, given: Given, parv: Parv, writer: Writer, most_files: int) -> None:
+        self.found, self.given, self.parv, self.writer, self.most_files = found, given, parv, writer, most_files
         self.complete: Set[str] = set()     # the IDs of files that are reported as complete
 
     def search(self, tails: bool, wanted: Set[int]) -> Search:
-        return Search(self.found, self.parv, self.given.scanned, tails, wanted, not tails)
+        return Search(self.found, self.parv, self.given.scanned, tails, wanted, not tails, self.most_files)
 
     def run(self, tails: bool) -> Tuple[int, List[str], int]:
         """Returns the exit status, the lines that say what is there, and how many missing short slices a search with
         --tails might find."""
-        writer = self.writer
-        writer.prepare()
-        wanted = {number for file in self.found.files if file.sums and file.id not in writer.refused
-                  for number in file.numbers} - writer.record.there
-        search = self.search(False, wanted)
-        self._searches(search, EXPECTED)
+        self.writer.prepare()
+        search = self._expected()
+        if self.writer.has_skipped:     # now it is known which files runs have begun to write
+            search = self._expected()
         short = {number for number in search.wanted
                  if number == search.owners[number].last and self.found.is_short(search.owners[number])}
         if tails and short:
@@ -113,9 +114,19 @@ class Rescue:
             if len(lengths) > MOST_TAILS:
                 raise Fault(NO_SET, "no usable set: too many tails")
             self._searches(self.search(True, short), TAILS)
+        self.writer.refuse_begun()
         status, lines = self._ending()
         missing = {number for number in short if search.owners[number].id not in self.complete}
         return status, lines, 0 if tails else self._may_find(search, missing)
+
+    def _expected(self) -> Search:
+        """Searches for what is missing, without --tails, and returns the search."""
+        writer = self.writer
+        wanted = {number for file in self.found.files if file.sums and file.id not in writer.refused
+                  for number in file.numbers if not writer.has(number)}
+        search = self.search(False, wanted)
+        self._searches(search, EXPECTED)
+        return search
 
     def _reached(self, way: str) -> Tuple[int, int, int]:
         """Returns the place from which this kind of search goes on in these files. An earlier run may have reached
@@ -131,7 +142,7 @@ class Rescue:
 
     def _searches(self, search: Search, way: str) -> None:
         """Copies what a search finds, from the place at which it goes on, and records how far it came."""
-        search.at = self._reached(way)
+        search.at, search.idle = self._reached(way), self.writer.flush
         try:
             self._copy(search, way)
         except BaseException:
@@ -160,9 +171,11 @@ class Rescue:
         if not file.sums or sums != file.sums[number - file.first]:
             self.writer.is_lossy = True
             output.say(else_said)
-        elif self.writer.takes(file, number - file.first, data):
+            return
+        is_taken = self.writer.takes(file, number - file.first, data)
+        if is_taken:
             search.wanted.discard(number)
-        else:
+        elif is_taken is False:
             search.wanted.difference_update(file.numbers)
 
     # The lines at the end.
@@ -171,7 +184,7 @@ class Rescue:
         """Returns the offset and length of each hole of a file. Slices that are missing in a row make one hole."""
         gaps: List[Tuple[int, int]] = []
         for number in range(file.slices):
-            if file.first + number not in self.writer.record.there:
+            if not self.writer.has(file.first + number):
                 at, length = number * self.found.size, self.found.own_length(file, number)
                 if gaps and sum(gaps[-1]) == at:
                     gaps[-1] = (gaps[-1][0], gaps[-1][1] + length)
@@ -179,49 +192,44 @@ class Rescue:
                     gaps.append((at, length))
         return gaps
 
-    def _state(self, file: Member, count: int) -> str:
-        """Returns the state of a file with `count` slices in the record. Another program may have completed it."""
-        if count == file.slices:
-            return self.writer.state_if_whole(file)
-        missing = next(number - file.first for number in file.numbers if number not in self.writer.record.there)
-        if file.id not in self.writer.refused and self.writer.is_whole_by_others(file, missing):
-            return "complete"
-        return "damaged" if count else "missing"
-
-    def _told(self, file: Member) -> List[str]:
+    def _told(self, file: Member, state: str, count: int) -> List[str]:
         """Returns the lines about a file: its state, and its holes."""
-        count = sum(number in self.writer.record.there for number in file.numbers)
-        state = self._state(file, count)
-        if file.id in self.writer.refused:
-            return [f"refused {file.shown}"]
-        if state == "complete":
-            self.complete.add(file.id)
-            return [f"complete {file.shown}"]
+        if state in ("complete", "refused"):
+            return [f"{state} {file.shown}"]
         gaps = self._holes(file) if state == "damaged" else []
         return [f"{state} {file.shown} {count}/{file.slices}",
                 *[f"hole {at} {length} {file.shown}" for at, length in gaps]]
 
     def _ending(self) -> Tuple[int, List[str]]:
-        parts = [self._told(file) for file in self.found.files]
-        self.writer.record.save()
-        there = sum(number in self.writer.record.there for file in self.found.files
-                    if file.id not in self.writer.refused for number in file.numbers)
-        lines = [line for part in parts for line in part]
+        states = States(self.found, self.writer.folder, self.writer)
+        lines: List[str] = []
+        there = 0
+        for file in self.found.files:
+            state = states.state_of(file)
+            count = states.counts[file.id]
+            lines += self._told(file, state, count)
+            if state == "complete":
+                self.complete.add(file.id)
+            there += 0 if state == "refused" else count
+        self.writer.save()
         lines.append(f"slices {there}/{sum(file.slices for file in self.found.files)}, copied now {self.writer.copied}")
-        return (0 if all(part[0].startswith("complete ") for part in parts) else 1), lines
+        if self.writer.is_limited:
+            return FILES, lines
+        return (0 if len(self.complete) == len(self.found.files) else 1), lines
 
 
 def rescue(asked: Asked) -> int:
     """Runs the command, and returns its exit status."""
     program = words.needed_parv()
-    programs.raise_file_limit()
+    most_files = most_at_once()
     with temporary_folder() as temporary:
         parv = Parv(program, Links(temporary, ()))
         given = Given(parv.links, asked.files)
         found = read_given(parv, given, asked.chosen)[1]
+        seals.seal_to_write(KIND)       # so that nothing is made if there can't be a record
         folder = open_folder(asked.folder)
-        record = Record(folder, found.id)
-        status, lines, missing = Rescue(found, given, parv, Writer(found, folder, record, given.mark)).run(asked.tails)
+        writer = Writer(found, folder, Record(folder, found.id), given.mark)
+        status, lines, missing = Rescue(found, given, parv, writer, most_files).run(asked.tails)
     signals.forget_signals()
     output.tell(lines)
     if missing:

@@ -2,22 +2,26 @@
 
 from __future__ import annotations
 
+import contextlib
+import itertools
+import re
 import stat
 from typing import BinaryIO, Dict, List, NamedTuple, Optional, Sequence, Set, Tuple
 
-from . import answers, earlier, names, output, progress, stage
+from . import answers, names, output, progress, stage
 from .answers import PacketLine, SetAnswer, Verdict
-from .faults import NO_SET, USAGE, Fault
+from .contents import is_same
+from .faults import FILES, NO_SET, USAGE, Fault
 from .folders import Folder, Identity
-from .names import shown
+from .names import RESERVED, shown
 from .packets import PacketFiles, RecoverySet, read_recovery_set
 from .parv import MOST_FILES, SPARE_FILES, Links, Parv, path_below
-from .plan import is_same
 from .programs import Program
-from .reach import Ways, files_there, preferred, subfolders_of
+from .reach import Ways, files_there, preferred, subfolders_of, why_unread
 from .search import Scanned, Search
 
-RESERVED = (stage.NAME, earlier.NAME)
+_KEPT = re.compile(rb"(?:%s|%s)\.[1-9][0-9]*" % (re.escape(stage.KEPT), re.escape(stage.EARLIER_KEPT)))
+MOST_TOLD = 3       # how many files a line names that aren't looked at
 
 
 class Looked(NamedTuple):
@@ -43,6 +47,9 @@ class Scene:
         self.folder, self.links, self.most_open = folder, links, most_open
         self.parv = Parv(program, links)
         self.there: Dict[bytes, Identity] = {}
+        self.unread: Dict[bytes, str] = {}          # what isn't looked at, and why
+        self.unread_packets: Dict[bytes, str] = {}  # packet files that aren't, and why
+        self.left: List[bytes] = []                 # files for which there is no room in one call of parv
         self.words: Dict[Tuple[bytes, bool], str] = {}
         self.paths: Dict[str, bytes] = {}
 
@@ -59,15 +66,59 @@ class Scene:
 
     def packet_words(self) -> List[str]:
         """Returns the words for the packet files of the folder."""
-        found: List[str] = []
+        found: List[bytes] = []
         for name, now in self.folder.entries().items():
-            if names.is_packet_file(name) and stat.S_ISLNK(now.st_mode):
-                self.say(f"{shown(name)} is a link, and isn't read")
-            elif names.is_packet_file(name) and stat.S_ISREG(now.st_mode):
-                found.append(self.word_of(name, True))
+            if not names.is_packet_file(name):
+                continue
+            why = why_unread(self.folder, name, now, True)
+            if why is not None:
+                self.unread_packets[name] = why
+                self.say(f"{shown(name)} is a link, and isn't read" if stat.S_ISLNK(now.st_mode) else
+                         f"{shown(name)} isn't read: {why}")
+            elif stat.S_ISREG(now.st_mode):
+                found.append(name)
+        for name in found[MOST_FILES:]:
+            self.unread_packets[name] = f"parv takes {MOST_FILES} files"
         if not found:
-            raise Fault(USAGE, "no packet file")
-        return found[:MOST_FILES]
+            is_closed = any(why != "a link" for why in self.unread_packets.values())
+            raise Fault(FILES if is_closed else USAGE, "no packet file" + (" that can be read" if is_closed else ""))
+        return [self.word_of(name, True) for name in found[:MOST_FILES]]
+
+    def told_unread(self) -> str:
+        """Returns what isn't looked at: some of it, and how much more."""
+        unread = {**self.unread_packets, **self.unread}
+        some = [f"{shown(path)} ({why})" for path, why in itertools.islice(unread.items(), MOST_TOLD)]
+        return ", ".join(some) + (f" and {len(unread) - len(some)} more" if len(unread) > len(some) else "")
+
+    def find_kept(self) -> None:
+        """Records the folders that runs have set aside here: files of the set may be in them."""
+        for name, now in self.folder.entries().items():
+            if stat.S_ISDIR(now.st_mode) and _KEPT.fullmatch(name):
+                self.unread[name] = "set aside"
+
+    def say_unread(self) -> None:
+        """Says what isn't looked at, except what was said of packet files."""
+        if self.unread:
+            self.say(f"not looked at: {self.told_unread()}")
+
+    def find_links(self, found: Found, sources: Sequence[Optional[bytes]]) -> None:
+        """Records which names of the set lead through a link, so that nothing was looked at there."""
+        for file, source in zip(found.set.files, sources):
+            if source == file.name or names.refusal(file.name, RESERVED) is not None:
+                continue
+            at = 0
+            with contextlib.closing(self.folder.levels(file.name)) as levels:
+                for _, part, now in levels:
+                    at += len(part) + 1
+                    if now is not None and stat.S_ISLNK(now.st_mode):
+                        self.unread[file.name[:at - 1]] = "a link"
+
+    def refuse_unread(self, found: Found, sources: Sequence[Optional[bytes]], counts: str) -> None:
+        """Ends the run if it would have to replace a file that it hasn't looked at."""
+        for file, source in zip(found.set.files, sources):
+            if source != file.name and file.name in self.unread:
+                raise Fault(FILES, f"{file.shown} isn't looked at ({self.unread[file.name]}), and isn't replaced: "
+                                   f"{counts}")
 
     def opener(self, word: str) -> BinaryIO:
         return open(self.folder.open_to_read(self.paths[word]), "rb")
@@ -75,6 +126,14 @@ class Scene:
     def find_set(self, chosen: Optional[str]) -> Found:
         """Returns the set of the packet files, or the one that was chosen."""
         words_given = self.packet_words()
+        try:
+            return self._set_of(words_given, chosen)
+        except Fault as fault:
+            if fault.status != NO_SET or not self.unread_packets:
+                raise
+            raise Fault(FILES, f"can't tell whether there is a set: {fault}; not read: {self.told_unread()}") from fault
+
+    def _set_of(self, words_given: List[str], chosen: Optional[str]) -> Found:
         lines = self.parv.packets(words_given)
         sets = list(dict.fromkeys(line.set for line in lines if line.kind == "main"))
         if chosen is None:
@@ -93,7 +152,9 @@ class Scene:
         members = {file.name for file in found.set.files}
         with progress.waiting("the folder is read"):
             read = (name for name in members if names.refusal(name, RESERVED) is None)
-            self.there = files_there(self.folder, members, [b"", *subfolders_of(Ways(self.folder), read)])
+            self.unread, self.left = {}, []
+            folders = [b"", *subfolders_of(Ways(self.folder), read)]
+            self.there = files_there(self.folder, members, folders, self.unread)
 
     def to_scan(self, found: Found) -> List[bytes]:
         """Returns as many of the files as parv accepts."""
@@ -102,8 +163,23 @@ class Scene:
             return list(self.there)
         room = max(room, 0)
         self.say(f"{len(self.there) - room} of {len(self.there)} files aren't looked at: parv takes {room} here")
-        return preferred(self.there, {file.name for file in found.set.files},
-                         {file.length for file in found.set.files})[:room]
+        order = preferred(self.there, {file.name for file in found.set.files},
+                          {file.length for file in found.set.files})
+        for path in order[room:]:
+            self.unread[path] = f"parv takes {room} files"
+        self.left = order[room:]
+        return order[:room]
+
+    def look_at_all(self, found: Found, paths: Sequence[bytes], tails: bool = False) -> Looked:
+        """Returns what parv says about files of the folder. Those of the set for which there was no room are looked at
+        after them, in parts: if they are whole, they aren't missing, though no slice of them is counted."""
+        looked = self.look(found, paths, tails)
+        sources, members = looked.sources, {file.name for file in found.set.files}
+        left = [path for path in self.left if path in members]
+        for at in range(0, len(left), max(len(paths), 1)):
+            more = self.look(found, left[at:at + max(len(paths), 1)]).sources
+            sources = [source or other for source, other in zip(sources, more)]
+        return Looked(sources, looked.verdict)
 
     def look(self, found: Found, paths: Sequence[bytes], tails: bool = False) -> Looked:
         """Returns what parv says about files of the folder."""
@@ -136,7 +212,7 @@ class Scene:
         set."""
         why = names.refusals([file.name for file in found.set.files], RESERVED)
         for number, file in enumerate(found.set.files):
-            reason = why.get(number) or self.folder.obstacle(file.name)
+            reason = why.get(number) or self.folder.obstacle(file.name, stage.NAME)
             if reason:
                 why[number] = reason
                 self.say(f"the name {file.shown} is refused: {reason}")

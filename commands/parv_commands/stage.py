@@ -1,8 +1,8 @@
 """The stage: the folder in which a repair works, below the one that it repairs. Until the moves, par2 has its links and
 its results there. While names change, the journal is there.
 
-The file `owner` has the inode of the stage. So a stage that came with a download, or with a copy of the folder, isn't
-taken for a stage of this folder, and nothing in it is removed.
+A folder may come from anyone, with a stage in it. So the file `owner` and the journal have seals, and a stage without
+the right ones is set aside: nothing in it is followed or removed.
 """
 
 from __future__ import annotations
@@ -11,18 +11,26 @@ import contextlib
 import errno
 import os
 import stat
-from typing import Iterable, List, Optional
+from typing import Iterable, Iterator, List, NamedTuple, Optional
 
-from . import changes, journal
+from . import changes, journal, seals
 from .faults import FILES, Fault, Refused, faults_of
 from .folders import Folder
-from .journal import Moves, Sayer, Step
+from .journal import ASIDE, Moves, Sayer, Step
 from .names import shown
+from .seals import Seal
 
 NAME = b".parv-repair"
 KEPT = b"parv-repair.kept"
 OWNER, JOURNAL, NEW = b"owner", b"journal", b"journal.new"
-FILES_OF_PAR2, MADE, ASIDE = b"files", b"made", b"aside"
+FILES_OF_PAR2, MADE = b"files", b"made"
+PARTS = (FILES_OF_PAR2, MADE, ASIDE)
+_OWNED = b"parv-repair 2\n"
+_MOST_OWNER = len(_OWNED) + seals.MARK + 1
+_NO_TEXT = b"?"
+_CLOSED = (errno.ENOTDIR, errno.ELOOP, errno.EACCES, errno.EPERM, errno.ENXIO, errno.ENODEV)
+_EARLIER = b".verify_and_repair"        # what the script of version 0.4.0, which parv-repair has replaced, has left
+EARLIER_KEPT = b"verify_and_repair.kept"
 
 
 def path_of(*parts: bytes) -> bytes:
@@ -31,10 +39,10 @@ def path_of(*parts: bytes) -> bytes:
 
 
 class Stage:
-    """The stage of a folder, while it exists."""
+    """The stage of a folder, while it exists. The secret is that of the user, if there is one."""
 
-    def __init__(self, folder: Folder, say: Sayer) -> None:
-        self.folder, self.say = folder, say
+    def __init__(self, folder: Folder, secret: Optional[bytes], say: Sayer) -> None:
+        self.folder, self.secret, self.say = folder, secret, say
         self.inner: Optional[Folder] = None
 
     @property
@@ -48,30 +56,48 @@ class Stage:
             self.inner.close()
             self.inner = None
 
-    def _owner(self) -> bytes:
-        return b"parv-repair 1 inode %d\n" % os.fstat(self.opened.place).st_ino
+    def _seal(self, kind: bytes) -> Optional[Seal]:
+        """Returns the seal for a file of the stage: of this user, this folder and this stage."""
+        if self.secret is None:
+            return None
+        return Seal(self.secret, b"parv-repair " + kind, self.folder.place, self.opened.place)
+
+    def sealed(self, kind: bytes, text: bytes) -> bytes:
+        """Returns what a file of the stage with this text has, or nothing without a secret."""
+        seal = self._seal(kind)
+        return b"" if seal is None else seal.sealed(text)
 
     def make(self) -> None:
         with faults_of("write in", self.folder.shown):
             changes.make_folder(self.folder.place, NAME, 0o700)
             with changes.new_file(self.opened.place, OWNER) as opened:
-                changes.write(opened, self._owner())
+                changes.write(opened, self.sealed(OWNER, _OWNED))
                 changes.sync(opened)
-            for name in FILES_OF_PAR2, MADE, ASIDE:
+            for name in PARTS:
                 changes.make_folder(self.opened.place, name)
 
     def is_own(self) -> bool:
-        """Returns whether the stage was made in this folder, and didn't come with it."""
-        entries = self.opened.entries()
-        if not entries:
+        """Returns whether a run of this user has made the stage, in this folder: whether its owner has the right mark.
+        (A run may have been ended before it had written all of that.)"""
+        owner = self.sealed(OWNER, _OWNED)
+        noted: Optional[bytes] = None
+        with contextlib.suppress(FileNotFoundError):
+            noted = self._read(OWNER, _MOST_OWNER)
+        if owner and noted == owner:
             return True
-        if OWNER not in entries:
-            return False
+        names = self.opened.names()
+        return not names or (len(names) == 1 and bool(owner) and noted is not None and owner.startswith(noted))
+
+    def _read(self, name: bytes, most: int) -> bytes:
+        """Returns the bytes of a file in the stage, or none of one that no run has made."""
         try:
-            noted = journal.read_file(self.opened, OWNER)
-        except (Refused, OSError):
-            return False
-        return noted == self._owner() or (len(entries) == 1 and self._owner().startswith(noted))
+            return journal.read_file(self.opened, name, most)
+        except Refused:
+            return _NO_TEXT
+        except OSError as fault:
+            if fault.errno not in _CLOSED:
+                raise
+            return _NO_TEXT
 
     # The journal.
 
@@ -85,7 +111,7 @@ class Stage:
                 finally:
                     os.close(opened)
             with changes.new_file(self.opened.place, NEW) as new:
-                changes.write(new, journal.encoded(steps))
+                changes.write(new, self.sealed(JOURNAL, journal.encoded(steps)))
                 changes.sync(new)
             changes.move(self.opened.place, NEW, self.opened.place, JOURNAL)
             changes.sync_folder(self.opened.place)
@@ -98,18 +124,15 @@ class Stage:
             changes.sync_folder(self.opened.place)
 
     def moves(self) -> Optional[Moves]:
-        """Returns the moves that a run has recorded here, or None if it didn't get that far."""
+        """Returns the moves that a run has recorded here, or None if it didn't get that far. A journal without the
+        right mark is refused."""
         if self.opened.look(JOURNAL) is None:
             return None
-        try:
-            return Moves(self.folder, NAME, journal.decoded(journal.read_file(self.opened, JOURNAL)), self.say)
-        except (Refused, OSError) as why:
-            raise self.stays(f"{shown(path_of(JOURNAL))}: {why}") from why
-
-    def stays(self, why: str) -> Fault:
-        """Returns the error that the stage can't be dealt with, and what to do."""
-        return Fault(FILES, f"{why}; {shown(NAME)} stays, for what is to be undone: look at what is in it, and move it "
-                            "out of the folder")
+        seal = self._seal(JOURNAL)
+        text = None if seal is None else seal.text_of(self._read(JOURNAL, journal.MOST + seals.MARK + 1))
+        if text is None:
+            raise Refused("it isn't the journal of a run here")
+        return Moves(self.folder, NAME, journal.decoded(text), self.say)
 
     # Its end.
 
@@ -147,7 +170,7 @@ class Stage:
 
     def _keep(self) -> None:
         kept = self.folder.free_name(KEPT)
-        changes.move(self.folder.place, NAME, self.folder.place, kept)
+        changes.move_entry(self.folder.place, NAME, kept)
         self.say(f"what was in {shown(NAME)} isn't of a run in this folder, and is kept as {shown(kept)}")
 
 
@@ -156,37 +179,78 @@ def is_there(folder: Folder) -> bool:
     return not folder.is_free(NAME)
 
 
-def recover(folder: Folder, say: Sayer) -> None:
-    """Finishes what an ended run was doing, or takes it back, and removes the stage."""
-    if not folder.is_folder(NAME):
-        raise Fault(FILES, f"{shown(NAME)} is a link or no folder: remove it, and call the command again")
-    stage = Stage(folder, say)
-    with contextlib.closing(stage), faults_of("recover", f"{folder.shown}/{shown(NAME)}"):
-        moves = stage.moves()
-        said = "a run was ended here, with no move left to be made"
+class _Left(NamedTuple):
+    """What a run of this user has left: its stage, and the moves that it has recorded, if it got that far."""
+    stage: Stage
+    moves: Optional[Moves]
+
+
+@contextlib.contextmanager
+def _left(folder: Folder, say: Sayer) -> Iterator[Optional[_Left]]:
+    """Opens the stage of a folder. Yields None if it isn't shown to be of a run of this user there."""
+    stage, is_own, moves = Stage(folder, seals.known_secret(), say), False, None
+    with contextlib.closing(stage):
+        with faults_of("open", f"{folder.shown}/{shown(NAME)}"):
+            try:
+                is_own = stage.is_own()
+                moves = stage.moves() if is_own else None
+            except Refused:
+                is_own = False
+            except OSError as fault:        # a link or no folder, or one that this user can't read
+                if fault.errno not in _CLOSED:
+                    raise
+        yield _Left(stage, moves) if is_own else None
+
+
+def told_of(folder: Folder, say: Sayer) -> None:
+    """Says what a run would begin with. Ends the command if that is what an ended run was doing."""
+    for name in (name for name in (_EARLIER, NAME) if not folder.is_free(name)):
+        if name == NAME:
+            with _left(folder, say) as left:
+                if left is not None:
+                    raise Fault(FILES, "a run was ended here, and is finished or undone by the next without --dry-run")
+        say(f"{shown(name)} isn't shown to be of a run of yours in this folder: the next run without --dry-run gives "
+            "it another name, and follows nothing in it")
+
+
+def recover(folder: Folder, say: Sayer) -> bool:
+    """Finishes what an ended run of this user was doing, or takes it back, and removes the stage. A stage that isn't
+    shown to be of one is set aside. Returns whether anything was there."""
+    is_earlier = not folder.is_free(_EARLIER)
+    if is_earlier:
+        seals.set_aside(folder, _EARLIER, EARLIER_KEPT, say)
+    if folder.is_free(NAME):
+        return is_earlier
+    with _left(folder, say) as left:
+        if left is None:
+            seals.set_aside(folder, NAME, KEPT, say)
+        else:
+            _recover(left, say)
+    return True
+
+
+def _recover(left: _Left, say: Sayer) -> None:
+    stage, moves = left
+    said = "a run was ended here, with no move left to be made"
+    with faults_of("recover", f"{stage.folder.shown}/{shown(NAME)}"):
         if moves is not None:
-            said = _deal_with(stage, moves)
+            said = _deal_with(moves)
             moves.sync()
-            if stage.is_own():
-                stage.forget()
+            stage.forget()
         stage.clear()
     say(said)
 
 
-def _deal_with(stage: Stage, moves: Moves) -> str:
+def _deal_with(moves: Moves) -> str:
     """Finishes the moves of an ended run, or undoes them, and returns which of the two."""
     try:
-        if not stage.is_own():
-            moves.bring_out()
-            return f"{shown(NAME)} isn't of a run in this folder: files that were moved into it are in the folder again"
         said = "after its moves, which stay" if moves.are_made() else "and is finished"
         moves.finish()
         return f"a run was ended here{' ' if said.startswith('after') else ', '}{said}"
     except Refused as why:
-        if not stage.is_own():      # its steps aren't those of a run here, so there is nothing to take back
-            raise stage.stays(str(why)) from why
         try:
             moves.undo()
         except Fault as fault:
-            raise stage.stays(f"{why}; {fault}") from fault
+            raise Fault(FILES, f"{why}; {fault}; {shown(NAME)} stays, for what is to be undone: look at what is in "
+                               "it, and move it out of the folder") from fault
         return f"a run was ended here, and is undone: {why}"

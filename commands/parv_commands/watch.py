@@ -68,7 +68,7 @@ class Check:
         """Returns the regular files in the folder, and those to which links there lead."""
         found: Dict[bytes, Identity] = {}
         with faults_of("read", self.folder.shown):
-            names = sorted(map(os.fsencode, os.listdir(self.folder.place)))
+            names = self.folder.names()
         for name in names:
             with contextlib.suppress(OSError):
                 now = os.stat(name, dir_fd=self.folder.place)

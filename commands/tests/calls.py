@@ -2,6 +2,7 @@
 
 from __future__ import annotations
 
+import contextlib
 import os
 import signal
 import subprocess
@@ -24,14 +25,37 @@ def take_all_signals() -> None:
         signal.signal(number, signal.SIG_DFL)
 
 
+def slow(top: str, text: str) -> str:
+    """Returns a program in the folder, a text for bash, that waits until progress is shown, for which terminal_text makes
+    a file. It waits for a minute at least if none is."""
+    path = os.path.join(top, "slow")
+    waits = f"for _ in {{1..3000}}; do [ ! -e {top}/shown ] || break; sleep 0.02; done"
+    write(path, f"#!/bin/bash\nrm -f {top}/shown\n{waits}\n{text}\n".encode())
+    os.chmod(path, 0o755)
+    return path
+
+
+def terminal_text(terminal: int, top: str) -> bytes:
+    """Returns what comes to a terminal, up to its end, and closes it. When that shows progress, it lets a slow program of
+    the folder go on."""
+    text = b""
+    with contextlib.suppress(OSError):
+        while piece := os.read(terminal, 4096):
+            text += piece
+            if b"MiB" in text[-len(piece) - 2:]:
+                write(os.path.join(top, "shown"), b"")
+    os.close(terminal)
+    return text
+
+
 class Calls(unittest.TestCase):
     """Tests that call commands, in the folder above a room."""
     room: Room
 
     def call(self, *words: str, shell: str = 'exec "$@"', **environment: str) -> Ended:
-        given = {**os.environ, "PARV": PARV, "PAR2": self.room.stand_in, "TMPDIR": self.room.temporary, **environment}
+        given = {**os.environ, **self.room.environment(), **environment}
         ended = subprocess.run(["/bin/bash", "-c", shell, "bash", *words], cwd=self.room.top, env=given,
-                               capture_output=True, timeout=120, stdin=subprocess.DEVNULL)
+                               capture_output=True, timeout=600, stdin=subprocess.DEVNULL)
         out, said = (text.decode("utf-8", "surrogateescape") for text in (ended.stdout, ended.stderr))
         return ended.returncode, out, said
 
@@ -44,18 +68,18 @@ class Calls(unittest.TestCase):
     def waits(self, name: str, command: str) -> str:
         """Writes a program that records its number and waits, if this shell command succeeds, and otherwise is parv."""
         return self.program(name, f'#!/bin/bash\n{command} || exec "{PARV}" "$@"\necho $$ > {self.room.top}/waiting\n'
-                                  "exec sleep 60\n")
+                                  "exec sleep 900\n")
 
     def ended_while(self, words: List[str], number: signal.Signals, all_of_them: bool,
                     **environment: str) -> Tuple[int, bytes]:
         """Ends a command by a signal while such a program waits. Returns how it ends; the program must have ended
         too."""
         place = os.path.join(self.room.top, "waiting")
-        given = {**os.environ, "PARV": PARV, "PAR2": self.room.stand_in, "TMPDIR": self.room.temporary, **environment}
+        given = {**os.environ, **self.room.environment(), **environment}
         process = subprocess.Popen(words, cwd=self.room.top, env=given, stdout=subprocess.PIPE,
                                    stderr=subprocess.STDOUT, start_new_session=True, preexec_fn=take_all_signals)
         child: Optional[int] = None
-        until = time.monotonic() + 30
+        until = time.monotonic() + 600
         while child is None and time.monotonic() < until:
             time.sleep(0.02)
             if os.path.exists(place):
@@ -65,10 +89,8 @@ class Calls(unittest.TestCase):
         assert child is not None
         os.remove(place)
         (os.killpg if all_of_them else os.kill)(process.pid, number)
-        out, _ = process.communicate(timeout=30)
-        for _ in range(100):
-            if not os.path.exists(f"/proc/{child}"):
-                break
+        out, _ = process.communicate(timeout=600)
+        while os.path.exists(f"/proc/{child}") and time.monotonic() < until:
             time.sleep(0.02)
         self.assertFalse(os.path.exists(f"/proc/{child}"), "the program goes on")
         return process.returncode, out

@@ -27,13 +27,13 @@ for whole in %s/by-number/file*; do
     ! cmp -s "$whole" "$name" || continue
     [ ! -e "$name" ] && [ ! -L "$name" ] || mv "$name" "$name.1"
     [ "$WRONG" != fails ] || { head -c 4 "$whole" > "$name"; echo "Repair Failed."; exit 5; }
-    [ "$WRONG" != kills ] || [ ! -s "$whole" ] || { head -c 4 "$whole" > "$name"; kill -KILL $PPID; exec sleep 60; }
+    [ "$WRONG" != kills ] || [ ! -s "$whole" ] || { head -c 4 "$whole" > "$name"; kill -KILL $PPID; exec sleep 900; }
     cp "$whole" "$name"
 done
 """
 STAGE = ".parv-repair"
-EARLIER = ".verify_and_repair"      # the stage of the script of version 0.4.0
-SECONDS = 120       # the greatest number of seconds for a run
+SECRET = b"a secret of thirty-two bytes ..."
+SECONDS = 600       # the greatest number of seconds for a run
 Listing = Dict[str, Tuple[int, bytes]]
 Action = Callable[[str], None]
 
@@ -73,6 +73,12 @@ def set_of(files: Dict[bytes, bytes], size: int, recovery: int) -> bytes:
     return b"".join(packets)
 
 
+def spent() -> float:
+    """Returns the seconds of processor time of all programs that have ended. A busy machine doesn't change it much."""
+    times = os.times()
+    return times.children_user + times.children_system
+
+
 def write(path: str, data: bytes) -> None:
     os.makedirs(os.path.dirname(path), exist_ok=True)
     with open(path, "wb") as out:
@@ -82,6 +88,13 @@ def write(path: str, data: bytes) -> None:
 def read(path: str) -> bytes:
     with open(path, "rb") as file:
         return file.read()
+
+
+def unchanged(path: str) -> Tuple[int, ...]:
+    """Returns what stays the same of what is at a path as long as it is only read: all but the time of the last read."""
+    now = os.lstat(path)
+    return (now.st_dev, now.st_ino, now.st_mode, now.st_nlink, now.st_uid, now.st_gid, now.st_size, now.st_mtime_ns,
+            now.st_ctime_ns)
 
 
 class Ended(NamedTuple):
@@ -102,9 +115,12 @@ class Room:
         self.top = tempfile.mkdtemp()
         self.folder = os.path.join(self.top, "room")
         self.temporary = os.path.join(self.top, "tmp")
+        self.state_home = os.path.join(self.top, "secrets")
         self.files, self.size = files, size
         os.mkdir(self.temporary)
         os.mkdir(self.folder)
+        write(os.path.join(self.state_home, "parv", "secret"), SECRET)
+        os.chmod(os.path.join(self.state_home, "parv", "secret"), 0o600)
         named: Dict[bytes, bytes] = {os.fsencode(name): data for name, data in files.items()}
         self.packets = set_of(named, size, recovery)
         for number, (name, data) in enumerate(sorted(named.items(), key=lambda each: file_id(*each)[::-1])):
@@ -124,6 +140,10 @@ class Room:
 
     def close(self) -> None:
         shutil.rmtree(self.top)
+
+    def environment(self) -> Dict[str, str]:
+        """Returns what commands have in their environment."""
+        return {"PARV": PARV, "PAR2": self.stand_in, "TMPDIR": self.temporary, "XDG_STATE_HOME": self.state_home}
 
     def path(self, name: str) -> str:
         return os.path.join(self.folder, name)
@@ -157,7 +177,7 @@ class Room:
 
     def state(self) -> str:
         """Returns the state of the folder that a run finds. Inodes and times differ in each room, so files in a journal
-        are named by their places."""
+        are named by their places, and marks are left out."""
         found = self.listing()
         known = {}
         for name in found:
@@ -167,7 +187,8 @@ class Room:
         told = hashlib.md5()
         for name in sorted(found):
             kind, data = found[name]
-            if name.startswith((STAGE, EARLIER)) and kind == stat.S_IFREG:
+            if name.startswith(STAGE) and kind == stat.S_IFREG:
+                data = re.sub(rb"[0-9a-f]{64}\n\Z", b"", data)
                 data = re.sub(rb"(?<![0-9.])[0-9]+( [0-9]+ -?[0-9]+)?(?=[\0\n])",
                               lambda noted: known.get(noted[0], b"?"), data)
             told.update(repr((name, kind, data)).encode())
@@ -187,7 +208,7 @@ class Room:
             child = os.fork()
             if not child:
                 _be_child(main, words, paths, calls.fileno(), watch, {
-                    "PARV": PARV, "PAR2": self.stand_in, "TMPDIR": self.temporary, **environment}, self.top)
+                    **self.environment(), **environment}, self.top)
             _, state = os.waitpid(child, 0)
         status = os.WEXITSTATUS(state) if os.WIFEXITED(state) else 128 + os.WTERMSIG(state)
         out, said, made = (read(path).decode("utf-8", "replace") for path in paths)

@@ -20,16 +20,17 @@ from .test_repair_crashes import WHOLE, damage
 
 PACKAGE = os.path.dirname(os.path.realpath(parv_commands.__file__ or ""))
 READS: Dict[str, Set[str]] = {      # what the commands may use of modules that can also change a disk
-    "os": set("""O_CLOEXEC O_DIRECTORY O_NOFOLLOW O_NONBLOCK O_PATH O_RDONLY O_RDWR R_OK SEEK_DATA X_OK _exit access
-              close devnull environ execve fchdir fsdecode fsencode fstat getcwd getcwdb getpid getppid isatty killpg
-              listdir lseek open path pathsep pread read readlink scandir set_blocking setpgid stat stat_result strerror
-              sysconf urandom write""".split()),
+    "os": set("""O_CLOEXEC O_DIRECTORY O_NOFOLLOW O_NONBLOCK O_PATH O_RDONLY O_RDWR R_OK SEEK_DATA SEEK_HOLE X_OK _exit
+              access close devnull environ execve fchdir fsdecode fsencode fstat getcwd getcwdb geteuid getpid getppid
+              isatty killpg listdir lseek open path pathsep pread read readlink scandir set_blocking setpgid stat
+              stat_result strerror sysconf urandom write""".split()),
     "shutil": {"get_terminal_size"}, "tempfile": set(), "ctypes": {"CDLL"}, "pathlib": set(), "io": set(),
 }
 SAYING = {"output.py", "progress.py"}       # modules that write to standard output and standard error
 CALLS = dict(pair.split(":") for pair in """mkdir:mkdir mkdirat:mkdir unlinkat:unlink unlink:unlink rmdir:rmdir
     symlinkat:symlink symlink:symlink renameat2:rename rename:rename renameat:rename linkat:link link:link write:write
-    pwrite64:pwrite ftruncate:ftruncate truncate:ftruncate fchmod:fchmod fchmodat:fchmod chmod:fchmod utimensat:utimens
+    pwrite64:pwrite ftruncate:ftruncate truncate:ftruncate fchmod:fchmod fchmodat:fchmod chmod:fchmod
+    fchown:fchown fchownat:fchown chown:fchown lchown:fchown utimensat:utimens
     fsync:fsync syncfs:syncfs openat:create""".split())     # calls of the system, and their names in `changes`
 
 
@@ -84,7 +85,7 @@ class Changes(unittest.TestCase):
         counted = Counter(room.run(repair.main, ["room"]).calls)
         damage(room)
         above = os.path.dirname(PACKAGE)
-        environment = {**os.environ, "PAR2": room.stand_in, "TMPDIR": room.temporary, "PYTHONPATH": above}
+        environment = {**os.environ, **room.environment(), "PYTHONPATH": above}
         run = "import sys; from parv_commands import repair; sys.argv = ['', 'room']; sys.exit(repair.main())"
         words = [strace, "-o", trace, "-e", "trace=" + ",".join(CALLS), sys.executable, "-B", "-S", "-c", run]
         ended = subprocess.run(words, cwd=room.top, env=environment, stdout=subprocess.DEVNULL)

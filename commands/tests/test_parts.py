@@ -3,6 +3,7 @@ parv's, programs that end with a command, and progress on a terminal."""
 
 from __future__ import annotations
 
+import itertools
 import os
 import pty
 import time
@@ -14,7 +15,8 @@ from parv_commands import answers, changes, map as map_command, names, parts, pr
 from parv_commands.faults import Fault
 from parv_commands.folders import Folder
 
-from .rooms import Room, write
+from .calls import slow, terminal_text
+from .rooms import PARV, Room, write
 
 SET = b"""set 617cdc72ba53d94fe713fea2ae18f776 size 4 slices 3
 file 00000000000000000000000000000001 8 2 yes a b
@@ -35,15 +37,15 @@ class Names(unittest.TestCase):
 
     def test_names_that_lead_elsewhere_are_refused(self) -> None:
         for name in (b"/a", b"../a", b"a/../b", b"..", b".", b"a/./b", b"a//b", b"a/", b"", b"..\\a", b"\\a",
-                     b"a\\..\\b", b"own/a", b"own", b"x" * 256, b"a/" + b"x" * 256 + b"/b", b"a\0b",
+                     b"a\\..\\b", b"own/a", b"own", b"a/Own", b"x" * 256, b"a/" + b"x" * 256 + b"/b", b"a\0b",
                      b"a/" * 201 + b"b"):
             self.assertIsNotNone(names.refusal(name, [b"own"]), name)
-        for name in b"a", b"..a", b"a..", b"a../b", b"a\\b", b"x" * 255, b"-a", b"owned", b"a/own", b"\xff\n", \
+        for name in b"a", b"..a", b"a..", b"a../b", b"a\\b", b"x" * 255, b"-a", b"owned", b"a/disown", b"\xff\n", \
                 b"a/" * 200 + b"b":
             self.assertIsNone(names.refusal(name, [b"own"]), name)
 
     def test_a_name_may_not_be_a_folder_of_another(self) -> None:
-        self.assertEqual(list(names.refusals([b"a", b"a.b", b"a/b", b"c", b"a/b/c"], [])), [0, 2])
+        self.assertEqual(list(names.refusals([b"a", b"a.b", b"a/b", b"c", b"a/b/c", b"..."], [])), [0, 2])
 
     def test_a_numbered_name_is_no_longer_than_one_may_be(self) -> None:
         self.assertEqual(names.numbered(b"a/b", 12), b"a/b.12")
@@ -63,8 +65,9 @@ class Folders(unittest.TestCase):
             with self.assertRaises(FileNotFoundError, msg=name), folder.above(name, True):
                 pass
             self.assertRaises(FileNotFoundError, folder.open_to_read, name)
+            self.assertRaises(FileNotFoundError, list, folder.levels(name))
             self.assertRaises(FileNotFoundError, folder.move, b"in/a", name, True)
-        self.assertEqual(sorted(os.listdir(room.top)), ["by-number", "outside", "par2", "room", "tmp"])
+        self.assertEqual(sorted(os.listdir(room.top)), ["by-number", "outside", "par2", "room", "secrets", "tmp"])
         self.assertIsNotNone(folder.look(b"in/a"))
 
 
@@ -116,40 +119,35 @@ class Programs(unittest.TestCase):
 class Progress(unittest.TestCase):
     """On a terminal, a command says what it does, and removes the line."""
 
-    def on_terminal(self, words: List[str], main: object, first: float, status: int = 0) -> str:
+    def on_terminal(self, words: List[str], main: object, status: int = 0, is_slow: bool = True) -> str:
+        """Returns what a command shows, with a slow parv or one that takes less than two seconds."""
         room = Room({"first": b"first of all", "second": b"the second"})
         self.addCleanup(room.close)
         room.take("first")
-        slow = os.path.join(room.top, "slow")
-        write(slow, f'#!/bin/sh\nsleep 0.3\nexec "{os.environ.get("PARV", "parv")}" "$@"\n'.encode())
-        os.chmod(slow, 0o755)
+        program = slow(room.top, f'exec "{PARV}" "$@"') if is_slow else PARV
         child, terminal = pty.fork()
         if not child:
             ended = 99
             try:
                 os.chdir(room.top)
-                os.environ.update(PARV=slow, PAR2=room.stand_in, TMPDIR=room.temporary)
-                progress.FIRST, progress.EACH = first, 0.05
+                os.environ.update(PARV=program, PAR2=room.stand_in, TMPDIR=room.temporary)
+                progress.EACH = 0.05
+                if is_slow:
+                    progress.FIRST = 0.1
+                else:       # (on a clock that goes on by a millisecond each time that somebody looks at it)
+                    times = itertools.count(1000, 0.001)
+                    setattr(progress, "time", unittest.mock.Mock(monotonic=lambda: next(times)))
                 import sys
                 sys.argv = ["command", *words]
                 ended = main()      # type: ignore[operator]
             finally:
                 os._exit(ended)
-        text = b""
-        while True:
-            try:
-                piece = os.read(terminal, 4096)
-            except OSError:
-                break
-            if not piece:
-                break
-            text += piece
-        os.close(terminal)
+        text = terminal_text(terminal, room.top)
         self.assertEqual(os.waitpid(child, 0)[1], status << 8)
         return text.decode()
 
     def test_what_takes_long_is_told(self) -> None:
-        text = self.on_terminal(["room"], repair.main, 0.1)
+        text = self.on_terminal(["room"], repair.main)
         self.assertRegex(text, "\r\x1b\\[Kparv packets: [0-9]+ MiB")
         self.assertRegex(text, "\r\x1b\\[Kparv verify: [0-9]+ MiB of at most [0-9]+ MiB")
         self.assertTrue(text.endswith("\r\x1b[Krepair first\r\ncomplete\r\n"), text)
@@ -157,23 +155,24 @@ class Progress(unittest.TestCase):
         for words, main, status, command in (
                 (["new", *given], rescue.main, 1, "find"), (["parts", "1", *given], parts.main, 0, "find"),
                 (given, map_command.main, 0, "find"), (["room", "0", "1"], watch.main, 1, "verify")):
-            text = self.on_terminal(words, main, 0.1, status)
+            text = self.on_terminal(words, main, status)
             self.assertRegex(text, f"\r\x1b\\[Kparv {command}: [0-9]+ MiB of at most [0-9]+ MiB")
 
     def test_calls_that_tell_nothing_themselves_are_told_while_they_last(self) -> None:
         def lasts(*_: object) -> None:
-            time.sleep(0.4)
+            while progress._Progress.what and not progress._Progress.shown:
+                time.sleep(0.01)
         with unittest.mock.patch.multiple(changes, sync=lasts, sync_all=lasts):
-            text = self.on_terminal(["room"], repair.main, 0.1)
+            text = self.on_terminal(["room"], repair.main)
             self.assertIn("\r\x1b[Kwhat was made is brought to the disk\r\x1b[K", text)
             self.assertIn("\r\x1b[Kwhat was moved is brought to the disk\r\x1b[K", text)
             self.assertTrue(text.endswith("\r\x1b[Krepair first\r\ncomplete\r\n"), text)
-            text = self.on_terminal(["new", "room/set.par2", "room/second"], rescue.main, 0.1, 1)
+            text = self.on_terminal(["new", "room/set.par2", "room/second"], rescue.main, 1)
             self.assertIn("\r\x1b[Kwhat was copied is brought to the disk\r\x1b[K", text)
 
     def test_what_takes_less_than_two_seconds_is_not(self) -> None:
         self.assertEqual(progress.FIRST, 2.0)
-        self.assertEqual(self.on_terminal(["room"], repair.main, 2.0), "repair first\r\ncomplete\r\n")
+        self.assertEqual(self.on_terminal(["room"], repair.main, 0, False), "repair first\r\ncomplete\r\n")
 
 
 if __name__ == "__main__":

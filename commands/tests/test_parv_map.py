@@ -10,7 +10,7 @@ from typing import List, Optional
 from parv_commands import changes, map as map_command
 
 from .calls import BIN, Calls
-from .rooms import FULL, KILLED, MAKING, PARV, At, Ended, From, Room, read, write
+from .rooms import FULL, KILLED, MAKING, PARV, At, Ended, From, Room, file_id, read, write
 
 MAP = os.path.join(BIN, "parv-map")
 FILES = {"first": b"first of all files and more", "second": b"the second file"}
@@ -98,7 +98,11 @@ class Pages(Calls):
         self.assertEqual(self.run_it(None, ["--html", "page", "--svg", "in/page", *WORDS]).status, 0)
 
     def test_names_of_pages_that_cannot_be(self) -> None:
-        for name, why in ("", "Is a directory"), ("in/", "No such file or directory"), (
+        for option in "--html", "--svg":
+            ended = self.run_it(None, [option, "", *WORDS])
+            self.assertEqual((ended.status, ended.out), (3, ""))
+            self.assertTrue(ended.said.startswith("parv-map: a page or a picture needs a name\n"), ended)
+        for name, why in ("in/", "No such file or directory"), (
                 "none/page", "No such file or directory"), ("n" * 256, "File name too long"), (
                 "room/first/page", "Not a directory"):
             for option in "--html", "--svg":
@@ -123,7 +127,7 @@ class Maps(Calls):
         programs = ["/bin/true", "/bin/false", "/bin/echo", "/bin/cat", "/usr/bin/yes", *(
             self.program(name, f"#!/bin/bash\n{text}\n") for name, text in odd.items())]
         for program in programs:
-            status, out, said = self.call("timeout", "60", MAP, *BOTH, PARV=program)
+            status, out, said = self.call("timeout", "600", MAP, *BOTH, PARV=program)
             self.assertEqual((status, out), (6, ""), (program, said))
             self.assertRegex(said, r"\Aparv-map: [^\n]*(PARV|isn't parv|signal|than an answer)[^\n]*\n\Z")
             self.assertEqual(os.listdir(self.room.temporary), [])
@@ -148,6 +152,31 @@ class Maps(Calls):
         ended = self.call(shell=f'ulimit -Sn 1024; exec {MAP} -B room room/*')
         self.assertEqual((ended[0], ended[2]), (0, ""), ended)
         self.assertIn("6 in place; need 0 have 20\n", ended[1])
+
+    def test_more_files_than_may_be_open_at_all(self) -> None:
+        self.room.rename("second", "stray")
+        for number in range(80):
+            self.room.put(f"f{number}", b"%d" % number)
+        ended = self.call(shell=f'ulimit -n 60; exec {MAP} -B room room/*')
+        self.assertEqual((ended[0], ended[2]), (0, ""), ended)
+        self.assertIn("4 in place, 2 moved; need 0 have 20\n", ended[1])
+
+    def test_files_without_checksums_need_only_those_of_their_length(self) -> None:
+        packets = self.room.packets
+        at = packets.index(b"IFSC") - 56
+        while file_id(b"second", FILES["second"]) != packets[at + 64:at + 80]:
+            at = packets.index(b"IFSC", at + 60) - 56
+        self.room.put("set.par2", packets[:at] + packets[at + int.from_bytes(packets[at + 8:at + 16], "little"):])
+        for number in range(80):
+            self.room.put(f"f{number}", b"%d" % number)
+        ended = self.call(shell=f'ulimit -n 60; exec {MAP} -B room room/*')
+        self.assertEqual((ended[0], ended[2]), (0, ""), ended)
+        self.assertIn("6 in place; need 0 have 20\n", ended[1])
+        for number in range(80):
+            self.room.put(f"f{number}", b"%015d" % number)
+        ended = self.call(shell=f'ulimit -n 60; exec {MAP} -B room room/*')
+        self.assertEqual(ended[:2], (6, ""), ended)
+        self.assertIn("81 files have the length of one without checksums of slices; parv takes ", ended[2])
 
     def test_relative_programs_and_parts_of_the_path(self) -> None:
         told = os.path.join(self.room.top, "told")

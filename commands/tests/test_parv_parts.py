@@ -4,10 +4,8 @@ arguments of earlier searches, and programs that aren't parv."""
 from __future__ import annotations
 
 import os
-import random
 import shutil
 import signal
-import string
 import subprocess
 import unittest.mock
 from typing import Any, Callable, Dict, List, Optional
@@ -127,22 +125,33 @@ class Parts(Calls):
         ended = self.call(PARTS, "parts", "9" * 19, *WORDS)
         self.assertEqual(ended[:2], (0, self.lines), ended)
 
-    def test_the_words_are_those_that_the_script_kept(self) -> None:
-        dice = random.Random(1)
-        every = [a + b for a in string.printable[:95] for b in ("", "x", "~", "#")]
-        every += ["x" + word for word in every]
-        every += ["".join(dice.choices(string.printable[:95], k=9)) for _ in range(300)]
-        said = subprocess.run(["/bin/bash", "-c", "printf '%q\\n' \"$@\"", "bash", *every], capture_output=True,
-                              env={"LC_ALL": "C"}, check=True).stdout.split(b"\n")[:-1]
-        self.assertEqual([parts.quoted(word.encode()) for word in every], said)
-        odd = [b"", b"a\nb", b"\xff", b"it's\t", b"\\\x01"]
-        self.assertEqual(len({parts.quoted(word) for word in odd}), len(odd))
-        self.assertFalse(any(b"\n" in parts.quoted(word) for word in odd))
+    def test_words_differ_if_files_do(self) -> None:
+        odd = [b"", b"a\nb", b"a\\x0ab", b"it's\t", b"\\\x01", b"--tails", b"\xc3\xa9", b" ", b"file a", b"a"]
+        texts = [parts.text_of(parts.Asked(False, b"", b"1", [word])) for word in odd]
+        texts += [parts.text_of(parts.Asked(True, b"", b"1", odd[-1:])),
+                  parts.text_of(parts.Asked(False, b"", b"1", [b"a", b"a"]))]
+        self.assertEqual(len(set(texts)), len(odd) + 2)
+        for text in texts[:-2]:
+            self.assertRegex(text, rb"\Aparv-parts 1\nfile [ -~]*\n\Z")
+
+    def test_a_folder_of_the_script_is_refused_and_stays(self) -> None:
         os.mkdir(self.path())
         write(self.path("words"), b"room/set.par2\nimage\n")
         lines = self.lines.splitlines(True)
         write(self.path("1"), "".join(lines[:2]).encode() + self.cursor_after(2))
-        self.is_whole(self.run_it(goes_on=True), "a folder of the script")
+        ended = self.run_it(goes_on=True)
+        self.assertEqual((ended.status, ended.out, ended.said),
+                         (3, "", "parv-parts: parts is of a search with other words\n"))
+        self.assertEqual((sorted(os.listdir(self.path())), read(self.path("words"))),
+                         (["1", "words"], b"room/set.par2\nimage\n"))
+
+    def test_a_file_that_grows_is_told(self) -> None:
+        self.assertEqual(self.run_it(At(2, "before", KILLED, ["rename"])).status, 137)
+        with open(os.path.join(self.room.top, "image"), "ab") as file:
+            file.write(b"more")
+        ended = self.run_it(goes_on=True)
+        self.assertEqual((ended.status, ended.out, ended.said), (
+            3, "", "parv-parts: a searched file has another length than when this search began\n"))
 
     def cursor_after(self, count: int) -> bytes:
         words = [PARV, "find", "--limit", str(count), "--", *WORDS]
@@ -159,7 +168,7 @@ class Parts(Calls):
             self.program(name, f"#!/bin/bash\n{text}\n") for name, text in odd.items())]
         for program in programs:
             shutil.rmtree(self.path(), ignore_errors=True)
-            status, out, said = self.call("timeout", "30", PARTS, "parts", LIMIT, *WORDS, PARV=program)
+            status, out, said = self.call("timeout", "600", PARTS, "parts", LIMIT, *WORDS, PARV=program)
             self.assertEqual((status, out), (6, ""), (program, said))
             self.assertRegex(said, r"\Aparv-parts: [^\n]*(PARV|isn't parv|signal)[^\n]*\n\Z")
             self.assertEqual(sorted(os.listdir(self.path())), ["new", "words"], program)
@@ -169,7 +178,7 @@ class Parts(Calls):
 
     def test_a_planted_part_brings_no_bytes_to_a_terminal(self) -> None:
         os.mkdir(self.path())
-        write(self.path("words"), b"room/set.par2\nimage\n")
+        write(self.path("words"), b"parv-parts 1\nfile room/set.par2\nfile image\n")
         write(self.path("1"), b"\x1b[31mred 0 00 0\nend\n")
         ended = self.run_it(goes_on=True)
         self.assertEqual((ended.status, ended.out, ended.said),

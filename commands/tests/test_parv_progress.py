@@ -11,7 +11,7 @@ from typing import List, Tuple
 
 from parv_commands import progress, progress_of_parv
 
-from .calls import BIN, Calls
+from .calls import BIN, Calls, slow, terminal_text
 from .rooms import PARV, Room
 
 PROGRESS = os.path.join(BIN, "parv-progress")
@@ -32,7 +32,7 @@ class Progress(Calls):
         odd = self.program("odd", "#!/bin/bash\nprintf 'a\\0b\\377'; printf 'c\\033' >&2; exit 77\n")
         killed = self.program("killed", "#!/bin/bash\necho some; kill -SEGV $$\n")
         for shell in ('exec "$@"', 'exec "$@" >&-', 'exec "$@" > /dev/full', 'exec "$@" 2>&-', 'exec "$@" <&- >&- 2>&-',
-                      '{ sleep 0.4; "$@"; echo $? >&2; } | true', 'ulimit -f 0; exec "$@" > limited'):
+                      'exec 3> >(true); wait $!; "$@" >&3; echo $? >&2', 'ulimit -f 0; exec "$@" > limited'):
             for words in WORDS, ["find", "room/set.par2", "room/first", "room/second"], ["verify"], ["find", "none"], [
                     "verify", "-x"], ["find", "room/set.par2", "/dev/stdin"]:
                 self.same(words, shell)
@@ -80,16 +80,7 @@ class Progress(Calls):
                 status = progress_of_parv.main()
             finally:
                 os._exit(status)
-        text = b""
-        while True:
-            try:
-                piece = os.read(terminal, 4096)
-            except OSError:
-                break
-            if not piece:
-                break
-            text += piece
-        os.close(terminal)
+        text = terminal_text(terminal, self.room.top)
         ended = os.waitpid(child, 0)[1]
         return (os.WEXITSTATUS(ended) if os.WIFEXITED(ended) else -os.WTERMSIG(ended)), text
 
@@ -100,15 +91,14 @@ class Progress(Calls):
                 ("head -c 200000 /dev/zero | tr '\\0' x", 0, b"x" * 200000), ("echo line >&2; exit 4", 4, b"line\n"),
                 ("head -c 200000 /dev/zero | tr '\\0' x >&2; exit 6", 6, b"x" * 200000),
                 ("printf one; sleep 0.3; printf two", 0, b"onetwo")):
-            program = self.program("odd", f"#!/bin/bash\nsleep 0.3\n{text}\n")
-            ended, came = self.on_terminal(WORDS, program)
+            ended, came = self.on_terminal(WORDS, slow(self.room.top, text))
             self.assertEqual(ended, status, (text, came[-300:]))
             shown, _, rest = came.rpartition(begins)
             self.assertEqual(rest, wanted, text)
             self.assertRegex(shown, rb"\A(\r\x1b\[K[0-9]+ MiB of at most 1 MiB, [0-9]+ MiB/s)+\Z")
 
     def test_a_file_for_the_lines_gets_what_parv_writes(self) -> None:
-        program = self.program("slow", f'#!/bin/bash\nsleep 0.3\nexec "{PARV}" "$@"\n')
+        program = slow(self.room.top, f'exec "{PARV}" "$@"')
         for words in WORDS, ["find", "room/set.par2", "room/first"]:
             ended, came = self.on_terminal(words, program, False)
             wanted = subprocess.run([PARV, *words], cwd=self.room.top, capture_output=True)
@@ -116,12 +106,12 @@ class Progress(Calls):
                 self.assertEqual((ended, file.read()), (wanted.returncode, wanted.stdout))
             self.assertTrue(came.endswith(b" MiB/s\r\x1b[K"), came)
         wanted = subprocess.run([PARV, "find", "room/set.par2", "room/first"], cwd=self.room.top, capture_output=True)
-        self.assertEqual(self.on_terminal(["find", "room/set.par2", "room/first"], program), (0, wanted.stdout))
+        self.assertEqual(self.on_terminal(["find", "room/set.par2", "room/first"], PARV), (0, wanted.stdout))
 
     def test_what_is_read_at_most(self) -> None:
         self.room.put("packets.PAR2", bytes(1 << 20))
         self.room.put("scanned", bytes(10 << 20))
-        program = self.program("slow", "#!/bin/bash\nsleep 0.3\n")
+        program = slow(self.room.top, "")
         words = ["room/packets.PAR2", "room/scanned", "none", "room"]
         for given, most, out in ((["verify"], 23, True), (["verify", "--tails"], 33, True),
                                  (["verify", "--"], 23, True), (["find"], 13, False), (["find", "--tails"], 13, False)):
@@ -129,7 +119,7 @@ class Progress(Calls):
             self.assertIn(b"0 MiB of at most %d MiB, " % most, came, given)
 
     def test_signals_end_parv_too_on_a_terminal(self) -> None:
-        wait = self.program("waits", f"#!/bin/bash\necho $PPID $$ > {self.room.top}/began\nexec sleep 60\n")
+        wait = self.program("waits", f"#!/bin/bash\necho $PPID $$ > {self.room.top}/began\nexec sleep 900\n")
         for number in signal.SIGTERM, signal.SIGHUP, signal.SIGINT:
             ended = self.call(shell=f'''
                 rm -f began

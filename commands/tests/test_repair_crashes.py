@@ -13,7 +13,7 @@ from typing import Callable, Dict, Iterator, List, Set, Tuple
 from parv_commands import repair
 
 from . import rooms
-from .rooms import EARLIER, FULL, KILLED, MAKING, At, Ended, From, Noting, Room
+from .rooms import FULL, KILLED, MAKING, At, Ended, From, Noting, Room
 
 WHOLE = {
     "report.doc": b"the report, whole", "notes.txt": b"some notes of a year",
@@ -119,8 +119,7 @@ class Crashes(unittest.TestCase):
         while waiting:
             path = waiting.pop(0)
             begin()
-            held = {data for name, (kind, data) in self.room.listing().items()
-                    if kind == stat.S_IFREG and name != f"{EARLIER}/moves"}
+            held = self.room.contents()
             for point in path:
                 ended = self.room.run(repair.main, [*words, "room"], At(*point, KILLED))
                 self.assertEqual(ended.status, 137, (path, ended))
@@ -140,25 +139,6 @@ class Crashes(unittest.TestCase):
         found = self.each_state(lambda: damage(self.room))
         self.assertGreater(len(found), 100)
         self.assertGreater(max(map(len, found.values())), 1)
-
-    def test_kills_while_what_the_earlier_script_has_left_is_finished(self) -> None:
-        self.room = Room({"left": b"left hand", "right": b"right hand", "one": b"same same"})
-        self.addCleanup(self.room.close)
-
-        def left() -> None:
-            self.room.fresh()
-            for name in "files", "made", "aside":
-                os.makedirs(self.room.path(f"{EARLIER}/{name}"))
-            os.symlink("../../one", self.room.path(f"{EARLIER}/files/one"))
-            for name, other in ("one", "stray"), ("right", "x"), ("left", f"{EARLIER}/aside/1"), ("x", "left"):
-                self.room.rename(name, other)
-            numbers = {name: os.stat(self.room.path(name)).st_ino for name in ("stray", "left", f"{EARLIER}/aside/1")}
-            numbers[f"{EARLIER}/aside/0"] = numbers["left"]
-            moves = [("stray", "one"), ("left", f"{EARLIER}/aside/0"), (f"{EARLIER}/aside/1", "left"),
-                     (f"{EARLIER}/aside/0", "right")]
-            self.room.put(f"{EARLIER}/moves", b"".join(b"%d\0%s\0%s\0" % (
-                numbers[origin], origin.encode(), target.encode()) for origin, target in moves))
-        self.assertGreater(len(self.each_state(left)), 10)
 
     def test_a_kill_while_par2_writes_loses_nothing(self) -> None:
         damage(self.room)

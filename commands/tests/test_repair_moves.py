@@ -3,18 +3,22 @@ people have left in place of its stage, and journals that anyone may have made."
 
 from __future__ import annotations
 
+import contextlib
 import os
+import shutil
 import signal
 import stat
 import unittest
 import unittest.mock
-from typing import Any, Callable, List, Tuple
+from typing import Any, Callable, Dict, List
 
 from parv_commands import changes, journal, repair
-from parv_commands.folders import Identity
+from parv_commands.faults import Refused
+from parv_commands.folders import Folder, Identity
 from parv_commands.journal import Made, Move, Step
+from parv_commands.stage import Stage
 
-from .rooms import FULL, KILLED, STAGE, At, Ended, Listing, Room, ends_by, read, write
+from .rooms import FULL, KILLED, SECRET, STAGE, At, Ended, Listing, Room, ends_by, read, spent, write
 
 
 class Without:
@@ -93,13 +97,13 @@ class Moves(unittest.TestCase):
         now = os.stat(self.room.path(name))
         return Identity(now.st_ino, now.st_size, now.st_mtime_ns)
 
-    def plant(self, steps: List[Step], owner: bool = True) -> None:
-        """Makes a stage with these steps as its journal."""
-        for name in "files", "made", "aside":
-            os.makedirs(self.room.path(f"{STAGE}/{name}"))
-        if owner:
-            self.room.put(f"{STAGE}/owner", b"parv-repair 1 inode %d\n" % os.stat(self.room.path(STAGE)).st_ino)
-        self.room.put(f"{STAGE}/journal", journal.encoded(steps))
+    def plant(self, steps: List[Step], secret: bytes = SECRET, changed: Callable[[bytes], bytes] = bytes) -> None:
+        """Makes a stage with these steps as its journal, as a run of the user with this secret leaves it."""
+        with contextlib.closing(Folder.opened(os.fsencode(self.room.folder))) as folder, \
+                contextlib.closing(Stage(folder, secret, self.fail)) as place:
+            if not os.path.lexists(self.room.path(STAGE)):
+                place.make()
+            self.room.put(f"{STAGE}/journal", place.sealed(b"journal", changed(journal.encoded(steps))))
 
     def test_a_file_that_comes_to_a_name_before_each_move_is_kept(self) -> None:
         self.turn()
@@ -187,6 +191,40 @@ class Moves(unittest.TestCase):
         self.assertEqual((ended.status, room.lacks()), (0, []), ended)
         self.assertEqual([os.stat(room.path(name)).st_mode & 0o7777 for name in ("one", "two")], [0o7751, 0o751])
 
+    def test_a_file_that_was_made_has_the_mode_and_the_owner_of_the_one_that_it_replaces(self) -> None:
+        room = Room({"secret": b"a secret, whole", "empty": b"", "other": b"other bytes"})
+        self.addCleanup(room.close)
+        calls: List[str] = []
+        for owner in (os.geteuid(), 12345) if not os.geteuid() else (os.geteuid(),):
+            for mode in 0o600, 0o640, 0o444, 0o4755:
+                room.fresh()
+                room.put("secret", b"a sXcret, whole")
+                room.put("empty", b"not empty")
+                room.take("other")
+                for name in "secret", "empty":
+                    os.chown(room.path(name), owner, -1)
+                    os.chmod(room.path(name), mode)
+                ended = room.run(lambda: (os.umask(0o022), repair.main())[1], ["room"])
+                self.assertEqual((ended.status, room.lacks()), (0, []), ended)
+                for name in "secret", "empty":
+                    now = os.stat(room.path(name))
+                    self.assertEqual((now.st_mode & 0o7777, now.st_uid), (mode & 0o777, owner), (name, oct(mode)))
+                self.assertEqual(os.stat(room.path("other")).st_mode & 0o7777, 0o644)
+                calls += ended.calls
+        self.assertLess(calls.index("fchmod"), calls.index("rename"))
+
+    def test_a_group_that_cannot_be_given_gives_no_rights(self) -> None:
+        path = os.path.join(self.room.top, "file")
+        write(path, b"")
+        opened = os.open(path, os.O_RDONLY)
+        self.addCleanup(os.close, opened)
+        now = list(os.fstat(opened))
+        with unittest.mock.patch.object(changes, "set_owner", side_effect=PermissionError(1, "not allowed")):
+            for mode, group, wanted in ((0o640, 7, 0o600), (0o664, 0, 0o664), (0o607, 7, 0o607)):
+                before = os.stat_result([mode, *now[1:4], now[4] + 1, now[5] + group, *now[6:]])
+                repair._set_like(opened, before)
+                self.assertEqual(os.fstat(opened).st_mode & 0o7777, wanted)
+
     def test_a_folder_that_becomes_a_link_leads_no_file_out(self) -> None:
         room = Room({"sub/first": b"first of all", "sub/second": b"the second"})
         self.addCleanup(room.close)
@@ -231,15 +269,15 @@ class Moves(unittest.TestCase):
 
     def test_a_long_journal_takes_no_time_for_each_pair_of_files(self) -> None:
         gone = [Move(Identity(number, 1, 1), b"gone%d" % number, b"else%d" % number) for number in range(4000)]
-        away = [Move(Identity(1, 1, 1), b"from%d" % number, b"%s/aside/%d" % (STAGE.encode(), number))
-                for number in range(2000)]
-        self.plant([*gone, *away])
+        self.plant([])
         for number in range(2000):
             self.room.put(f"{STAGE}/aside/{number}", b"mine %d" % number)
-        before = os.times()
+        away = [Move(self.identity(f"{STAGE}/aside/{number}"), b"from%d" % number, b"%s/aside/%d" % (
+            STAGE.encode(), number)) for number in range(2000)]
+        self.plant([*gone, *away])
+        before = spent()
         self.completes(self.run_it())
-        after = os.times()
-        self.assertLess(after.children_user - before.children_user + after.children_system - before.children_system, 20)
+        self.assertLess(spent() - before, 20)
         self.assertEqual({read(self.room.path(f"from{number}")) for number in range(2000)},
                          {b"mine %d" % number for number in range(2000)})
 
@@ -256,25 +294,9 @@ class Moves(unittest.TestCase):
             ended = self.run_it()
             self.assertEqual(read(self.room.path("mine")), b"mine", (origin, target, ended))
             self.assertEqual(sorted(os.listdir(self.room.top)),
-                             ["by-number", "calls", "other", "out", "outside", "par2", "room", "said", "tmp"])
+                             "by-number calls other out outside par2 room said secrets tmp".split())
             self.assertEqual(os.listdir(os.path.join(self.room.top, "other")), [])
             self.assertIn(ended.status, (0, 6))
-
-    def test_a_journal_that_came_with_the_folder_takes_no_step_back_and_stays(self) -> None:
-        self.turn()
-        os.mkdir(self.room.path("empty"))
-        staged = b"%s/aside/0" % STAGE.encode()
-        self.plant([Made(b"empty"), Move(Identity(1, 2, 3), b"../out", staged)], owner=False)
-        self.room.put(os.fsdecode(staged), b"staged")
-        before = self.room.listing()
-        ended = self.run_it()
-        self.assertEqual((ended.status, self.room.listing()), (6, before), ended)
-        self.assertIn("one of them leads out of the folder; .parv-repair stays", ended.said)
-        self.turn()
-        self.plant([Made(b"empty")], owner=False)
-        planted = read(self.room.path(f"{STAGE}/journal"))
-        self.completes(self.run_it())
-        self.assertEqual(read(self.room.path("parv-repair.kept.1/journal")), planted)
 
     def test_a_journal_moves_no_file_that_it_does_not_know(self) -> None:
         self.room.put("mine", b"mine")
@@ -292,45 +314,12 @@ class Moves(unittest.TestCase):
         self.completes(self.run_it())
         self.assertEqual([read(self.room.path(name)) for name in ("mine", "mine too")], [b"mine"] * 2)
 
-    def test_a_stage_that_came_with_the_folder_loses_nothing(self) -> None:
-        self.turn()
-        self.plant([Move(Identity(1, 2, 3), b"report", b"%s/aside/1" % STAGE.encode())], owner=False)
-        self.room.put(f"{STAGE}/aside/1", b"the report")
-        self.room.put(f"{STAGE}/files/what", b"something else")
-        self.completes(self.run_it())
-        self.assertEqual(read(self.room.path("report")), b"the report")
-        self.assertEqual(read(self.room.path("parv-repair.kept.1/files/what")), b"something else")
-
-    def test_a_stage_of_another_folder_loses_nothing(self) -> None:
-        self.turn()
-        self.plant([Move(Identity(1, 2, 3), b"report", b"%s/aside/1" % STAGE.encode())])
-        self.room.put(f"{STAGE}/owner", b"parv-repair 1 inode 1\n")
-        self.room.put(f"{STAGE}/aside/1", b"the report")
-        self.room.put(f"{STAGE}/made/what", b"something else")
-        self.completes(self.run_it())
-        self.assertEqual(read(self.room.path("report")), b"the report")
-        self.assertEqual(read(self.room.path("parv-repair.kept.1/made/what")), b"something else")
-
     def test_a_stage_with_a_file_of_somebody_else_is_kept(self) -> None:
         self.turn()
         self.plant([])
         self.room.put(f"{STAGE}/mine", b"mine")
         self.completes(self.run_it())
         self.assertEqual(read(self.room.path("parv-repair.kept.1/mine")), b"mine")
-
-    def test_what_is_no_stage_or_no_journal_is_refused_with_what_to_do(self) -> None:
-        cases: List[Tuple[Callable[[], None], str]] = [
-            (lambda: os.symlink("../other", self.room.path(STAGE)), "remove it"),
-            (lambda: self.room.put(STAGE, b"a file"), "remove it"),
-            (lambda: self.room.put(f"{STAGE}/journal", b"no journal"), "move it out of the folder"),
-            (lambda: os.makedirs(self.room.path(f"{STAGE}/journal")), "move it out of the folder")]
-        for make, said in cases:
-            self.turn()
-            make()
-            before = self.room.listing()
-            ended = self.run_it()
-            self.assertEqual((ended.status, self.room.listing()), (6, before), ended)
-            self.assertIn(said, ended.said)
 
     def test_a_trial_changes_nothing_where_a_run_was_ended(self) -> None:
         self.turn()
@@ -419,17 +408,15 @@ class Moves(unittest.TestCase):
             self.completes(again, time)
             self.assertIn("is finished", again.said)
 
-    def test_a_journal_with_other_numbers_is_refused_with_what_to_do(self) -> None:
+    def test_a_journal_with_other_numbers_is_refused(self) -> None:
         good = journal.encoded([Move(Identity(1, 2, -3), b"mine", b"taken")])
         self.assertEqual(journal.decoded(good), [Move(Identity(1, 2, -3), b"mine", b"taken")])
         for numbers in b"1 2", b"1 2 3 4", b"1 2 x", b"1 -2 3", b"1 2 3.5", b"1 2 %s" % (b"9" * 5000), b"":
-            self.room.fresh()
-            self.plant([])
-            self.room.put(f"{STAGE}/journal", good.replace(b"1 2 -3", numbers))
-            before = self.room.listing()
-            ended = self.run_it()
-            self.assertEqual((ended.status, self.room.listing()), (6, before), ended)
-            self.assertIn("it is no journal of this version; .parv-repair stays", ended.said)
+            with self.assertRaisesRegex(Refused, "it is no journal of this version"):
+                journal.decoded(good.replace(b"1 2 -3", numbers))
+        for data in b"", good[:-1], good[:-4], good[:20], good + b"\0", good.replace(b"journal 2", b"journal 1"):
+            with self.assertRaisesRegex(Refused, "it is no journal of this version"):
+                journal.decoded(data)
 
     def test_backups_are_not_removed_by_the_run_after_one_that_was_ended(self) -> None:
         self.turn()
@@ -442,66 +429,195 @@ class Moves(unittest.TestCase):
         self.assertIn("removes nothing", again.said)
         self.assertFalse({b"the thXrd one", b"the third, a week later"} - self.room.contents())
 
-    # Folders that the script of version 0.4.0 has left.
+    # What comes with a folder, or was left there by the script of version 0.4.0.
 
-    def left(self, moves: List[bytes]) -> None:
-        for name in "files", "made", "aside":
-            os.makedirs(self.room.path(f".verify_and_repair/{name}"))
-        os.symlink("../../second", self.room.path(".verify_and_repair/files/second"))
-        if moves:
-            self.room.put(".verify_and_repair/moves", b"".join(each + b"\0" for each in moves))
+    def below(self, name: str) -> Listing:
+        """Returns what is at a name of the folder and below it, by its path from there."""
+        return {path[len(name):]: what for path, what in self.room.listing().items()
+                if (path + "/").startswith(name + "/")}
 
-    def finishes(self, ended: Ended) -> None:
-        self.completes(ended)
-        self.assertIn("verify_and_repair.sh", ended.said)
-        self.assertFalse(os.path.lexists(self.room.path(".verify_and_repair")))
+    def is_set_aside(self, name: str, what: object) -> Ended:
+        """Wants a trial to say that what has this name isn't followed, and a run to complete the set and to give it
+        another name, as it is."""
+        before, kept = self.room.listing(), f"{name[1:]}.kept.1"
+        first = f"parv-repair: room: {name} isn't shown to be of a run of yours in this folder: "
+        ended = self.run_it("--dry-run")
+        self.assertEqual((ended.status, self.room.listing()), (1, before), (what, ended))
+        self.assertEqual(ended.said, first + "the next run without --dry-run gives it another name, and follows "
+                                             "nothing in it\n")
+        held, there = self.room.contents(), self.below(name)
+        ended = self.run_it("--remove-backups")
+        self.completes(ended, what)
+        self.assertEqual(self.below(kept), there, what)
+        self.assertFalse(held - self.room.contents() - {b"the thXrd one"}, what)
+        self.assertEqual(ended.said, f"{first}nothing in it is followed, and it is now {kept}; if files of yours are "
+                                     "in it, move them into the folder, under any names, and call the command again\n"
+                                     "parv-repair: room: so --remove-backups removes nothing\n", what)
+        return ended
 
-    def test_moves_that_the_earlier_script_has_begun_are_finished(self) -> None:
-        for form in b"%d", b"%d/1.000000000 %d %d.%09d":
-            self.room.fresh()
-            self.left([])
-            self.room.rename("first", ".verify_and_repair/aside/0")
-            self.room.rename("second", "stray")
+    def odd_owner(self, make: Callable[[], None]) -> None:
+        os.mkdir(self.room.path(STAGE))
+        make()
 
-            def node(name: str) -> bytes:
-                now = os.stat(self.room.path(name))
-                numbers = now.st_ino, now.st_size, now.st_mtime_ns // 10 ** 9, now.st_mtime_ns % 10 ** 9
-                return form % numbers[:1 if form == b"%d" else 4]
-            first, second = node(".verify_and_repair/aside/0"), node("stray")
-            self.room.put(".verify_and_repair/moves", b"".join(each + b"\0" for each in (
-                first, b"wrong", b".verify_and_repair/aside/0", b"", b"", b"sub",
-                first, b".verify_and_repair/aside/0", b"first", second, b"stray", b"second")))
-            self.finishes(self.run_it())
+    def test_what_is_not_of_a_run_of_this_user_here_is_set_aside(self) -> None:
+        owner = self.room.path(f"{STAGE}/owner")
 
-    def test_an_earlier_script_that_had_moved_nothing_leaves_nothing(self) -> None:
-        self.turn()
-        self.left([])
-        self.finishes(self.run_it())
+        def copied() -> None:
+            self.plant([Made(b"sub")])
+            shutil.copytree(self.room.folder, self.room.folder + ".copy", symlinks=True)
+            shutil.rmtree(self.room.folder)
+            os.rename(self.room.folder + ".copy", self.room.folder)
 
-    def test_what_an_earlier_script_has_made_is_kept(self) -> None:
-        self.left([])
-        self.room.put(".verify_and_repair/files/first", b"half of it")
-        ended = self.run_it()
-        self.finishes(ended)
-        self.assertEqual(read(self.room.path("verify_and_repair.kept.1/files/first")), b"half of it")
-        self.assertIn("may be removed", ended.said)
+        def moved() -> None:
+            """A stage of another folder, with the inode that it has here."""
+            os.rename(self.room.folder, self.room.folder + ".old")
+            os.mkdir(self.room.folder)
+            self.plant([Made(b"sub")])
+            os.rename(self.room.path(STAGE), self.room.folder + ".old/" + STAGE)
+            os.rmdir(self.room.folder)
+            os.rename(self.room.folder + ".old", self.room.folder)
 
-    def test_a_list_that_cannot_be_read_is_refused_with_what_to_do(self) -> None:
-        def listing(first: bytes) -> Callable[[], None]:
-            return lambda: self.room.put(".verify_and_repair/moves", first + b"\0first\0other\0")
-        cases: List[Callable[[], None]] = [
-            lambda: os.mkfifo(self.room.path(".verify_and_repair/moves")), *map(listing, (
-                b"a", b"1 2", b"1 2 x", b"1 2 Infinity", b"1 2 NaN", b"1 2 1e999999999", b"1 x 3.0", b"9" * 5000,
-                b"1 %s 3.0" % (b"9" * 5000)))]
-        for make in cases:
-            self.room.fresh()
-            self.left([])
+        def flipped(path: str, at: int) -> None:
+            self.plant([Made(b"sub")])
+            data = bytearray(read(self.room.path(path)))
+            data[at] ^= 1
+            write(self.room.path(path), bytes(data))
+
+        def odd_journal() -> None:
+            self.plant([])
+            os.remove(self.room.path(f"{STAGE}/journal"))
+            os.mkdir(self.room.path(f"{STAGE}/journal"))
+        cases: Dict[str, Callable[[], None]] = {
+            "a link": lambda: os.symlink("../other", self.room.path(STAGE)),
+            "a file": lambda: self.room.put(STAGE, b"a file"),
+            "a FIFO": lambda: os.mkfifo(self.room.path(STAGE)),
+            "a journal and no owner": lambda: self.room.put(f"{STAGE}/journal", journal.encoded([Made(b"sub")])),
+            "an owner of the version before": lambda: self.room.put(f"{STAGE}/owner", b"parv-repair 1 inode 1\n"),
+            "an owner that is a FIFO": lambda: self.odd_owner(lambda: os.mkfifo(owner)),
+            "an owner without end": lambda: self.odd_owner(lambda: os.symlink("/dev/zero", owner)),
+            "another user": lambda: self.plant([Made(b"sub")], b"s" * 32),
+            "a copy": copied, "another folder": moved, "a journal that is a folder": odd_journal,
+            "another owner": lambda: flipped(f"{STAGE}/owner", 20),
+            "another mark": lambda: flipped(f"{STAGE}/journal", -20),
+            "another journal": lambda: flipped(f"{STAGE}/journal", 30),
+            "another version": lambda: self.plant([], changed=lambda data: data.replace(b"journal 2", b"journal 1"))}
+        for name, make in cases.items():
+            self.turn()
             make()
-            before = self.room.listing()
+            if not os.path.islink(self.room.path(STAGE)) and os.path.isdir(self.room.path(STAGE)):
+                self.room.put(f"{STAGE}/files/set.par2", b"something")
+                self.room.put(f"{STAGE}/made/what", b"something else")
+                self.room.put(f"{STAGE}/aside/1", b"the report")
+            self.is_set_aside(STAGE, name)
+        self.assertNotIn("sub", self.room.listing())
+
+    def test_what_the_script_of_version_0_4_0_has_left_is_set_aside(self) -> None:
+        self.turn()
+        self.room.put(".verify_and_repair/moves", b"1\0first\0second\0")
+        self.room.put(".verify_and_repair/aside/0", b"the report")
+        os.symlink("../../second", self.room.path(".verify_and_repair/second"))
+        self.is_set_aside(".verify_and_repair", "a folder")
+        self.turn()
+        self.room.put(".verify_and_repair", b"a file")
+        self.is_set_aside(".verify_and_repair", "a file")
+
+    def test_a_planted_list_takes_no_file_whatever_inodes_it_guesses(self) -> None:
+        """The lists lead a file onto itself, or to a name that was removed as the command's own."""
+        for owned in False, True:
+            for last in b"mine", b".verify_and_repair/list", b".parv-repair/owner", b".parv-repair/journal":
+                self.turn()
+                self.room.put("mine", b"mine, and there is no copy")
+                node = os.stat(self.room.path("mine")).st_ino
+                ways = [(node, b"mine", b".verify_and_repair/files/q"), (node, b".verify_and_repair/files/q", last)]
+                self.room.put(".verify_and_repair/moves", b"".join(
+                    b"%d\0%s\0%s\0" % each for each in ([(node, b"mine", b"mine")] if last == b"mine" else ways)))
+                self.plant([Move(self.identity("mine"), b"mine", last)], SECRET if owned else b"s" * 32)
+                ended = self.run_it()
+                self.completes(ended, last)
+                self.assertEqual(read(self.room.path("mine")), b"mine, and there is no copy")
+
+    def test_steps_that_no_run_makes_are_not_made(self) -> None:
+        stage = STAGE.encode()
+        for target in (b"mine", b".parv-repair", b".Parv-Repair/made/x", b"sub/.parv-repair/made/x", b".PARV-RESCUE",
+                       b"sub/.verify_and_repair", stage + b"/owner", stage + b"/aside/a/b", stage + b"/made/x",
+                       stage + b"/files/x", b"../taken", b"a//b", b"/a",
+                       ".parv\u00ad-repair/made/x".encode(), ".par\uff56-repair./x".encode()):
+            self.turn()
+            self.room.put("mine", b"mine")
+            self.plant([Move(self.identity("mine"), b"mine", target)])
+            self.completes(self.run_it(), target)
+            self.assertEqual(read(self.room.path("mine")), b"mine", target)
+            self.assertIn("journal", os.listdir(self.room.path("parv-repair.kept.1")))
+        wrong: List[List[Step]] = [
+            [Move(Identity(1, 2, 3), b"a", b"c"), Move(Identity(4, 5, 6), b"b", b"c")], [Made(b"c"), Made(b"c")],
+            [Made(b"sub/.Parv-Repair")]]
+        for steps in wrong:
+            with self.assertRaisesRegex(Refused, "no run moves a file to"):
+                journal.Moves(Folder(-1, ""), stage, steps, self.fail)
+
+    def test_a_file_with_a_name_of_the_commands_is_copied_and_stays(self) -> None:
+        self.room.rename("first", ".Parv-Rescue")
+        ended = self.run_it()
+        self.completes(ended)
+        self.assertEqual(ended.out, "copy .Parv-Rescue to first\ncomplete\n")
+        self.assertEqual(read(self.room.path(".Parv-Rescue")), b"first of all")
+
+    def test_a_planted_journal_is_not_read(self) -> None:
+        self.plant([Made(b"sub")], b"s" * 32)
+        self.room.rename("first", "stray")
+        real = Folder.open_to_read
+
+        def open_to_read(folder: Folder, name: bytes) -> int:
+            self.assertNotIn(b"journal", name)
+            return real(folder, name)
+        with unittest.mock.patch.object(Folder, "open_to_read", open_to_read):
+            self.completes(self.run_it())
+
+    def test_a_run_that_another_user_or_nobody_knows_loses_nothing_and_can_be_put_right_by_hand(self) -> None:
+        secret = os.path.join(self.room.state_home, "parv", "secret")
+        self.turn()
+        calls = self.run_it().calls
+        for number in range(1, len(calls) + 1):
+            write(secret, SECRET)
+            self.turn()
+            held = self.room.contents()
+            self.run_it(watch=At(number, "before", KILLED))
+            if number % 2:
+                write(secret, b"t" * 32)
+            else:
+                os.remove(secret)
             ended = self.run_it()
-            self.assertEqual((ended.status, self.room.listing()), (6, before), ended)
-            self.assertIn("move it out of the folder", ended.said)
-            self.assertNotIn("Traceback", ended.said)
+            self.assertIn(ended.status, (0, 2), (number, ended))
+            self.assertFalse(held - self.room.contents(), (number, ended))
+            if STAGE not in self.room.listing() and "parv-repair.kept.1" in self.room.listing():
+                self.assertIn("isn't shown to be of a run of yours", ended.said)
+                for part in "aside", "made":
+                    kept = self.room.path(f"parv-repair.kept.1/{part}")
+                    for name in os.listdir(kept) if os.path.isdir(kept) else ():
+                        os.rename(os.path.join(kept, name), self.room.path(f"back {part} {name}"))
+            self.completes(self.run_it(), number)
+            self.assertFalse(held - self.room.contents(), (number, ended))
+            if not os.path.exists(secret):
+                write(secret, SECRET)
+            os.chmod(secret, 0o600)
+
+    def test_without_a_secret_that_can_be_used_nothing_is_moved_or_set_aside(self) -> None:
+        secret = os.path.join(self.room.state_home, "parv", "secret")
+        self.turn()
+        self.plant([])
+        os.chmod(secret, 0o644)
+        before = self.room.listing()
+        for ended in self.run_it(), self.run_it("--dry-run"):
+            self.assertEqual((ended.status, ended.out, self.room.listing()), (6, "", before), ended)
+            self.assertIn("is for other users too", ended.said)
+        self.turn()
+        before = self.room.listing()
+        ended = self.run_it()
+        self.assertEqual((ended.status, ended.out, self.room.listing()), (6, "", before), ended)
+        self.assertEqual(self.run_it("--dry-run").status, 1)
+        self.room.fresh()
+        self.assertEqual(self.run_it().status, 0, "a complete set needs none")
+        os.chmod(secret, 0o600)
 
 
 if __name__ == "__main__":

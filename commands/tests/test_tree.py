@@ -2,7 +2,6 @@
 
 from __future__ import annotations
 
-import contextlib
 import hashlib
 import json
 import os
@@ -21,8 +20,8 @@ from typing import Iterator, List, Tuple
 from parv_commands import changes, folders, progress, tree, watch
 from parv_commands.state import HEAD
 
-from .calls import BIN, take_all_signals
-from .rooms import FULL, KILLED, PARV, At, Ended, Room, file_id, md5, packet, read, set_of, write
+from .calls import BIN, slow, take_all_signals, terminal_text
+from .rooms import FULL, KILLED, PARV, At, Ended, Room, file_id, md5, packet, read, set_of, spent, write
 
 TREE = os.path.join(BIN, "parv-tree")
 ONE = {b"first.txt": b"first of all", b"second.txt": b"the second"}
@@ -134,13 +133,15 @@ class Lines(TreeTest):
 
     def test_as_many_sets_at_once_as_were_asked_for(self) -> None:
         log = os.path.join(self.room.top, "log")
-        counts = self.program("counts", f'echo + >> {log}; "{PARV}" "$@"; s=$?; sleep 0.05; echo - >> {log}; exit $s')
+        # Each program waits until as many have begun.
+        counts = self.program("counts", f'echo + >> {log}; until [ "$(grep -c + {log})" -ge $SIDES ]; do sleep 0.02; done; '
+                                        f'"{PARV}" "$@"; s=$?; sleep 0.05; echo - >> {log}; exit $s')
         for number in range(8):
             shutil.copytree(self.path(b"a"), self.path(b"c%d" % number))
         lines = self.run_tree().out
         for sides in 1, 3:
             write(log, b"")
-            self.assertEqual(self.run_tree("-j", str(sides), PARV=counts).out, lines)
+            self.assertEqual(self.run_tree("-j", str(sides), PARV=counts, SIDES=str(sides)).out, lines)
             now = most = 0
             for sign in read(log).decode().split():
                 now += 1 if sign == "+" else -1
@@ -152,7 +153,7 @@ class Lines(TreeTest):
         shell = f"ulimit -n 64; exec {TREE} -j 9999 room"
         for number in range(30):
             shutil.copytree(self.path(b"a"), self.path(b"c%02d" % number))
-        ended = subprocess.run(["bash", "-c", shell], cwd=self.room.top, capture_output=True, timeout=120,
+        ended = subprocess.run(["bash", "-c", shell], cwd=self.room.top, capture_output=True, timeout=600,
                                env={**os.environ, "PARV": PARV, "TMPDIR": self.room.temporary})
         self.assertEqual((ended.returncode, ended.stderr, ended.stdout.count(b"\n")), (0, b"", 32), ended)
 
@@ -171,7 +172,7 @@ class Lines(TreeTest):
     def test_more_files_than_may_be_open(self) -> None:
         for number in range(300):
             write(self.path(b"a", b"0%03d" % number), b"%d" % number)
-        ended = subprocess.run(["bash", "-c", f"ulimit -n 200; exec {TREE} room"], cwd=self.room.top, timeout=120,
+        ended = subprocess.run(["bash", "-c", f"ulimit -n 200; exec {TREE} room"], cwd=self.room.top, timeout=600,
                                env={**os.environ, "PARV": PARV, "TMPDIR": self.room.temporary}, capture_output=True)
         self.assertEqual((ended.returncode, ended.stdout.decode()), (0, self.line_one() + self.line_two()))
         self.assertEqual(ended.stderr, b"parv-tree: a/set: 135 of 302 files aren't looked at: parv takes 167 here\n")
@@ -181,9 +182,9 @@ class Lines(TreeTest):
         files = {deep + b"/%d" % number: b"" for number in range(1000)}
         os.makedirs(self.path(b"a", deep))
         write(self.path(b"a", b"set.par2"), set_of(files, 8, 0))
-        began = time.monotonic()
+        before = spent()
         self.assertEqual(self.run_tree().status, 1)
-        self.assertLess(time.monotonic() - began, 60)
+        self.assertLess(spent() - before, 60)
 
 
 class WithoutSets(TreeTest):
@@ -235,9 +236,9 @@ class WithoutSets(TreeTest):
         for number in range(3000):
             main = struct.pack("<QI", 4, 1) + md5(b"%d" % number)
             packets += packet(md5(main), b"PAR 2.0\0Main", main)
-        began = time.monotonic()
+        before = spent()
         ended, calls = self.calls(b"mains.par2", packets)
-        self.assertLess(time.monotonic() - began, 40)
+        self.assertLess(spent() - before, 40)
         self.assertEqual(calls, ["packets", "set", "verify"] + ["packets", "set", "verify"])
         self.assertEqual((ended.status, ended.out.count("\n4 "), ended.said.count("no description of")),
                          (4, 2999, 3000), ended.out[:300])
@@ -498,7 +499,7 @@ class Statuses(TreeTest):
     def call(self, *words: str, shell: str = 'exec "$@"', **environment: str) -> Tuple[int, str, str]:
         given = {**os.environ, "PARV": PARV, "TMPDIR": self.room.temporary, **environment}
         ended = subprocess.run(["/bin/bash", "-c", shell, "bash", *words], cwd=self.room.top, env=given,
-                               capture_output=True, timeout=120, stdin=subprocess.DEVNULL)
+                               capture_output=True, timeout=600, stdin=subprocess.DEVNULL)
         self.assertEqual(os.listdir(self.room.temporary), [])
         return ended.returncode, ended.stdout.decode(), ended.stderr.decode()
 
@@ -563,19 +564,19 @@ class Statuses(TreeTest):
         cases: List[Tuple[str, List[str], int]] = [("packets", ["-j3"], 3), ("verify", ["-j3"], 3), ("verify", [], 1)]
         for command, words, count in cases:
             program = self.program("waits", f'[ "$1" = {command} ] || exec "{PARV}" "$@"\n'
-                                            f"touch {waiting}/$$\nexec sleep 60")
+                                            f"touch {waiting}/$$\nexec sleep 900")
             for number in signal.SIGINT, signal.SIGTERM, signal.SIGHUP, signal.SIGKILL:
                 for all_of_them in False, True:
                     given = {**os.environ, "PARV": program, "TMPDIR": self.room.temporary}
                     ran = subprocess.Popen(
                         [TREE, *words, "room"], cwd=self.room.top, env=given, stdout=subprocess.PIPE,
                         stderr=subprocess.STDOUT, start_new_session=True, preexec_fn=take_all_signals)
-                    until = time.monotonic() + 60
+                    until = time.monotonic() + 600
                     while len(os.listdir(waiting)) < count and time.monotonic() < until:
                         time.sleep(0.02)
                     started = os.listdir(waiting)
                     (os.killpg if all_of_them else os.kill)(ran.pid, number)
-                    out, _ = ran.communicate(timeout=60)
+                    out, _ = ran.communicate(timeout=600)
                     ended = -number if number == signal.SIGKILL else 128 + number
                     self.assertEqual((ran.returncode, out, len(started)), (ended, b"", count))
                     while any(os.path.exists(f"/proc/{each}") for each in started) and time.monotonic() < until:
@@ -604,23 +605,19 @@ class Statuses(TreeTest):
 
     def test_progress_on_a_terminal(self) -> None:
         import pty
-        slow = self.program("slow", f'sleep 0.3; exec "{PARV}" "$@"')
+        waits = slow(self.room.top, f'exec "{PARV}" "$@"')
         child, terminal = pty.fork()
         if not child:
             status = 99
             try:
                 os.chdir(self.room.top)
-                os.environ.update(PARV=slow, TMPDIR=self.room.temporary)
+                os.environ.update(PARV=waits, TMPDIR=self.room.temporary)
                 progress.FIRST, progress.EACH = 0.1, 0.05
                 sys.argv = ["command", "room"]
                 status = tree.main()
             finally:
                 os._exit(status)
-        text = b""
-        with contextlib.suppress(OSError):
-            while piece := os.read(terminal, 4096):
-                text += piece
-        os.close(terminal)
+        text = terminal_text(terminal, self.room.top)
         self.assertEqual(os.waitpid(child, 0)[1], 0)
         self.assertRegex(text.decode(), "\r\x1b\\[Ksets are verified: [0-9]+ MiB")
         for line in self.line_one(), self.line_two():

@@ -13,7 +13,7 @@ import sys
 sys.dont_write_bytecode = True
 sys.path[0] = os.path.join(os.path.dirname(os.path.dirname(os.path.dirname(os.path.realpath(__file__)))), "commands")
 
-from parv_commands import changes, repair
+from parv_commands import changes, repair, seals
 
 number, at = int(sys.argv[1]), sys.argv[2]
 count = -1
@@ -26,6 +26,7 @@ def observe(call, when):
         os.kill(os.getpid(), signal.SIGKILL)
 
 
+seals.needed_secret()       # which is also moved when it is made
 changes.observer = observe
 sys.argv[1:3] = []
 sys.exit(repair.main())

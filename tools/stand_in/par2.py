@@ -67,7 +67,7 @@ def go_wrong(path, data):
     if WRONG.startswith("SIG"):
         write(path, data[:len(data) // 2])
         os.kill(os.getppid(), getattr(signal, WRONG))
-        time.sleep(30)
+        time.sleep(900)
 
 
 def original(file):

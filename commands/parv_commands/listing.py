@@ -1,0 +1,57 @@
+"""Reads the answer of `parv packets` as it comes, and keeps only the packets of one set. So the packets of other sets,
+of which a file may have millions, take no memory."""
+
+from __future__ import annotations
+
+from typing import Dict, List, Sequence
+
+from . import progress
+from .answers import NoAnswer, PacketLine, read_packet
+from .parv import LONGEST_LINE, Parv
+from .programs import Said, pieces_of, running, status_of, too_much
+
+
+class Listing:
+    """The packets of the set with an ID, and the IDs of other sets that have a Main packet, at most `most` of them."""
+
+    def __init__(self, parv: Parv, owner: str, most: int) -> None:
+        self.parv, self.owner, self.most = parv, owner, most
+        self.lines: List[PacketLine] = []
+        self.others: Dict[str, None] = {}
+        self._count = 0
+        self._is_whole = False
+
+    def read(self, packet_words: Sequence[str], most_packets: int) -> None:
+        """Reads the list of these packet files, which can't have more than so many packets."""
+        program, links, rest = self.parv.program, self.parv.links, b""
+        said = Said(program)
+        words = [b"packets", b"--", *(word.encode() for word in packet_words)]
+        with progress.doing("parv packets"), running(program, words, links.folder.place, links.kept) as process:
+            for piece in pieces_of(process, said):
+                *lines, rest = (rest + piece).split(b"\n")
+                for line in lines:
+                    self._take(line)
+                if self._count > most_packets:
+                    raise too_much(program)
+                if len(rest) > LONGEST_LINE:
+                    raise NoAnswer("packets")
+            status = status_of(process)
+        if status != 0:
+            raise self.parv.fault_of(status, bytes(said), "packets")
+        if rest or not self._is_whole:
+            raise NoAnswer("packets")
+
+    def _take(self, line: bytes) -> None:
+        if self._is_whole:
+            raise NoAnswer("packets")
+        if line == b"packets %d" % self._count:
+            self._is_whole = True
+            return
+        packet = read_packet(line.decode("ascii", "replace"))
+        if packet.word not in self.parv.links.shown:
+            raise NoAnswer("packets")
+        self._count += 1
+        if packet.set == self.owner:
+            self.lines.append(packet)
+        elif packet.kind == "main" and len(self.others) < self.most:
+            self.others[packet.set] = None

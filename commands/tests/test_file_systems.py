@@ -1,0 +1,172 @@
+"""Commands on file systems of other kinds than the one of the tests: mounted, where that is allowed, and by stand-ins
+for what is special about them."""
+
+from __future__ import annotations
+
+import errno
+import os
+import shutil
+import signal
+import subprocess
+import unittest
+import unittest.mock
+from typing import Any, Dict, List, Tuple
+
+from parv_commands import folders
+from parv_commands import map as drawing
+from parv_commands import repair
+
+from .calls import BIN, Calls
+from .folding import folding
+from .rooms import KILLED, At, Room, ends_by
+from .test_repair_crashes import WHOLE, damage
+
+MAKES: Dict[str, List[str]] = {
+    "ext4": ["mkfs.ext4", "-q", "-F"], "xfs": ["mkfs.xfs", "-q"], "btrfs": ["mkfs.btrfs", "-q"], "tmpfs": [],
+    "ntfs": ["mkfs.ntfs", "-F", "-q"]}
+LENGTH = 320 << 20      # the length of an image, of which only a part is written
+
+
+class Listed:
+    """A stand-in for a file system that lists what was in a folder when it was opened."""
+
+    def __init__(self) -> None:
+        self.names: Dict[int, List[Any]] = {}
+        self._open, self._listdir = os.open, os.listdir
+
+    def open(self, path: Any, flags: int, *rest: Any, **options: Any) -> int:
+        opened = self._open(path, flags, *rest, **options)
+        if flags & os.O_DIRECTORY and not flags & os.O_PATH:
+            self.names[opened] = self._listdir(opened)
+        return opened
+
+    def listdir(self, path: Any) -> List[Any]:
+        return self.names[path] if isinstance(path, int) else self._listdir(path)
+
+
+class FileSystems(Calls):
+    def setUp(self) -> None:
+        self.room = Room(WHOLE, recovery=40)
+        self.addCleanup(self.room.close)
+        damage(self.room)
+
+    def test_a_folder_is_listed_as_it_is_now(self) -> None:
+        listed = Listed()
+        with unittest.mock.patch.multiple(os, open=listed.open, listdir=listed.listdir):
+            ended = self.room.run(repair.main, ["room"])
+            self.assertEqual((ended.status, self.room.lacks()), (0, []), ended)
+            self.assertEqual(os.listdir(self.room.temporary), [])
+            ended = self.room.run(drawing.main, ["room/set.par2", "room/fine"])
+            self.assertEqual(os.listdir(self.room.temporary), [], ended)
+
+    def test_a_file_system_without_links_gets_a_message_that_says_so(self) -> None:
+        real, before = os.symlink, self.room.listing()
+
+        def symlink(target: bytes, name: bytes, **options: Any) -> None:
+            if target.startswith(b"../../"):
+                raise PermissionError(errno.EPERM, os.strerror(errno.EPERM))
+            real(target, name, **options)
+        with unittest.mock.patch.object(os, "symlink", symlink):
+            ended = self.room.run(repair.main, ["room"])
+        self.assertEqual((ended.status, ended.out, self.room.listing()), (6, "", before), ended)
+        self.assertEqual(ended.said, "parv-repair: room: cannot make a link in room/.parv-repair/files: Operation not "
+                                     "permitted: this file system has no links, by which par2 gets the files; copy the "
+                                     "folder to another one, and repair it there\n")
+
+    def folded(self) -> None:
+        self.room.fresh()
+        self.room.rename("fine", "FINE")
+        self.room.rename("left", "x")
+        self.room.rename("right", "LEFT")
+        self.room.rename("x", "RighT")
+        self.room.rename("notes.txt", "Notes.Txt")
+        self.room.put("Notes.Txt", b"some nXtes of a year")
+
+    def test_names_in_another_case_are_put_right_where_case_is_folded(self) -> None:
+        with folding(bytes.lower):
+            self.folded()
+            held = self.room.contents()
+            ended = self.room.run(repair.main, ["room"])
+            self.assertEqual((ended.status, self.room.lacks()), (0, []), ended)
+            self.assertIn("rename FINE to fine\n", ended.out)
+            self.assertIn("keep Notes.Txt as notes.txt.1\n", ended.out)
+            self.assertFalse(held - self.room.contents())
+            for number in range(1, ended.calls.count("rename") + 1):
+                for end in KILLED, ends_by(signal.SIGTERM):
+                    self.folded()
+                    before = self.room.listing()
+                    first = self.room.run(repair.main, ["room"], At(number, "before", end, ["rename"]))
+                    if first.status == 143:
+                        self.assertEqual(self.room.listing(), before, number)
+                    again = self.room.run(repair.main, ["room"])
+                    self.assertEqual((again.status, self.room.lacks()), (0, []), (number, first, again))
+                    self.assertFalse(held - self.room.contents(), number)
+
+    def test_two_names_of_a_set_that_are_one_are_refused(self) -> None:
+        room = Room({"song": b"a song", "SONG": b"another"})
+        self.addCleanup(room.close)
+        room.take("SONG")
+        before = room.listing()
+        with folding(bytes.lower):
+            ended = room.run(repair.main, ["room"])
+        self.assertEqual((ended.status, room.listing()), (6, before), ended)
+        self.assertIn("SONG and song are one name in this file system", ended.said)
+
+    def test_a_folder_that_is_mounted_below_is_seen_before_par2_works(self) -> None:
+        os.makedirs(self.room.path("in/a"))
+        inner, before, real = os.stat(self.room.path("in")).st_ino, self.room.listing(), folders._mount_of
+
+        def mount_of(place: int) -> Tuple[int, bytes]:
+            return (0, b"other") if os.fstat(place).st_ino == inner else real(place)
+        with unittest.mock.patch.object(folders, "_mount_of", mount_of):
+            ended = self.room.run(repair.main, ["room"], PAR2="/bin/false")
+        self.assertEqual((ended.status, ended.said), (6, "parv-repair: room: it reaches into another file system\n"))
+        self.assertEqual(self.room.listing(), before)
+        script = 'mkdir other && mount --bind other room/in/a || exit 99\n"$@"'
+        bound = self.call("unshare", "--mount", "bash", "-c", script, "bash", os.path.join(BIN, "parv-repair"), "room")
+        if bound[0] in (1, 99):
+            self.skipTest(f"mounting isn't allowed here: {bound[2].strip()[:200]}")
+        self.assertEqual(bound, (6, "", ended.said))
+
+    def mounting(self, kind: str) -> str:
+        """Returns the commands that mount a new file system of a kind, in a namespace of its own, at `disk`."""
+        os.makedirs(os.path.join(self.room.top, "disk"), exist_ok=True)
+        if kind == "tmpfs":
+            return "mount -t tmpfs tmpfs disk"
+        image = os.path.join(self.room.top, kind)
+        with open(image, "wb") as out:
+            out.truncate(LENGTH)
+        if not shutil.which(MAKES[kind][0]) or subprocess.run([*MAKES[kind], image], capture_output=True).returncode:
+            self.skipTest(f"no {kind} can be made here")
+        return "lowntfs-3g -o ignore_case ntfs disk" if kind == "ntfs" else f"mount -o loop {kind} disk"
+
+    def on(self, kind: str) -> None:
+        script = (f'{self.mounting(kind)} || exit 99\ncp -r room disk/room; mkdir disk/tmp\n'
+                  'export TMPDIR=$PWD/disk/tmp; "$@" disk/room || exit\nls -A disk/tmp; rm -r room; '
+                  'cp -r disk/room room')
+        ended = self.call("unshare", "--mount", "bash", "-c", script, "bash", os.path.join(BIN, "parv-repair"))
+        if ended[0] in (1, 99):
+            self.skipTest(f"mounting isn't allowed here: {ended[2].strip()[:200]}")
+        self.assertEqual((ended[0], ended[1].splitlines()[-1:], self.room.lacks()), (0, ["complete"], []), ended)
+
+    def test_a_repair_on_ext4(self) -> None:
+        self.on("ext4")
+
+    def test_a_repair_on_xfs(self) -> None:
+        self.on("xfs")
+
+    def test_a_repair_on_btrfs(self) -> None:
+        self.on("btrfs")
+
+    def test_a_repair_on_tmpfs(self) -> None:
+        self.on("tmpfs")
+
+    def test_a_repair_where_case_is_folded(self) -> None:
+        self.folded()
+        held = self.room.contents()
+        self.on("ntfs")
+        self.assertFalse(held - self.room.contents())
+
+
+if __name__ == "__main__":
+    unittest.main()
