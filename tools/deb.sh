@@ -41,7 +41,7 @@ parv: unstripped-binary-or-object [usr/bin/parv]
 parv: copyright-without-copyright-notice
 # Nobody has proposed it to Debian.
 parv: initial-upload-closes-no-bugs *
-# `env -S` takes python3 with its option -I: lintian reads the -S as a program.
+# `env -S` takes a shell that calls python3 with its options: lintian reads the -S as a program.
 parv: unusual-interpreter -S *
 OVERRIDES
 

@@ -18,7 +18,8 @@ option (`plain`). The numbers in their names count own lengths below the slice s
 one.
 
 The next cases have content such as people have, which repeats or doesn't. Each kind is whole, damaged at one place, or
-has a part left out, in slices of the size that par2 chooses ("par2's") and of 4 KiB.
+has a part left out, in slices of the size that par2 chooses ("par2's") and of 4 KiB. The kinds of `REPEATING` have one
+case more each: damaged at one place, and verified with --tails, which par2 doesn't need there.
 
 In the last cases, only an image is scanned, by `verify --tails`. It has all files of the set, or a tenth of them is
 missing. A "disc of 200" has 200 files, each padded to 2,048 bytes. The ISO image needs genisoimage, and the ext4 image
@@ -48,7 +49,7 @@ sys.path[0] = os.path.dirname(os.path.dirname(os.path.realpath(__file__)))  # im
 
 from bench import disc_images
 from bench.bench_sets import INDEX, OTHER, SHAPES, TAILS, data_files, packet_files, sets_of, size_text, slices_in
-from bench.real_content import KINDS
+from bench.real_content import KINDS, REPEATING
 from hostile.runs import PARV
 
 BEFORE = os.path.abspath(os.environ["BEFORE"]) if os.environ.get("BEFORE") else None
@@ -104,6 +105,7 @@ CASES = [
     *[Case(f"verify --tails, {count}", f"{count} tails, flipped", "verify", 1, True, "plain") for count in TAILS],
     *[Case(kind + more, kind + more, "verify", status if kind != "volumes" else 2 * status)
       for kind in KINDS for more, status in (("", 0), (", flipped", 1), (", left out", 1))],
+    *[Case(f"{kind} with --tails", f"{kind}, flipped", "verify", 1, True) for kind in REPEATING],
     *[Case(kind + more, kind + more, "verify", status, True, program=image.program)
       for kind, image in disc_images.IMAGES.items() for more, status in (("", 1), (", tenth missing", 2))],
     *[Case(f"find --tails, {kind}", kind, "find", 0, True, "plain")

@@ -23,7 +23,7 @@ KIB, MIB = 1 << 10, 1 << 20
 MARGIN = MIB
 PACKET, UNNAMED, FILE, SLICE, TAIL, NAMED, SHOWN = 200, 150, 910, 180, 5150, 560, 5  # bytes for one of each
 RUNNING = 4  # bytes for each byte of a window of up to 8 MiB, if there are six tails or more
-SLICE_AGAIN, INDEX_AGAIN = 100, 528 * KIB  # bytes for each slice, and once, for verify's second index
+SLICE_AGAIN, INDEX_AGAIN = 100, 528 * KIB  # bytes for each slice, and once, for each further index of verify
 OF_A_LENGTH = 80  # bytes, in verify, for each scanned file that has the length of a file of the set
 COMMANDS = ["packets", "set", "find", "verify"]
 SEARCHES = COMMANDS[2:]
@@ -51,7 +51,7 @@ class Costs:
     """The program's runner, the peaks on a set without files, and whether all runs were within the formulas."""
 
     def __init__(self):
-        self.runner = Runner(300)
+        self.runner = Runner()
         self.held = os.path.join(self.runner.held.name, "many_open.so")
         subprocess.run(["gcc", "-shared", "-fPIC", "-O2", "-o", self.held,
                         os.path.join(TOOLS, "bench/many_open.c")], check=True)
@@ -154,7 +154,8 @@ def cost_of_slices_that_are_found(costs):
 
 def cost_of_slices_that_repeat(costs):
     """Slices of zeros and of ones that are found again and again, so the survey makes a smaller index in the run of
-    each. If the file of another slice is whole, it begins with one. All other slices are looked for to the end."""
+    each. If the file of another slice is whole, it begins with one. With --tails, its first round has one beside
+    that. All other slices are looked for to the end."""
     costs.write("whole", b"wwww")
     *owners, other = ids_of(4)
     contents = {b"whole": b"wwww", b"zeros": bytes(4), b"ones": b"1111"}
@@ -166,8 +167,10 @@ def cost_of_slices_that_repeat(costs):
         costs.write("p.par2", set_of(main_body(4, [*owners, other]), *found,
                                      ("filedesc", desc_body(other, b"a", b"", 4 * count)), no_sums(other, count)))
         for name, more in ("", []), (", and a file that is whole", ["whole"]):
-            costs.within(f"{count} slices beside two that are found again and again{name}",
-                         (SLICE + SLICE_AGAIN) * count + INDEX_AGAIN, ["verify"], ["p.par2", "runs", *more])
+            for tails, indexes in ("", 1), (" --tails", 2):
+                costs.within(f"{count} slices beside two that are found again and again{name}",
+                             SLICE * count + indexes * (SLICE_AGAIN * count + INDEX_AGAIN), [f"verify{tails}"],
+                             ["p.par2", "runs", *more])
 
 
 def cost_of_tails(costs):

@@ -148,3 +148,6 @@ KINDS = {
     "records of 5,000": records(5000), "bitmap": bitmap, "sound": sound, "volumes": volumes,
     "small files": small_files, "log": log, "tar": system_tar,
 }
+
+# Kinds in which a search meets the same slices at nearly every byte.
+REPEATING = ["virtual disk", "database", "one line"]

@@ -12,40 +12,40 @@ printf 'XXabcdefgh' > x.bin
 "$tools/make/many_packets.py" 400 many.par2
 "$tools/make/tail_sets.py" tails || exit 1
 
-# limited KIB WORDS..: runs parv with these words under a limit of KIB KiB, and returns its exit status.
+# limited KIB WORDS..: runs parv with these words under a limit of KIB KiB. It sets `status`, `text` and `line`.
 limited() {
     local limit=$1
     shift
-    (ulimit -v "$limit" && exec "$parv" "$@") > "$work/text" 2> "$work/err" < /dev/null
+    (ulimit -v "$limit" && exec "$parv" "$@") > "$work/text" 2> "$work/line" < /dev/null
+    status=$?
+    IFS= read -rd '' text < "$work/text"
+    IFS= read -rd '' line < "$work/line"
 }
 
 least=1000
-until limited $least; [ $? -eq 3 ]; do
+until limited $least; [ $status -eq 3 ]; do
     least=$((least + 16))
     [ $least -lt 100000 ] || { fails "the program ends with 3 under no limit"; exit 1; }
 done
 
 # steps WORDS..: runs parv with these words under each limit, until a hundred limits in a row don't change the run.
 steps() {
-    local limit status refused=0 whole
-    "$parv" "$@" > "$work/whole" 2> "$work/whole.err" < /dev/null
-    whole=$?
-    local same=0
+    local limit refused=0 same=0 whole whole_text whole_line
+    limited unlimited "$@"
+    whole=$status whole_text=$text whole_line=$line
     for ((limit = least; same < 100 && limit < least + 100000; limit += 16)); do
         limited $limit "$@"
-        status=$?
-        if [ $status -eq $whole ] && cmp -s "$work/text" "$work/whole" && cmp -s "$work/err" "$work/whole.err"; then
+        if [ "$status $text" = "$whole $whole_text" ] && [ "$line" = "$whole_line" ]; then
             same=$((same + 1))
-        elif [ $status -eq 8 ] && [ "$(cat "$work/err")" = "parv: out of memory" ] \
-            && cmp -s <(head -c "$(stat -c %s "$work/text")" "$work/whole") "$work/text"; then
+        elif [ "$status $line" = $'8 parv: out of memory\n' ] && [[ $whole_text == "$text"* ]]; then
             same=0
             refused=$((refused + 1))
         else
-            fails "$limit KiB: status $status, $(head -c 200 "$work/err"): parv $*"
+            fails "$limit KiB: status $status, ${line:0:200}: parv $*"
             return
         fi
     done
-    if [ $refused -gt 0 ] && [ $same -eq 100 ] && [ $whole -le 1 ]; then
+    if [ $refused -gt 0 ] && [ $same -eq 100 ] && [ "$whole" -le 1 ]; then
         echo "ok: $refused limits from $least KiB on refuse memory, and then none: parv $*"
     else
         fails "$refused limits refused memory, the undisturbed run ended with $whole: parv $*"

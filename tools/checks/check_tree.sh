@@ -193,12 +193,9 @@ for name in .verify_and_repair .parv-repair; do
 done
 wants "a file in a subfolder" 0 "0 $id need 0 have 0 set/set" "" "$script" tree
 
-# parv ends without an answer, or the command itself is ended.
+# parv ends without an answer.
 printf '#!/bin/sh\n[ "$1" != verify ] || kill -KILL $$\nexec "%s" "$@"\n' "$parv" > ends
-printf '#!/bin/sh\n[ "$1" != verify ] || { echo $$ > "%s/pid"; exec "%s" "$@" "%s/endless"; }\nexec "%s" "$@"\n' \
-    "$work" "$parv" "$work" "$parv" > long
-truncate -s 1T endless
-chmod +x ends long
+chmod +x ends
 PARV=$work/ends wants "parv is ended" 6 "6 $id need - have - set/set" \
     "parv-tree: set/set: $work/ends was ended by signal 9" "$script" tree
 # If parv fails at a packet file, that is reported, even if the other packet files of this name are a complete set.
@@ -223,21 +220,6 @@ for folder in tree none; do
     wants "no parv in PATH, and the folder $folder" 6 "" \
         "parv-tree: cannot run parv: put parv in PATH, or name it by PARV" env -u PARV PATH="$work/path" "$script" $folder
 done
-rm tree/set/sub/bad.txt
-PARV=$work/long "$script" tree > text 2> line &
-for _ in $(seq 100); do [ -s pid ] && break; sleep 0.1; done
-sleep 0.3
-kill $!
-wait $!
-status=$?
-sleep 0.3
-# (The ended program may still be a zombie at this point.)
-if [ $status -eq 143 ] && ! grep -q '^State:[[:blank:]][^Z]' "/proc/$(< pid)/status" 2> "$said/kill"; then
-    echo "ok: parv ends with the command"
-else
-    fails "an end by SIGTERM: status $status, $(cat text line)"
-fi
-
 # Files and folders that a user who isn't root may not read.
 user=()
 [ "$(id -u)" -ne 0 ] || user=(setpriv --reuid 65534 --regid 65534 --clear-groups)

@@ -1,12 +1,13 @@
 #!/usr/bin/env bash
 # If this fails, a command around parv (parv-repair, parv-tree, ..) may do something other than its page says.
 #
-# It runs the unit tests in commands/tests, with a line for each test, and checks the types of the package with mypy, if
-# that is installed.
+# It runs the unit tests in commands/tests, several modules at once, with a line for each test, and checks the types of
+# the package with mypy, if that is installed.
 . "$(dirname "$0")/with/wants.sh"
 cd "$top/commands" || exit 1
 export PARV=$parv
-TMPDIR=$work python3 -m tests || failed=1
+(cd tests && printf '%s\n' test_*.py) | sed 's/[.]py$//' \
+    | TMPDIR=$work xargs -P "${RT_JOBS:-$(nproc)}" -n 1 python3 -m tests || failed=1
 if command -v mypy > /dev/null; then
     if MYPYPATH=. mypy --strict --cache-dir="$work/mypy" -p parv_commands -p tests > "$said/mypy" 2>&1; then
         echo "ok: mypy --strict: $(tail -n 1 "$said/mypy")"

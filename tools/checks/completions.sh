@@ -88,13 +88,13 @@ LINES
 
 for shell in bash zsh; do
     if command -v $shell > /dev/null; then
-        timeout 120 python3 "$tools/checks/completions_typed.py" $shell "$top/completions" < lines || failed=1
+        timeout "$most" python3 "$tools/checks/completions_typed.py" $shell "$top/completions" < lines || failed=1
     else
         echo "not run: there is no $shell"
     fi
 done
 if command -v fish > /dev/null; then
-    timeout 120 python3 "$tools/checks/completions_offered.py" "$top/completions" < lines || failed=1
+    timeout "$most" python3 "$tools/checks/completions_offered.py" "$top/completions" < lines || failed=1
 else
     echo "not run: there is no fish"
 fi

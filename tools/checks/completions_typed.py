@@ -58,7 +58,7 @@ def left_by(keys):
     if os.path.exists("typed/line"):
         os.unlink("typed/line")
     type_in(keys + "\x1bg")
-    for _ in range(400):
+    for _ in range(6000):
         drain(0.05)
         if os.path.exists("typed/line") and os.path.getsize("typed/line"):
             with open("typed/line") as file:

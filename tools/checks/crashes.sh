@@ -33,7 +33,7 @@ ended() {
     status=$?
     { [ $status -eq $wanted ] && [ ! -s text ]; } || fails "no run was ended: $1: status $status, $(cat text line)"
     # (A program that the repair has called may hold the lock of the folder for a moment.)
-    for _ in $(seq 100); do flock -n room true && break; sleep 0.1; done
+    flock -w "$most" room true
 } 2> "$said/ended"
 
 # has NAME TEXT: wants some file of `room` whose whole content is TEXT.
@@ -174,9 +174,16 @@ for copies in no yes; do
         cp -a room copy
         rm -rf room
         mv copy room
-        goes_on "two files in the stage, of a copy" "$say what was in .parv-repair isn't of a run in this folder, and is kept as \
-parv-repair.kept.1
-$say .parv-repair isn't of a run in this folder: files that were moved into it are in the folder again"
+        "${repair[@]}" room > text 2> line
+        status=$?
+        if [ $status -eq 6 ] && [ ! -s text ] && grep -q "and it is now parv-repair.kept.1; " line \
+            && grep -q "can't tell whether enough is left for a repair: .*parv-repair.kept.1 " line; then
+            echo "ok: two files in the stage, of a copy"
+        else
+            fails "two files in the stage, of a copy: status $status, $(cat text line)"
+        fi
+        mv room/parv-repair.kept.1/aside/* room
+        goes_on "two files in the stage, of a copy, once they are moved back" ""
     fi
     rm -rf room
     mv saved room
@@ -243,22 +250,23 @@ as_before "a list of moves that can't be written"
 "${repair[@]}" room > text 2> line || fails "a run once the list can be written: $(cat text line)"
 whole_now "a list of moves that can be written then"
 
-# Something that isn't a regular file is in the place of the list.
+# A folder that nobody's run has made is in the place of the stage, and has something else than a file for a list.
 furnish 4 5 first.txt abcdefgh second.txt ijklmnop
-mv room/first.txt room/x
-mkdir room/$repair_stage
 planted() {
-    listed room > before
-    (ulimit -v 4000000 && exec timeout -k 1 20 "${repair[@]}" room) > text 2> line
+    mv room/first.txt room/x
+    (ulimit -v 4000000 && exec timeout -k 1 "$most" "${repair[@]}" room) > text 2> line
     status=$?
-    if [ $status -eq 6 ] && [ ! -s text ] && grep -q 'no regular file' line; then
-        echo "ok: a list of moves that is $1 is refused"
+    if [ $status -eq 0 ] && [ "$(tail -n 1 text)" = complete ] && grep -q 'nothing in it is followed' line \
+        && [ -e "room/parv-repair.kept.1/${repair_list##*/}" ]; then
+        echo "ok: a list of moves that is $1 is set aside"
     else
         fails "a list of moves that is $1: status $status, $(cat text line)"
     fi
-    as_before "a list of moves that is $1"
-    rm -r room/${repair_list:?}
+    rm -rf room/parv-repair.kept.1 room/$repair_stage
+    whole_now "a list of moves that is $1"
+    mkdir room/$repair_stage
 }
+mkdir room/$repair_stage
 mkfifo room/$repair_list
 planted "a FIFO"
 mkdir room/$repair_list
@@ -268,6 +276,4 @@ if mknod room/$repair_list c 1 5 2> "$said/node"; then
 else
     echo "not run: a list of moves that is a device: making one isn't allowed here"
 fi
-"${repair[@]}" room > text 2> line || fails "a run once the planted list has gone: $(cat text line)"
-whole_now "a planted list that has gone"
 exit $failed

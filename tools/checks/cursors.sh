@@ -159,7 +159,12 @@ for text in "" 2 2: ::: 3:$set:$one:0:2:1 1:$set:$one:0:2:1 02:$set:$one:0:2:1 2
     "2:$set:$one:0:2:1"$'\n' 2:"$upper":$one:0:2:1 2:$set:${one^^}:0:2:1 2:$set:${one%?}:0:2:1 2:$set:${one}0:0:2:1 \
     2:${set%?}:$one:0:2:1 2:$set:${one%?}g:0:2:1 2:$set:$one:00:2:1 2:$set:$one:0:02:1 2:$set:$one:0:2:01 \
     2:$set:$one:+0:2:1 2:$set:$one:0:2:-1 2:$set:$one:4294967296:2:1 2:$set:$one:0:18446744073709551616:1 \
-    2:$set:$one:0:2:4294967296 "$upper":0:2:1 $set:0:02:1 $set:0:2 $set:0:2:1:0 "cursor 2:$set:$one:0:2:1"; do
+    2:$set:$one:0:2:4294967296 2:0:2:1 2:$set 2:$set:$one 2:$set:$one:0 2:$set:$one::0:2:1 2:$set:$one::2:1 \
+    2:$set:$one:0::1 2:$set:2:$one:0:2:1 0:$set:$one:0:2:1 +2:$set:$one:0:2:1 "2 :$set:$one:0:2:1" \
+    "2: $set:$one:0:2:1" "2:$set: ${one%?}:0:2:1" "2:$set:$one:0: 2:1" 1:$set:0:2:1 $set $set:0:2: $set:0:2:1: \
+    "$upper":0:2:1 ${set%?}:0:2:1 ${set}0:0:2:1 $set:0:02:1 $set:0:+2:1 "$set:0:2:1 " " $set:0:2:1" $set:0:2 \
+    $set:0:2:1:0 $set:4294967296:2:1 $set:0:18446744073709551616:1 $set:0:340282366920938463463374607431768211456:1 \
+    $set:0:2:4294967296 "cursor 2:$set:$one:0:2:1"; do
     wants "no cursor: ${text@Q}" 3 "" "parv: bad value" "$parv" find --cursor "$text" v.par2 x.bin
 done
 long=2:$set:$one:4294967295:18446744073709551615:4294967295

@@ -2,9 +2,9 @@
 # If this fails, parv does the same hashing or searching more than once, and takes longer than docs/PERFORMANCE.md says.
 #
 # It counts, in runs of the built program, how many blocks of 64 bytes go through MD5, how many windows are hashed, how
-# many indexes are made, how often a search goes on, and how often tails that look ahead are stopped. The expected
-# numbers follow from the files, by the definitions of the formats and of MD5. Only turns, pieces and tables of zeros
-# have a bound instead.
+# many indexes are made, how often a search goes on, how often tails that look ahead are stopped, and how many arguments
+# are taken. The expected numbers follow from the files, by the definitions of the formats and of MD5. Only turns, pieces
+# and tables of zeros have a bound instead.
 . "$(dirname "$0")/with/wants.sh"
 cd "$work" || exit 1
 gcc -O1 -Wall -Wextra -o entries "$tools/digests/entries.c" || exit 1
@@ -37,6 +37,7 @@ place halves parwindow::crcs::zero_run::ZeroRun::new
 place marks parshelf::shelves::names::list_mark
 place pieces parwindow::tails::stream::Stream::piece_from
 place fronts parwindow::window::Window::next_tail
+place words clap::parser::parse::Parser::take_word
 
 PYTHONPATH=$tools python3 "$tools/checks/digests_sets.py" || exit 1
 set=$(< s.id)
@@ -81,6 +82,7 @@ costs "a packet whose last byte is another once" "packets wrong.par2" "packets 0
 costs "a packet over the end of a piece once" "packets late.par2" "packets 1" "blocks=$(blocks_of 20032)"
 costs "nothing of a packet longer than its file" "packets cut.par2" "packets 0" blocks=0
 costs "a packet within another, and the other" "packets inner.par2" "packets 2" "blocks=$(blocks_of 72 256)"
+costs "each argument once, those that aren't opened too" "packets two.par2 x y z" "packets 2" words=4
 costs "a file that is named twice twice" "packets two.par2 two.par2" "packets 4" "blocks=$(blocks_of 72 20032 72 20032)"
 
 # The set has a Main body of 60 bytes, three descriptions of 60 bytes with their names, and checksums of 3, 1 and 13
@@ -169,22 +171,35 @@ most_turns() {
     done
     echo $turns
 }
-costs "a run of zeros" "verify -q zero.par2 zeros" "result impossible" indexes=2 "turns<=$(most_turns 2 1 1 10000)"
-costs "what is missing after a run of zeros" "verify -q zero.par2 last" "result possible" digests=2 indexes=2 \
-    "turns<=$(most_turns 2 2 1 10064)"
-costs "a run of a thousand zeros" "verify -q zero.par2 thousand" "result impossible" digests=1 indexes=1
 few=()
 for at in {0..19}; do few+=("few$at"); done
-costs "zeros in twenty files" "verify -q zero.par2 ${few[*]}" "result impossible" digests=1 indexes=2 \
-    "turns<=$(most_turns 2 1 1 "${few[@]/*/600}")"
-costs "a run of zeros and one of another byte" "verify -q both.par2 both" "result impossible" digests=2 indexes=3 \
-    "turns<=$(most_turns 3 2 2 20000)"
-costs "a run of zeros, and a file that is whole" "verify -q both.par2 y zeros" "result impossible" \
-    digests=1 indexes=3 "turns<=$(most_turns 3 1 1 64 10000)"
-costs "a period of 61 bytes, whose 61 windows are slices" "verify -q period.par2 period" "result impossible" \
-    digests=61 indexes=2 "turns<=$(most_turns 62 61 1 24400)"
+# With --tails, the first round has a second index even if no file is whole. No slice of these sets is short, so there
+# is no second round.
+for tails in "" --tails; do
+    with=${tails:+, with $tails}
+    first=1
+    [ -z "$tails" ] || first=2
+    costs "a run of zeros$with" "verify -q $tails zero.par2 zeros" "result impossible" indexes=$((first + 1)) \
+        "turns<=$(most_turns 2 1 1 10000)"
+    costs "what is missing after a run of zeros$with" "verify -q $tails zero.par2 last" "result possible" digests=2 \
+        indexes=$((first + 1)) "turns<=$(most_turns 2 2 1 10064)"
+    costs "a run of a thousand zeros$with" "verify -q $tails zero.par2 thousand" "result impossible" digests=1 \
+        indexes=$first
+    costs "zeros in twenty files$with" "verify -q $tails zero.par2 ${few[*]}" "result impossible" digests=1 \
+        indexes=$((first + 1)) "turns<=$(most_turns 2 1 1 "${few[@]/*/600}")"
+    costs "a run of zeros and one of another byte$with" "verify -q $tails both.par2 both" "result impossible" \
+        digests=2 indexes=$((first + 2)) "turns<=$(most_turns 3 2 2 20000)"
+    costs "a run of zeros, and a file that is whole$with" "verify -q $tails both.par2 y zeros" "result impossible" \
+        digests=1 indexes=3 "turns<=$(most_turns 3 1 1 64 10000)"
+    costs "a period of 61 bytes, whose 61 windows are slices$with" "verify -q $tails period.par2 period" \
+        "result impossible" digests=61 indexes=$((first + 1)) "turns<=$(most_turns 62 61 1 24400)"
+    costs "two hundred slices, each twice$with" "verify -q $tails others.par2 others" "result impossible" digests=200 \
+        indexes=$first
+done
 costs "zeros into which no slice fits" "verify -q unfit.par2 unfit" "result impossible" digests=0 indexes=1
-costs "two hundred slices, each twice" "verify -q others.par2 others" "result impossible" digests=200 indexes=1
+for tails in "" --tails; do
+    costs "a search of them${tails:+, with $tails}" "find $tails unfit.par2 unfit" end digests=0
+done
 
 # A search goes on over what is read ahead, at most 4,096 bytes: so it takes five turns in a file of 20,000 bytes, and
 # more only if it finds a slice.

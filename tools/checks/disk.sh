@@ -229,7 +229,7 @@ tests=$top/crates/search_tests/out/search_tests_tests
 if [ -x "$tests" ]; then
     test=$("$tests" --list | sed -n 's/: test$//p' | grep a_search_goes_on_where_a_shortened_file_ended)
     reads_on() {
-        timeout 60 env ERROR=4 FAIL_READ=1 CALLS=calls LD_PRELOAD="$work/wrong.so $work/disturb.so" \
+        timeout "$most" env ERROR=4 FAIL_READ=1 CALLS=calls LD_PRELOAD="$work/wrong.so $work/disturb.so" \
             "$tests" "$test" > text 2>&1 < /dev/null
         status=$?
         rm -f "$(awk '$1 == "open" { print $2; exit }' calls)"

@@ -6,7 +6,6 @@
 # file, and as many files as the arguments may name. Each run must have its exact text and status, and none may end with
 # 8.
 . "$(dirname "$0")/with/wants.sh"
-export most=600
 cd "$work" || exit 1
 
 # Files with long holes are in a folder in memory. That allows any length, and doesn't keep what was read.

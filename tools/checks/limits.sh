@@ -149,12 +149,12 @@ file=e345eacbe656c0e6fd20ed63cb7b062c
 truncate -s 4G far.par2 far.bin
 cat "$work/v.par2" >> far.par2
 cat "$work/x.bin" >> far.bin
-most=300 wants "packets behind 4 GiB" 0 "far.par2 4294967296 92 main $set
+wants "packets behind 4 GiB" 0 "far.par2 4294967296 92 main $set
 far.par2 4294967388 128 filedesc $set
 far.par2 4294967516 120 ifsc $set
 far.par2 4294967636 76 recvslic $set
 packets 4" "" "$parv" packets far.par2
-most=300 wants "slices behind 4 GiB" 0 "far.bin 4294967298 $file 0
+wants "slices behind 4 GiB" 0 "far.bin 4294967298 $file 0
 far.bin 4294967302 $file 1
 end" "" "$parv" find --cursor "$set:0:4294967290:0" "$work/v.par2" far.bin
 exit $failed

@@ -36,7 +36,7 @@ lints() {
     fi
 }
 
-headed .sh '(ba)?sh' > "$work/all"
+headed .sh '(ba)?sh$' > "$work/all"
 grep '^tools/checks/with/\|^tools/staging.sh$' "$work/all" > "$work/read"
 grep -vxFf "$work/read" "$work/all" > "$work/files"
 printf '#!/bin/sh\necho $1\n' > "$work/wrong"

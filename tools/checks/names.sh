@@ -2,23 +2,36 @@
 # If this fails, a set could make parv open a file of its choice, because a name in the set is a path to that file.
 #
 # Whatever is at such a path, parv must not open it. It opens only files that the arguments name; it compares the names
-# in the set with these, and shows them.
+# in the set with these, and shows them. A library records each file that it looks at or opens.
 . "$(dirname "$0")/with/wants.sh"
 mkdir "$work/below"
 cd "$work/below" || exit 1
+gcc -shared -fPIC -O1 -o "$work/disturb.so" "$tools/disturb/disturb.c" -ldl || exit 1
+recorded=(env CALLS="$work/calls" LD_PRELOAD="$work/disturb.so" "$parv")
 
 # one_file NAME: writes that.par2, the set of one file of this name with the content abcdefgh, and prints its ID.
 one_file() {
     PYTHONPATH=$tools PYTHONDONTWRITEBYTECODE=1 python3 "$tools/checks/names_set.py" "$1"
 }
 
-# passes WHAT: wants the file at $place, which no argument names, to be neither verified nor searched.
+# passes WHAT: wants the file at $place, which no argument names, to be neither verified nor searched, nor opened.
 passes() {
     wants "$1 at $place is missing" 2 "$line
 missing $name 0/2
 need 2 have 0
-result impossible" "" "$parv" verify that.par2
-    wants "$1 at $place is not searched" 0 end "" "$parv" find that.par2
+result impossible" "" "${recorded[@]}" verify that.par2
+    opens_none "$1 at $place: verify"
+    wants "$1 at $place is not searched" 0 end "" "${recorded[@]}" find that.par2
+    opens_none "$1 at $place: find"
+}
+
+# opens_none NAME: wants the recorded calls to concern that.par2, whose number is 1, and no other file.
+opens_none() {
+    if [ "$(cut -d ' ' -f 2 "$work/calls" | LC_ALL=C sort -u | xargs)" = "1 that.par2" ]; then
+        echo "ok: nothing is opened: $1"
+    else
+        fails "something is opened: $1: $(tr '\n' ';' < "$work/calls")"
+    fi
 }
 
 for name in ../g.bin "$work/g.bin" g.bin; do
@@ -36,19 +49,8 @@ result complete" "" "$parv" verify that.par2 "$name"
     passes "a file that may not be read"
     rm -f "$name"
 
-    # A program that writes to a FIFO waits until another one opens the FIFO to read.
     mkfifo "$name"
-    : > "$name" &
-    waits=$!
-    sleep 0.2
     passes "a FIFO"
-    sleep 2
-    if kill "$waits" 2> "$said/kill"; then
-        echo "ok: the FIFO at $place was not opened"
-    else
-        fails "the FIFO at $place was opened"
-    fi
-    wait "$waits" 2> "$said/kill"
     rm "$name"
 done
 

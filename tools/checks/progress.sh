@@ -54,21 +54,18 @@ chmod +x slow
 head -c 5000000 /dev/zero | tr '\0' a > five.bin
 head -c 1000000 /dev/zero | tr '\0' a > one.PAR2
 
-# on_terminal NAME MOST TEXT WORDS..: wants it to show that 2 of at most MOST MiB were read, and then what the program
+# on_terminal NAME MIB TEXT WORDS..: wants it to show that 2 of at most MIB MiB were read, and then what the program
 # prints.
 on_terminal() {
-    local name=$1 most=$2 text=$3
+    local name=$1 mib=$2 text=$3
     shift 3
     rm -f go
-    PARV=./slow timeout 60 script -qefc "$script $*" terminal > /dev/null 2>&1 < /dev/null &
-    for _ in $(seq 300); do
-        grep -qa "2 MiB of at most $most MiB, [0-9]* MiB/s" terminal 2> /dev/null && break
-        sleep 0.1
-    done
+    PARV=./slow timeout "$most" script -qefc "$script $*" terminal > /dev/null 2>&1 < /dev/null &
+    comes grep -qa "2 MiB of at most $mib MiB, [0-9]* MiB/s" terminal
     touch go
     wait $!
     local got=$?
-    if [ $got -eq 2 ] && grep -qa "2 MiB of at most $most MiB, [0-9]* MiB/s" terminal \
+    if [ $got -eq 2 ] && grep -qa "2 MiB of at most $mib MiB, [0-9]* MiB/s" terminal \
         && [ "$(tr -d '\r' < terminal | tr '\033' '\n' | sed -n 's/^\[K\(the text.*\)/\1/p')" = "$text" ] \
         && grep -qa "^the line" terminal; then
         echo "ok: $name"
@@ -81,15 +78,15 @@ on_terminal "verify --tails on a terminal" 18 "the text of verify" verify --tail
 
 # For `find` it shows no progress on the terminal that gets its lines, and does if the lines go to a file.
 touch go
-PARV=./slow timeout 60 script -qefc "$script find one.PAR2 five.bin" terminal > /dev/null 2>&1 < /dev/null
+PARV=./slow timeout "$most" script -qefc "$script find one.PAR2 five.bin" terminal > /dev/null 2>&1 < /dev/null
 if grep -qa "^the text of find" terminal && ! grep -qa "at most" terminal; then
     echo "ok: find on a terminal"
 else
     fails "find on a terminal: $(cat -v terminal)"
 fi
 rm go
-PARV=./slow timeout 60 script -qefc "$script find one.PAR2 five.bin > lines" terminal > /dev/null 2>&1 < /dev/null &
-for _ in $(seq 300); do grep -qa "of at most 8 MiB" terminal 2> /dev/null && break; sleep 0.1; done
+PARV=./slow timeout "$most" script -qefc "$script find one.PAR2 five.bin > lines" terminal > /dev/null 2>&1 < /dev/null &
+comes grep -qa "of at most 8 MiB" terminal
 touch go
 wait $!
 if grep -qa "of at most 8 MiB" terminal && [ "$(cat lines)" = "the text of find" ]; then
@@ -97,22 +94,4 @@ if grep -qa "of at most 8 MiB" terminal && [ "$(cat lines)" = "the text of find"
 else
     fails "find into a file: $(cat -v terminal)"
 fi
-
-# A signal to parv-progress also ends the program that it runs.
-for signal in INT:130 TERM:143 HUP:129; do
-    rm -f go began
-    PARV=./slow timeout 60 env --default-signal=INT,HUP script -qefc "exec $script verify one.PAR2 five.bin" terminal \
-        > /dev/null 2>&1 < /dev/null &
-    for _ in $(seq 300); do [ -s began ] && break; sleep 0.1; done
-    read -r command program < began
-    kill -"${signal%:*}" "$command"
-    wait $!
-    got=$?
-    for _ in $(seq 300); do [ -e "/proc/$program" ] || break; sleep 0.1; done
-    if [ $got -eq "${signal#*:}" ] && [ -n "$program" ] && [ ! -e "/proc/$program" ]; then
-        echo "ok: SIG${signal%:*} ends both"
-    else
-        fails "SIG${signal%:*}: status $got"
-    fi
-done
 exit $failed

@@ -65,11 +65,26 @@ salvages "four pieces: 65,536 and twice 65,529, and 3,406 are 200,000" zeros2000
 # Bytes in the current piece aren't read again: no header, no body, and nothing that is hashed.
 salvages "packets inside a piece, and one that is none" inside.par2 30 "inside.par2 0 50000"
 salvages "a packet that ends with the piece" at65472.par2 1 "at65472.par2 0 65536 164"
+# If only the last byte comes after the piece, that byte is hashed and the body is read again; a second piece of 8 bytes
+# isn't searched.
+salvages "the last byte of a packet after a piece" end65273.par2 1 "end65273.par2 0 65536 1" "end65273.par2 65337 200"
 # A header over the end of the piece is read again, 64 bytes. Of the 72 bytes that are hashed, from 65,532 on, the 68
 # after the piece are read. Then the body is read.
 salvages "a header over the end of a piece" at65500.par2 1 \
     "at65500.par2 0 65536" "at65500.par2 65500 64" "at65500.par2 65536 68" "at65500.par2 65564 40" \
     "at65500.par2 65536 164"
+salvages "a body right after a piece" end65472.par2 1 \
+    "end65472.par2 0 65536 200" "end65472.par2 65536 200" "end65472.par2 65536 200"
+salvages "the last byte of a header after a piece" end65473.par2 1 \
+    "end65473.par2 0 65536" "end65473.par2 65473 64" "end65473.par2 65536 201" "end65473.par2 65537 200" \
+    "end65473.par2 65536 201"
+# The first of the 232 bytes that are hashed is the first after the piece, or the second.
+salvages "the hashed bytes right after a piece" end65504.par2 1 \
+    "end65504.par2 0 65536" "end65504.par2 65504 64" "end65504.par2 65536 232" "end65504.par2 65568 200" \
+    "end65504.par2 65536 232"
+salvages "the hashed bytes a byte after a piece" end65505.par2 1 \
+    "end65505.par2 0 65536" "end65505.par2 65505 64" "end65505.par2 65537 232" "end65505.par2 65569 200" \
+    "end65505.par2 65536 233"
 # The magic ends with the piece, so all bytes that are hashed come after the piece.
 salvages "the last magic of a piece" at65528.par2 1 \
     "at65528.par2 0 65536" "at65528.par2 65528 64" "at65528.par2 65560 72" "at65528.par2 65592 40" \
@@ -155,6 +170,7 @@ reads "nothing of a file into which only slices fit that are found" "verify s.pa
     "s.par2 other1696 a c" "s.par2 0 1076" "a 0 20000" "c 0 32768*3 1696" "${a[@]}" "${c[@]}"
 reads "no search for slices without their sums" "verify n.par2 a c other20000" "result impossible" \
     "n.par2 a c other20000" "n.par2 0 496" "a 0 20000" "c 0 32768*3 1696" "other20000 0 20000"
+reads "no search for slices without their sums by find" "find n.par2 a c" end "n.par2 a c" "n.par2 0 496"
 
 # Each of these injected bugs makes other reads, for each command.
 for words in "packets body.par2" "set body.par2 s.par2" "find s.par2 a c" "verify -q s.par2 a b cc"; do

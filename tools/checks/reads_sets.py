@@ -20,6 +20,8 @@ write("inside.par2", kinds, broken, bytes(50000 - len(kinds) - len(broken)))
 small = packet(NO_ID, "creator", b"x" * 40)
 for place in 65472, 65500, 65528, 65529:
     at(f"at{place}.par2", place, small if place > 65472 else packet(NO_ID, "creator", b""), 65700)
+for place in 65273, 65472, 65473, 65504, 65505:
+    at(f"end{place}.par2", place, packet(NO_ID, "creator", b"x" * 200), place + 264)
 at("beyond.par2", 65500, packet(NO_ID, "creator", b"x" * 400)[:200], 65700)
 large = bytearray(packet(NO_ID, "creator", b"x" * 20000))
 at("body.par2", 65000, large, 90000)

@@ -31,6 +31,6 @@ runs_tests|one|names_are_shown
 runs_tests|one|::shelves::
 search_tests|one||OutOfMemory before the first call,NoMemory told at a reopening,NoMemory told at a first reopening
 search_tests|later|equal_slices
-search_tests|later|many_lengths|all found without Memory,all marked without Memory,too many lengths told without Memory,none marked without Memory
+search_tests|later|many_lengths|all found without Memory,all marked without Memory,too many lengths told without Memory
 END
 exit $failed

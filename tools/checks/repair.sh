@@ -355,12 +355,16 @@ cp "$parv" parv
 chmod 755 parv
 cp -r "$top/commands/bin" "$top/commands/parv_commands" commands
 chmod -R a+rX commands
+mkdir states
+chmod 1777 states
+export XDG_STATE_HOME=$work/states      # of that user
 script=commands/bin/parv-repair
 wants "a trial in a folder that may not be written" 1 "rename x to second.txt
 a repair can be tried: need 0 have 5" "" env PARV="$work/parv" "${user[@]}" "$script" --dry-run room
 wants "a folder that may not be written" 6 "" "$say cannot write in room: Permission denied" env PARV="$work/parv" "${user[@]}" "$script" room
 chmod 000 room/first.txt
-wants "a file that may not be read" 6 "" "$say cannot open first.txt" env PARV="$work/parv" "${user[@]}" "$script" room
+wants "a file that may not be read" 6 "" "$say first.txt isn't looked at (Permission denied), and isn't replaced: need 2 have 5" \
+    env PARV="$work/parv" "${user[@]}" "$script" room
 chmod 000 room
 wants "a folder that may not be read" 6 "" "parv-repair: cannot open room: Permission denied" \
     env PARV="$work/parv" "${user[@]}" "$script" room

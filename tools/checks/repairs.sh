@@ -78,7 +78,7 @@ mkdir 'whole/Wait...'
 tail -c 4000 "$parv" > 'whole/Wait.../one.mp3'
 repaired "a damaged file below a folder 'Wait...'" 'Wait.../one.mp3'
 
-# 40 names of 3.8 KB of unprintable bytes, 20 folders deep. A second of processor time must be enough.
+# 40 names of 3.8 KB of unprintable bytes, 20 folders deep. They take a second of processor time, and may take 40.
 rm -rf room
 mkdir room
 PYTHONPATH=$tools python3 "$tools/checks/repairs_names.py"

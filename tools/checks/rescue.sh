@@ -117,9 +117,16 @@ if grep -q '^find ' calls && ! grep -q '^find --tails' calls; then
 else
     fails "parv was asked $(cat calls)"
 fi
-sed -i '/^slice/d; s/^at expected/at plain/' "disc out/$record"
-extracts "a search of an earlier version is done once more" 0 19 disc "disc out" "${image[@]}"
-PARV=$work/logs extracts "and not once more" 0 0 disc "disc out" "${image[@]}"
+# A record that isn't shown to be of a run in this folder is kept aside, and the files are known by their content.
+cp -r "disc out" "disc copy"
+sed -i '$s/19$/0/' lines
+PARV=$work/logs gives "a copy of a folder" 0 lines "parv-rescue: disc copy/$record isn't shown to be of a run of yours in\
+ this folder, which may be a copy: it is now parv-rescue.kept.1, and the files are read again" \
+    "$extract" "disc copy" "${image[@]}"
+rm "disc copy/parv-rescue.kept.1"
+leaves "a copy of a folder" "disc copy"
+PARV=$work/logs extracts "and once more" 0 0 disc "disc copy" "${image[@]}"
+PARV=$work/logs extracts "the folder itself" 0 0 disc "disc out" "${image[@]}"
 # There are decoys at the expected places.
 decoys=(disc.par2 decoys.img)
 extracts "one with the same CRC-32, and one with another byte" 1 17 disc decoys "${decoys[@]}"
@@ -160,6 +167,26 @@ extracts "the file ends within a slice" 1 1 cut cut_within cut.par2 cut.img
 extracts "the file ends before a slice" 1 1 cut cut_before cut.par2 cut_off.img
 extracts "the same with --tails" 1 0 cut cut_before --tails cut.par2 cut_off.img
 
+# recorded FOLDER: how many slices the record of a folder has.
+recorded() {
+    awk '/^slices / { for (at = 2; at < NF; at++) count += split($at, ends, "-") == 2 ? ends[2] - ends[1] + 1 : 1 }
+        END { print count + 0 }' "$1/$record"
+}
+# written FOLDER: how many slices of 1024 bytes, or shorter last ones, are in the files of a folder. (Each has other bytes
+# than zeros.)
+written() {
+    python3 - "$1" << 'END'
+import os, sys
+count = 0
+for name in os.listdir(sys.argv[1]):
+    if not name.startswith("."):
+        with open(os.path.join(sys.argv[1], name), "rb") as file:
+            data = file.read()
+        count += sum(any(data[at:at + 1024]) for at in range(0, len(data), 1024))
+print(count)
+END
+}
+
 # Stopped runs: parv ends after 9 lines, or the command is killed while it waits for more.
 cat > ends << 'END'
 #!/bin/bash
@@ -172,23 +199,24 @@ cat > hangs << 'END'
 [ "$1" = find ] || exec "$parv" "$@"
 "$parv" "$@" | head -n 9
 echo $$ > "$waits"
-exec sleep 60
+exec sleep 600
 END
 chmod +x ends hangs
 ended="parv-rescue: what parv find has written is no answer of it: is PARV another program?"
 PARV=$work/ends wants "a run on a disc that is stopped" 6 "" "$ended" "$extract" stopped_disc "${image[@]}"
-extracts "it goes on" 0 $((19 - $(grep -c '^slice' stopped_disc/$record))) disc stopped_disc "${image[@]}"
+extracts "it goes on" 0 $((19 - $(recorded stopped_disc))) disc stopped_disc "${image[@]}"
 PARV=$work/ends wants "a run that is stopped" 6 "" "$ended" "$extract" --tails stopped "${words[@]}"
 rm calls
 PARV=$work/logs extracts "it goes on" 1 24 "$demo" stopped --tails "${words[@]}"
 grep -q '^find .*:0:2[0-9]*:[0-9]* -- ' calls || fails "it doesn't go on behind the zeros: $(cat calls)"
 PARV=$work/hangs "$extract" --tails killed "${words[@]}" > told 2>&1 &
-for _ in $(seq 300); do [ -e waits ] && [ -s killed/beach.raw ] && break; sleep 0.1; done
+comes [ -s waits ]
+comes [ -s killed/beach.raw ]
 kill -KILL $!
 wait $! 2> /dev/null
 kill "$(cat waits)"
 [ -s killed/beach.raw ] || fails "nothing was written before the kill"
-extracts "a run that was killed goes on" 1 $((33 - $(grep -c '^slice' killed/$record))) "$demo" killed --tails "${words[@]}"
+extracts "a run that was killed goes on" 1 $((33 - $(written killed))) "$demo" killed --tails "${words[@]}"
 head -c -3 killed/$record > short && cat short > killed/$record
 extracts "it goes on behind the last whole line of its record" 1 0 "$demo" killed --tails "${words[@]}"
 extracts "and once more" 1 0 "$demo" killed --tails "${words[@]}"

@@ -68,7 +68,7 @@ tells() {
         sed 's/: .*//; s/^/refused /' "$said/why"
         echo "slices $(($(grep -cxE -- "$complete" fine) * 2))/50, copied now $copied"
     } | sort > "$said/wanted"
-    timeout 60 "$extract" out "${names[@]}" > "$said/text" 2> "$said/line" < /dev/null
+    timeout "$most" "$extract" out "${names[@]}" > "$said/text" 2> "$said/line" < /dev/null
     local got=$?
     around > "$said/now"
     if [ $got -eq 1 ] && [ "$(sort "$said/text")" = "$(cat "$said/wanted")" ] \
@@ -140,11 +140,15 @@ tells "a file of another length" 18 "$others" "$left"
 [ "$(stat -c %s out/fine)" -eq 1499 ] || fails "the file of another length has another one"
 again
 rm out/fine
-tells "no file" 18 "$others" "fine: $no_way: No such file or directory"
+tells "no file" 20 ".*"
 again
 head -c 1500 names/late > out/fine
+tells "another file in its place" 18 "$others" "$left"
+head -c 1500 names/late | cmp out/fine - || fails "another file was written over"
+again
+printf 'mine' | dd of=out/fine bs=1 seek=1200 conv=notrunc status=none
 tells "other bytes where a slice belongs" 18 "$others" "fine: it has other bytes where a slice belongs"
-head -c 1500 names/late | cmp out/fine - || fails "other bytes were written over"
+[ "$(tail -c +1201 out/fine | head -c 4)" = mine ] || fails "other bytes were written over"
 again
 mv out elsewhere/out
 mkdir out
@@ -181,7 +185,14 @@ wants "a broken link in place of the folder" 6 "" "$me: cannot make broken: File
 "$extract" other "$top/demo/photos.par2" > text
 wants "a folder of another set" 3 "" "$me: other/$record is of another set" "$extract" other "${names[@]}"
 sed -i 's/^at expected .*/at expected/' other/$record
-wants "a record that was changed" 6 "" "$me: line 2 of other/$record is damaged" "$extract" other "$top/demo/photos.par2"
+cp other/$record changed
+wants "a record that was changed" 1 "missing harbour.raw 0/12
+missing beach.raw 0/20
+missing notes.txt 0/1
+missing tower.raw 0/5
+slices 0/38, copied now 0" "$me: other/$record isn't shown to be of a run of yours in this folder, which may be a copy: it is\
+ now parv-rescue.kept.1, and the files are read again" "$extract" other "$top/demo/photos.par2"
+cmp changed other/parv-rescue.kept.1 || fails "a record that was changed isn't kept"
 again
 exec 9< out/$record
 flock 9
@@ -190,7 +201,7 @@ exec 9<&-
 
 # A limit on the size of files, below the lengths of two files of the set.
 rm -rf out
-wants "files above a limit" 1 "refused harbour.raw
+wants "files above a limit" 6 "refused harbour.raw
 refused beach.raw
 complete notes.txt
 complete tower.raw

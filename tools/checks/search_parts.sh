@@ -49,7 +49,8 @@ rm "parts/marked/$last"
 cp -r parts/marked parts/plain
 sed -i '$s/^cursor 2:\([0-9a-f]*\):[0-9a-f]*:/cursor \1:/' "parts/plain/$((last - 1))"
 printf 'x' >> 'disc image'
-wants "a search in parts over a file that has grown" 3 "" "$search_says cursor of other files" \
+wants "a search in parts over a file that has grown" 3 "" \
+    "$search_says a searched file has another length than when this search began" \
     "${search[@]}" parts/marked 7 "${words[@]}"
 wants "a search that is over, of a file that has grown since" 0 "$(cat wanted)" "" "${search[@]}" parts7 7 "${words[@]}"
 truncate -s -1 'disc image'
@@ -182,7 +183,7 @@ END
 chmod +x once
 export REAL=$parv BEGUN=$work/begun
 { PARV=$work/once "${search[@]}" gap 11 "${words[@]}" > found; } 2> told
-for _ in $(seq 100); do flock -n gap true && break; sleep 0.1; done
+flock -w "$most" gap true
 rm begun
 whole "a part that is gone, and a run that was ended" gap 11
 # The record of the arguments, `words`, is cut, and there is no part: the search begins again.
@@ -217,12 +218,12 @@ cat > waits << 'END'
 #!/usr/bin/env bash
 "$REAL" "$@"
 status=$?
-[ -e "$BEGUN" ] || { : > "$BEGUN"; for _ in $(seq 300); do [ ! -e "$BEGUN.over" ] || break; sleep 0.1; done; }
+[ -e "$BEGUN" ] || { : > "$BEGUN"; until [ -e "$BEGUN.over" ]; do sleep 0.1; done; }
 exit $status
 END
 chmod +x waits
 PARV=$work/waits "${search[@]}" two 4 "${words[@]}" > first 2> told &
-for _ in $(seq 300); do [ ! -e begun ] || break; sleep 0.1; done
+comes [ -e begun ]
 "${search[@]}" two 7 "${words[@]}" > second 2> line
 status=$?
 : > begun.over
@@ -238,12 +239,11 @@ whole "the same folder once one run has ended" two 7
 # A run that is ended leaves no parv running, and leaves its folder to the next run.
 truncate -s 1T endless
 "${search[@]}" ended 5 photos.par2 image endless > found 2> told &
-for _ in $(seq 300); do [ ! -e ended/8 ] || break; sleep 0.1; done
+comes [ -e ended/$(($(wc -l < wanted) / 5)) ]
 kill $!
 wait $!
 status=$?
-for _ in $(seq 100); do flock -n ended true && break; sleep 0.1; done
-if [ $status -eq 143 ] && flock -n ended true; then
+if [ $status -eq 143 ] && flock -w "$most" ended true; then
     echo "ok: a search that is ended leaves its folder to the next"
 else
     fails "a search that is ended: status $status, $(cat told)"
@@ -251,7 +251,7 @@ fi
 
 # A program that doesn't write the last line leaves no part.
 for program in true echo false; do
-    PARV=$(type -P $program) timeout 20 "${search[@]}" "no$program" 5 "${words[@]}" > found 2> told
+    PARV=$(type -P $program) timeout "$most" "${search[@]}" "no$program" 5 "${words[@]}" > found 2> told
     status=$?
     if [ $status -eq 6 ] && [ ! -s found ] && [ ! -e "no$program/1" ]; then
         echo "ok: in place of parv: $program"

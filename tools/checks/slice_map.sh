@@ -20,7 +20,7 @@ maps() {
     local name=$1 got needed
     shift
     "$tools/models/map_slices.py" "$@" > "$said/wanted"
-    timeout 60 "$map" --width 4000 "$@" > "$said/text" 2> "$said/line" < /dev/null
+    timeout "$most" "$map" --width 4000 "$@" > "$said/text" 2> "$said/line" < /dev/null
     got=$?
     sed '1,/^$/d; /^$/d; $d; s/: .*//' "$said/text" > "$said/signs"
     needed=$("$parv" verify -q "$@" | head -n 1)
@@ -254,7 +254,7 @@ wants "a folder that isn't there" 6 "" "$me: cannot write none/page.html: No suc
 PYTHONPATH=$tools python3 "$tools/checks/slice_map_names.py"
 rm page.html drawing.svg
 cd odd || exit 1
-timeout 60 "$map" --html ../page.html --svg ../drawing.svg ../odd.par2 a* $'\e[31mred\n' > ../text 2> ../line
+timeout "$most" "$map" --html ../page.html --svg ../drawing.svg ../odd.par2 a* $'\e[31mred\n' > ../text 2> ../line
 status=$?
 cd .. || exit 1
 python3 "$tools/checks/slice_map_read.py" > "read" || fails "the page or the drawing with odd names can't be read"

@@ -31,8 +31,8 @@ wants "a folder that isn't there" 6 "" "parv-watch: cannot open none: No such fi
 
 # The last file arrives while the folder is watched.
 mv "$room/tower.raw" tower.raw
-timeout 60 "${watch[@]}" "$room" 0.1 > watched &
-for _ in $(seq 100); do [ -s watched ] && break; sleep 0.1; done
+timeout "$most" "${watch[@]}" "$room" 0.1 > watched &
+comes [ -s watched ]
 mv tower.raw "$room"
 wait $!
 status=$?

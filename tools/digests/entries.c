@@ -5,7 +5,7 @@
 
    An ADDRESS is hexadecimal, as `nm` shows it for the program, wherever the system loads that. The file COUNTS
    gets a line for each NAME: how often its addresses were entered. The exit status is that of the program, 124
-   after a minute on the clock, or 125, with a line on standard error, if something else failed. */
+   after ten minutes on the clock, or 125, with a line on standard error, if something else failed. */
 #define _GNU_SOURCE
 #include <errno.h>
 #include <stdio.h>
@@ -147,7 +147,7 @@ int main(int count, char **words)
         _exit(125);
     }
     signal(SIGALRM, late);
-    alarm(60);
+    alarm(600);
     if (child < 0 || waitpid(child, &status, 0) != child || !WIFSTOPPED(status))
         fail(words[split + 1]);
     ptrace(PTRACE_SETOPTIONS, child, 0, PTRACE_O_EXITKILL);

@@ -20,6 +20,8 @@
 # DISTURB, if it is set, is the path of the library that disturbs; the first script that doesn't find it there builds
 # it. BEFORE is a library that is loaded before that one.
 set -uo pipefail
+# (A hang ends all of it. A limit on each run would take two more processes for each.)
+[ -n "${LIMITED-}" ] || LIMITED=1 exec timeout "${most:-600}" "$0" "$@"
 here=$(cd "$(dirname "$0")" && pwd)
 parv=${PARV:-$here/../../crates/parv/out/parv}
 what=$1
@@ -32,14 +34,15 @@ fail() {
     exit 1
 }
 
-# run WORDS..: runs the program with the call number n disturbed (0: none). It sets `status`, `line` and `met`, and
-# leaves the files `text` and `err`.
+# run WORDS..: runs the program with the call number n disturbed (0: none). It sets `status`, `text`, `line` and `met`.
 run() {
     : > "$work/report"
-    timeout 20 env "$what=$n" REPORT="$work/report" LD_PRELOAD="${BEFORE-} $library" "$parv" "$@" \
+    (export "$what=$n" REPORT="$work/report" LD_PRELOAD="${BEFORE-} $library" && exec "$parv" "$@") \
         > "$work/text" 2> "$work/err" < /dev/null
     status=$?
-    line=$(< "$work/err")
+    IFS= read -rd '' text < "$work/text"
+    IFS= read -rd '' line < "$work/err"
+    line=${line%$'\n'}
     [ -s "$work/report" ] || fail "status $status, and no report"
     read -r met live opened _ behind _ changing _ < "$work/report"
     [ "$changing" = 0 ] || fail "$changing files opened for more than reading"
@@ -53,7 +56,7 @@ ends_so() {
     REFUSE) [ $status -eq 8 ] && [ "$line" = "parv: out of memory" ] ;;
     FAIL_OPEN | FAIL_STAT)
         # (Nothing is written before all files are open.)
-        [ -s "$work/text" ] && return 1
+        [ -n "$text" ] && return 1
         if [ "${ERROR-}" = 12 ]; then
             [ $status -eq 8 ] && [ "$line" = "parv: out of memory" ]
         else
@@ -62,11 +65,11 @@ ends_so() {
         ;;
     FAIL_WRITE | EMPTY_WRITE) [ $status -eq 6 ] && [ "$line" = "parv: write fault" ] ;;
     *) [ $status -eq 6 ] && [[ $line == "parv: read fault in "?* ]] ;;
-    esac && cmp -s -n "$(stat -c %s "$work/text")" "$work/whole" "$work/text"
+    esac && [[ $whole_text == "$text"* ]]
 }
 
 is_undisturbed() {
-    [ $status -eq $whole ] && cmp -s "$work/text" "$work/whole" && cmp -s "$work/err" "$work/whole.err"
+    [ "$status $text" = "$whole $whole_text" ] && [ "$line" = "$whole_line" ]
 }
 
 words=$*
@@ -74,10 +77,8 @@ n=0
 library=${DISTURB:-$work/disturb.so}
 [ -e "$library" ] || gcc -shared -fPIC -O1 -o "$library" "$here/disturb.c" -ldl || fail "no compiler"
 run "$@"
-whole=$status
+whole=$status whole_text=$text whole_line=$line
 [ -z "${FAIL_OPEN-}${FAIL_STAT-}${FAIL_READ-}${CUT_READ-}${FAIL_WRITE-}" ] || [ $whole -eq 6 ] || fail "nothing else failed"
-mv "$work/text" "$work/whole"
-mv "$work/err" "$work/whole.err"
 if [ "$what" = SHORT ]; then
     for n in 1 3 64; do
         run "$@"

@@ -25,7 +25,7 @@ def run(library, program, test, variable, number, folder):
     taken."""
     report = os.path.join(folder, f"{test}-{number}")
     env = {"LD_PRELOAD": library, variable: str(number), "REPORT": report}
-    ran = subprocess.run([program, test], env=env, cwd=folder, capture_output=True, timeout=120)
+    ran = subprocess.run([program, test], env=env, cwd=folder, capture_output=True, timeout=600)
     try:
         with open(report) as file:
             met, left, unclosed, taken = map(int, file.read().split()[:4])

@@ -10,7 +10,7 @@ set -euo pipefail
 parv=${PARV:-$(cd "$(dirname "$0")/../../.." && pwd)/crates/parv/out/parv}
 
 find_part() {
-    timeout 20 "$parv" find "$@"
+    timeout "${most:-600}" "$parv" find "$@"
 }
 
 fail() {

@@ -8,7 +8,7 @@ gcc -shared -fPIC -O1 -o wrong.so "$tools/disturb/wrong_disk.c" -ldl || exit 1
 # output and messages, and `status` its exit status.
 record() {
     rm -f calls
-    timeout "${most:-60}" env CALLS=calls LD_PRELOAD="$work/wrong.so $work/disturb.so" "$parv" "$@" \
+    timeout "$most" env CALLS=calls LD_PRELOAD="$work/wrong.so $work/disturb.so" "$parv" "$@" \
         > text 2> line < /dev/null
     status=$?
 }

@@ -11,19 +11,30 @@ trap 'rm -rf "$work"' EXIT
 said=$work/.said
 mkdir "$said"
 failed=0
-export PYTHONDONTWRITEBYTECODE=1
+# The seconds after which a run is taken for one that hangs, far more than any run takes on a busy machine.
+export most=${most:-600}
+export PYTHONDONTWRITEBYTECODE=1 XDG_STATE_HOME=$said/state
 
 fails() {
     echo "FAILED: $*"
     failed=1
 }
 
+# comes COMMAND..: repeats this command until it succeeds, for at most $most seconds.
+comes() {
+    local left=$((10 * most))
+    until "$@" 2> "$said/comes"; do
+        [ $((left -= 1)) -gt 0 ] || return 1
+        sleep 0.1
+    done
+}
+
 # gives NAME STATUS FILE LINE COMMAND..: wants this exit status, the content of FILE on standard output, and LINE on
-# standard error, within $most seconds (60 if that isn't set).
+# standard error.
 gives() {
     local name=$1 status=$2 text=$3 line=$4
     shift 4
-    timeout "${most:-60}" "$@" > "$said/text" 2> "$said/line" < /dev/null
+    timeout "$most" "$@" > "$said/text" 2> "$said/line" < /dev/null
     local got=$?
     if [ $got -eq "$status" ] && cmp -s "$said/text" "$text" && [ "$(cat "$said/line")" = "$line" ]; then
         echo "ok: $name"
