@@ -1,12 +1,13 @@
 #!/usr/bin/env python3
 """Compares parv-repair with `par2 repair` on sets that are damaged and renamed at random.
 
-usage: try_repairs.py [--count N] [--seed N] [--first N] [--sets N] [--keep FOLDER]
+usage: try_repairs.py [--count N] [--seed N] [--first N] [--sets N] [--content FOLDER] [--keep FOLDER]
 
 It makes --count folders (200), numbered from --first (0). Each has --sets sets (1), which par2 makes of 1 to 9 files
 of up to 60,000 bytes. Names have blanks, line feeds, dashes, bytes that aren't UTF-8, and folders; some files have the
-same content or equal slices. All follows from the seed (1) and the folder's number. Further sets may share names with
-the first. Then files are damaged, joined, renamed, swapped, copied and removed, and packet files damaged and removed.
+same content or equal slices. All follows from the seed (1) and the folder's number, and with --content from the files
+in that folder, of which these are parts. Further sets may share names with the first. Then files are damaged, joined,
+renamed, swapped, copied and removed, and packet files damaged and removed. TMPDIR says on which file system.
 
 The command gets the folder for each set in turn. par2 gets copies of it, with each packet file of the set first in
 turn, until it has repaired all. If par2 can repair the set, the command must end with 0 and complete files. Otherwise
@@ -56,14 +57,31 @@ def write(folder, files):
             out.write(data)
 
 
-def content(chance, size, before):
-    """Returns the bytes of a file: random ones, some of them zeros, or those of another file."""
+def content(chance, size, before, real):
+    """Returns the bytes of a file: random ones or a part of a real file, some of them zeros, or those of another file."""
     if before and chance.randrange(6) == 0:
         return bytearray(chance.choice(before))
-    data = bytearray(chance.randbytes(chance.choice([1, 40, 3000, chance.randrange(1, 60000)])))
+    length = chance.choice([1, 40, 3000, chance.randrange(1, 60000)])
+    if real:
+        data = bytearray(part_of(chance.choice(real), chance.random(), length))
+    else:
+        data = bytearray(chance.randbytes(length))
     if chance.randrange(4) == 0:
         damage.zero(data, chance.randrange(len(data)) // size * size, size * chance.randrange(1, 6))
     return data
+
+
+def part_of(path, where, length):
+    """Returns bytes of a file, from a place between its first byte (0) and the last one that leaves as many (1)."""
+    with open(path, "rb") as file:
+        file.seek(int(where * max(0, os.path.getsize(path) - length)))
+        return file.read(length)
+
+
+def files_below(folder):
+    """Returns the paths of all regular files below a folder that aren't empty."""
+    paths = (os.path.join(at, name) for at, _, names in os.walk(folder) for name in names)
+    return sorted(path for path in paths if not os.path.islink(path) and os.path.isfile(path) and os.path.getsize(path))
 
 
 def flipped(chance, files):
@@ -120,7 +138,7 @@ def create(folder, files, base, size, recovery):
     return read(os.path.join(folder, f"{base}.par2"))[32:48].hex()
 
 
-def make(folder, seed, number, count):
+def make(folder, seed, number, count, real):
     """Puts sets into the folder. Returns the files of each by its ID, and what was done to them."""
     chance = random.Random(f"repairs {seed} {number}" if count == 1 else f"repairs {seed} {number} of {count}")
     wholes, there, told = {}, {}, []
@@ -130,7 +148,7 @@ def make(folder, seed, number, count):
         for name in chance.sample(NAMES, chance.randrange(1, 10)):
             if name in there and chance.randrange(3):
                 continue
-            files[name] = content(chance, size, list({**there, **files}.values()))
+            files[name] = content(chance, size, list({**there, **files}.values()), real)
         if not files:
             continue
         recovery = chance.choice([0, 1, 3, 10, 40])
@@ -270,19 +288,23 @@ def main():
     parser = argparse.ArgumentParser(usage=__doc__.split("\n\n")[1][7:])
     for option, value in [("--count", 200), ("--seed", 1), ("--first", 0), ("--sets", 1)]:
         parser.add_argument(option, type=int, default=value)
+    parser.add_argument("--content")
     parser.add_argument("--keep")
     asked = parser.parse_args()
+    real = files_below(asked.content) if asked.content else []
+    if asked.content and not real:
+        sys.exit(f"try_repairs.py: there is no file below {asked.content}")
     ends = Counter()
     for number in range(asked.first, asked.first + asked.count):
         with tempfile.TemporaryDirectory() as work:
             folder = os.path.join(work, "folder")
             os.mkdir(folder)
-            wholes, told = make(folder, asked.seed, number, asked.sets)
+            wholes, told = make(folder, asked.seed, number, asked.sets, real)
             some = [end_of(folder, whole, owner) for owner, whole in wholes.items()]
         if asked.keep and any(end.startswith("WRONG") for end in some):
             folder = os.path.join(asked.keep, f"{asked.seed}_{number:03}_{asked.sets}")
             os.makedirs(folder)
-            make(folder, asked.seed, number, asked.sets)
+            make(folder, asked.seed, number, asked.sets, real)
         for end in some:
             print(f"{number}, {told}: {end}".encode("utf-8", "backslashreplace").decode(), flush=True)
             ends[end.split(":")[0]] += 1
