@@ -15,7 +15,7 @@ from .folders import Folder, Identity
 from .names import shown
 from .parv import MOST_FILES, SPARE_FILES, Parv, path_below
 from .programs import Answer
-from .reach import Ways, files_there, preferred, subfolders_of
+from .reach import files_there, leads_through_link, preferred, subfolders_of
 from .signals import wait_point
 
 HERE = b"f"             # the link to the folder
@@ -34,7 +34,6 @@ class Checked(NamedTuple):
 def folders_of(folder: Folder, found: SetAnswer, say: Sayer) -> List[bytes]:
     """Returns the folders in which the files of a set may be, each with a slash after it, and the folder itself as an
     empty path. Says which names of the set aren't read."""
-    ways = Ways(folder)
     read: List[bytes] = []
     for file in found.files:
         wait_point()
@@ -42,11 +41,11 @@ def folders_of(folder: Folder, found: SetAnswer, say: Sayer) -> List[bytes]:
             say(f"the name {file.shown} is refused: it is no plain path below the folder")
         elif names.has_too_many_folders(file.name):
             say(f"the name {file.shown} is refused: it has too many folders")
-        elif not ways.is_clear(file.name):
+        elif leads_through_link(folder, file.name):
             say(f"{file.shown} is a link, or behind one, and isn't read")
         else:
             read.append(file.name)
-    return [b"", *subfolders_of(ways, read)]
+    return [b"", *subfolders_of(folder, read)]
 
 
 def is_complete(folder: Folder, found: SetAnswer, sources: Sequence[Optional[bytes]],

@@ -15,41 +15,22 @@ from .names import shown
 from .signals import wait_point
 
 
-class Ways:
-    """What is at names below a folder, and on the ways to them. Each part is looked up once."""
-
-    def __init__(self, folder: Folder) -> None:
-        self.folder = folder
-        self._kinds: Dict[bytes, int] = {}
-
-    def kind(self, path: bytes) -> int:
-        """Returns the kind of what is at a path, or 0 if nothing is there."""
-        if path not in self._kinds:
-            with faults_of("open", shown(path)):
-                now = self.folder.look(path)
-            self._kinds[path] = 0 if now is None else stat.S_IFMT(now.st_mode)
-        return self._kinds[path]
-
-    def is_clear(self, name: bytes) -> bool:
-        """Returns whether no link is at a name, or on the way to it."""
-        at = name.find(b"/")
-        while at >= 0:
-            kind = self.kind(name[:at])
-            if kind != stat.S_IFDIR:
-                return kind != stat.S_IFLNK
-            at = name.find(b"/", at + 1)
-        return self.kind(name) != stat.S_IFLNK
+def leads_through_link(folder: Folder, name: bytes) -> bool:
+    """Returns whether a link is at a plain name below a folder, or on the way to it."""
+    with faults_of("open", shown(name)), contextlib.closing(folder.levels(name)) as levels:
+        return any(now is not None and stat.S_ISLNK(now.st_mode) for _, _, now in levels)
 
 
-def subfolders_of(ways: Ways, members: Iterable[bytes]) -> List[bytes]:
+def subfolders_of(folder: Folder, members: Iterable[bytes]) -> List[bytes]:
     """Returns the subfolders in plain names of a set, each with a slash after it."""
-    found: Set[bytes] = set()
+    found: Dict[bytes, bool] = {}
     for name in members:
         wait_point()
-        above = name.rpartition(b"/")[0]
-        if above and ways.kind(above) == stat.S_IFDIR:
-            found.add(above + b"/")
-    return sorted(found)
+        above = names.above(name)
+        if above and above not in found:
+            with faults_of("open", shown(above)):
+                found[above] = folder.is_folder(above)
+    return sorted(path + b"/" for path, is_there in found.items() if is_there)
 
 
 def files_there(folder: Folder, members: Set[bytes], folders: Sequence[bytes],

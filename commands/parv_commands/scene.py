@@ -17,7 +17,7 @@ from .names import RESERVED, shown
 from .packets import PacketFiles, RecoverySet, read_recovery_set
 from .parv import MOST_FILES, SPARE_FILES, Links, Parv, path_below
 from .programs import Program
-from .reach import Ways, files_there, preferred, subfolders_of, why_unread
+from .reach import files_there, preferred, subfolders_of, why_unread
 from .search import Scanned, Search
 
 _KEPT = re.compile(rb"(?:%s|%s)\.[1-9][0-9]*" % (re.escape(stage.KEPT), re.escape(stage.EARLIER_KEPT)))
@@ -153,7 +153,7 @@ class Scene:
         with progress.waiting("the folder is read"):
             read = (name for name in members if names.refusal(name, RESERVED) is None)
             self.unread, self.left = {}, []
-            folders = [b"", *subfolders_of(Ways(self.folder), read)]
+            folders = [b"", *subfolders_of(self.folder, read)]
             self.there = files_there(self.folder, members, folders, self.unread)
 
     def to_scan(self, found: Found) -> List[bytes]:

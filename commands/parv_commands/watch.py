@@ -17,7 +17,7 @@ from .names import has_too_many_folders, is_packet_file, is_plain, shown
 from .parv import MOST_FILES, SPARE_FILES, Links, Parv, path_below, temporary_folder
 from .placing import md5_of, pieces_of_file, told
 from .programs import Program
-from .reach import Ways, files_there, preferred, subfolders_of
+from .reach import files_there, preferred, subfolders_of
 
 COMPLETE = 0
 SECONDS = 60.0      # seconds from one check to the next
@@ -86,7 +86,7 @@ class Check:
         """Returns the files to scan: those of the folder, and those of the subfolders in the set's names."""
         members = {file.name for file in found.files}
         reached = [name for name in members if is_plain(name) and not has_too_many_folders(name)]
-        self.there.update(files_there(self.folder, members, subfolders_of(Ways(self.folder), reached)))
+        self.there.update(files_there(self.folder, members, subfolders_of(self.folder, reached)))
         scanned = [name for name in self.there if name in members or not is_packet_file(name)]
         room = max(min(MOST_FILES, self.most_open - SPARE_FILES) - packet_files, 0)
         if len(scanned) > room:

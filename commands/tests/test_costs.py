@@ -8,9 +8,9 @@ import signal
 import tracemalloc
 import unittest
 import unittest.mock
-from typing import Any, Dict, List
+from typing import Any, Callable, Dict, List
 
-from parv_commands import journal, repair
+from parv_commands import journal, repair, tree
 from parv_commands.contents import SKETCH, Alike
 from parv_commands.folders import Folder, Identity, identity_of
 from parv_commands.journal import Made, Moves
@@ -34,13 +34,13 @@ class Counted:
             return real(*given, **options)
         return call
 
-    def calls(self, room: Room, *words: str) -> int:
+    def calls(self, room: Room, *words: str, main: Callable[[], int] = repair.main) -> int:
         """Returns how many calls a run makes that ends with 0 or 1."""
         place = os.path.join(room.top, "count")
 
         def run() -> int:
             self.count = 0
-            status = repair.main()
+            status = main()
             write(place, b"%d" % self.count)
             return status
         for patch in self.patches:
@@ -106,6 +106,13 @@ class Equal(unittest.TestCase):
                 dry = Counted("open", "stat").calls(room, "--dry-run")
                 counted.append(dry + Counted("open", "stat").calls(room))
             self.assertLess(counted[1], 6 * counted[0], is_there)
+
+    def test_a_tree_looks_at_each_part_of_a_name_once(self) -> None:
+        counted: List[int] = []
+        for depth in 40, 160:
+            room = self.room_of({"/".join([str(number)] + ["x"] * depth): b"%d" % number for number in range(5)})
+            counted.append(Counted("open", "stat").calls(room, main=tree.main))
+        self.assertLess(counted[1], 5 * counted[0])
 
     def test_long_names_cost_no_more_memory_than_a_few_copies_of_them(self) -> None:
         members = [b"/".join([b"%06d" % number] + [b"x" * 19] * 198 + [b"f"]) for number in range(100)]
