@@ -115,9 +115,8 @@ class Folder:
     def is_free(self, name: bytes) -> bool:
         return self.look(name) is None
 
-    def free_name(self, name: bytes, taken: Container[bytes] = ()) -> bytes:
-        """Returns an unused name like this one, which isn't in `taken` either."""
-        number = 1
+    def free_name(self, name: bytes, taken: Container[bytes] = (), number: int = 1) -> bytes:
+        """Returns an unused name like this one, with this number or a greater one, which isn't in `taken` either."""
         while numbered(name, number) in taken or not self.is_free(numbered(name, number)):
             number += 1
         return numbered(name, number)

@@ -263,6 +263,8 @@ class Moves:
     def _end_of(self, step: Move) -> bytes:
         """Returns the name that the file of a move has got. A backup may have got another number."""
         number, end = 1, step.target
+        if self.has(step, step.origin):         # (it hasn't been moved, and many names may be alike)
+            return end
         while step.is_kept and not self.has(step, end):
             end = numbered(step.origin, number)
             if end not in self.ends and self.folder.is_free(end):

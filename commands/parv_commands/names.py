@@ -120,6 +120,11 @@ class Taken:
                 or below < len(self._members) and self._members[below].startswith(name + b"/"))
 
 
+def has_room_for_number(name: bytes) -> bool:
+    """Returns whether `numbered` cuts nothing off a name, at least for small numbers."""
+    return len(base_of(name)) <= LONGEST_PART - 8
+
+
 def numbered(name: bytes, number: int) -> bytes:
     """Returns NAME.number for a name. The name is cut if its last part would be too long."""
     end = b".%d" % number

@@ -9,7 +9,7 @@ from .contents import Alike
 from .faults import Refused
 from .folders import Folder, Identity
 from .journal import ASIDE, Made, Move, Step
-from .names import Taken, is_reserved, shown
+from .names import Taken, has_room_for_number, is_reserved, shown
 from .packets import Member
 from .signals import wait_point
 from .stage import MADE, path_of
@@ -50,6 +50,7 @@ class Plan:
         self._leaves: Set[bytes] = set()
         self._asides: Dict[bytes, bytes] = {}
         self._names = Taken(file.name for file in files)      # and the names under which other files are kept
+        self._number_of_cut = 1     # the number from which a name on is looked for that is cut
         self._made: List[Made] = []
         # For each move: the file, its origin and its target, and whether it is kept as a backup.
         self._moves: List[Tuple[bytes, bytes, bytes, bool]] = []
@@ -112,11 +113,20 @@ class Plan:
             self._asides[here] = path_of(ASIDE, b"%d" % number)
             self._moves.append((here, here, self._asides[here], False))
             return
-        kept = self.folder.free_name(name, self._names)
-        self._names.add(kept)
+        kept = self._free_name(name)
         self._moves.append((here, here, kept, True))
         self.backups.append(Backup(number, kept, self.there[here]))
         self.told.append(f"keep {shown(here)} as {shown(kept)}")
+
+    def _free_name(self, name: bytes) -> bytes:
+        """Returns an unused name like this one. (Names that are cut for the number may be alike then. So each begins
+        with the next number: if all began with 1, their cost would grow with the square of how many they are.)"""
+        is_cut = not has_room_for_number(name)
+        kept = self.folder.free_name(name, self._names, self._number_of_cut if is_cut else 1)
+        self._names.add(kept)
+        if is_cut:
+            self._number_of_cut = int(kept.rpartition(b".")[2]) + 1
+        return kept
 
     def _name_of(self, now: os.stat_result) -> Optional[bytes]:
         """Returns the name of a file that is found by another form of it, as on a file system that folds case."""

@@ -14,7 +14,7 @@ from parv_commands import journal, repair, tree
 from parv_commands.contents import SKETCH, Alike
 from parv_commands.folders import Folder, Identity, identity_of
 from parv_commands.journal import Made, Moves
-from parv_commands.names import shown
+from parv_commands.names import numbered, shown
 from parv_commands.packets import Member
 from parv_commands.plan import Plan
 
@@ -129,6 +129,26 @@ class Equal(unittest.TestCase):
         self.assertLess(tracemalloc.get_traced_memory()[1], 12 * sum(map(len, members)))
         self.assertEqual([step for step in steps if isinstance(step, Made)],
                          [Made(name[:-2], 199) for name in members])
+
+    def test_backups_whose_names_are_cut_alike_are_named_and_put_back_one_after_the_other(self) -> None:
+        counted: List[int] = []
+        for count in 50, 200:
+            room = self.room_of({"x" * 249 + f"{number:06}": b"%d" % number for number in range(count)})
+            folder = Folder.opened(os.fsencode(room.folder))
+            self.addCleanup(folder.close)
+            there = {name: identity_of(os.stat(name, dir_fd=folder.place)) for name in map(os.fsencode, room.files)}
+            files = [Member("", 0, 1, 1, shown(name), name, b"", b"", None, None) for name in there]
+            origins = [b".parv-repair/made/%d" % number for number in range(count)]
+            with unittest.mock.patch.object(Folder, "look", autospec=True, side_effect=Folder.look) as looks, \
+                    unittest.mock.patch("parv_commands.folders.numbered", side_effect=numbered) as names:
+                plan = Plan(folder, files, there, origins, set(), set())
+                moves = Moves(folder, b".parv-repair", plan.steps(lambda path: Identity(1, 2, 3)), self.fail)
+                before = room.listing()
+                moves.undo()        # when no move has been made
+                counted.append(looks.call_count + names.call_count)
+            self.assertEqual(room.listing(), before)
+            self.assertEqual(len({backup.kept for backup in plan.backups}), count)
+        self.assertLess(counted[1], 5 * counted[0])
 
     def test_folders_are_made_once_and_removed_again(self) -> None:
         room = self.room_of({name: name.encode() for name in ("a/b/c/1", "a/b/2", "a/b/d/e/3", "a/b.c/4", "f/5", "6")})
