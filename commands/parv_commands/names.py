@@ -79,11 +79,11 @@ def refusal(name: bytes, reserved: Iterable[bytes]) -> Optional[str]:
         return "its name leads out of the folder"
     if b"" in parts or b"." in parts or b"\0" in name:
         return "its name isn't that of a file"
-    if is_reserved(name, reserved):
-        return "its name is kept for the command itself"
     if has_too_many_folders(name):
         return "its name has too many folders"
-    return "a part of its name is too long" if max(map(len, parts)) > LONGEST_PART else None
+    if max(map(len, parts)) > LONGEST_PART:     # (how long the next look takes grows with the square of a part's length)
+        return "a part of its name is too long"
+    return "its name is kept for the command itself" if is_reserved(name, reserved) else None
 
 
 def refusals(names: Sequence[bytes], reserved: Iterable[bytes]) -> Dict[int, str]:

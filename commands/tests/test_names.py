@@ -4,6 +4,7 @@ from __future__ import annotations
 
 import os
 import unittest
+import unittest.mock
 
 from parv_commands import names, repair
 
@@ -35,6 +36,12 @@ class Reserved(unittest.TestCase):
                 for path in b"%s", b"%s/x", b"a/%s", b"a/b/%s/made/x", b"\xff/%s/x":
                     self.assertEqual(names.refusal(path % form, names.RESERVED),
                                      "its name is kept for the command itself", path % form)
+
+    def test_a_part_that_is_too_long_is_not_compared(self) -> None:
+        marks = "\u0301\u0316".encode()
+        with unittest.mock.patch("unicodedata.normalize", side_effect=AssertionError("it is compared")):
+            self.assertEqual(names.refusal(b".parv-repair" + 500 * marks, names.RESERVED),
+                             "a part of its name is too long")
 
     def test_other_names_are_not(self) -> None:
         for name in (b"parv-repair", b".parv-repairs", b"a.parv-repair", b".parv-repair2/x", b".parv-rescue.txt", b"x",
