@@ -8,13 +8,13 @@ import os
 import re
 import secrets
 import stat
-from typing import Dict, Generator, Iterable, Iterator, List, Mapping, Optional, Sequence, Tuple
+from typing import Dict, Iterable, Iterator, List, Mapping, Optional, Sequence, Tuple
 
 from . import answers, changes, progress
 from .faults import FILES, MEMORY, NO_SET, USAGE, Fault, NoProgram, faults_of
 from .folders import Folder
 from .names import is_packet_file, shown
-from .programs import Answer, Program, Said, answer_of, pieces_of, running, status_of
+from .programs import Answer, Program, answer_of
 
 MOST_FILES = 65_535         # the most files in one command line
 SPARE_FILES = 32            # files that are open in addition to those that are named
@@ -94,6 +94,8 @@ def fault_of(program: Program, status: int, said: bytes, command: str, names: Ma
         return NoProgram(FILES, f"{program.shown} {command} has ended with status {status}, and isn't parv")
     if not line.startswith("parv: "):
         return answers.NoAnswer(command)
+    if status == USAGE and said == _OTHERS:     # the command itself has made the cursor
+        return Fault(FILES, "a file that is searched has another length now than before")
     about = _ABOUT.match(said)
     name = names.get(about[2].decode("ascii", "replace")) if about else None
     if about and name:
@@ -152,23 +154,3 @@ class Parv:
         if ended.status not in (0, 1, 2):
             raise self.fault_of(ended.status, ended.said, "verify")
         return answers.read_verdict(ended.out, ended.status, found)
-
-    def find(self, words: Sequence[str], most: int = 0) -> Generator[answers.Sighting, None, None]:
-        """Yields the matches as they come. parv ends when no more are asked for."""
-        said, rest = Said(self.program), b""
-        with progress.doing("parv find", most), running(
-                self.program, [b"find", *map(os.fsencode, words)], self.links.folder.place, self.links.kept) as process:
-            for piece in pieces_of(process, said):
-                *lines, rest = (rest + piece).split(b"\n")
-                for line in lines:
-                    if line == b"end":
-                        return
-                    yield answers.read_sighting(line)
-                if len(rest) > LONGEST_LINE:
-                    raise answers.NoAnswer("find")
-            status = status_of(process)
-        if status == USAGE and bytes(said) == _OTHERS:      # the command itself has made the cursor
-            raise Fault(FILES, "a file that is searched has another length now than before")
-        if status != 0:
-            raise self.fault_of(status, bytes(said), "find")
-        raise answers.NoAnswer("find")

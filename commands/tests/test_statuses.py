@@ -104,6 +104,11 @@ class Statuses(Calls):
             ended = self.call(*words, PARV=grows, WRONG="short")
             self.assertEqual((ended[0], ended[1].splitlines()[-1:]), (status, [last]), (words, ended))
             self.assertNotIn("cursor", ended[2])
+        always = self.program("always", f'#!/bin/bash\n[ "$1" = find ] || exec "{PARV}" "$@"\necho x >> '
+                                        f'{self.room.path("stray")}\necho "parv: cursor of other files" >&2; exit 3\n')
+        ended = self.call(RESCUE, "new", "room/set.par2", "room/stray", PARV=always)
+        self.assertEqual(ended[0], 6, ended)
+        self.assertIn("a file that is searched has another length now than before", ended[2])
 
     def test_a_program_that_is_not_par2(self) -> None:
         for text, said in (("exit 0", "isn't complete"), ("exit 3", "status 3"), ("kill -SEGV $$", "signal 11"),
