@@ -213,8 +213,7 @@ class Repair:
                 self._make_file(place, names.base_of(copy.target), functools.partial(self._fill, copy.source))
 
     def _fill(self, path: bytes, opened: int) -> None:
-        """Copies a file of the folder with its times and its mode. (The copy may have another owner, so it loses the
-        bits by which it would run as its owner.)"""
+        """Copies a file of the folder with its times, its mode and, if that can be given, its owner."""
         source = self.folder.open_to_read(path)
         try:
             now = os.fstat(source)
@@ -224,7 +223,7 @@ class Repair:
                 changes.write(opened, piece)
                 done += len(piece)
                 progress.show(done)
-            changes.set_mode(opened, stat.S_IMODE(now.st_mode) & 0o777)
+            _set_like(opened, now, _access_list(source))
             changes.set_times(opened, now.st_atime_ns, now.st_mtime_ns)
         finally:
             os.close(source)
@@ -233,15 +232,18 @@ class Repair:
         """Gives each file that was made the mode of the file that it replaces, and its owner if that can be given. So
         what was private isn't readable for others, as a file that par2 makes may be."""
         for file, origin in zip(found.set.files, origins):
-            before = None if origin in self.scene.there else self.folder.look(file.name)
-            if before is None or not stat.S_ISREG(before.st_mode):
+            if origin in self.scene.there or not self.folder.is_file(file.name):
                 continue
             with faults_of("write in", self.folder.shown):
-                opened = self.folder.open_to_read(origin)
+                before = self.folder.open_to_read(file.name)
                 try:
-                    _set_like(opened, before)
+                    opened = self.folder.open_to_read(origin)
+                    try:
+                        _set_like(opened, os.fstat(before), _access_list(before))
+                    finally:
+                        os.close(opened)
                 finally:
-                    os.close(opened)
+                    os.close(before)
 
     def _moves(self, plan: Plan) -> Moves:
         """Returns the moves of a plan. Within one file system, a move is done completely or not at all."""
@@ -316,9 +318,17 @@ class Repair:
             return True
 
 
-def _set_like(opened: int, before: os.stat_result) -> None:
-    """Gives a file the owner and the mode of another one. If it can't have that group, its group gets no rights. (It
-    loses the bits by which it would run as its owner.)"""
+def _access_list(opened: int) -> bytes:
+    """Returns the access control list of an open file, which is empty if there are only the rights in its mode."""
+    with contextlib.suppress(OSError):
+        return os.getxattr(opened, "system.posix_acl_access")
+    return b""
+
+
+def _set_like(opened: int, before: os.stat_result, access_list: bytes) -> None:
+    """Gives a file the owner and the mode of another one. If it can't have that group, or hasn't the same access control
+    list, nobody but its owner and all others gets rights: in a mode with such a list, those of the group are the
+    greatest of all that it names. (The file loses the bits by which it would run as its owner.)"""
     now, mode = os.fstat(opened), stat.S_IMODE(before.st_mode) & 0o777
     if (now.st_uid, now.st_gid) != (before.st_uid, before.st_gid):
         try:
@@ -328,6 +338,8 @@ def _set_like(opened: int, before: os.stat_result) -> None:
                 mode &= ~stat.S_IRWXG
     if stat.S_IMODE(now.st_mode) != mode:
         changes.set_mode(opened, mode)
+    if mode & stat.S_IRWXG and _access_list(opened) != access_list:
+        changes.set_mode(opened, mode & ~stat.S_IRWXG)
 
 
 @contextlib.contextmanager

@@ -21,7 +21,7 @@ from .test_repair_crashes import WHOLE, damage
 PACKAGE = os.path.dirname(os.path.realpath(parv_commands.__file__ or ""))
 READS: Dict[str, Set[str]] = {      # what the commands may use of modules that can also change a disk
     "os": set("""O_CLOEXEC O_DIRECTORY O_NOFOLLOW O_NONBLOCK O_PATH O_RDONLY O_RDWR R_OK SEEK_DATA SEEK_HOLE X_OK _exit
-              access close devnull environ execve fchdir fsdecode fsencode fstat getcwd getcwdb geteuid getpid getppid
+              access close devnull environ execve fchdir fsdecode fsencode fstat getcwd getcwdb geteuid getpid getppid getxattr
               isatty killpg listdir lseek open path pathsep pread read readlink scandir set_blocking setpgid stat
               stat_result strerror sysconf urandom write""".split()),
     "shutil": {"get_terminal_size"}, "tempfile": set(), "ctypes": {"CDLL"}, "pathlib": set(), "io": set(),

@@ -8,6 +8,7 @@ import os
 import shutil
 import signal
 import stat
+import struct
 import unittest
 import unittest.mock
 from typing import Any, Callable, Dict, List
@@ -213,6 +214,39 @@ class Moves(unittest.TestCase):
                 calls += ended.calls
         self.assertLess(calls.index("fchmod"), calls.index("rename"))
 
+    def test_a_file_with_an_access_control_list_is_not_readable_for_its_group_afterwards(self) -> None:
+        room = Room({"secret": b"a secret, whole", "one": b"same same", "two": b"same same", "list": b"one, two, three"})
+        self.addCleanup(room.close)
+        room.take("two")
+
+        def entry(tag: int, rights: int, user: int = 0xffffffff) -> bytes:
+            return struct.pack("<HHI", tag, rights, user)
+
+        def acl(user: int) -> bytes:
+            """Lets a user read and write, and the group do nothing. The mode is 0660 then."""
+            return struct.pack("<I", 2) + entry(1, 6) + entry(2, 6, user) + entry(4, 0) + entry(16, 6) + entry(32, 0)
+        room.put("secret", b"a sXcret, whole")
+        room.put("list", b"one, tXo, three")
+        try:
+            for name in "secret", "one":
+                os.setxattr(room.path(name), "system.posix_acl_access", acl(12345))
+        except OSError as fault:
+            self.skipTest(f"no access control lists here: {fault}")
+        ended = room.run(repair.main, ["room"])
+        self.assertEqual((ended.status, room.lacks()), (0, []), ended)
+        modes = {name: os.stat(room.path(name)).st_mode & 0o777 for name in room.files}
+        self.assertEqual((modes["secret"], modes["one"], modes["two"]), (0o600, 0o660, 0o600))
+        # A list that new files of the folder get stays, if the file that was replaced had it too.
+        room.put("list", b"one, tXo, three")
+        os.remove(room.path("list.1"))
+        os.chmod(room.path("list"), 0o660)
+        os.setxattr(room.path("list"), "system.posix_acl_access", acl(12345))
+        os.setxattr(room.folder, "system.posix_acl_default", acl(12345))
+        ended = room.run(repair.main, ["room"])
+        self.assertEqual((ended.status, room.lacks()), (0, []), ended)
+        self.assertEqual((os.getxattr(room.path("list"), "system.posix_acl_access"),
+                          os.stat(room.path("list")).st_mode & 0o777), (acl(12345), 0o660))
+
     def test_a_group_that_cannot_be_given_gives_no_rights(self) -> None:
         path = os.path.join(self.room.top, "file")
         write(path, b"")
@@ -222,7 +256,7 @@ class Moves(unittest.TestCase):
         with unittest.mock.patch.object(changes, "set_owner", side_effect=PermissionError(1, "not allowed")):
             for mode, group, wanted in ((0o640, 7, 0o600), (0o664, 0, 0o664), (0o607, 7, 0o607)):
                 before = os.stat_result([mode, *now[1:4], now[4] + 1, now[5] + group, *now[6:]])
-                repair._set_like(opened, before)
+                repair._set_like(opened, before, b"")
                 self.assertEqual(os.fstat(opened).st_mode & 0o7777, wanted)
 
     def test_a_folder_that_becomes_a_link_leads_no_file_out(self) -> None:
