@@ -41,8 +41,6 @@ parv: unstripped-binary-or-object [usr/bin/parv]
 parv: copyright-without-copyright-notice
 # Nobody has proposed it to Debian.
 parv: initial-upload-closes-no-bugs *
-# `env -S` takes a shell that calls python3 with its options: lintian reads the -S as a program.
-parv: unusual-interpreter -S *
 OVERRIDES
 
 # The program needs only the C library, in at least the version found here. Python is for the

@@ -129,6 +129,11 @@ class Statuses(Calls):
                     if "2>" not in shell:
                         self.assertTrue(ended[2].startswith(f"{name}: cannot begin: {said}"), ended)
 
+    def test_a_shell_runs_each_command_too(self) -> None:
+        for name in os.listdir(BIN):
+            ended = self.call("sh", os.path.join(BIN, name), "-h")
+            self.assertEqual((ended[0], ended[1].split()[:2], ended[2]), (0, ["usage:", name], ""), name)
+
     def test_a_signal_while_python_starts_is_not_another_status(self) -> None:
         if subprocess.run(["/usr/bin/env", "--block-signal=2", "/bin/true"], stderr=subprocess.DEVNULL).returncode:
             self.skipTest("env can't block a signal here")
