@@ -20,6 +20,7 @@ from . import changes
 from .faults import FILES, Fault, faults_of
 from .folders import Folder
 from .names import shown
+from .signals import interruptible
 
 SECRET, NEW = b"secret", b"secret.new"
 LENGTH = 32             # the bytes of the secret
@@ -195,7 +196,8 @@ def needed_secret() -> bytes:
         place = _opened(path)
         try:
             if _read(path, place) is None:
-                fcntl.flock(place, fcntl.LOCK_EX)       # another run may be making it
+                with interruptible():
+                    fcntl.flock(place, fcntl.LOCK_EX)       # another run may be making it
                 if _read(path, place) is None:
                     _sync_above(path)
                     _make(place)

@@ -3,10 +3,13 @@ kept."""
 
 from __future__ import annotations
 
+import fcntl
 import os
+import signal
 import stat
 import subprocess
 import sys
+import threading
 import unittest
 import unittest.mock
 from typing import Callable, Dict, List, Optional, Tuple
@@ -165,6 +168,18 @@ class Secrets(unittest.TestCase):
                                      env={**os.environ, "XDG_STATE_HOME": self.room.state_home}) for _ in range(6)]
             out = {run.communicate(timeout=60)[0] for run in runs}
             self.assertEqual((len(out), len(out.pop())), (1, 64 + 4), out)
+
+    def test_a_signal_ends_a_run_that_waits_for_another_one(self) -> None:
+        os.makedirs(self.folder, 0o700)
+        place = os.open(self.folder, os.O_RDONLY)
+        self.addCleanup(os.close, place)
+        fcntl.flock(place, fcntl.LOCK_EX)
+
+        def signalled() -> int:
+            threading.Timer(0.5, os.kill, (os.getpid(), signal.SIGTERM)).start()
+            return sealing()
+        with unittest.mock.patch("tests.rooms.SECONDS", 20):
+            self.assertEqual(self.room.run(signalled, []).status, 128 + signal.SIGTERM)
 
     def test_reading_makes_nothing(self) -> None:
         def reads() -> int:
