@@ -75,10 +75,10 @@ class Making:
                     paths[number] = source
             elif stat.S_ISREG(there[name].st_mode):
                 paths[number] = path_of(FILES_OF_PAR2, name)
-        looked = self.scene.look(self.found, list(dict.fromkeys(paths.values())))
+        sources = self.scene.look_in_parts(self.found, list(dict.fromkeys(paths.values())))
         made: Dict[int, bytes] = {}
         for number, path in paths.items():
-            source = looked.sources[number]     # the first of several files with this content
+            source = sources[number]        # the first of several files with this content
             if source is not None and (source == path or is_same(self.scene.folder, source, path)):
                 made[number] = path
         return made
@@ -87,21 +87,22 @@ class Making:
         """Puts the slices that parv has found into the files that are to be repaired, each at its offset."""
         scene, found = self.scene, self.found.set
         wanted = {number for one in self.repairs if found.files[one].sums for number in found.files[one].numbers}
-        opened: Dict[int, int] = {}
+        begun: Set[int] = set()
         owners = {number: one for one in self.repairs for number in found.files[one].numbers}
         search = scene.search(self.found, self.scanned, wanted, True)
-        try:
-            with contextlib.closing(search.sightings()) as sightings, faults_of("write in", scene.folder.shown):
-                for at, offset, number in sightings:
-                    one = owners[number]
-                    if one not in opened:
-                        opened[one] = changes.make_file(bench.place.place, name_for(one))
-                        changes.set_length(opened[one], found.files[one].length)
-                    self._place(opened[one], one, number, search.scanned[at], offset)
-                    search.wanted.discard(number)
-        finally:
-            for each in opened.values():
-                os.close(each)
+        with contextlib.closing(search.sightings()) as sightings, faults_of("write in", scene.folder.shown):
+            for at, offset, number in sightings:
+                one = owners[number]
+                if one not in begun:
+                    with changes.new_file(bench.place.place, name_for(one)) as opened:
+                        changes.set_length(opened, found.files[one].length)
+                    begun.add(one)
+                place = changes.open_file(bench.place.place, name_for(one))
+                try:
+                    self._place(place, one, number, search.scanned[at], offset)
+                finally:
+                    os.close(place)
+                search.wanted.discard(number)
 
     def _place(self, opened: int, one: int, number: int, scanned: Scanned, offset: int) -> None:
         found = self.found.set

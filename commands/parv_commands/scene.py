@@ -156,12 +156,15 @@ class Scene:
             folders = [b"", *subfolders_of(self.folder, read)]
             self.there = files_there(self.folder, members, folders, self.unread)
 
+    def _room(self, found: Found) -> int:
+        """Returns how many files parv accepts beside the packet files."""
+        return max(min(MOST_FILES, self.most_open - SPARE_FILES) - len(found.words), 0)
+
     def to_scan(self, found: Found) -> List[bytes]:
         """Returns as many of the files as parv accepts."""
-        room = min(MOST_FILES, self.most_open - SPARE_FILES) - len(found.words)
+        room = self._room(found)
         if len(self.there) <= room:
             return list(self.there)
-        room = max(room, 0)
         self.say(f"{len(self.there) - room} of {len(self.there)} files aren't looked at: parv takes {room} here")
         order = preferred(self.there, {file.name for file in found.set.files},
                           {file.length for file in found.set.files})
@@ -174,12 +177,19 @@ class Scene:
         """Returns what parv says about files of the folder. Those of the set for which there was no room are looked at
         after them, in parts: if they are whole, they aren't missing, though no slice of them is counted."""
         looked = self.look(found, paths, tails)
-        sources, members = looked.sources, {file.name for file in found.set.files}
-        left = [path for path in self.left if path in members]
-        for at in range(0, len(left), max(len(paths), 1)):
-            more = self.look(found, left[at:at + max(len(paths), 1)]).sources
+        members = {file.name for file in found.set.files}
+        more = self.look_in_parts(found, [path for path in self.left if path in members])
+        return Looked([source or other for source, other in zip(looked.sources, more)], looked.verdict)
+
+    def look_in_parts(self, found: Found, paths: Sequence[bytes]) -> List[Optional[bytes]]:
+        """Returns, for each file of the set, the path of one of these files with its content. parv gets as many of them
+        at once as it accepts."""
+        sources: List[Optional[bytes]] = [None] * len(found.set.files)
+        room = max(self._room(found), 1)
+        for at in range(0, len(paths), room):
+            more = self.look(found, paths[at:at + room]).sources
             sources = [source or other for source, other in zip(sources, more)]
-        return Looked(sources, looked.verdict)
+        return sources
 
     def look(self, found: Found, paths: Sequence[bytes], tails: bool = False) -> Looked:
         """Returns what parv says about files of the folder."""

@@ -230,6 +230,16 @@ class Statuses(Calls):
         ended = self.call(REPAIR, "room", shell='ulimit -n 200; exec "$@"')
         self.assertEqual((ended[0], self.room.lacks()), (0, []), ended)
 
+    def test_more_files_to_be_assembled_than_may_be_open(self) -> None:
+        room = Room({f"f{number:03}": b"the %03d first, and more" % number for number in range(150)}, recovery=400)
+        self.addCleanup(room.close)
+        self.room = room
+        for name in room.files:
+            room.take(name)
+        room.put("image", b"".join(data[:8] for data in room.files.values()))
+        ended = self.call(REPAIR, "room", shell='ulimit -n 120; exec "$@"', WRONG="short")
+        self.assertEqual((ended[0], room.lacks()), (0, []), ended)
+
     def test_parv_is_not_called_for_each_set_of_a_folder(self) -> None:
         told = os.path.join(self.room.top, "told")
         counting = self.program("counting", f'#!/bin/sh\necho "$1" >> {told}\nexec "{PARV}" "$@"\n')
