@@ -82,6 +82,12 @@ class TreeTest(unittest.TestCase):
 
 
 class Lines(TreeTest):
+    def test_a_folder_that_a_repair_has_set_aside_is_looked_through(self) -> None:
+        for folder in b"parv-repair.kept.1", b".parv-repair", b".verify_and_repair":
+            write(self.path(b"a", folder, b"files", b"set.par2"), self.one)
+        line = f"2 {id_of(self.one)} need 4 have 3 a/parv-repair.kept.1/files/set\n"
+        self.gives([], 2, line + self.line_one() + self.line_two())
+
     def test_a_line_for_each_set(self) -> None:
         self.gives([], 0, self.line_one() + self.line_two())
         self.gives(["-q"], 0, "")
