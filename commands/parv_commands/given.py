@@ -3,6 +3,7 @@
 from __future__ import annotations
 
 import contextlib
+import functools
 import hashlib
 import os
 import stat
@@ -43,7 +44,8 @@ class Given:
                 self.packet_words.append(word)
                 self.packet_bytes += now.st_size
             else:
-                self.scanned.append(Scanned(word, name, now.st_size, _Opener(file)))
+                self.scanned.append(Scanned(word, name, now.st_size,
+                                            functools.partial(os.open, file, os.O_RDONLY | os.O_CLOEXEC)))
                 mark.update(b"%d %s %d %d %d\n" % (len(file), file, now.st_size, now.st_mtime_ns, now.st_ctime_ns))
         self.mark = mark.hexdigest()
         if not self.packet_words:
@@ -53,16 +55,6 @@ class Given:
 
     def opener(self, word: str) -> BinaryIO:
         return open(self.paths[word], "rb")
-
-
-class _Opener:
-    """Opens a file of the command line to read it."""
-
-    def __init__(self, path: bytes) -> None:
-        self.path = path
-
-    def __call__(self) -> int:
-        return os.open(self.path, os.O_RDONLY | os.O_CLOEXEC)
 
 
 def _looked_at(path: bytes) -> os.stat_result:

@@ -40,7 +40,7 @@ class Plan:
                  repairs: Set[int], names_kept: Set[bytes]) -> None:
         self.folder, self.files, self.there = folder, files, there
         self.sources, self.repairs = list(sources), repairs
-        self.told: List[str] = []
+        self.lines: List[str] = []
         self.copies: List[Copy] = []
         self.backups: List[Backup] = []
         self._stays = names_kept | {file.name for file, source in zip(files, sources) if file.name == source}
@@ -83,13 +83,13 @@ class Plan:
         if source == file.name:
             return None
         if source not in self.there:
-            self.told.append(f"{'repair' if number in self.repairs else 'make'} {file.shown}")
+            self.lines.append(f"{'repair' if number in self.repairs else 'make'} {file.shown}")
             return source
         if not self._is_spare(source):
             source = self._spare_like(source) or source
         is_spare = self._is_spare(source)
         word = "repair" if number in self.repairs else "rename" if is_spare else "copy"
-        self.told.append(f"{word} {file.shown}" if word == "repair" else f"{word} {shown(source)} to {file.shown}")
+        self.lines.append(f"{word} {file.shown}" if word == "repair" else f"{word} {shown(source)} to {file.shown}")
         self._used.add(source)
         if is_spare:
             self._leaves.add(source)
@@ -116,7 +116,7 @@ class Plan:
         kept = self._free_name(name)
         self._moves.append((here, here, kept, True))
         self.backups.append(Backup(number, kept, self.there[here]))
-        self.told.append(f"keep {shown(here)} as {shown(kept)}")
+        self.lines.append(f"keep {shown(here)} as {shown(kept)}")
 
     def _free_name(self, name: bytes) -> bytes:
         """Returns an unused name like this one. (Names that are cut for the number may be alike then. So each begins

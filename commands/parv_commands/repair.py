@@ -94,7 +94,7 @@ class Repair:
             repairs = {number for number, source in enumerate(sources)
                        if source is None and found.set.files[number].length > 0}
             if self.dry:
-                return self._told(found, sources, repairs, others, looked.verdict)
+                return self._trial(found, sources, repairs, others, looked.verdict)
             return 0, self._repair(found, sources, repairs, others, scanned)
 
     def _look_again(self, found: Found, scanned: Sequence[bytes], before: Looked) -> Looked:
@@ -114,7 +114,7 @@ class Repair:
         self.scene.find_links(found, looked.sources)
         self.scene.find_kept()
         nothing = "" if any(state.found for state in looked.verdict.states) else "; nothing of the set is found"
-        unread, counts = self.scene.told_unread(), looked.verdict.counts + more + nothing
+        unread, counts = self.scene.text_of_unread(), looked.verdict.counts + more + nothing
         if unread:
             return Fault(FILES, f"can't tell whether enough is left for a repair: {counts}; not looked at: {unread}")
         return Fault(IMPOSSIBLE, f"not enough for a repair: {counts}")
@@ -134,15 +134,16 @@ class Repair:
         with progress.doing("equal files are compared"):
             return Plan(self.folder, found.set.files, self.scene.there, origins, repairs, others)
 
-    def _told(self, found: Found, sources: Sequence[Optional[bytes]], repairs: Set[int], others: Set[bytes],
+    def _trial(self, found: Found, sources: Sequence[Optional[bytes]], repairs: Set[int], others: Set[bytes],
               verdict: Verdict) -> Tuple[int, List[str]]:
+        """Returns the exit status and the lines of a run that only says what it would do."""
         plan = self._plan(found, self._origins(found, sources), repairs, others)
         if repairs:
             try:
                 needed_par2()
             except NoProgram as fault:
                 self.say(f"par2 will be needed: {fault}")
-        return POSSIBLE, [*plan.told, f"a repair can be tried: {verdict.counts}"]
+        return POSSIBLE, [*plan.lines, f"a repair can be tried: {verdict.counts}"]
 
     def _repair(self, found: Found, sources: Sequence[Optional[bytes]], repairs: Set[int], others: Set[bytes],
                 scanned: Sequence[bytes]) -> List[str]:
@@ -178,7 +179,7 @@ class Repair:
             place.forget()
             place.clear()
         gone = [backup.kept for backup in removed if self._remove(backup)]
-        return [*plan.told, *(f"remove {shown(kept)}" for kept in gone), "complete"]
+        return [*plan.lines, *(f"remove {shown(kept)}" for kept in gone), "complete"]
 
     def _leave(self, place: Stage, moves: Optional[Moves]) -> None:
         """Undoes what was done, and removes the stage. An error says what couldn't be undone."""
@@ -362,7 +363,7 @@ def _run(asked: Asked, folder: Folder, program: Program) -> Tuple[int, List[str]
     with locked(folder):
         purge = asked.purge
         if asked.dry:
-            stage.told_of(folder, say)
+            stage.say_of_earlier(folder, say)
         else:
             with progress.waiting("a run that was ended is finished"):
                 found = stage.recover(folder, say)
@@ -380,14 +381,14 @@ def repair(asked: Asked) -> int:
     program = words.needed_parv()
     folder = Folder.opened(asked.folder)
     try:
-        status, told = _run(asked, folder, program)
+        status, lines = _run(asked, folder, program)
     except Fault as fault:
         raise Fault(fault.status, f"{folder.shown}: {fault}") from fault
     except (OSError, Refused) as fault:
         why = fault.strerror if isinstance(fault, OSError) else fault
         raise Fault(FILES, f"{folder.shown}: {why}") from fault
     signals.forget_signals()
-    output.tell(told)
+    output.tell(lines)
     return status
 
 

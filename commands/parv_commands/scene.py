@@ -3,6 +3,7 @@
 from __future__ import annotations
 
 import contextlib
+import functools
 import itertools
 import re
 import stat
@@ -84,7 +85,7 @@ class Scene:
             raise Fault(FILES if is_closed else USAGE, "no packet file" + (" that can be read" if is_closed else ""))
         return [self.word_of(name, True) for name in found[:MOST_FILES]]
 
-    def told_unread(self) -> str:
+    def text_of_unread(self) -> str:
         """Returns what isn't looked at: some of it, and how much more."""
         unread = {**self.unread_packets, **self.unread}
         some = [f"{shown(path)} ({why})" for path, why in itertools.islice(unread.items(), MOST_TOLD)]
@@ -99,7 +100,7 @@ class Scene:
     def say_unread(self) -> None:
         """Says what isn't looked at, except what was said of packet files."""
         if self.unread:
-            self.say(f"not looked at: {self.told_unread()}")
+            self.say(f"not looked at: {self.text_of_unread()}")
 
     def find_links(self, found: Found, sources: Sequence[Optional[bytes]]) -> None:
         """Records which names of the set lead through a link, so that nothing was looked at there."""
@@ -131,7 +132,7 @@ class Scene:
         except Fault as fault:
             if fault.status != NO_SET or not self.unread_packets:
                 raise
-            raise Fault(FILES, f"can't tell whether there is a set: {fault}; not read: {self.told_unread()}") from fault
+            raise Fault(FILES, f"can't tell whether there is a set: {fault}; not read: {self.text_of_unread()}") from fault
 
     def _set_of(self, words_given: List[str], chosen: Optional[str]) -> Found:
         lines = self.parv.packets(words_given)
@@ -233,7 +234,6 @@ class Scene:
         """Returns a search for slices in files of the folder."""
         scanned: List[Scanned] = []
         for path in paths:
-            def opener(name: bytes = path) -> int:
-                return self.folder.open_to_read(name)
+            opener = functools.partial(self.folder.open_to_read, path)
             scanned.append(Scanned(self.word_of(path), shown(path), self.there[path].length or 0, opener))
         return Search(found.set, self.parv, scanned, tails, wanted, True)

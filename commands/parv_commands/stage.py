@@ -202,7 +202,7 @@ def _left(folder: Folder, say: Sayer) -> Iterator[Optional[_Left]]:
         yield _Left(stage, moves) if is_own else None
 
 
-def told_of(folder: Folder, say: Sayer) -> None:
+def say_of_earlier(folder: Folder, say: Sayer) -> None:
     """Says what a run would begin with. Ends the command if that is what an ended run was doing."""
     for name in (name for name in (_EARLIER, NAME) if not folder.is_free(name)):
         if name == NAME:
