@@ -3,6 +3,7 @@
 from __future__ import annotations
 
 import contextlib
+import hashlib
 import os
 import time
 from typing import List, NamedTuple, Optional, Set, Tuple
@@ -90,6 +91,12 @@ def bytes_at(source: Scanned, offset: int, own: int, size: int) -> Tuple[bytes, 
     return data, md5_of(pieces) + crc_of(pieces)
 
 
+def mark_of(given: Given, found: RecoverySet) -> str:
+    """Returns a fingerprint of what is searched: the scanned files, and which files of the set have checksums of slices.
+    (With more packet files, more of them may have some.)"""
+    return hashlib.md5(" ".join([given.mark, *(file.id for file in found.files if file.sums)]).encode()).hexdigest()
+
+
 class Rescue:
     """A run over a folder. parv gets `most_files` of the searched files at once."""
 
@@ -132,7 +139,7 @@ class Rescue:
         """Returns the place from which this kind of search goes on in these files. An earlier run may have reached
         it."""
         nothing = 0, 0, 0
-        return nothing if self.writer.is_lossy else self.writer.record.reached.get((way, self.given.mark), nothing)
+        return nothing if self.writer.is_lossy else self.writer.record.reached.get((way, self.writer.mark), nothing)
 
     def _may_find(self, search: Search, short: Set[int]) -> int:
         """Returns how many short slices a search with --tails would still look for; 0 if it would be refused."""
@@ -228,7 +235,7 @@ def rescue(asked: Asked) -> int:
         found = read_given(parv, given, asked.chosen)[1]
         seals.seal_to_write(KIND)       # so that nothing is made if there can't be a record
         folder = open_folder(asked.folder)
-        writer = Writer(found, folder, Record(folder, found.id), given.mark)
+        writer = Writer(found, folder, Record(folder, found.id), mark_of(given, found))
         status, lines, missing = Rescue(found, given, parv, writer, most_files).run(asked.tails)
     signals.forget_signals()
     output.tell(lines)

@@ -374,6 +374,15 @@ class Searched(Folders):
         os.replace(self.path("other"), self.path("image"))
         self.says(self.run_it("image"), 0, WHOLE.format(16), "")
 
+    def test_slices_whose_checksums_come_later_are_searched(self) -> None:
+        other = BIG[::-1]
+        packets = set_of({b"big": BIG, b"other": other}, SIZE, 0)
+        self.put("first.par2", packets[:packets.rindex(b"IFSC") - 56])
+        self.put("more.par2", packets)
+        self.put("image", BIG[:FRONT] + other)
+        for names, line in ((["first.par2"], "missing other 0/16\n"), (["first.par2", "more.par2"], "complete other\n")):
+            self.assertIn(line, self.room.run(rescue.main, ["new", *names, "image"]).out)
+
 
 class Complete(Folders):
     """What is called complete has been read in this run."""
