@@ -69,7 +69,7 @@ class Record:
     """
 
     def __init__(self, folder: Folder, owner: str) -> None:
-        self.folder, self.shown = folder, f"{folder.shown}/{NAME.decode()}"
+        self.folder = folder
         self.head = f"parv-rescue 2 {owner}"
         self.made: Set[str] = set()
         self.there: Set[int] = set()
@@ -78,10 +78,14 @@ class Record:
         self.is_copy = False
         self.news: List[str] = []
         self.end = 0
-        self._finish_aside()
-        is_new = folder.is_free(NAME)
-        self.place = self._opened(NAME, is_new)
+        is_unnamed = folder.is_free(NAME) and not folder.is_free(NEW)   # (a run was ended before it named a new one)
+        name = NEW if is_unnamed else NAME
+        self.place = self._opened(name, folder.is_free(name))
         lines = self._lines()
+        if lines is None:
+            self._refuse_other_set()
+        if is_unnamed:
+            self._name_new()
         if lines is None:
             self._set_aside()
         elif not self.end:
@@ -95,6 +99,7 @@ class Record:
 
     def _opened(self, name: bytes, makes: bool) -> int:
         """Opens a record, and keeps other runs out."""
+        self.shown = self._shown(name)
         with faults_of("open", self.shown):
             place = changes.open_file(self.folder.place, name, makes)
         now = os.fstat(place)
@@ -111,36 +116,38 @@ class Record:
     # One that isn't this user's own.
 
     def _set_aside(self) -> None:
-        """Gives the record another name, once there is a new one."""
-        kept = self.folder.free_name(KEPT)
+        """Gives the record another name, once there is a new one. (If a run was ended while it did that, and the folder
+        was copied then, the new one isn't this user's own either.)"""
         old, self.place = self.place, self._opened(NEW, True)
         try:
+            if self._lines() is None:
+                os.close(self.place)
+                self._keep(NEW)
+                self.place = self._opened(NEW, True)
             self._begin([self.head, "copy"])
-            self._rename(NAME, kept)
+            self._sync_folder()
+            self._keep(NAME)
             self._name_new()
         finally:
             os.close(old)
         self.is_copy = True
-        output.say(f"{self.shown} isn't shown to be of a run of yours in this folder, which may be a copy: it is now "
-                   f"{shown(kept)}, and the files are read again")
 
-    def _finish_aside(self) -> None:
-        """Gives the new record its name if a run was ended before it did."""
-        if not self.folder.is_free(NEW) and self.folder.is_free(NAME):
-            self.place = self._opened(NEW, False)
-            if self._lines() is None or not self.end:
-                raise Fault(USAGE, f"{self.folder.shown}/{NEW.decode()} isn't a record of yours: remove it")
-            self._name_new()
-            os.close(self.place)
+    def _keep(self, name: bytes) -> None:
+        """Gives one that isn't this user's own a name under which it is kept."""
+        kept = self.folder.free_name(KEPT)
+        self._rename(name, kept)
+        output.say(f"{self._shown(name)} isn't shown to be of a run of yours in this folder, which may be a copy: it is "
+                   f"now {shown(kept)}, and the files are read again")
 
     def _name_new(self) -> None:
         self._rename(NEW, NAME)
         self._sync_folder()
+        self.shown = self._shown(NAME)
 
     def _rename(self, name: bytes, new_name: bytes) -> None:
         """Gives a record another name, which isn't used. (On a file system without links, such as exFAT, there may be
         no call that makes sure of that.)"""
-        with faults_of("rename", self.shown):
+        with faults_of("rename", self._shown(name)):
             try:
                 changes.move(self.folder.place, name, self.folder.place, new_name)
             except OSError as fault:
@@ -151,27 +158,40 @@ class Record:
     # Reading and writing lines.
 
     def _begin(self, lines: List[str]) -> None:
-        """Brings the first lines to the disk, and the secret of the seals before them. A run may have been ended while
-        it wrote them."""
+        """Brings the first lines to the disk, and the secret of the seals before them. Of these lines, the record may
+        have a part already."""
         self.chain = Chain(seals.seal_to_write(KIND, self.folder.place, self.place))
         data = b"".join(self.chain.line(line.encode()) for line in lines)
         with faults_of("write", self.shown):
-            if not data.startswith(os.pread(self.place, len(data) + 1, 0)):
-                raise Fault(USAGE, f"{self.folder.shown}/{NEW.decode()} isn't a record of yours: remove it")
             changes.write_at(self.place, data, 0)
             changes.sync(self.place)
         self.end = len(data)
+
+    def _shown(self, name: bytes) -> str:
+        return f"{self.folder.shown}/{shown(name)}"
 
     def _sync_folder(self) -> None:
         with faults_of("write in", self.folder.shown):
             changes.sync_folder(self.folder.place)
 
-    def _lines(self) -> Optional[List[str]]:
-        """Returns the lines after the first if the record is of a run of this user in this folder, and otherwise None.
-        Ends the command if it is of another set."""
-        self.end = 0
+    def _first_line(self) -> Tuple[bytes, bytes]:
+        """Returns the beginning of the record up to its first line feed, and that line feed, if it comes soon."""
         with faults_of("read", self.shown):
             first, line_feed, _ = os.pread(self.place, _LONGEST_HEAD, 0).partition(b"\n")
+        return first, line_feed
+
+    def _refuse_other_set(self) -> None:
+        """Ends the command if the record, which isn't this user's own, is of another set."""
+        first, line_feed = self._first_line()
+        about = _HEAD.fullmatch(first)
+        if not line_feed or about is None or about[1].decode() != self.head[-32:]:
+            raise Fault(USAGE, f"{self.shown} is of another set")
+
+    def _lines(self) -> Optional[List[str]]:
+        """Returns the lines after the first if the record is of a run of this user in this folder, and otherwise
+        None."""
+        self.end = 0
+        first, line_feed = self._first_line()
         seal, is_cut = seals.seal_to_read(KIND, self.folder.place, self.place), not first
         if seal is not None:
             self.chain = Chain(seal)
@@ -179,12 +199,8 @@ class Record:
             if first + line_feed == whole:
                 return self._sealed(len(whole))
             is_cut = whole.startswith(first)
-        about = _HEAD.fullmatch(first)
-        if line_feed and about is not None and about[1].decode() == self.head[-32:]:
-            return None
-        if not line_feed and is_cut:        # a run was ended while it wrote it, before it made any file
-            return []
-        raise Fault(USAGE, f"{self.shown} is of another set")
+        # (A run may have been ended while it wrote the first line, before it made any file.)
+        return [] if is_cut and not line_feed else None
 
     def _sealed(self, at: int) -> List[str]:
         """Returns the lines from an offset on, up to the first one without its seal. A run may have been ended while it

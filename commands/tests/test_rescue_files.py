@@ -330,15 +330,40 @@ class Copies(Folders):
             self.says(self.run_it("part2"), 0, WHOLE.format(11), "", number)
             self.says(self.run_it("part2"), 0, WHOLE.format(0), "", number)
 
-    def test_a_file_in_the_place_of_the_new_record_stays(self) -> None:
+    def test_a_copy_made_while_a_record_was_set_aside_goes_on(self) -> None:
+        self.begin()
+        for number, when in ((1, "before"), (1, "after"), (2, "before"), (2, "after")):
+            for name in "copy", "again":
+                shutil.rmtree(self.path(name), ignore_errors=True)
+            shutil.copytree(self.path("new"), self.path("copy"))
+            self.assertEqual(self.run_it("part2", "copy", At(number, when, KILLED, ["rename"])).status, 137)
+            shutil.copytree(self.path("copy"), self.path("again"))
+            ended = self.run_it("part2", "again")
+            self.assertEqual((ended.status, ended.out), (0, WHOLE.format(11)), (number, when, ended))
+            self.assertEqual(read(self.path("again/big")), BIG)
+            self.says(self.run_it("part2", "again"), 0, WHOLE.format(0), "")
+
+    def test_a_new_record_is_on_the_disk_before_the_other_one_is_set_aside(self) -> None:
+        self.begin()
+        shutil.copytree(self.path("new"), self.path("copy"))
+        calls = self.run_it("part2", "copy").calls
+        at = calls.index("rename")
+        self.assertEqual(calls[at - 3:at + 3], ["pwrite", "fsync", "fsync", "rename", "rename", "fsync"])
+
+    def test_a_file_in_the_place_of_the_new_record_is_kept(self) -> None:
         self.begin()
         shutil.copytree(self.path("new"), self.path("copy"))
         self.put("copy/.parv-rescue.new", b"mine")
         ended = self.run_it("part2", "copy")
-        self.assertEqual((ended.status, ended.out), (3, ""), ended)
-        self.assertIn("copy/.parv-rescue.new isn't a record of yours: remove it", ended.said)
-        self.assertEqual(read(self.path("copy/.parv-rescue.new")), b"mine")
-        self.assertEqual(read(self.path("copy/.parv-rescue")), read(self.path("new/.parv-rescue")))
+        self.assertEqual((ended.status, ended.out), (0, WHOLE.format(11)), ended)
+        self.assertEqual([line.split("it is now ")[1][:18] for line in ended.said.splitlines()],
+                         ["parv-rescue.kept.1", "parv-rescue.kept.2"])
+        self.assertEqual(read(self.path("copy/parv-rescue.kept.1")), b"mine")
+        self.assertEqual(read(self.path("copy/parv-rescue.kept.2")), read(self.path("new/.parv-rescue")))
+        os.remove(self.path("new/.parv-rescue"))
+        self.put("new/.parv-rescue.new", b"mine")
+        self.says(self.run_it("part2"), 3, "", "parv-rescue: new/.parv-rescue.new is of another set\n")
+        self.assertEqual(read(self.path("new/.parv-rescue.new")), b"mine")
 
 
 class Searched(Folders):
