@@ -7,6 +7,7 @@ another one, such as that of a copied folder, only the ID of its set is read; th
 
 from __future__ import annotations
 
+import copy
 import errno
 import fcntl
 import os
@@ -255,9 +256,9 @@ class Record:
     def save(self) -> None:
         """Brings the new lines to the disk."""
         if self.news:
-            data = b"".join(self.chain.line(text.encode("ascii")) for text in self.news)
+            chain = copy.copy(self.chain)       # (if the lines can't be written now, they may be later)
+            data = b"".join(chain.line(text.encode("ascii")) for text in self.news)
             with faults_of("write", self.shown):
                 changes.write_at(self.place, data, self.end)
                 changes.sync(self.place)
-            self.end += len(data)
-            self.news = []
+            self.chain, self.end, self.news = chain, self.end + len(data), []

@@ -84,6 +84,7 @@ class Rescue(unittest.TestCase):
                     ended = self.run_it(At(number, "before", does))
                     self.assertNotIn("Traceback", ended.said, (number, call))
                     self.is_whole(self.run_it(goes_on=True), (number, call, ended))
+                    self.assertNotIn(b"\ncopy ", read(os.path.join(self.room.top, "new", ".parv-rescue")), (number, call))
 
     def test_a_file_of_somebody_else_is_not_taken_for_one_that_was_being_made(self) -> None:
         for number, call in enumerate(self.calls, 1):
