@@ -8,7 +8,7 @@ from typing import NamedTuple, Set, Tuple
 
 from . import holes, progress
 from .packets import Member, RecoverySet
-from .placing import md5_of, window
+from .placing import md5_of, sums_of_zeros, window
 from .signals import wait_point
 
 
@@ -43,7 +43,7 @@ def content_of(found: RecoverySet, file: Member, place: int) -> Content:
 def _looked(place: int, offset: int, own: int, size: int, sums: bytes) -> Tuple[bool, bool]:
     """Returns whether a slice is in its place, and whether only zeros are there."""
     if holes.is_hole(place, offset, own):
-        return holes.sums_of_zeros(size) == sums, True
+        return sums_of_zeros(size) == sums, True
     crc, is_zeros = 0, True
     for piece in window(place, offset, own, size):
         crc = zlib.crc32(piece, crc)

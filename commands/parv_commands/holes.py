@@ -4,12 +4,10 @@ it is."""
 from __future__ import annotations
 
 import errno
-import functools
 import os
 from typing import Iterator, Optional
 
-from .placing import PIECE, crc_of, is_there, md5_of
-
+PIECE = 1 << 20
 FREE_ZEROS = 1 << 30    # the most zeros in holes that a run hashes, in addition to ..
 MOST_ZEROS = 64         # .. this number of zeros for each byte of a file that isn't in a hole
 _ZEROS = bytes(PIECE)
@@ -68,21 +66,5 @@ def pieces(opened: int, length: int) -> Iterator[bytes]:
             at += len(piece)
 
 
-@functools.lru_cache(maxsize=1)
-def sums_of_zeros(size: int) -> bytes:
-    """Returns the checksums of a slice of zeros, as a packet has them."""
-    def zeros() -> Iterator[bytes]:
-        for at in range(0, size, PIECE):
-            yield _ZEROS[:size - at]
-    return md5_of(zeros()) + crc_of(zeros())
-
-
 def is_only_zeros(piece: bytes) -> bool:
     return piece == _ZEROS[:len(piece)]
-
-
-def has_slice(opened: int, offset: int, own: int, size: int, sums: bytes) -> bool:
-    """Returns whether a file has a slice at an offset, as `is_there` does, but without reading it in a hole."""
-    if os.fstat(opened).st_size >= offset + own and is_hole(opened, offset, own):
-        return sums == sums_of_zeros(size)
-    return is_there(opened, offset, own, size, sums)

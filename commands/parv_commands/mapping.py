@@ -9,11 +9,10 @@ from . import progress
 from .answers import SetAnswer, State
 from .faults import FILES, Fault, faults_of
 from .given import Given
-from .holes import has_slice
 from .names import shown
 from .packets import Member, RecoverySet
 from .parv import Parv
-from .placing import md5_of, pieces_of_file, told
+from .placing import is_there, md5_of, pieces_of_file, told
 from .search import Scanned, Search
 from .signals import wait_point
 
@@ -52,7 +51,7 @@ def _is_in_place(found: RecoverySet, file: Member, number: int, opened: BinaryIO
     own, offset = found.own_length(file, number), number * found.size
     behind = os.fstat(opened.fileno()).st_size - offset
     looked = own if tails else max(own, min(found.size, behind))
-    return file.sums is not None and has_slice(opened.fileno(), offset, looked, found.size, file.sums[number])
+    return file.sums is not None and is_there(opened.fileno(), offset, looked, found.size, file.sums[number])
 
 
 def _map_in_place(found: RecoverySet, file: Member, paths: Sequence[bytes], tails: bool) -> Map:

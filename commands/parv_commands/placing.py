@@ -9,13 +9,13 @@ import os
 import zlib
 from typing import Iterable, Iterator, List, Optional, Tuple
 
-from . import changes, progress
+from . import changes, holes, progress
 from .faults import Refused
+from .holes import PIECE
 from .signals import wait_point
 
 BLOCK = 4096        # zeros become a hole if they fill a block of this length, at a multiple of it
 SECTOR = 512        # a disk writes a sector of this length, at a multiple of it, completely or not at all
-PIECE = 1 << 20
 
 
 def crc_of(pieces: Iterable[bytes]) -> bytes:
@@ -38,17 +38,30 @@ def window(opened: int, offset: int, own: int, size: int) -> Iterator[bytes]:
     """Yields `own` bytes of a file from an offset on, and then zeros up to the slice size, in pieces."""
     for at in range(0, own, PIECE):
         yield os.pread(opened, min(PIECE, own - at), offset + at)
-    for at in range(own, size, PIECE):
-        yield bytes(min(PIECE, size - at))
+    yield from _zeros(size - own)
+
+
+def _zeros(length: int) -> Iterator[bytes]:
+    for at in range(0, length, PIECE):
+        yield bytes(min(PIECE, length - at))
+
+
+@functools.lru_cache(maxsize=1)
+def sums_of_zeros(size: int) -> bytes:
+    """Returns the checksums of a slice of zeros, as a packet has them."""
+    return md5_of(_zeros(size)) + crc_of(_zeros(size))
 
 
 def is_there(opened: int, offset: int, own: int, size: int, sums: bytes) -> bool:
     """Returns whether a file has `own` bytes at an offset that have both checksums when zeros fill them up to the slice
-    size.
+    size. A hole isn't read.
 
     The MD5 takes much longer, so it is computed only if the CRC-32 is right."""
-    return (os.fstat(opened).st_size >= offset + own and crc_of(window(opened, offset, own, size)) == sums[16:]
-            and md5_of(window(opened, offset, own, size)) == sums[:16])
+    if os.fstat(opened).st_size < offset + own:
+        return False
+    if holes.is_hole(opened, offset, own):
+        return sums == sums_of_zeros(size)
+    return crc_of(window(opened, offset, own, size)) == sums[16:] and md5_of(window(opened, offset, own, size)) == sums[:16]
 
 
 def pieces_of_file(opened: int) -> Iterator[bytes]:
@@ -67,13 +80,6 @@ def told(pieces: Iterable[bytes]) -> Iterator[bytes]:
         yield piece
         done += len(piece)
         progress.show(done)
-
-
-def _is_hole(opened: int, length: int, at: int) -> bool:
-    try:
-        return os.lseek(opened, at, os.SEEK_DATA) >= at + length
-    except OSError:
-        return True     # (up to the end of the file)
 
 
 @functools.lru_cache(maxsize=1)
@@ -117,7 +123,7 @@ def _is_begun(data: bytes, there: bytes, start: int, end: int, shift: int) -> bo
 def fill(opened: int, data: bytes, at: int) -> None:
     """Writes the blocks of the data that aren't in a file yet, which is long enough. It doesn't read holes. Only zeros
     may be replaced, in whole sectors; otherwise the file is refused, and nothing is written."""
-    if _is_hole(opened, len(data), at):
+    if holes.is_hole(opened, at, len(data)):
         runs = _runs_of_data(data, at % BLOCK)
     else:
         runs = _runs_that_differ(data, os.pread(opened, len(data), at), at % BLOCK)

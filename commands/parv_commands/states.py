@@ -11,7 +11,7 @@ from .faults import Refused
 from .folders import Folder
 from .names import base_of
 from .packets import Member, RecoverySet
-from .placing import md5_of, told
+from .placing import is_there, md5_of, told
 from .record import left_by
 from .writer import OTHER, TAKEN, Writer
 
@@ -71,7 +71,7 @@ class States:
         size = self.found.size
         for number, sums in zip(file.numbers, file.sums or []):
             at = number - file.first
-            if not self.writer.has(number) and not holes.has_slice(
+            if not self.writer.has(number) and not is_there(
                     place, at * size, self.found.own_length(file, at), size, sums):
                 return "damaged" if self.counts[file.id] else "missing"
         if not self._may_be_hashed(file, place):

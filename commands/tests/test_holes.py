@@ -10,8 +10,9 @@ import unittest.mock
 import zlib
 from typing import Any, Dict, List, Tuple
 
-from parv_commands import holes, rescue
-from parv_commands.placing import fill
+from parv_commands import holes, placing, rescue
+from parv_commands.faults import Refused
+from parv_commands.placing import fill, sums_of_zeros
 
 from .rooms import Room, md5, packet, write
 
@@ -50,7 +51,7 @@ class Files(unittest.TestCase):
             self.skipTest("the file system knows no holes")
 
     def read_by(self, does: str, *given: Any) -> Tuple[Any, int]:
-        """Returns what a function of `holes` returns, and how many bytes it has read."""
+        """Returns what a function of `holes` or `placing` returns, and how many bytes it has read."""
         counts: List[int] = []
         real = os.pread
 
@@ -58,7 +59,7 @@ class Files(unittest.TestCase):
             counts.append(len(real(opened, length, at)))
             return real(opened, length, at)
         with unittest.mock.patch.object(os, "pread", counted):
-            found = getattr(holes, does)(self.opened, *given)
+            found = getattr(placing if does == "is_there" else holes, does)(self.opened, *given)
             if does == "pieces":
                 found = b"".join(found)
         return found, sum(counts)
@@ -78,11 +79,11 @@ class Files(unittest.TestCase):
 
     def test_a_slice_of_zeros_is_there_in_a_hole(self) -> None:
         zeros = md5(bytes(SIZE)) + zlib.crc32(bytes(SIZE)).to_bytes(4, "little")
-        self.assertEqual(holes.sums_of_zeros(SIZE), zeros)
+        self.assertEqual(sums_of_zeros(SIZE), zeros)
         for offset, own, sums, wanted in ((5 << 20, SIZE, zeros, True), (5 << 20, 9, zeros, True),
                                           (5 << 20, SIZE, b"x" * 20, False), ((63 << 20) + 1, SIZE, zeros, False)):
-            self.assertEqual(self.read_by("has_slice", offset, own, SIZE, sums), (wanted, 0), (offset, own))
-        self.assertEqual(self.read_by("has_slice", 3 << 20, SIZE, SIZE, zeros)[0], False)
+            self.assertEqual(self.read_by("is_there", offset, own, SIZE, sums), (wanted, 0), (offset, own))
+        self.assertEqual(self.read_by("is_there", 3 << 20, SIZE, SIZE, zeros)[0], False)
 
     def test_a_file_system_that_knows_no_holes(self) -> None:
         for answer in (lambda opened, at, how: at), unittest.mock.Mock(side_effect=OSError(22, "Invalid argument")):
@@ -90,6 +91,8 @@ class Files(unittest.TestCase):
                 self.assertEqual(self.read_by("zeros_in", 64 << 20)[0], 0)
                 self.assertEqual(self.read_by("pieces", 64 << 20)[1], 64 << 20)
                 self.assertFalse(holes.is_hole(self.opened, 0, SIZE))
+                self.assertRaises(Refused, fill, self.opened, bytes(9) + b"other" * 9, 3 << 20)
+                self.assertEqual(os.pread(self.opened, len(DATA), 3 << 20), DATA)
 
     def test_equal_slices_in_holes_are_written_without_a_look_at_each_block(self) -> None:
         data = bytes(32 << 20) + b"x" + bytes(4095)
