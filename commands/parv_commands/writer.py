@@ -91,6 +91,8 @@ class Writer:
                 self.refuse(file, why[number])
             elif file.id in self.record.made or self.record.is_copy and (file.sums or file.length == 0):
                 self._look_before(file)
+            elif file.sums:
+                self._take_if_whole(file)
         for file in self.found.files:
             if file.length == 0 and file.id not in self.refused and file.id not in self.known:
                 self._waiting.append(Slice(file, 0, b""))
@@ -108,6 +110,13 @@ class Writer:
             self._refuse_for_now(file, f"its place can't be opened: {fault.strerror}")
         else:
             self._forget(file)
+
+    def _take_if_whole(self, file: Member) -> None:
+        """Takes a file that no run has made if it has all slices, as one that parv-repair has made."""
+        with contextlib.suppress(Refused, Fault, OSError):
+            if not self.folder.is_free(file.name):
+                with self._opened(file):
+                    pass
 
     def _forget(self, file: Member) -> None:
         """Records that a file isn't there any more, so that its slices are looked for again."""
@@ -139,13 +148,14 @@ class Writer:
             os.close(place)
 
     def _read_again(self, file: Member, place: int) -> None:
-        """Takes a file as its content is, if runs can have left that. A file that the record doesn't have must have a
-        slice of the set that isn't only zeros."""
+        """Takes a file as its content is, if runs can have left that. A file that the record doesn't have must have all
+        slices, or in a copy of a folder one slice that isn't only zeros."""
         is_made = file.id in self.record.made
         content = content_of(self.found, file, place)
         if not self._has(file) <= content.there:
             raise Refused(OTHER)
-        if not is_made and not content.has_data and len(content.there) < file.slices:
+        is_some = self.record.is_copy and content.has_data
+        if not is_made and not is_some and len(content.there) < file.slices:
             raise Refused(TAKEN)
         self._begun.pop(file.id, None)
         if content.odd:

@@ -168,7 +168,6 @@ class Rescue(unittest.TestCase):
         refused = "parv-rescue: refused: {}\n"
         other, odd = (f"long: {why}" for why in ("what is in its place isn't what was left there",
                                                  "it has other bytes where a slice belongs"))
-        taken = "short: something is in its place already"
 
         def says(status: int, out: str, said: str, what: str) -> None:
             ended = self.rescue_parts()
@@ -195,7 +194,7 @@ class Rescue(unittest.TestCase):
         whole = os.stat(place)
         says(1, "\n".join(ALL[:3]) + "\nmissing short 0/1\nslices 8/9, copied now 0\n", missing, "one")
         write(short, FILES["short"])
-        says(0, "\n".join(ALL) + "\nslices 8/9, copied now 0\n", "", "both")
+        says(0, "\n".join(ALL) + "\nslices 9/9, copied now 0\n", "", "both")
         now = os.stat(place)
         self.assertEqual((now.st_ino, now.st_ctime_ns, now.st_mtime_ns), (
             whole.st_ino, whole.st_ctime_ns, whole.st_mtime_ns))
@@ -206,7 +205,7 @@ class Rescue(unittest.TestCase):
         os.mkfifo(short)
         ended = self.rescue_parts()
         self.assertIn("refused short\n", ended.out)
-        self.assertIn(refused.format(taken), ended.said)
+        self.assertIn(refused.format("short: what is in its place isn't what was left there"), ended.said)
 
     def test_slices_are_on_the_disk_before_the_record_has_them(self) -> None:
         log = os.path.join(self.room.top, "log")

@@ -177,6 +177,22 @@ class Ways(Folders):
             self.assertIn(why.strip(), ended.said)
             self.assertEqual(unchanged(self.path("new/big")), before)
 
+    def test_a_whole_file_that_no_run_has_made_is_complete(self) -> None:
+        """(As after parv-repair. An image may have its slices all the same.)"""
+        self.put("nothing", b"")
+        self.says(self.run_it("nothing"), 1, "missing big 0/16\nslices 0/16, copied now 0\n", "")
+        self.put("new/big", BIG)
+        before = unchanged(self.path("new/big"))
+        for image in "part1", "part2":
+            self.says(self.run_it(image), 0, WHOLE.format(0), "")
+        self.assertEqual(unchanged(self.path("new/big")), before)
+        for data in BIG[:-1] + b"x", BIG[:FRONT] + bytes(len(BIG) - FRONT):
+            shutil.rmtree(self.path("new"))
+            self.run_it("nothing")
+            self.put("new/big", data)
+            self.says(self.run_it("part2"), 1, "refused big\nslices 0/16, copied now 0\n", TAKEN)
+            self.assertEqual(read(self.path("new/big")), data)
+
     def test_a_link_on_the_way_is_refused(self) -> None:
         packets = set_of({b"in/big": BIG}, SIZE, 0)
         self.put("in.par2", packets)
