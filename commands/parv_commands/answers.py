@@ -8,6 +8,7 @@ from typing import Dict, FrozenSet, List, NamedTuple, Optional, Tuple
 from .faults import FILES, Fault, NoProgram
 from .names import unshown
 
+CURSOR_OF_OTHERS = b"parv: cursor of other files\n"      # a file has another length than when the cursor was made
 _ID = "[0-9a-f]{32}"
 _NUMBER = "[0-9]{1,18}"     # more digits than any length or offset has
 _SLICES = "[0-9]{1,5}"      # more digits than the number of slices of any set has

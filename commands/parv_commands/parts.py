@@ -23,7 +23,6 @@ LONGEST_LAST = 4096     # the most bytes in the last line of a part
 PIECE = 1 << 20
 _ODD = re.compile(rb"[^ -~\n]")       # bytes that aren't in any line of parv
 _LAST = re.compile(rb"(end|cursor [0-9a-f:]+)\n")
-_OTHERS = b"parv: cursor of other files\n"      # a cursor has the lengths of the files
 
 USAGE_TEXT = """usage: parv-parts [--tails] PARTS LIMIT FILES
 
@@ -231,7 +230,7 @@ def find(program: Program, asked: Asked, cursor: Sequence[bytes]) -> Iterator[by
                 raise answers.NoAnswer("find")
             yield b"".join(line + b"\n" for line in lines)
         status = programs.status_of(process)
-    if status == USAGE and bytes(said) == _OTHERS:
+    if status == USAGE and bytes(said) == answers.CURSOR_OF_OTHERS:
         raise Fault(USAGE, "a searched file has another length than when this search began")
     if status != 0:
         raise fault_of(program, status, bytes(said), "find", {})
