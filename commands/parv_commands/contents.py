@@ -9,6 +9,7 @@ from typing import Callable, Deque, Dict, Iterable, List, Mapping, Optional, Tup
 
 from . import progress
 from .folders import Folder, Identity
+from .placing import pieces_of_file, told
 from .signals import wait_point
 
 PIECE = 1 << 20
@@ -45,12 +46,9 @@ def _sketch(opened: int, length: int) -> bytes:
 
 
 def _whole(opened: int) -> bytes:
-    hashed, at = hashlib.blake2b(), 0
-    while piece := os.pread(opened, PIECE, at):
-        wait_point()
+    hashed = hashlib.blake2b()
+    for piece in told(pieces_of_file(opened)):
         hashed.update(piece)
-        at += len(piece)
-        progress.show(at)
     return hashed.digest()
 
 
