@@ -31,7 +31,7 @@ def content_of(found: RecoverySet, file: Member, place: int) -> Content:
             wait_point()
             offset = (number - file.first) * found.size
             progress.show(offset)
-            is_right, is_zeros = _looked(place, offset, found.own_length(file, number - file.first), found.size, sums)
+            is_right, is_zeros = _look_at(place, offset, found.own_length(file, number - file.first), found.size, sums)
             if is_right:
                 there.add(number)
                 has_data = has_data or not is_zeros
@@ -40,7 +40,7 @@ def content_of(found: RecoverySet, file: Member, place: int) -> Content:
     return Content(there, odd, has_data)
 
 
-def _looked(place: int, offset: int, own: int, size: int, sums: bytes) -> Tuple[bool, bool]:
+def _look_at(place: int, offset: int, own: int, size: int, sums: bytes) -> Tuple[bool, bool]:
     """Returns whether a slice is in its place, and whether only zeros are there."""
     if holes.is_hole(place, offset, own):
         return sums_of_zeros(size) == sums, True

@@ -199,7 +199,7 @@ class Rescue:
                     gaps.append((at, length))
         return gaps
 
-    def _told(self, file: Member, state: str, count: int) -> List[str]:
+    def _lines_about(self, file: Member, state: str, count: int) -> List[str]:
         """Returns the lines about a file: its state, and its holes."""
         if state in ("complete", "refused"):
             return [f"{state} {file.shown}"]
@@ -214,7 +214,7 @@ class Rescue:
         for file in self.found.files:
             state = states.state_of(file)
             count = states.counts[file.id]
-            lines += self._told(file, state, count)
+            lines += self._lines_about(file, state, count)
             if state == "complete":
                 self.complete.add(file.id)
             there += 0 if state == "refused" else count
