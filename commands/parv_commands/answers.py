@@ -3,12 +3,13 @@
 from __future__ import annotations
 
 import re
-from typing import Dict, FrozenSet, List, NamedTuple, Optional, Tuple
+from typing import Dict, FrozenSet, Iterator, List, Match, NamedTuple, Optional, Pattern, Tuple
 
 from .faults import FILES, Fault, NoProgram
 from .names import unshown
 
 CURSOR_OF_OTHERS = b"parv: cursor of other files\n"      # a file has another length than when the cursor was made
+_LONGEST_LINE = 4096        # the most bytes in the line of a packet
 _ID = "[0-9a-f]{32}"
 _NUMBER = "[0-9]{1,18}"     # more digits than any length or offset has
 _SLICES = "[0-9]{1,5}"      # more digits than the number of slices of any set has
@@ -118,28 +119,58 @@ def read_set(text: bytes) -> SetAnswer:
     return SetAnswer(lines[0], head[1], int(head[2]), files, have, frozenset(aside))
 
 
-def read_packet(line: str) -> PacketLine:
-    packet = _PACKET.fullmatch(line)
-    if packet is None:
-        raise NoAnswer("packets")
+class PacketLines:
+    """Reads the answer of `parv packets` as it comes, in pieces, and counts the packets."""
+
+    def __init__(self) -> None:
+        self.count = 0
+        self._rest, self._is_whole = b"", False
+
+    def take(self, piece: bytes) -> Iterator[PacketLine]:
+        """Yields the packets whose lines end in the next piece."""
+        *lines, self._rest = (self._rest + piece).split(b"\n")
+        for line in lines:
+            if self._is_whole:
+                raise NoAnswer("packets")
+            if line == b"packets %d" % self.count:
+                self._is_whole = True
+            else:
+                self.count += 1
+                yield _packet(line)
+        if len(self._rest) > _LONGEST_LINE:
+            raise NoAnswer("packets")
+
+    def end(self) -> None:
+        """Checks that the answer is complete."""
+        if self._rest or not self._is_whole:
+            raise NoAnswer("packets")
+
+
+def _fields_of(line: bytes, form: Pattern[str], command: str) -> Match[str]:
+    """Returns the fields of a line, which must have this form."""
+    try:
+        fields = form.fullmatch(line.decode("ascii"))
+    except UnicodeDecodeError as fault:
+        raise NoAnswer(command) from fault
+    if fields is None:
+        raise NoAnswer(command)
+    return fields
+
+
+def _packet(line: bytes) -> PacketLine:
+    packet = _fields_of(line, _PACKET, "packets")
     return PacketLine(packet[1], int(packet[2]), int(packet[3]), packet[4], packet[5])
 
 
 def read_packets(text: bytes) -> List[PacketLine]:
-    lines = lines_of(text, "packets")
-    found = [read_packet(line) for line in lines[:-1]]
-    if lines[-1] != f"packets {len(found)}":
-        raise NoAnswer("packets")
+    reader = PacketLines()
+    found = list(reader.take(text))
+    reader.end()
     return found
 
 
 def read_sighting(line: bytes) -> Sighting:
-    try:
-        sighting = _SIGHTING.fullmatch(line.decode("ascii"))
-    except UnicodeDecodeError as fault:
-        raise NoAnswer("find") from fault
-    if sighting is None:
-        raise NoAnswer("find")
+    sighting = _fields_of(line, _SIGHTING, "find")
     return Sighting(sighting[1], int(sighting[2]), sighting[3], int(sighting[4]))
 
 

@@ -6,8 +6,8 @@ from __future__ import annotations
 from typing import Dict, List, Sequence
 
 from . import progress
-from .answers import NoAnswer, PacketLine, read_packet
-from .parv import LONGEST_LINE, Parv
+from .answers import NoAnswer, PacketLine, PacketLines
+from .parv import Parv
 from .programs import Said, pieces_of, running, status_of, too_much
 
 
@@ -18,39 +18,26 @@ class Listing:
         self.parv, self.owner, self.most = parv, owner, most
         self.lines: List[PacketLine] = []
         self.others: Dict[str, None] = {}
-        self._count = 0
-        self._is_whole = False
 
     def read(self, packet_words: Sequence[str], most_packets: int) -> None:
         """Reads the list of these packet files, which can't have more than so many packets."""
-        program, links, rest = self.parv.program, self.parv.links, b""
+        program, links, packets = self.parv.program, self.parv.links, PacketLines()
         said = Said(program)
         words = [b"packets", b"--", *(word.encode() for word in packet_words)]
         with progress.doing("parv packets"), running(program, words, links.folder.place, links.kept) as process:
             for piece in pieces_of(process, said):
-                *lines, rest = (rest + piece).split(b"\n")
-                for line in lines:
-                    self._take(line)
-                if self._count > most_packets:
+                for packet in packets.take(piece):
+                    self._take(packet)
+                if packets.count > most_packets:
                     raise too_much(program)
-                if len(rest) > LONGEST_LINE:
-                    raise NoAnswer("packets")
             status = status_of(process)
         if status != 0:
             raise self.parv.fault_of(status, bytes(said), "packets")
-        if rest or not self._is_whole:
-            raise NoAnswer("packets")
+        packets.end()
 
-    def _take(self, line: bytes) -> None:
-        if self._is_whole:
-            raise NoAnswer("packets")
-        if line == b"packets %d" % self._count:
-            self._is_whole = True
-            return
-        packet = read_packet(line.decode("ascii", "replace"))
+    def _take(self, packet: PacketLine) -> None:
         if packet.word not in self.parv.links.shown:
             raise NoAnswer("packets")
-        self._count += 1
         if packet.set == self.owner:
             self.lines.append(packet)
         elif packet.kind == "main" and len(self.others) < self.most:

@@ -6,14 +6,13 @@ import hashlib
 import re
 from typing import Dict, Iterable, List, Mapping, Optional, Set
 
-from .answers import NoAnswer, PacketLine, read_packet
+from .answers import NoAnswer, PacketLine, PacketLines
 from .packets import HEADER, PacketFiles
 
 NO_MAIN = "no usable set: no main"
 _MOST_BODY = 1 << 20        # the most bytes of a Main body that parv reads; the limits of its fields follow
 _MOST_SIZE = 1 << 28
 _MOST_IDS = 32_768
-_LONGEST_LINE = 4096
 _VOLUME = re.compile(rb"(.+)\.vol[0-9]+[-+][0-9]+", re.IGNORECASE | re.DOTALL)
 
 
@@ -33,29 +32,16 @@ class Listed:
         self.ids: Dict[bytes, Dict[str, None]] = {path: {} for path in packet_files}
         self.mains: Dict[str, List[PacketLine]] = {}
         self.described: Set[str] = set()
-        self._paths = paths
-        self._rest = b""
-        self._count = 0
-        self._is_whole = False
+        self._paths, self._packets = paths, PacketLines()
 
     def take(self, piece: bytes) -> None:
-        *lines, self._rest = (self._rest + piece).split(b"\n")
-        for line in lines:
-            self._line(line)
-        if len(self._rest) > _LONGEST_LINE:
-            raise NoAnswer("packets")
+        for packet in self._packets.take(piece):
+            self._packet(packet)
 
-    def _line(self, line: bytes) -> None:
-        if self._is_whole:
-            raise NoAnswer("packets")
-        if line == b"packets %d" % self._count:
-            self._is_whole = True
-            return
-        packet = read_packet(line.decode("ascii", "replace"))
+    def _packet(self, packet: PacketLine) -> None:
         path = self._paths.get(packet.word)
         if path not in self.ids:
             raise NoAnswer("packets")
-        self._count += 1
         self.ids[path][packet.set] = None
         if packet.kind == "main":
             self.mains.setdefault(packet.set, []).append(packet)
@@ -64,8 +50,7 @@ class Listed:
 
     def end(self) -> None:
         """Checks that the answer is complete."""
-        if self._rest or not self._is_whole:
-            raise NoAnswer("packets")
+        self._packets.end()
 
     def add(self, other: Listed) -> None:
         """Adds what was read of other files."""
