@@ -20,7 +20,6 @@ MOST_FILES = 65_535         # the most files in one command line
 SPARE_FILES = 32            # files that are open in addition to those that are named
 LONGEST_LINE = 1 << 17      # the most bytes in the line of a match
 _FAULTS = (USAGE, NO_SET, FILES, MEMORY)
-_OTHERS = b"parv: cursor of other files\n"      # the lengths of files are in a cursor
 _PRINTABLE = re.compile("[ -~]*")
 _ABOUT = re.compile(rb"parv: (cannot open|read fault in) ([^\n]*)\n?")
 
@@ -94,7 +93,7 @@ def fault_of(program: Program, status: int, said: bytes, command: str, names: Ma
         return NoProgram(FILES, f"{program.shown} {command} has ended with status {status}, and isn't parv")
     if not line.startswith("parv: "):
         return answers.NoAnswer(command)
-    if status == USAGE and said == _OTHERS:     # the command itself has made the cursor
+    if status == USAGE and said == answers.CURSOR_OF_OTHERS:   # the command itself has made the cursor
         return Fault(FILES, "a file that is searched has another length now than before")
     about = _ABOUT.match(said)
     name = names.get(about[2].decode("ascii", "replace")) if about else None

@@ -8,8 +8,8 @@ import os
 from typing import Callable, Dict, Generator, Iterator, List, NamedTuple, Sequence, Set, Tuple
 
 from . import changes, progress
-from .answers import CURSOR_OF_OTHERS, NoAnswer, Sighting, read_sighting
-from .faults import FILES, USAGE, Fault, faults_of
+from .answers import NoAnswer, Sighting, read_sighting
+from .faults import Fault, faults_of
 from .packets import Member, RecoverySet, packets_for
 from .parv import LONGEST_LINE, MOST_FILES, Parv
 from .placing import is_there
@@ -169,8 +169,6 @@ class Search:
                     raise NoAnswer("find")
                 self.idle()
             status = status_of(process)
-        if status == USAGE and bytes(said) == CURSOR_OF_OTHERS:
-            raise Fault(FILES, "a file that is searched has another length now than before")
         raise self.parv.fault_of(status, bytes(said), "find") if status else NoAnswer("find")
 
     def _matches(self, words: List[str], most: int) -> Iterator[Place]:
