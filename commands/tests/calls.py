@@ -13,10 +13,27 @@ from typing import List, Optional, Tuple
 import parv_commands
 from parv_commands.signals import SIGNALS
 
-from .rooms import PARV, Room, write
+from .rooms import PARV, SECONDS, Room, write
 
 BIN = os.path.join(os.path.dirname(os.path.dirname(os.path.realpath(parv_commands.__file__ or ""))), "bin")
 Ended = Tuple[int, str, str]
+
+
+def _is_running(number: int) -> bool:
+    """Returns whether a program runs. One that has ended may keep its number until somebody has taken its status."""
+    try:
+        with open(f"/proc/{number}/stat", encoding="utf-8", errors="replace") as file:
+            return file.read().rpartition(") ")[2][0] not in "ZX"
+    except (FileNotFoundError, ProcessLookupError):
+        return False
+
+
+def left_running(*numbers: int) -> List[int]:
+    """Waits until none of the programs with these numbers runs, and returns those that do after ten minutes."""
+    until = time.monotonic() + SECONDS
+    while any(map(_is_running, numbers)) and time.monotonic() < until:
+        time.sleep(0.02)
+    return [number for number in numbers if _is_running(number)]
 
 
 def take_all_signals() -> None:
@@ -55,7 +72,7 @@ class Calls(unittest.TestCase):
     def call(self, *words: str, shell: str = 'exec "$@"', **environment: str) -> Ended:
         given = {**os.environ, **self.room.environment(), **environment}
         ended = subprocess.run(["/bin/bash", "-c", shell, "bash", *words], cwd=self.room.top, env=given,
-                               capture_output=True, timeout=600, stdin=subprocess.DEVNULL)
+                               capture_output=True, timeout=SECONDS, stdin=subprocess.DEVNULL)
         out, said = (text.decode("utf-8", "surrogateescape") for text in (ended.stdout, ended.stderr))
         return ended.returncode, out, said
 
@@ -79,7 +96,7 @@ class Calls(unittest.TestCase):
         process = subprocess.Popen(words, cwd=self.room.top, env=given, stdout=subprocess.PIPE,
                                    stderr=subprocess.STDOUT, start_new_session=True, preexec_fn=take_all_signals)
         child: Optional[int] = None
-        until = time.monotonic() + 600
+        until = time.monotonic() + SECONDS
         while child is None and time.monotonic() < until:
             time.sleep(0.02)
             if os.path.exists(place):
@@ -89,8 +106,6 @@ class Calls(unittest.TestCase):
         assert child is not None
         os.remove(place)
         (os.killpg if all_of_them else os.kill)(process.pid, number)
-        out, _ = process.communicate(timeout=600)
-        while os.path.exists(f"/proc/{child}") and time.monotonic() < until:
-            time.sleep(0.02)
-        self.assertFalse(os.path.exists(f"/proc/{child}"), "the program goes on")
+        out, _ = process.communicate(timeout=SECONDS)
+        self.assertEqual(left_running(child), [], "the program goes on")
         return process.returncode, out

@@ -120,6 +120,7 @@ class Room:
         os.mkdir(self.temporary)
         os.mkdir(self.folder)
         write(os.path.join(self.state_home, "parv", "secret"), SECRET)
+        os.chmod(os.path.join(self.state_home, "parv"), 0o700)
         os.chmod(os.path.join(self.state_home, "parv", "secret"), 0o600)
         named: Dict[bytes, bytes] = {os.fsencode(name): data for name, data in files.items()}
         self.packets = set_of(named, size, recovery)

@@ -13,7 +13,7 @@ from typing import Any, Callable, Dict, List, Optional
 from parv_commands import changes, parts
 
 from .calls import BIN, Calls
-from .rooms import FULL, KILLED, MAKING, PARV, At, Ended, From, Room, read, write
+from .rooms import FULL, KILLED, MAKING, PARV, SECONDS, At, Ended, From, Room, read, write
 
 PARTS = os.path.join(BIN, "parv-parts")
 FILES = {"first": b"first of all files and more", "second": b"the second file"}
@@ -218,5 +218,5 @@ class Parts(Calls):
         assert process.stdout is not None
         process.stdout.read(1)
         process.terminate()
-        self.assertEqual(process.wait(30), 143)
+        self.assertEqual(process.wait(SECONDS), 143)
         process.stdout.close()

@@ -3,6 +3,8 @@ lost. The next run must go on, whatever is left."""
 
 from __future__ import annotations
 
+import ctypes
+import filecmp
 import hashlib
 import os
 import shutil
@@ -150,6 +152,12 @@ class Power(unittest.TestCase):
         self.is_whole(self.run_it(), "names")
 
 
+def has_own_mounts() -> bool:
+    """Gives this process mounts of its own, which no other program keeps busy. Returns whether that is allowed."""
+    return not ctypes.CDLL(None).unshare(0x20000) and not subprocess.run(       # (CLONE_NEWNS)
+        ["mount", "--make-rprivate", "/"], stderr=subprocess.DEVNULL).returncode
+
+
 class Disk(unittest.TestCase):
     """The same on ext4, by copies of a disk at such a moment."""
 
@@ -163,6 +171,9 @@ class Disk(unittest.TestCase):
         if os.getuid() or not shutil.which("mkfs.ext4") or subprocess.run(["mkfs.ext4", "-q", "-F", disk]).returncode:
             self.skipTest("it needs root, and mkfs.ext4")
         write(os.path.join(room.top, "image"), b" and ".join([b"begins", *FILES.values()]))
+
+        if not has_own_mounts():
+            self.skipTest("mounting isn't allowed here")
 
         def mounted(image: str) -> None:
             if subprocess.run(["mount", "-o", "loop,commit=1", image, place], stderr=subprocess.DEVNULL).returncode:
@@ -185,6 +196,8 @@ class Disk(unittest.TestCase):
                     run_it(number)
                     time.sleep(seconds)
                     shutil.copy(disk, cut)
+                    while not filecmp.cmp(disk, cut, False):    # (the disk has changed while it was copied)
+                        shutil.copy(disk, cut)
                 finally:
                     unmounted()
                 mounted(cut)

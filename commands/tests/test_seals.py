@@ -19,7 +19,7 @@ from parv_commands.faults import FILES, Fault
 from parv_commands.folders import Folder
 from parv_commands.seals import Chain, Seal
 
-from .rooms import FULL, KILLED, At, Ended, Room, read, write
+from .rooms import FULL, KILLED, SECONDS, At, Ended, Room, read, write
 
 
 def sealing() -> int:
@@ -166,7 +166,7 @@ class Secrets(unittest.TestCase):
             self.gone()
             runs = [subprocess.Popen([sys.executable, "-B", "-c", text, above], stdout=subprocess.PIPE,
                                      env={**os.environ, "XDG_STATE_HOME": self.room.state_home}) for _ in range(6)]
-            out = {run.communicate(timeout=60)[0] for run in runs}
+            out = {run.communicate(timeout=SECONDS)[0] for run in runs}
             self.assertEqual((len(out), len(out.pop())), (1, 64 + 4), out)
 
     def test_a_signal_ends_a_run_that_waits_for_another_one(self) -> None:

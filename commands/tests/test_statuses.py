@@ -17,7 +17,7 @@ from typing import Dict, List, Tuple
 
 from parv_commands import programs, repair, rescue
 
-from .calls import BIN, Calls, take_all_signals
+from .calls import BIN, Calls, left_running, take_all_signals
 from .rooms import PARV, Room, packet, read, set_of, write
 
 REPAIR, RESCUE = os.path.join(BIN, "parv-repair"), os.path.join(BIN, "parv-rescue")
@@ -323,12 +323,7 @@ class Statuses(Calls):
         with unittest.mock.patch.object(programs, "_libc", Killing()):
             ended = self.room.run(repair.main, ["room"], PARV=self.program("p6", f"#!/bin/sh\ntouch {ran}\n"))
         self.assertEqual(ended.status, 128 + signal.SIGKILL)
-        with open(child, "rb") as file:
-            place = f"/proc/{int(file.read())}"
-        until = time.monotonic() + 600
-        while os.path.exists(place) and time.monotonic() < until:
-            time.sleep(0.02)
-        self.assertFalse(os.path.exists(place) or os.path.exists(ran))
+        self.assertEqual((left_running(int(read(child))), os.path.exists(ran)), ([], False))
 
 
 class Packets(unittest.TestCase):

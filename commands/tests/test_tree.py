@@ -2,6 +2,7 @@
 
 from __future__ import annotations
 
+import gc
 import hashlib
 import json
 import os
@@ -20,7 +21,7 @@ from typing import Iterator, List, Tuple
 from parv_commands import changes, folders, progress, tree, watch
 from parv_commands.state import HEAD
 
-from .calls import BIN, slow, take_all_signals, terminal_text
+from .calls import BIN, left_running, slow, take_all_signals, terminal_text
 from .rooms import FULL, KILLED, PARV, At, Ended, Room, file_id, md5, packet, read, set_of, spent, write
 
 TREE = os.path.join(BIN, "parv-tree")
@@ -228,6 +229,7 @@ class WithoutSets(TreeTest):
             os.close(place)
         top = folders.Folder.opened(os.fsencode(self.room.folder))
         self.addCleanup(top.close)
+        gc.collect()        # (so that no file of an earlier test is closed meanwhile)
         opened = len(os.listdir("/proc/self/fd"))
         unread: List[Tuple[bytes, str]] = []
         with unittest.mock.patch.object(folders, "_inner", wraps=folders._inner) as inners:
@@ -585,9 +587,7 @@ class Statuses(TreeTest):
                     out, _ = ran.communicate(timeout=600)
                     ended = -number if number == signal.SIGKILL else 128 + number
                     self.assertEqual((ran.returncode, out, len(started)), (ended, b"", count))
-                    while any(os.path.exists(f"/proc/{each}") for each in started) and time.monotonic() < until:
-                        time.sleep(0.02)
-                    self.assertFalse([each for each in started if os.path.exists(f"/proc/{each}")])
+                    self.assertEqual(left_running(*map(int, started)), [])
                     for each in started:
                         os.remove(os.path.join(waiting, each))
                     if number == signal.SIGKILL:
