@@ -44,9 +44,9 @@ def take_all_signals() -> None:
 
 def slow(top: str, text: str) -> str:
     """Returns a program in the folder, a text for bash, that waits until progress is shown, for which terminal_text makes
-    a file. It waits for a minute at least if none is."""
+    a file. It waits for ten minutes at least if none is."""
     path = os.path.join(top, "slow")
-    waits = f"for _ in {{1..3000}}; do [ ! -e {top}/shown ] || break; sleep 0.02; done"
+    waits = f"for _ in {{1..30000}}; do [ ! -e {top}/shown ] || break; sleep 0.02; done"
     write(path, f"#!/bin/bash\nrm -f {top}/shown\n{waits}\n{text}\n".encode())
     os.chmod(path, 0o755)
     return path

@@ -130,9 +130,9 @@ class Progress(unittest.TestCase):
                 progress.EACH = 0.05
                 if is_slow:
                     progress.FIRST = 0.1
-                else:       # (on a clock that goes on by a millisecond each time that somebody looks at it)
+                else:       # (on a clock that goes on by a millisecond each time that somebody looks, for less than two seconds)
                     times = itertools.count(1000, 0.001)
-                    setattr(progress, "time", unittest.mock.Mock(monotonic=lambda: next(times)))
+                    setattr(progress, "time", unittest.mock.Mock(monotonic=lambda: min(next(times), 1001.9)))
                 import sys
                 sys.argv = ["command", *words]
                 ended = main()      # type: ignore[operator]

@@ -11,6 +11,7 @@ trap 'rm -rf "$work"' EXIT
 said=$work/.said
 mkdir "$said"
 failed=0
+umask 022       # checks compare modes, and let another user read what they make
 # The seconds after which a run is taken for one that hangs, far more than any run takes on a busy machine.
 export most=${most:-600}
 export PYTHONDONTWRITEBYTECODE=1 XDG_STATE_HOME=$said/state
