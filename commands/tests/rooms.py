@@ -28,7 +28,7 @@ for whole in %s/by-number/file*; do
     [ ! -e "$name" ] && [ ! -L "$name" ] || mv "$name" "$name.1"
     [ "$WRONG" != fails ] || { head -c 4 "$whole" > "$name"; echo "Repair Failed."; exit 5; }
     [ "$WRONG" != kills ] || [ ! -s "$whole" ] || { head -c 4 "$whole" > "$name"; kill -KILL $PPID; exec sleep 900; }
-    cp "$whole" "$name"
+    cat "$whole" > "$name"
 done
 """
 STAGE = ".parv-repair"

@@ -186,7 +186,7 @@ class Secrets(unittest.TestCase):
             return words.ended("reads", lambda: 0 if seals.seal_to_read(b"kind") is None else 1)
         ended = self.room.run(reads, [])
         self.assertEqual((ended.status, ended.calls, os.path.exists(self.room.state_home)), (0, [], False), ended)
-        os.makedirs(self.folder)
+        os.makedirs(self.folder, 0o700)
         self.assertEqual((self.room.run(reads, []).status, os.listdir(self.folder)), (0, []))
         self.run_it()
         self.assertEqual(self.room.run(reads, []).status, 1)

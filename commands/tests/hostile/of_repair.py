@@ -179,7 +179,7 @@ class Repairs:
 
     def ends(self, held: Held) -> None:
         """Runs the command until it has ended twice in the same way."""
-        before = os.listdir(self.room.temporary)
+        before = set(os.listdir(self.room.temporary))
         statuses: List[int] = []
         while len(statuses) < 2 or statuses[-1] != statuses[-2]:
             statuses.append(self.run(held).status)
@@ -191,7 +191,7 @@ class Repairs:
         has_set = is_file(self.room.path("set.par2")) and read(self.room.path("set.par2")) == self.room.packets
         self.log.must(not self.lacks() if ended.status == 0 else bool(self.lacks()) or not has_set,
                       "the status isn't true:", self.lacks(), ended)
-        self.log.must(os.listdir(self.room.temporary) == before, "a temporary file is left")
+        self.log.must(set(os.listdir(self.room.temporary)) == before, "a temporary file is left")
         self.ended = ended
 
     def close(self) -> None:
