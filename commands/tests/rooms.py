@@ -117,6 +117,7 @@ class Room:
         self.temporary = os.path.join(self.top, "tmp")
         self.state_home = os.path.join(self.top, "secrets")
         self.files, self.size = files, size
+        self.is_synced = False      # whether runs wait for the disk, which takes longer than all else
         os.mkdir(self.temporary)
         os.mkdir(self.folder)
         write(os.path.join(self.state_home, "parv", "secret"), SECRET)
@@ -172,14 +173,14 @@ class Room:
                 found[os.path.relpath(path, self.folder)] = kind, data
         return found
 
-    def contents(self) -> Set[bytes]:
+    def contents(self, found: Optional[Listing] = None) -> Set[bytes]:
         """Returns the different contents of files in the folder."""
-        return {data for kind, data in self.listing().values() if kind == stat.S_IFREG}
+        return {data for kind, data in (found or self.listing()).values() if kind == stat.S_IFREG}
 
-    def state(self) -> str:
+    def state(self, found: Optional[Listing] = None) -> str:
         """Returns the state of the folder that a run finds. Inodes and times differ in each room, so files in a journal
         are named by their places, and marks are left out."""
-        found = self.listing()
+        found = found or self.listing()
         known = {}
         for name in found:
             now = os.lstat(self.path(name))
@@ -208,6 +209,9 @@ class Room:
         with open(paths[2], "wb", buffering=0) as calls:
             child = os.fork()
             if not child:
+                if not self.is_synced:
+                    setattr(os, "fsync", os.fstat)
+                    setattr(changes._libc, "syncfs", lambda place: 0)
                 _be_child(main, words, paths, calls.fileno(), watch, {
                     **self.environment(), **environment}, self.top)
             _, state = os.waitpid(child, 0)
@@ -284,9 +288,10 @@ class Noting:
     def __call__(self, call: str, when: str) -> None:
         self.count += when == "before"
         if call not in ("fsync", "syncfs"):
-            lost = len(self.held - self.room.contents())
+            found = self.room.listing()
+            lost = len(self.held - self.room.contents(found))
             with open(self.place, "a", encoding="ascii") as out:
-                out.write(f"{self.count} {when} {self.room.state()} {lost}\n")
+                out.write(f"{self.count} {when} {self.room.state(found)} {lost}\n")
 
     def noted(self) -> List[Tuple[int, str, str, int]]:
         """Returns, for each call, its number, `before` or `after`, the state, and how many contents are lost."""

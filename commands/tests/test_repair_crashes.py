@@ -6,14 +6,13 @@ from __future__ import annotations
 import os
 import shutil
 import signal
-import stat
 import unittest
-from typing import Callable, Dict, Iterator, List, Set, Tuple
+from typing import Iterator, List, Set, Tuple
 
 from parv_commands import repair
 
 from . import rooms
-from .rooms import FULL, KILLED, MAKING, At, Ended, From, Noting, Room
+from .rooms import FULL, KILLED, MAKING, At, Ended, From, Room
 
 WHOLE = {
     "report.doc": b"the report, whole", "notes.txt": b"some notes of a year",
@@ -41,7 +40,8 @@ def damage(room: Room) -> None:
     room.take("empty")
 
 
-class Crashes(unittest.TestCase):
+class Repairs(unittest.TestCase):
+    """Tests that end repairs of one damaged folder."""
     room: Room
     calls: List[str]
     before: rooms.Listing
@@ -80,6 +80,8 @@ class Crashes(unittest.TestCase):
         self.assertEqual((ended.status, ended.last(), self.room.lacks()), (0, "complete", []), (what, ended))
         self.assertFalse([name for name in os.listdir(self.room.folder) if "kept" in name], (what, ended))
 
+
+class Crashes(Repairs):
     def test_the_calls_of_a_repair_are_counted(self) -> None:
         for call in "mkdir", "create", "write", "symlink", "rename", "fsync", "unlink", "rmdir", "syncfs":
             self.assertIn(call, self.calls)
@@ -94,13 +96,12 @@ class Crashes(unittest.TestCase):
         self.assertEqual(self.calls[moved + 1:].count("syncfs"), 1)
 
     def test_a_kill_at_each_call_loses_nothing_and_the_next_run_completes(self) -> None:
-        for point in self.points():
-            ended = self.ended_at(At(*point, KILLED))
-            self.assertEqual(ended.status, 137, point)
-            self.is_held(point, self.held)
+        for number in range(1, len(self.calls) + 1):    # (test_repair_states has what is there after each call)
+            self.assertEqual(self.ended_at(At(number, "before", KILLED)).status, 137, number)
+            self.is_held(number, self.held)
             again = self.again()
-            self.is_held(point, self.held)
-            self.completes(point, again)
+            self.is_held(number, self.held)
+            self.completes(number, again)
 
     def test_after_a_kill_a_run_that_cannot_repair_completes_or_undoes(self) -> None:
         for point in self.points(2, 2):
@@ -110,35 +111,6 @@ class Crashes(unittest.TestCase):
                 self.completes(point, again)
             else:
                 self.assertEqual((again.status, self.room.listing()), (5, self.before), (point, again))
-
-    def each_state(self, begin: Callable[[], None], *words: str) -> Dict[str, Tuple[Tuple[int, str], ...]]:
-        """Starts a run from each state that runs leave when they are ended by force, until no state is new. Returns the
-        calls that lead to each. Only one run is made from equal states, since such runs are the same."""
-        found: Dict[str, Tuple[Tuple[int, str], ...]] = {}
-        waiting: List[Tuple[Tuple[int, str], ...]] = [()]
-        while waiting:
-            path = waiting.pop(0)
-            begin()
-            held = self.room.contents()
-            for point in path:
-                ended = self.room.run(repair.main, [*words, "room"], At(*point, KILLED))
-                self.assertEqual(ended.status, 137, (path, ended))
-            if path:
-                self.assertEqual(found[self.room.state()], path)
-            noting = Noting(self.room, held)
-            self.completes(path, self.room.run(repair.main, [*words, "room"], noting))
-            self.is_held(path, held)
-            for number, when, state, lost in noting.noted():
-                self.assertEqual(lost, 0, (path, number, when))
-                if state not in found:
-                    found[state] = (*path, (number, when))
-                    waiting.append(found[state])
-        return found
-
-    def test_kills_inside_recoveries_lose_nothing_however_many(self) -> None:
-        found = self.each_state(lambda: damage(self.room))
-        self.assertGreater(len(found), 100)
-        self.assertGreater(max(map(len, found.values())), 1)
 
     def test_a_kill_while_par2_writes_loses_nothing(self) -> None:
         damage(self.room)
@@ -200,36 +172,6 @@ class Crashes(unittest.TestCase):
             self.assertEqual(self.room.listing(), self.before, (number, ended))
             self.completes(number, self.again())
 
-    def test_what_people_put_there_after_a_kill_is_kept(self) -> None:
-        names = [*WHOLE, "stray", "other", "notes.txt.1", "notes.txt.2", "report.doc.1"]
-        for point in self.points(1, 2):
-            self.ended_at(At(*point, KILLED))
-            for number, name in enumerate(names):
-                path = self.room.path(name)
-                if os.path.isdir(path):
-                    continue
-                with open(path, "ab") if os.path.isdir(os.path.dirname(path)) else open(os.devnull, "ab") as out:
-                    out.write(b"what people have written: %d" % number)
-            held = {data for name, (kind, data) in self.room.listing().items()
-                    if kind == stat.S_IFREG and not name.startswith(rooms.STAGE)}
-            again = self.again()
-            self.is_held((point, again), held)
-            self.completes(point, again)
-            self.is_held((point, again), held)
-
-    def test_what_people_put_in_place_of_files_after_a_kill_is_kept(self) -> None:
-        for point in self.points(2, 2):
-            self.ended_at(At(*point, KILLED))
-            for number, name in enumerate(sorted(self.room.listing())):
-                path = self.room.path(name)
-                if not name.startswith(rooms.STAGE) and os.path.isfile(path) and not name.endswith(".par2"):
-                    with open(path + ".new", "wb") as out:
-                        out.write(b"what people have put there: %d" % number)
-                    os.rename(path + ".new", path)
-            held = {data for data in self.room.contents() if data.startswith(b"what people")}
-            again = self.again()
-            self.is_held((point, again), held)
-            self.completes(point, again)
 
 
 if __name__ == "__main__":

@@ -164,6 +164,7 @@ class Disk(unittest.TestCase):
     def test_a_copy_of_the_disk_goes_on(self) -> None:
         room = Room(FILES, SIZE)
         self.addCleanup(room.close)
+        room.is_synced = True
         disk, cut, place = (os.path.join(room.top, name) for name in ("disk", "cut", "m"))
         os.mkdir(place)
         with open(disk, "wb") as file:

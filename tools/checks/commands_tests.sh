@@ -6,7 +6,9 @@
 . "$(dirname "$0")/with/wants.sh"
 cd "$top/commands" || exit 1
 export PARV=$parv
-(cd tests && printf '%s\n' test_*.py) | sed 's/[.]py$//' \
+# These take long, so they begin first.
+long=(test_repair_crashes test_rescue_power test_repair_states test_repair_people test_rescue_files test_repair_moves test_tree)
+(cd tests && printf '%s\n' "${long[@]}" test_*.py) | sed 's/[.]py$//' | awk '!seen[$0]++' \
     | TMPDIR=$work xargs -P "${RT_JOBS:-$(nproc)}" -n 1 python3 -m tests || failed=1
 if command -v mypy > /dev/null; then
     if MYPYPATH=. mypy --strict --cache-dir="$work/mypy" -p parv_commands -p tests > "$said/mypy" 2>&1; then

@@ -14,7 +14,7 @@ class Disk:
     """A file system of its own for the folder of a room, with all files whole. It needs the right to mount."""
 
     def __init__(self, room: Room) -> None:
-        self.folder, self.image = room.folder, os.path.join(room.top, "disk")
+        self.folder, self.image, room.is_synced = room.folder, os.path.join(room.top, "disk"), True
         with open(self.image, "wb") as disk:
             disk.truncate(LENGTH)
         subprocess.run(["mkfs.ext4", "-q", "-F", self.image], check=True)
