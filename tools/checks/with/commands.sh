@@ -14,9 +14,6 @@ tree_quiet=("${tree[@]}" -q)
 tree_beside=("${tree[@]}" -j)
 watch=("$commands/parv-watch")
 search=("$commands/parv-parts")
-# In a folder that is repaired: the folder in which a run works, and its list of moves.
-repair_stage=.parv-repair
-repair_list=$repair_stage/journal
 # The beginning of their messages.
 repair_says="parv-repair:"
 tree_says="parv-tree:"
