@@ -4,11 +4,12 @@ from __future__ import annotations
 
 import contextlib
 import os
+import shutil
 import signal
 import subprocess
 import time
 import unittest
-from typing import List, Optional, Tuple
+from typing import Dict, List, Optional, Tuple
 
 import parv_commands
 from parv_commands.signals import SIGNALS
@@ -17,6 +18,9 @@ from .rooms import PARV, SECONDS, Room, write
 
 BIN = os.path.join(os.path.dirname(os.path.dirname(os.path.realpath(parv_commands.__file__ or ""))), "bin")
 Ended = Tuple[int, str, str]
+MAKES: Dict[str, List[str]] = {"ext4": ["mkfs.ext4", "-q", "-F"], "xfs": ["mkfs.xfs", "-q"], "btrfs": ["mkfs.btrfs", "-q"],
+                               "ntfs": ["mkfs.ntfs", "-F", "-q"]}
+LENGTH = 320 << 20      # the length of an image, of which only a part is written
 
 
 def _is_running(number: int) -> bool:
@@ -75,6 +79,25 @@ class Calls(unittest.TestCase):
                                capture_output=True, timeout=SECONDS, stdin=subprocess.DEVNULL)
         out, said = (text.decode("utf-8", "surrogateescape") for text in (ended.stdout, ended.stderr))
         return ended.returncode, out, said
+
+    def mounting(self, script: str, *words: str) -> Ended:
+        """Runs a script of bash that has mounts of its own, and ends with 99 if it can't make them."""
+        ended = self.call("unshare", "--mount", "bash", "-c", script, "bash", *words)
+        if ended[0] == 99 or ended[2].startswith("unshare: "):
+            self.skipTest(f"mounting isn't allowed here: {ended[2].strip()[:200]}")
+        return ended
+
+    def disk(self, kind: str) -> str:
+        """Makes a file system of a kind in a file, or in memory. Returns the command that mounts it at `disk`."""
+        os.makedirs(os.path.join(self.room.top, "disk"), exist_ok=True)
+        if kind == "tmpfs":
+            return "mount -t tmpfs tmpfs disk"
+        image = os.path.join(self.room.top, kind)
+        with open(image, "wb") as out:
+            out.truncate(LENGTH)
+        if not shutil.which(MAKES[kind][0]) or subprocess.run([*MAKES[kind], image], capture_output=True).returncode:
+            self.skipTest(f"no {kind} can be made here")
+        return "lowntfs-3g -o ignore_case ntfs disk" if kind == "ntfs" else f"mount -o loop {kind} disk"
 
     def program(self, name: str, text: str) -> str:
         path = os.path.join(self.room.top, name)

@@ -5,9 +5,7 @@ from __future__ import annotations
 
 import errno
 import os
-import shutil
 import signal
-import subprocess
 import unittest
 import unittest.mock
 from typing import Any, Dict, List, Tuple
@@ -20,11 +18,6 @@ from .calls import BIN, Calls
 from .folding import folding
 from .rooms import KILLED, At, Room, ends_by
 from .test_repair_crashes import WHOLE, damage
-
-MAKES: Dict[str, List[str]] = {
-    "ext4": ["mkfs.ext4", "-q", "-F"], "xfs": ["mkfs.xfs", "-q"], "btrfs": ["mkfs.btrfs", "-q"], "tmpfs": [],
-    "ntfs": ["mkfs.ntfs", "-F", "-q"]}
-LENGTH = 320 << 20      # the length of an image, of which only a part is written
 
 
 class Listed:
@@ -123,30 +116,13 @@ class FileSystems(Calls):
         self.assertEqual((ended.status, ended.said), (6, "parv-repair: room: it reaches into another file system\n"))
         self.assertEqual(self.room.listing(), before)
         script = 'mkdir other && mount --bind other room/in/a || exit 99\n"$@"'
-        bound = self.call("unshare", "--mount", "bash", "-c", script, "bash", os.path.join(BIN, "parv-repair"), "room")
-        if bound[0] in (1, 99):
-            self.skipTest(f"mounting isn't allowed here: {bound[2].strip()[:200]}")
-        self.assertEqual(bound, (6, "", ended.said))
-
-    def mounting(self, kind: str) -> str:
-        """Returns the commands that mount a new file system of a kind, in a namespace of its own, at `disk`."""
-        os.makedirs(os.path.join(self.room.top, "disk"), exist_ok=True)
-        if kind == "tmpfs":
-            return "mount -t tmpfs tmpfs disk"
-        image = os.path.join(self.room.top, kind)
-        with open(image, "wb") as out:
-            out.truncate(LENGTH)
-        if not shutil.which(MAKES[kind][0]) or subprocess.run([*MAKES[kind], image], capture_output=True).returncode:
-            self.skipTest(f"no {kind} can be made here")
-        return "lowntfs-3g -o ignore_case ntfs disk" if kind == "ntfs" else f"mount -o loop {kind} disk"
+        self.assertEqual(self.mounting(script, os.path.join(BIN, "parv-repair"), "room"), (6, "", ended.said))
 
     def on(self, kind: str) -> None:
-        script = (f'{self.mounting(kind)} || exit 99\ncp -r room disk/room; mkdir disk/tmp\n'
+        script = (f'{self.disk(kind)} || exit 99\ncp -r room disk/room; mkdir disk/tmp\n'
                   'export TMPDIR=$PWD/disk/tmp; "$@" disk/room || exit\nls -A disk/tmp; rm -r room; '
                   'cp -r disk/room room')
-        ended = self.call("unshare", "--mount", "bash", "-c", script, "bash", os.path.join(BIN, "parv-repair"))
-        if ended[0] in (1, 99):
-            self.skipTest(f"mounting isn't allowed here: {ended[2].strip()[:200]}")
+        ended = self.mounting(script, os.path.join(BIN, "parv-repair"))
         self.assertEqual((ended[0], ended[1].splitlines()[-1:], self.room.lacks()), (0, ["complete"], []), ended)
 
     def test_a_repair_on_ext4(self) -> None:

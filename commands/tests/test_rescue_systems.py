@@ -4,13 +4,10 @@ system was mounted again, and a folder that was copied."""
 from __future__ import annotations
 
 import os
-import shutil
-import subprocess
 import sys
 
 from .calls import BIN, Calls
 from .rooms import Room, read, write
-from .test_file_systems import LENGTH, MAKES
 from .test_rescue_files import BIG, COPY, FRONT, PART, SIZE, WHOLE
 
 RESCUE = os.path.join(BIN, "parv-rescue")
@@ -37,23 +34,16 @@ class Systems(Calls):
         self.addCleanup(self.room.close)
         write(os.path.join(self.room.top, "part1"), BIG[:FRONT])
         write(os.path.join(self.room.top, "part2"), BIG[FRONT:])
-        os.mkdir(os.path.join(self.room.top, "disk"))
 
     def on(self, mount: str, again: str = "") -> None:
         """Runs the commands on a file system that is mounted in this way. A file with holes takes few blocks there."""
         script = SCRIPT.format(mount=mount, again=again, most=len(BIG) // 512)
-        ended = self.call("unshare", "--mount", "bash", "-c", script, "bash", RESCUE)
-        if ended[0] == 99 or "unshare" in ended[2] or "mount" in ended[2]:
-            self.skipTest(f"mounting isn't allowed here: {ended[2].strip()[:200]}")
+        ended = self.mounting(script, RESCUE)
         self.assertEqual(ended, (0, PART.format(5) + WHOLE.format(11) * 2 + WHOLE.format(0), COPY.format("disk/copy")))
 
     def on_image(self, kind: str) -> None:
-        image = os.path.join(self.room.top, kind)
-        with open(image, "wb") as out:
-            out.truncate(LENGTH)
-        if not shutil.which(MAKES[kind][0]) or subprocess.run([*MAKES[kind], image], capture_output=True).returncode:
-            self.skipTest(f"no {kind} can be made here")
-        self.on(f"mount -o loop {kind} disk", f"umount disk\nmount -o loop {kind} disk")
+        mount = self.disk(kind)
+        self.on(mount, f"umount disk\n{mount}")
 
     def test_a_rescue_on_ext4(self) -> None:
         self.on_image("ext4")
@@ -66,24 +56,18 @@ class Systems(Calls):
 
     def test_a_byte_that_changes_on_a_disk_is_noticed(self) -> None:
         """(No time of the file changes with it. test_rescue_files has the same without a mount.)"""
-        with open(os.path.join(self.room.top, "disk.ext4"), "wb") as out:
-            out.truncate(16 << 20)
-        flips = ("data = bytearray(open('disk.ext4', 'rb').read()); part = open('room/big', 'rb').read()[8192:12288]\n"
-                 "data[data.index(part) + 5] ^= 1; open('disk.ext4', 'r+b').write(data)")
-        script = ('mkfs.ext4 -q -F disk.ext4 && mount -o loop disk.ext4 disk || exit 99\n'
-                  '"$1" disk/new room/set.par2 room/big; umount disk; "$2" -c "$3"\n'
-                  'mount -o loop disk.ext4 disk || exit 99\n'
-                  '"$1" disk/new room/set.par2 room/big')
-        ended = self.call("unshare", "--mount", "bash", "-c", script, "bash", RESCUE, sys.executable, flips)
-        if ended[0] == 99 or "unshare" in ended[2]:
-            self.skipTest(f"mounting isn't allowed here: {ended[2].strip()[:200]}")
+        flips = ("import mmap; file = open('ext4', 'r+b'); data = mmap.mmap(file.fileno(), 0)\n"
+                 "data[data.find(open('room/big', 'rb').read()[8192:12288]) + 5] ^= 1")
+        mount = self.disk("ext4")
+        ended = self.mounting(f'{mount} || exit 99\n"$1" disk/new room/set.par2 room/big; umount disk; "$2" -c "$3"\n'
+                              f'{mount} || exit 99\n"$1" disk/new room/set.par2 room/big', RESCUE, sys.executable, flips)
         self.assertEqual(ended, (1, WHOLE.format(16) + "wrong big 16/16\nslices 16/16, copied now 0\n", ""))
 
     def test_a_rescue_on_tmpfs(self) -> None:
-        self.on("mount -t tmpfs tmpfs disk")
+        self.on(self.disk("tmpfs"))
 
     def test_a_rescue_on_overlayfs(self) -> None:
-        self.on("mkdir below && mount -t tmpfs tmpfs below && mkdir below/lower below/upper below/work && mount -t "
+        self.on("mkdir disk below && mount -t tmpfs tmpfs below && mkdir below/lower below/upper below/work && mount -t "
                 "overlay -o lowerdir=below/lower,upperdir=below/upper,workdir=below/work overlay disk")
 
     def test_a_folder_on_a_lower_layer_is_taken_up_by_its_content(self) -> None:
@@ -92,8 +76,6 @@ class Systems(Calls):
         script = ("mkdir below && mount -t tmpfs tmpfs below && mkdir below/upper below/work && mount -t overlay -o "
                   'lowerdir=disk,upperdir=below/upper,workdir=below/work overlay disk || exit 99; "$1" disk/new '
                   'room/set.par2 part2; echo $?; cmp disk/new/big room/big; "$1" disk/new room/set.par2 part2')
-        ended = self.call("unshare", "--mount", "bash", "-c", script, "bash", RESCUE)
-        if ended[0] == 99:
-            self.skipTest(f"mounting isn't allowed here: {ended[2].strip()[:200]}")
+        ended = self.mounting(script, RESCUE)
         self.assertEqual((ended[0], ended[1]), (0, WHOLE.format(11) + "0\n" + WHOLE.format(0)), ended)
         self.assertEqual(read(os.path.join(self.room.top, "disk/new/big"))[FRONT:], bytes(len(BIG) - FRONT))

@@ -171,14 +171,11 @@ class Statuses(Calls):
     def test_a_temporary_folder_that_is_not_there_or_may_not_grow(self) -> None:
         for words in self.both():
             self.fails(words, 6, "cannot (open|make a temporary folder)", TMPDIR=os.path.join(self.room.top, "none"))
-        if os.getuid() or subprocess.run(["unshare", "--mount", "mount", "-t", "tmpfs", "tmpfs", self.room.temporary],
-                                         stderr=subprocess.DEVNULL).returncode:
-            self.skipTest("mounting isn't allowed here")
-        mounting = 'mount -t tmpfs -o size=4k,nr_inodes=%d tmpfs "$TMPDIR" || exit 99; exec "$@"'
+        script = 'mount -t tmpfs -o size=4k,nr_inodes=%d tmpfs "$TMPDIR" || exit 99; exec "$@"'
         for inodes in 1, 2, 3, 4:
             for words in self.both():
                 said = "No space left" if words[0] == REPAIR or inodes < 4 else ""
-                ended = self.call("unshare", "--mount", "bash", "-c", mounting % inodes, "bash", *words)
+                ended = self.mounting(script % inodes, *words)
                 self.assertIn(ended[0], (6,) if said else (1, 6), (inodes, ended))
                 self.assertIn(said, ended[2])
                 if ended[0] == 6:

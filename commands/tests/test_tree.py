@@ -21,7 +21,7 @@ from typing import Iterator, List, Tuple
 from parv_commands import changes, folders, progress, tree, watch
 from parv_commands.state import HEAD
 
-from .calls import BIN, left_running, slow, take_all_signals, terminal_text
+from .calls import BIN, Calls, left_running, slow, take_all_signals, terminal_text
 from .rooms import FULL, KILLED, PARV, At, Ended, Room, file_id, md5, packet, read, set_of, spent, write
 
 TREE = os.path.join(BIN, "parv-tree")
@@ -33,7 +33,7 @@ def id_of(packets: bytes) -> str:
     return packets[32:48].hex()
 
 
-class TreeTest(unittest.TestCase):
+class TreeTest(Calls):
     """A tree with a set in each of two folders. `one` has three recovery slices."""
 
     def setUp(self) -> None:
@@ -73,10 +73,7 @@ class TreeTest(unittest.TestCase):
         self.assertEqual(os.listdir(self.room.temporary), [])
 
     def program(self, name: str, text: str) -> str:
-        path = os.path.join(self.room.top, name)
-        write(path, f"#!/bin/bash\n{text}\n".encode())
-        os.chmod(path, 0o755)
-        return path
+        return super().program(name, f"#!/bin/bash\n{text}\n")
 
     def lose_recovery(self, left: int = 1) -> None:
         write(self.path(b"a", b"set.par2"), set_of(ONE, 8, left))
@@ -157,12 +154,10 @@ class Lines(TreeTest):
             self.assertEqual(read(log).count(b"+"), 30)     # three for each set: packets, set, verify
 
     def test_fewer_sets_at_once_if_few_files_may_be_open(self) -> None:
-        shell = f"ulimit -n 64; exec {TREE} -j 9999 room"
         for number in range(30):
             shutil.copytree(self.path(b"a"), self.path(b"c%02d" % number))
-        ended = subprocess.run(["bash", "-c", shell], cwd=self.room.top, capture_output=True, timeout=600,
-                               env={**os.environ, "PARV": PARV, "TMPDIR": self.room.temporary})
-        self.assertEqual((ended.returncode, ended.stderr, ended.stdout.count(b"\n")), (0, b"", 32), ended)
+        status, out, said = self.call(shell=f"ulimit -n 64; exec {TREE} -j 9999 room")
+        self.assertEqual((status, out.count("\n"), said), (0, 32, ""), out)
 
     def test_more_names_than_a_command_line_has_room_for(self) -> None:
         names = [b"n" * 200 + b"%06d" % number for number in range(12_000)]
@@ -179,10 +174,9 @@ class Lines(TreeTest):
     def test_more_files_than_may_be_open(self) -> None:
         for number in range(300):
             write(self.path(b"a", b"0%03d" % number), b"%d" % number)
-        ended = subprocess.run(["bash", "-c", f"ulimit -n 200; exec {TREE} room"], cwd=self.room.top, timeout=600,
-                               env={**os.environ, "PARV": PARV, "TMPDIR": self.room.temporary}, capture_output=True)
-        self.assertEqual((ended.returncode, ended.stdout.decode()), (0, self.line_one() + self.line_two()))
-        self.assertEqual(ended.stderr, b"parv-tree: a/set: 135 of 302 files aren't looked at: parv takes 167 here\n")
+        ended = self.call(shell=f"ulimit -n 200; exec {TREE} room")
+        self.assertEqual(ended, (0, self.line_one() + self.line_two(),
+                                 "parv-tree: a/set: 135 of 302 files aren't looked at: parv takes 167 here\n"))
 
     def test_a_hundred_ways_to_thousands_of_names_are_looked_at_once(self) -> None:
         deep = b"/".join([b"d"] * 300)
@@ -397,12 +391,10 @@ class States(TreeTest):
         self.lose_recovery()
         before = read(self.state)
         for shell in 'exec "$@" > /dev/full', 'exec "$@" >&-', 'exec "$@" | true; exit ${PIPESTATUS[0]}':
-            given = {**os.environ, "PARV": PARV, "TMPDIR": self.room.temporary}
-            ended = subprocess.run(["bash", "-c", shell, "bash", TREE, *self.words, "room"], cwd=self.room.top,
-                                   env=given, capture_output=True)
+            status, _, said = self.call(TREE, *self.words, "room", shell=shell)
             if "true" not in shell:     # (that run may have replaced it, or not)
-                self.assertEqual((ended.returncode, read(self.state)), (6, before), ended)
-                self.assertIn(b"cannot write standard output", ended.stderr)
+                self.assertEqual((status, read(self.state)), (6, before), said)
+                self.assertIn("cannot write standard output", said)
         write(self.state, before)
         self.gives(self.words, 5, self.fewer())
 
@@ -505,11 +497,9 @@ class Statuses(TreeTest):
     """Whatever fails, the status is 0 only if each set is complete."""
 
     def call(self, *words: str, shell: str = 'exec "$@"', **environment: str) -> Tuple[int, str, str]:
-        given = {**os.environ, "PARV": PARV, "TMPDIR": self.room.temporary, **environment}
-        ended = subprocess.run(["/bin/bash", "-c", shell, "bash", *words], cwd=self.room.top, env=given,
-                               capture_output=True, timeout=600, stdin=subprocess.DEVNULL)
+        ended = super().call(*words, shell=shell, **environment)
         self.assertEqual(os.listdir(self.room.temporary), [])
-        return ended.returncode, ended.stdout.decode(), ended.stderr.decode()
+        return ended
 
     def test_a_program_that_is_not_parv(self) -> None:
         os.remove(self.path(b"a", b"second.txt"))
@@ -522,10 +512,10 @@ class Statuses(TreeTest):
             self.program(f"odd{number}", text) for number, text in enumerate(texts))]
         for program in programs:
             for words in ["-q"], ["-j2"]:
-                status, out, said = self.call(TREE, *words, "room", PARV=program)
-                self.assertEqual((status, [line[0] for line in out.splitlines()]), (6, ["6", "6"]), (program, out))
-                self.assertRegex(said, "^parv-tree: a/set: .*(PARV|isn't parv|ended by signal|has ended)")
-                self.assertNotIn("Traceback", said)
+                ended = self.run_tree(*words, PARV=program)
+                self.assertEqual((ended.status, [line[0] for line in ended.out.splitlines()]), (6, ["6", "6"]), ended)
+                self.assertRegex(ended.said, "^parv-tree: a/set: .*(PARV|isn't parv|ended by signal|has ended)")
+                self.assertNotIn("Traceback", ended.said)
 
     def test_a_list_of_packets_with_more_behind_it(self) -> None:
         os.remove(self.path(b"a", b"second.txt"))
@@ -547,16 +537,12 @@ class Statuses(TreeTest):
     def test_a_temporary_folder_that_is_not_there_or_may_not_grow(self) -> None:
         os.remove(self.path(b"a", b"second.txt"))
         self.assertEqual(self.call(TREE, "-q", "room", TMPDIR=os.path.join(self.room.top, "none"))[:2], (6, ""))
-        if os.getuid() or subprocess.run(["unshare", "--mount", "mount", "-t", "tmpfs", "tmpfs", self.room.temporary],
-                                         stderr=subprocess.DEVNULL).returncode:
-            self.skipTest("mounting isn't allowed here")
-        mounting = ('mount -t tmpfs -o size=4k,nr_inodes=%d tmpfs "$TMPDIR" || exit 99; '
-                    'head -c 9999 /dev/zero 2> /dev/null > "$TMPDIR/full"; exec "$@"')
+        script = ('mount -t tmpfs -o size=4k,nr_inodes=%d tmpfs "$TMPDIR" || exit 99; '
+                  'head -c 9999 /dev/zero 2> /dev/null > "$TMPDIR/full"; exec "$@"')
         told = 0
         for inodes in range(1, 9):
             for sides in "1", "3":
-                status, out, said = self.call("unshare", "--mount", "bash", "-c", mounting % inodes, "bash", TREE,
-                                              "-q", "-j", sides, "room")
+                status, out, said = self.mounting(script % inodes, TREE, "-q", "-j", sides, "room")
                 self.assertIn(status, (1, 6), (inodes, said))
                 if status == 1:
                     told += 1
