@@ -133,25 +133,10 @@ class Maps(Calls):
             self.assertEqual(os.listdir(self.room.temporary), [])
             self.assertFalse(os.path.exists(os.path.join(self.room.top, "page")))
 
-    def test_closed_and_full_outputs(self) -> None:
-        for shell, why in ('exec "$@" > /dev/full', "No space left on device"), ('exec "$@" >&-', "it is closed"):
-            for words in WORDS, BOTH, ["-h"]:
-                status, _, said = self.call(MAP, *words, shell=shell)
-                self.assertEqual((status, said), (6, f"parv-map: cannot write standard output: {why}\n"))
+    def test_no_page_is_made_if_the_output_cannot_be_written(self) -> None:
+        for shell in 'exec "$@" > /dev/full', 'exec "$@" >&-':
+            self.assertEqual(self.call(MAP, *BOTH, shell=shell)[0], 6)
             self.assertFalse(os.path.exists(os.path.join(self.room.top, "page")))
-        self.assertEqual(self.call(MAP, *WORDS, shell='exec "$@" 2>&-')[0], 0)
-
-    def test_no_folder_for_temporary_files(self) -> None:
-        none = os.path.join(self.room.top, "none")
-        self.assertEqual(self.call(MAP, *WORDS, TMPDIR=none),
-                         (6, "", f"parv-map: cannot open {none}: No such file or directory\n"))
-
-    def test_more_files_than_may_be_open_at_first(self) -> None:
-        for number in range(1100):
-            self.room.put(f"f{number}", b"")
-        ended = self.call(shell=f'ulimit -Sn 1024; exec {MAP} -B room room/*')
-        self.assertEqual((ended[0], ended[2]), (0, ""), ended)
-        self.assertIn("6 in place; need 0 have 20\n", ended[1])
 
     def test_more_files_than_may_be_open_at_all(self) -> None:
         self.room.rename("second", "stray")

@@ -186,21 +186,6 @@ class Parts(Calls):
         os.remove(self.path("1"))
         self.is_whole(self.run_it(goes_on=True), "it was removed")
 
-    def test_closed_and_full_outputs(self) -> None:
-        for shell, why in ('exec "$@" > /dev/full', "No space left"), ('exec "$@" >&-', "it is closed"):
-            status, _, said = self.call(PARTS, "parts", LIMIT, *WORDS, shell=shell)
-            self.assertEqual(status, 6, said)
-            self.assertIn("cannot write standard output: " + why, said)
-        self.assertEqual(self.call(PARTS, "parts", LIMIT, *WORDS, shell='exec "$@" 2>&-')[:2], (0, self.lines))
-
-    def test_more_files_than_may_be_open_at_first(self) -> None:
-        names = []
-        for number in range(1100):
-            names.append(f"f{number}")
-            write(os.path.join(self.room.top, names[-1]), b"")
-        ended = self.call(shell=f'ulimit -Sn 1024; exec {PARTS} parts 9 {" ".join(WORDS)} f*')
-        self.assertEqual(ended[:2], (0, self.lines), ended[2])
-
     def test_signals_end_parv_too_and_the_next_run_goes_on(self) -> None:
         for number in signal.SIGTERM, signal.SIGHUP, signal.SIGINT:
             for all_of_them in False, True:

@@ -46,15 +46,7 @@ class Progress(Calls):
         self.assertEqual(self.call(PROGRESS, *words, PARV=shows),
                          (0, "[verify][][a b][-h][--help][--][--tails][*][\udcff\n]", ""))
 
-    def test_more_files_than_may_be_open_at_first(self) -> None:
-        for number in range(1100):
-            self.room.put(f"f{number}", b"")
-        ended = self.call(shell=f'ulimit -Sn 1024; exec {PROGRESS} verify -q -B room room/*')
-        self.assertEqual(ended, (0, "need 0 have 20\nresult complete\n", ""))
-
-    def test_programs_that_cannot_be_run(self) -> None:
-        self.assertEqual(self.call(PROGRESS, *WORDS, PARV="./none"),
-                         (6, "", "parv-progress: cannot run ./none: put parv in PATH, or name it by PARV\n"))
+    def test_a_file_that_is_no_program(self) -> None:
         empty = self.program("empty", "no program")
         self.assertEqual(self.call(PROGRESS, *WORDS, PARV=empty),
                          (6, "", f"parv-progress: cannot run {empty}: Exec format error\n"))

@@ -209,14 +209,6 @@ class Statuses(Calls):
         self.assertEqual(self.call(REPAIR, "--dry-run", "--", "-room")[0], 1)
         self.assertEqual(self.call(REPAIR, "-room", "--dry-run")[0], 3)
 
-    def test_more_files_than_may_be_open_at_first(self) -> None:
-        for number in range(1100):
-            self.room.put(f"f{number}", b"")
-        ended = self.call(REPAIR, "--dry-run", "room", shell='ulimit -Sn 1024; exec "$@"')
-        self.assertEqual((ended[0], ended[2]), (1, ""), ended)
-        ended = self.call(shell=f'ulimit -Sn 1024; exec {RESCUE} new room/*')
-        self.assertEqual(ended[0], 1, ended)
-
     def test_more_files_than_may_be_open_at_all(self) -> None:
         for number in range(300):
             self.room.put(f"f{number}", b"%d" % number)

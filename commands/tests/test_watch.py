@@ -41,11 +41,11 @@ class Watch(Calls):
                                   ["--other", "room"], ["room", "--set", "1"], *(["room", word] for word in odd),
                                   *(["room", "1", word] for word in odd)]
         for words in wrong:
-            status, out, said = self.call("timeout", "600", WATCH, *words)
-            self.assertEqual((status, out), (3, ""), (words, said))
-            self.assertRegex(said, r"\Aparv-watch: .*\nparv-watch: usage: parv-watch [^\n]*\n\Z")
+            ended = self.room.run(watch.main, words)
+            self.assertEqual((ended.status, ended.out), (3, ""), (words, ended))
+            self.assertRegex(ended.said, r"\Aparv-watch: .*\nparv-watch: usage: parv-watch [^\n]*\n\Z")
         for words in ["0", "1"], ["0.01", "1"], [".5", "1"], ["1.", "1"], ["999999999.999999999", "1"], ["0", "1" * 18]:
-            self.assertEqual(self.call(WATCH, "room", *words), (0, "complete\n", ""), words)
+            self.assertEqual(self.room.run(watch.main, ["room", *words])[:3], (0, "complete\n", ""), words)
 
     def test_a_folder_is_taken_as_it_is_named(self) -> None:
         for name in "-", "second folder", "--", "-q":
@@ -172,8 +172,6 @@ class Watch(Calls):
             program = self.program(name, f"#!/bin/bash\n{text}\n")
             status, out, said = self.call("timeout", "600", WATCH, "room", "0", PARV=program)
             self.assertEqual((status, out, said.count("\n")), (8 if name == "memory" else 6, "", 1), (name, said))
-        self.assertEqual(self.call(WATCH, "room", "0", PARV="none"),
-                         (6, "", "parv-watch: cannot run none: put parv in PATH, or name it by PARV\n"))
 
     def test_what_parv_says_ends_nothing(self) -> None:
         once = os.path.join(self.room.top, "once")
@@ -194,11 +192,6 @@ class Watch(Calls):
         ended = subprocess.run(f'PARV="{PARV}" {WATCH} room 0.01 | head -n 1; echo "${{PIPESTATUS[0]}}"', shell=True,
                                executable="/bin/bash", cwd=self.room.top, capture_output=True, timeout=600)
         self.assertEqual(ended.stdout, b"a repair can be tried: need 0 have 20\n6\n")
-
-    def test_no_folder_for_temporary_files(self) -> None:
-        none = os.path.join(self.room.top, "none")
-        self.assertEqual(self.call(WATCH, "room", *ONCE, TMPDIR=none),
-                         (6, f"nothing to tell yet: cannot open {none}: No such file or directory\n", ""))
 
     def test_no_program_of_the_folder_is_run(self) -> None:
         os.mkdir(os.path.join(self.room.top, "out"))

@@ -14,13 +14,6 @@ demo=$top/demo
 photos=589c76e09f0580b9203c5b64963b8957
 
 usage='usage: parv-tree [-j N] [-q] [--tails] [--json] [--state FILE] FOLDER'
-# The help has each option and each exit status at the beginning of a line.
-help=$("$script" -h)
-[ "${help%%$'\n'*}" = "$usage" ] || fails "its help begins with ${help%%$'\n'*}"
-for word in -j -q --tails --json --state 0 1 2 3 4 5 6 8; do
-    grep -q -- "^  $word  *[a-zF]\|^  $word N  *[a-z]" <<< "$help" || fails "its help has no $word"
-done
-for word in -h --help; do wants "its help by $word" 0 "$help" "" "$script" $word; done
 while IFS='|' read -r words why; do
     # shellcheck disable=SC2086 # (these are words)
     wants "wrong words: $words" 3 "" "parv-tree: $why
@@ -210,15 +203,6 @@ for status in 1 6 8 137; do
     case $status in 1 | 137) told=6 line="$work/fails packets has ended with status $status, and isn't parv" ;; esac
     PARV=$work/fails wants "a packet file at which parv ends with $status" $told "0 $photos need 0 have 0 set/photos" \
         "parv-tree: set/photos.vol0+1.par2: $line" "$script" once
-done
-# If there is no parv, that is reported once, before everything else.
-mkdir path
-ln -s "$(python3 -c 'import sys; print(sys.executable)')" path/python3
-for folder in tree none; do
-    wants "no parv, and the folder $folder" 6 "" "parv-tree: cannot run ./none: put parv in PATH, or name it by PARV" \
-        env PARV=./none "$script" $folder
-    wants "no parv in PATH, and the folder $folder" 6 "" \
-        "parv-tree: cannot run parv: put parv in PATH, or name it by PARV" env -u PARV PATH="$work/path" "$script" $folder
 done
 # Files and folders that a user who isn't root may not read.
 user=()

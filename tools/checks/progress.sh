@@ -10,21 +10,11 @@ script=$top/commands/bin/parv-progress
 demo=$top/demo
 
 usage='usage: parv-progress find|verify [options] FILES'
-help=$("$script" -h)
-[ "${help%%$'\n'*}" = "$usage" ] || fails "its help begins with ${help%%$'\n'*}"
-for word in 3 6; do grep -q "^  $word  [a-z]" <<< "$help" || fails "its help has no $word"; done
-for word in -h --help; do wants "its help by $word" 0 "$help" "" "$script" $word; done
 for words in '' 'set' 'packets demo.par2' '-q verify'; do
     # shellcheck disable=SC2086 # (these are words)
     wants "wrong words: $words" 3 "" "parv-progress: the first word is find or verify
 parv-progress: $usage" "$script" $words
 done
-mkdir path
-ln -s "$(python3 -c 'import sys; print(sys.executable)')" path/python3
-wants "no parv" 6 "" "parv-progress: cannot run ./none: put parv in PATH, or name it by PARV" \
-    env PARV=./none "$script" verify x.par2
-wants "no parv in PATH" 6 "" "parv-progress: cannot run parv: put parv in PATH, or name it by PARV" \
-    env -u PARV PATH="$work/path" "$script" verify x.par2
 
 # Without a terminal it prints what parv prints, byte by byte.
 cp "$demo"/* .

@@ -28,14 +28,6 @@ usage='usage: parv-repair [--dry-run] [--remove-backups] [--set ID] FOLDER'
 say='parv-repair: room:'
 named="$say the name"
 refused_names="$say the set is refused for its names"
-# Its help has its promise, and has each option and each exit status at the beginning of a line.
-help=$("$script" -h)
-[ "${help%%$'\n'*}" = "$usage" ] || fails "its help begins with ${help%%$'\n'*}"
-grep -q "No bytes that were in the folder are$" <<< "$help" || fails "its help has no promise"
-for word in --dry-run --remove-backups '--set ID' 0 1 2 3 4 5 6 8; do
-    grep -q -- "^  $word  *[a-z]" <<< "$help" || fails "its help has no $word"
-done
-for word in -h --help; do wants "its help by $word" 0 "$help" "" "$script" $word; done
 wants "no word" 3 "" "parv-repair: there is no FOLDER
 parv-repair: $usage" "$script"
 wants "an option that there isn't" 3 "" "parv-repair: unrecognized arguments: --wrong
@@ -47,16 +39,7 @@ parv-repair: $usage" "$script" room room
 wants "an ID that is left out" 3 "" "parv-repair: argument --set: expected one argument
 parv-repair: $usage" "$script" --set
 wants "a folder that isn't there" 6 "" "parv-repair: cannot open none\\x0a: No such file or directory" "$script" $'none\n'
-mkdir room path
-ln -s "$(python3 -c 'import sys; print(sys.executable)')" path/python3
-# If there is no parv, that is said once, before everything else.
-for folder in room none; do
-    wants "no parv, and the folder $folder" 6 "" \
-        "parv-repair: cannot run ./none: put parv in PATH, or name it by PARV" env PARV=./none "$script" $folder
-    wants "no parv in PATH, and the folder $folder" 6 "" \
-        "parv-repair: cannot run parv: put parv in PATH, or name it by PARV" \
-        env -u PARV PATH="$work/path" "$script" $folder
-done
+mkdir room
 ends "a folder without packet files" 3 "" "$say no packet file"
 printf 'damaged' > room/a.par2
 ends "a packet file without a packet" 4 "" "$say no usable set: no main"

@@ -229,10 +229,6 @@ mkfifo fifo.img fifo.par2
 for name in fifo.img fifo.par2 names; do
     wants "what is no regular file: $name" 6 "" "$me: cannot open $name: no regular file" "$extract" new names.par2 $name
 done
-for name in ./none parv-that-is-not-there; do
-    wants "no program: $name" 6 "" "$me: cannot run $name: put parv in PATH, or name it by PARV" \
-        env PARV=$name "$extract" new names.par2
-done
 [ ! -e new ] || fails "a folder was made for nothing"
 # A name that isn't UTF-8, which parv accepts only through a link.
 odd=$'\xff\n.img'
@@ -243,17 +239,4 @@ missing beach.raw 0/20
 complete notes.txt
 missing tower.raw 0/5
 slices 1/38, copied now 1" "$me: short slices missing: 2; --tails might find more" "$extract" odd $'\xff.par2' "$odd"
-for how in full closed; do
-    command='"$@" > /dev/full' why='No space left on device'
-    [ $how = full ] || { command='"$@" >&-'; why='it is closed'; }
-    wants "a $how standard output" 6 "" "$me: cannot write standard output: $why" \
-        bash -c "$command" - "$extract" $how "$top/demo/photos.par2" "$top/demo/notes.txt"
-done
-# The help begins with the usage, and has each option, each exit status, and an example with an image.
-help=$("$extract" -h)
-[ "${help%%$'\n'*}" = "${usage#"$me: "}" ] || fails "its help begins with ${help%%$'\n'*}"
-for word in --tails --set 0 1 3 4 6 8 'parv-rescue saved'; do
-    grep -q -- "^  $word " <<< "$help" || fails "its help has no $word"
-done
-for word in -h --help; do wants "its help by $word" 0 "$help" "" "$extract" $word; done
 exit $failed

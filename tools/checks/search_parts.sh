@@ -259,13 +259,6 @@ for program in true echo false; do
         fails "in place of parv: $program: status $status, $(find "no$program" | wc -l) files, $(cat told)"
     fi
 done
-"${search[@]}" full 5 "${words[@]}" > /dev/full 2> told
-status=$?
-if [ $status -eq 6 ]; then
-    echo "ok: a full device"
-else
-    fails "a full device: status $status, $(cat told)"
-fi
 limited 0 "${search[@]}" none 5 "${words[@]}" > found 2> told
 status=$?
 if [ $status -eq 6 ] && [ ! -s found ]; then

@@ -276,23 +276,9 @@ wants "no packet file" 3 "" "$me: no packet file" "$map" beach.raw
 wants "no set" 4 "" "$me: no usable set: no main" "$map" --set 00000000000000000000000000000000 photos.par2
 wants "a file that isn't there" 6 "" "$me: cannot open none.raw: No such file or directory" "$map" photos.par2 none.raw
 wants "a FIFO" 6 "" "$me: cannot open fifo: no regular file" "$map" photos.par2 fifo
-wants "a full device" 6 "" "$me: cannot write standard output: No space left on device" \
-    bash -c '"$@" > /dev/full' - "$map" photos.par2
 cp photos.par2 ./-photos.par2
 cp "$demo/notes.txt" ./-notes
 "$map" photos.par2 ./-notes > text
 gives "names that begin with a dash, after --" 0 text "" "$map" -- -photos.par2 -notes
 gives "an option between names" 0 text "" "$map" photos.par2 --width 80 -- -notes
-# If there is no parv, that is said before everything else.
-for name in ./none parv-that-is-not-there; do
-    wants "no program: $name" 6 "" "$me: cannot run $name: put parv in PATH, or name it by PARV" \
-        env PARV=$name "$map" --svg drawing.svg photos.par2 none.raw
-done
-# The help begins with the usage, and has each option and each exit status.
-help=$("$map" -h)
-[ "${help%%$'\n'*}" = "${usage#"$me: "}" ] || fails "its help begins with ${help%%$'\n'*}"
-for word in --tails --set -B --width --html --svg 0 3 4 6 8; do
-    grep -q -- "^  ${word}[ ,]" <<< "$help" || fails "its help has no $word"
-done
-for word in -h --help; do wants "its help by $word" 0 "$help" "" "$map" $word; done
 exit $failed

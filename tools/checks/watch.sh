@@ -49,12 +49,4 @@ cp "$demo/photos.par2" "$demo/harbour.raw" joined
 cat "$demo/notes.txt" "$demo/tower.raw" "$demo/beach.raw" "$demo/harbour.raw" > 'joined/disc image'
 wants "a folder with files that are joined" 2 "not enough for a repair: need 3 have 0" "" "${watch[@]}" joined 0 1
 wants "the same with --tails" 1 "a repair can be tried: need 0 have 0" "" "${watch[@]}" --tails joined 0 1
-
-# The help begins with the usage, and has each option and each exit status.
-help=$("${watch[@]}" -h)
-[ "${help%%$'\n'*}" = "usage: parv-watch [--tails] FOLDER [SECONDS [CHECKS]]" ] || fails "its help begins with ${help%%$'\n'*}"
-for word in --tails SECONDS CHECKS 0 1 2 3 4 6 8; do
-    grep -q -- "^  $word " <<< "$help" || fails "its help has no $word"
-done
-for word in -h --help; do wants "its help by $word" 0 "$help" "" "${watch[@]}" $word; done
 exit $failed
