@@ -2,6 +2,8 @@
 
 from __future__ import annotations
 
+import ast
+import contextlib
 import errno
 import hashlib
 import os
@@ -12,8 +14,9 @@ import stat
 import struct
 import sys
 import tempfile
+import unittest.mock
 import zlib
-from typing import Callable, Dict, List, NamedTuple, Optional, Sequence, Set, Tuple
+from typing import Any, Callable, Dict, Iterator, List, NamedTuple, Optional, Sequence, Set, Tuple
 
 from parv_commands import changes
 
@@ -248,6 +251,29 @@ def _be_child(main: Callable[[], int], words: Sequence[str], paths: Sequence[str
         traceback.print_exc()
     finally:
         os._exit(status)
+
+
+@contextlib.contextmanager
+def logged(room: Room, *names: str) -> Iterator[List[Tuple[str, str, bytes]]]:
+    """Records the calls of these functions of `changes` that a run makes. At the end the list has, for each, the name,
+    the path of the file or folder that it gets, from the top of the room, and the bytes that it gets."""
+    log = os.path.join(room.top, "log")
+
+    def wrapped(name: str) -> Callable[..., Any]:
+        real = getattr(changes, name)
+
+        def call(*given: Any) -> Any:
+            path = os.readlink(f"/proc/self/fd/{given[0]}") if isinstance(given[0], int) else room.top
+            with open(log, "a", encoding="ascii") as out:
+                rest = b"".join(each for each in given[1:] if isinstance(each, bytes))
+                out.write(ascii((name, os.path.relpath(path, room.top), rest)) + "\n")
+            return real(*given)
+        return call
+    found: List[Tuple[str, str, bytes]] = []
+    instead: Dict[str, Any] = {name: wrapped(name) for name in names}
+    with unittest.mock.patch.multiple(changes, **instead):
+        yield found
+    found += map(ast.literal_eval, read(log).decode().splitlines())
 
 
 class At:

@@ -7,13 +7,12 @@ import os
 import shutil
 import signal
 import subprocess
-import unittest.mock
-from typing import Any, Callable, Dict, List, Optional
+from typing import Callable, List, Optional
 
 from parv_commands import changes, parts
 
 from .calls import BIN, Calls
-from .rooms import FULL, KILLED, MAKING, PARV, SECONDS, At, Ended, From, Room, read, write
+from .rooms import FULL, KILLED, MAKING, PARV, SECONDS, At, Ended, From, Room, logged, read, write
 
 PARTS = os.path.join(BIN, "parv-parts")
 FILES = {"first": b"first of all files and more", "second": b"the second file"}
@@ -60,19 +59,9 @@ class Parts(Calls):
             self.is_whole(self.run_it(goes_on=True), number)
 
     def test_a_part_is_on_the_disk_before_it_has_its_name(self) -> None:
-        log: List[str] = []
-        real: Dict[str, Callable[..., Any]] = {"write": changes.write, "sync": changes.sync, "move": changes.move}
-        path = os.path.join(self.room.top, "log")
-
-        def logged(name: str) -> Callable[..., Any]:
-            def call(*given: Any) -> None:
-                with open(path, "a", encoding="ascii") as file:
-                    file.write(name + " " + (os.readlink(f"/proc/self/fd/{given[0]}").rsplit("/", 1)[1]) + "\n")
-                real[name](*given)
-            return call
-        with unittest.mock.patch.multiple(changes, write=logged("write"), sync=logged("sync"), move=logged("move")):
+        with logged(self.room, "write", "sync", "move") as calls:
             self.is_whole(self.run_it(), "")
-        log = read(path).decode().splitlines()
+        log = [f"{name} {os.path.basename(path)}" for name, path, _ in calls]
         self.assertGreater(log.count("move parts"), 2)
         for number, line in enumerate(log):
             if line == "move parts":

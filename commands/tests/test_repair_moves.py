@@ -11,7 +11,7 @@ import stat
 import struct
 import unittest
 import unittest.mock
-from typing import Any, Callable, Dict, List
+from typing import Callable, Dict, List
 
 from parv_commands import changes, journal, repair
 from parv_commands.faults import Refused
@@ -19,7 +19,7 @@ from parv_commands.folders import Folder, Identity
 from parv_commands.journal import Made, Move, Step
 from parv_commands.stage import Stage
 
-from .rooms import FULL, KILLED, SECRET, STAGE, At, Ended, Listing, Room, ends_by, read, spent, write
+from .rooms import FULL, KILLED, SECRET, STAGE, At, Ended, Listing, Room, ends_by, logged, read, spent, write
 
 
 class Without:
@@ -395,24 +395,13 @@ class Moves(unittest.TestCase):
         first = calls[:calls.index("rename")].count("mkdir") + 1    # the first folder after the journal
         away()
         self.assertEqual(room.run(repair.main, ["room"], At(first, "before", KILLED, ["mkdir"])).status, 137)
-        log = os.path.join(room.top, "log")
-        real = {name: getattr(changes, name) for name in ("sync_folder", "make_folder", "remove_file")}
-
-        def logged(name: str) -> Callable[..., None]:
-            def call(place: int, *rest: Any) -> None:
-                with open(log, "a", encoding="utf-8") as out:
-                    path = os.path.relpath(os.readlink(f"/proc/self/fd/{place}"), room.folder)
-                    out.write(" ".join([name, path, *map(os.fsdecode, rest[:1])]) + "\n")
-                real[name](place, *rest)
-            return call
-        with unittest.mock.patch.multiple(changes, sync_folder=logged("sync_folder"), make_folder=logged("make_folder"),
-                                          remove_file=logged("remove_file")):
+        with logged(room, "sync_folder", "make_folder", "remove_file") as called:
             ended = room.run(repair.main, ["room"])
         self.assertEqual((ended.status, room.lacks()), (0, []), ended)
-        lines = read(log).decode().splitlines()
-        made, gone = lines.index("make_folder in/a folder"), lines.index(f"remove_file {STAGE} journal")
-        for name in ".", "in", "in/a", "in/a/folder":
-            self.assertIn(f"sync_folder {name}", lines[made:gone])
+        made = called.index(("make_folder", "room/in/a", b"folder"))
+        gone = called.index(("remove_file", f"room/{STAGE}", b"journal"))
+        for name in "room", "room/in", "room/in/a", "room/in/a/folder":
+            self.assertIn(("sync_folder", name, b""), called[made:gone])
 
     def test_an_undone_run_gives_a_file_its_name_back_that_got_another_number(self) -> None:
         self.turn()

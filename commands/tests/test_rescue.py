@@ -7,11 +7,11 @@ import shutil
 import signal
 import unittest
 import unittest.mock
-from typing import Any, Callable, Dict, List, Optional, Set
+from typing import List, Optional, Set
 
 from parv_commands import changes, rescue, search, writer
 
-from .rooms import FULL, KILLED, MAKING, At, Ended, From, Room, ends_by, read, set_of, write
+from .rooms import FULL, KILLED, MAKING, At, Ended, From, Room, ends_by, logged, read, set_of, write
 
 FILES = {"long": b"one slice and another one, and a short one", "in/a/folder": b"deep down below", "empty": b"",
          "short": b"few"}
@@ -208,23 +208,12 @@ class Rescue(unittest.TestCase):
         self.assertIn(refused.format("short: what is in its place isn't what was left there"), ended.said)
 
     def test_slices_are_on_the_disk_before_the_record_has_them(self) -> None:
-        log = os.path.join(self.room.top, "log")
-        real: Dict[str, Callable[..., None]] = {"sync": changes.sync, "write_at": changes.write_at}
-
-        def logged(name: str) -> Callable[..., None]:
-            def call(opened: int, *rest: Any) -> None:
-                is_noted = any(b"slices " in data for data in rest if isinstance(data, bytes))
-                with open(log, "a", encoding="utf-8") as out:
-                    out.write(f"{'note' if is_noted else name} {os.readlink(f'/proc/self/fd/{opened}')}\n")
-                real[name](opened, *rest)
-            return call
-        with unittest.mock.patch.multiple(changes, sync=logged("sync"), write_at=logged("write_at")):
+        with logged(self.room, "sync", "write_at") as called:
             self.is_whole(self.run_it(), "")
         written: Set[str] = set()
         notes = 0
-        for line in read(log).decode().splitlines():
-            name, path = line.split(" ")
-            if name == "note":
+        for name, path, data in called:
+            if b"slices " in data:
                 notes += 1
                 self.assertEqual(written, set())
             elif name == "sync":

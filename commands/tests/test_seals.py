@@ -19,7 +19,7 @@ from parv_commands.faults import FILES, Fault
 from parv_commands.folders import Folder
 from parv_commands.seals import Chain, Seal
 
-from .rooms import FULL, KILLED, SECONDS, At, Ended, Room, read, write
+from .rooms import FULL, KILLED, SECONDS, At, Ended, Room, logged, read, write
 
 
 def sealing() -> int:
@@ -125,21 +125,10 @@ class Secrets(unittest.TestCase):
         self.assertNotEqual(self.run_it().out, ended.out)
 
     def test_it_is_on_the_disk_before_it_has_its_name(self) -> None:
-        log = os.path.join(self.room.top, "log")
-        real = {name: getattr(changes, name) for name in ("sync", "move", "make_path")}
-
-        def logged(name: str) -> Callable[..., None]:
-            def call(*given: object) -> None:
-                with open(log, "a", encoding="utf-8") as out:
-                    path = os.readlink(f"/proc/self/fd/{given[0]}") if isinstance(given[0], int) else ""
-                    out.write(f"{name} {os.path.relpath(path, self.room.top) if path else ''}\n")
-                real[name](*given)
-            return call
-        with unittest.mock.patch.multiple(changes, sync=logged("sync"), move=logged("move"),
-                                          make_path=logged("make_path")):
+        with logged(self.room, "sync", "move", "make_path") as called:
             self.assertEqual(self.run_it().status, 0)
-        lines = read(log).decode().splitlines()
-        self.assertEqual(lines[:3], ["make_path ", "make_path ", "sync secrets"])
+        lines = [f"{name} {path}" for name, path, _ in called]
+        self.assertEqual(lines[:3], ["make_path .", "make_path .", "sync secrets"])
         self.assertEqual(lines[-4:], ["sync secrets/parv/secret.new", "move secrets/parv", "sync secrets/parv/secret",
                                       "sync secrets/parv"])
 
