@@ -46,12 +46,12 @@ def take_all_signals() -> None:
         signal.signal(number, signal.SIG_DFL)
 
 
-def slow(top: str, text: str) -> str:
+def slow(top: str, text: str, first: str = "") -> str:
     """Returns a program in the folder, a text for bash, that waits until progress is shown, for which terminal_text makes
-    a file. It waits for ten minutes at least if none is."""
+    a file. It waits for ten minutes at least if none is. Before, it does what is to be done first."""
     path = os.path.join(top, "slow")
     waits = f"for _ in {{1..30000}}; do [ ! -e {top}/shown ] || break; sleep 0.02; done"
-    write(path, f"#!/bin/bash\nrm -f {top}/shown\n{waits}\n{text}\n".encode())
+    write(path, f"#!/bin/bash\n{first}\nrm -f {top}/shown\n{waits}\n{text}\n".encode())
     os.chmod(path, 0o755)
     return path
 

@@ -40,6 +40,13 @@ class Progress(Calls):
                 self.same(WORDS, shell, program)
         self.same(["find", "room/set.par2", "/dev/stdin"], 'exec "$@" < room/first')
 
+    def test_other_words_are_refused(self) -> None:
+        wrong: List[List[str]] = [[], ["set"], ["packets", "room/set.par2"], ["-q", "verify"]]
+        for words in wrong:
+            self.assertEqual(self.call(PROGRESS, *words), (3, "", "parv-progress: the first word is find or verify\n"
+                                                                  "parv-progress: usage: parv-progress find|verify "
+                                                                  "[options] FILES\n"))
+
     def test_words_come_through(self) -> None:
         shows = self.program("shows", '#!/bin/bash\nprintf "[%s]" "$@"\n')
         words = ["verify", "", "a b", "-h", "--help", "--", "--tails", "*", "\udcff\n"]
@@ -100,15 +107,16 @@ class Progress(Calls):
         wanted = subprocess.run([PARV, "find", "room/set.par2", "room/first"], cwd=self.room.top, capture_output=True)
         self.assertEqual(self.on_terminal(["find", "room/set.par2", "room/first"], PARV), (0, wanted.stdout))
 
-    def test_what_is_read_at_most(self) -> None:
+    def test_what_was_read_of_how_much_at_most(self) -> None:
         self.room.put("packets.PAR2", bytes(1 << 20))
-        self.room.put("scanned", bytes(10 << 20))
-        program = slow(self.room.top, "")
+        self.room.put("scanned", b"a" * (10 << 20))
         words = ["room/packets.PAR2", "room/scanned", "none", "room"]
         for given, most, out in ((["verify"], 23, True), (["verify", "--tails"], 33, True),
                                  (["verify", "--"], 23, True), (["find"], 13, False), (["find", "--tails"], 13, False)):
+            reads = given == ["verify"]
+            program = slow(self.room.top, "", "read -rN 3000000 _ < room/scanned" if reads else "")
             came = self.on_terminal([*given, *words], program, out)[1]
-            self.assertIn(b"0 MiB of at most %d MiB, " % most, came, given)
+            self.assertIn(b"%d MiB of at most %d MiB, " % (2 * reads, most), came, given)
 
     def test_signals_end_parv_too_on_a_terminal(self) -> None:
         wait = self.program("waits", f"#!/bin/bash\necho $PPID $$ > {self.room.top}/began\nexec sleep 900\n")
