@@ -205,9 +205,7 @@ for status in 1 6 8 137; do
         "parv-tree: set/photos.vol0+1.par2: $line" "$script" once
 done
 # Files and folders that a user who isn't root may not read.
-user=()
-[ "$(id -u)" -ne 0 ] || user=(setpriv --reuid 65534 --regid 65534 --clear-groups)
-chmod 711 .
+other_user
 cp "$parv" parv
 cp -r "$top/commands" commands
 rm -r tree

@@ -327,12 +327,10 @@ ends "a set behind another in one packet file" 0 "repair first.txt
 complete" "" --set "$id"
 
 # Files and folders that a user who isn't root can't read or write.
-user=()
-[ "$(id -u)" -ne 0 ] || user=(setpriv --reuid 65534 --regid 65534 --clear-groups)
+other_user
 furnish 4 5 first.txt abcdefgh second.txt ijkl
 mv room/second.txt room/x
 chmod 555 room
-chmod 711 .
 mkdir commands
 cp "$parv" parv
 chmod 755 parv

@@ -111,8 +111,7 @@ else
     fails "no name: status $status, $(cat room/novel/* told)"
 fi
 # (By a user who may not write there.)
-user=()
-[ "$(id -u)" -ne 0 ] || user=(setpriv --reuid 65534 --regid 65534 --clear-groups)
+other_user
 mkdir public
 chmod 711 .
 mkdir public/bin

@@ -30,6 +30,17 @@ comes() {
     done
 }
 
+# other_user: sets `user` to the words that call a command as a user who isn't root, who can reach $work and has a folder
+# for temporary files there.
+other_user() {
+    user=()
+    [ "$(id -u)" -ne 0 ] || user=(setpriv --reuid 65534 --regid 65534 --clear-groups)
+    chmod 711 "$work"
+    mkdir "$work/.tmp"
+    chmod 1777 "$work/.tmp"
+    export TMPDIR=$work/.tmp
+}
+
 # gives NAME STATUS FILE LINE COMMAND..: wants this exit status, the content of FILE on standard output, and LINE on
 # standard error.
 gives() {
