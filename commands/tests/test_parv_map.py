@@ -109,10 +109,14 @@ class Pages(Calls):
                 ended = self.run_it(None, [option, name, *WORDS])
                 self.assertEqual((ended.status, ended.out, ended.said),
                                  (6, "", f"parv-map: cannot write {name}: {why}\n"))
-        for name in "room", ".", "room/first", "/dev/null":
-            ended = self.run_it(None, ["--html", name, *WORDS])
-            self.assertEqual((ended.status, ended.out), (6, ""))
-            self.assertEqual(ended.said, f"parv-map: {name} is there already\n")
+        for name, target in ("link", "room/first"), ("broken", "none"):
+            os.symlink(target, os.path.join(self.room.top, name))
+        for name in "room", ".", "room/first", "/dev/null", "link", "broken":
+            for option in "--html", "--svg":
+                ended = self.run_it(None, [option, name, *WORDS])
+                self.assertEqual((ended.status, ended.out), (6, ""))
+                self.assertEqual(ended.said, f"parv-map: {name} is there already\n")
+        self.assertEqual((self.text("link"), self.new()), (FILES["first"], ["broken", "link"]))
 
 
 class Maps(Calls):

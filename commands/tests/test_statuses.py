@@ -246,6 +246,7 @@ class Statuses(Calls):
             write(self.room.path(f"{number:05}" + "n" * 240), b"")
         ended = self.call(REPAIR, "room")
         self.assertEqual((ended[0], ended[2], self.room.lacks()), (0, "", []), ended)
+        self.assertEqual(self.call(os.path.join(BIN, "parv-watch"), "room", "0", "1"), (0, "complete\n", ""))
 
     def test_relative_programs_and_parts_of_the_path(self) -> None:
         for name in "parv", "par2":

@@ -4,10 +4,8 @@ from __future__ import annotations
 
 import errno
 import os
-import shutil
 import signal
 import subprocess
-import sys
 import time
 import unittest.mock
 from typing import List
@@ -155,11 +153,6 @@ class Watch(Calls):
         self.assertEqual((status, out), (0, "complete\n"))
         self.assertEqual(said, "parv-watch: 936 of 1103 files aren't looked at: parv takes 167 here\n")
 
-    def test_names_that_are_longer_than_a_command_line(self) -> None:
-        for number in range(9500):
-            write(self.room.path(f"{number:05}" + "n" * 240), b"")
-        self.says(0, "complete")
-
     # Other programs, outputs, temporary folders.
 
     def test_a_program_that_is_not_parv_ends_it(self) -> None:
@@ -192,22 +185,6 @@ class Watch(Calls):
         ended = subprocess.run(f'PARV="{PARV}" {WATCH} room 0.01 | head -n 1; echo "${{PIPESTATUS[0]}}"', shell=True,
                                executable="/bin/bash", cwd=self.room.top, capture_output=True, timeout=600)
         self.assertEqual(ended.stdout, b"a repair can be tried: need 0 have 20\n6\n")
-
-    def test_no_program_of_the_folder_is_run(self) -> None:
-        os.mkdir(os.path.join(self.room.top, "out"))
-        shutil.copy(PARV, os.path.join(self.room.top, "out", "parv"))
-        for folder in "room", "room/out":
-            self.program(f"{folder}/parv", f"#!/bin/sh\ntouch {self.room.top}/run\nexit 0\n")
-        self.room.take("first")
-        for name in "out/parv", "./out/parv":
-            self.says(1, "a repair can be tried: need 0 have 20", PARV=name)
-        for path in f":{self.room.top}/out:/usr/bin", "out:/usr/bin", f".:{self.room.top}/out:/usr/bin":
-            given = {**os.environ, "PATH": path, "TMPDIR": self.room.temporary}
-            del given["PARV"]
-            ran = subprocess.run([sys.executable, WATCH, "room", *ONCE], cwd=self.room.top, env=given,
-                                 capture_output=True)
-            self.assertEqual((ran.returncode, ran.stderr), (1, b""), path)
-        self.assertFalse(os.path.exists(os.path.join(self.room.top, "run")))
 
     # Signals.
 

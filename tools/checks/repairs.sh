@@ -1,8 +1,8 @@
 #!/usr/bin/env bash
 # If this fails, a repair may fail, or take too long, for sets like those that were once a problem.
 #
-# These are: two sets that share names, an empty file, names that par2 writes differently, many long names of
-# unprintable bytes, and a subfolder on another file system.
+# These are: two sets that share names, an empty file, names that par2 writes differently, and many long names of
+# unprintable bytes.
 . "$(dirname "$0")/with/wants.sh"
 . "$tools/checks/with/commands.sh"
 . "$tools/checks/with/rooms.sh"
@@ -85,21 +85,4 @@ PYTHONPATH=$tools python3 "$tools/checks/repairs_names.py"
 ends "long names of unprintable bytes" 0 complete bash -c 'ulimit -t 40 && exec "$@"' - "${repair[@]}"
 [ "$(find room -type f -empty | wc -l)" -eq 40 ] || fails "long names of unprintable bytes: not each file was made"
 ends "long names of unprintable bytes that are there" 0 complete bash -c 'ulimit -t 40 && exec "$@"' - "${repair[@]}"
-
-# A subfolder on another file system: a file that is moved there would have to be copied.
-if can_mount "a subfolder on another file system"; then
-    furnish 4 0 sub/first.txt abcdefgh second.txt ijklmnop
-    mv room/sub/first.txt room/stray
-    mv room/second.txt room/other
-    listed room > before
-    mounting bash -c 'mount -t tmpfs -o size=1m tmpfs room/sub && "$@" room
-        echo "$? $(find room -type f -printf "%P ")"' - "${repair[@]}" > text 2> line
-    if [ "$(cut -d ' ' -f 2- text | tr ' ' '\n' | sort | tr '\n' ' ')" = " other set.par2 stray " ] \
-        && [ "$(cut -d ' ' -f 1 text)" = 6 ] && [ "$(< line)" = "$repair_says room: it reaches into another file system" ]; then
-        echo "ok: a subfolder on another file system is refused, and nothing was moved"
-    else
-        fails "a subfolder on another file system: $(cat text line)"
-    fi
-    as_before "a subfolder on another file system"
-fi
 exit $failed

@@ -184,31 +184,11 @@ wants "a broken link in place of the folder" 6 "" "$me: cannot make broken: File
 [ ! -e none ] || fails "the broken link leads to something now"
 "$extract" other "$top/demo/photos.par2" > text
 wants "a folder of another set" 3 "" "$me: other/$record is of another set" "$extract" other "${names[@]}"
-sed -i 's/^at expected .*/at expected/' other/$record
-cp other/$record changed
-wants "a record that was changed" 1 "missing harbour.raw 0/12
-missing beach.raw 0/20
-missing notes.txt 0/1
-missing tower.raw 0/5
-slices 0/38, copied now 0" "$me: other/$record isn't shown to be of a run of yours in this folder, which may be a copy: it is\
- now parv-rescue.kept.1, and the files are read again" "$extract" other "$top/demo/photos.par2"
-cmp changed other/parv-rescue.kept.1 || fails "a record that was changed isn't kept"
 again
 exec 9< out/$record
 flock 9
 wants "another run at work" 3 "" "$me: another run is at work in out" "$extract" out "${names[@]}"
 exec 9<&-
-
-# A limit on the size of files, below the lengths of two files of the set.
-rm -rf out
-wants "files above a limit" 6 "refused harbour.raw
-refused beach.raw
-complete notes.txt
-complete tower.raw
-slices 6/38, copied now 6" "$me: refused: beach.raw: it can't have 20000 bytes: File too large
-$me: refused: harbour.raw: it can't have 12288 bytes: File too large" \
-    bash -c 'ulimit -f 8; exec "$@"' - "$extract" out "$top/demo/photos.par2" "$top"/demo/{beach,harbour,tower}.raw \
-    "$top/demo/notes.txt"
 
 # Wrong arguments, and files that can't be read.
 wants "no files" 3 "" "$me: there is no FOLDER, or there are no FILES

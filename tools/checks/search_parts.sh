@@ -3,8 +3,8 @@
 # its folder.
 #
 # parv-parts must find what an independent search finds: in one go, stopped and resumed. It must leave a folder with
-# other files as it is, must not take a part that a power failure has cut for a whole one, must allow only one run in a
-# folder at a time, and must report a program that isn't parv.
+# other files as it is, must not take a part that a power failure has cut for a whole one, and must allow only one run in
+# a folder at a time.
 . "$(dirname "$0")/with/wants.sh"
 . "$tools/checks/with/commands.sh"
 . "$tools/checks/with/rooms.sh"
@@ -102,33 +102,15 @@ refuses "a folder with a link \`new\`" room/link
 printf 'my part' > room/part/1
 refuses "a folder with a file \`1\`" room/part
 refuses "a folder with folders" room
-refuses "no name of a folder" ''
-(cd room/novel && ln -s "$work"/{photos.par2,image} . && "${search[@]}" '' 100 "${words[@]}") > found 2> told
-status=$?
-if [ $status -eq 3 ] && [ "$(cat room/novel/new)" = 'my novel' ]; then
-    echo "ok: no name isn't the current folder"
-else
-    fails "no name: status $status, $(cat room/novel/* told)"
-fi
 # (By a user who may not write there.)
 other_user
 mkdir public
-chmod 711 .
 mkdir public/bin
 cp "$parv" "${words[@]}" public
 cp "${search[0]}" public/bin
 cp -r "$top/commands/parv_commands" public
 (cd public && wants "the root folder" 3 "" "$search_says / has other files" env PARV="$work/public/${parv##*/}" \
     "${user[@]}" "bin/${search[0]##*/}" "${search[@]:1}" / 100 "${words[@]}") || failed=1
-printf 'a file' > room/file
-"${search[@]}" room/file 100 "${words[@]}" > found 2> told
-status=$?
-if [ $status -eq 6 ] && [ "$(cat room/file)" = 'a file' ]; then
-    echo "ok: a file is no folder for parts"
-else
-    fails "a file as a folder for parts: status $status, $(cat told)"
-fi
-
 # whole NAME FOLDER LIMIT: wants a search there to find what the independent search finds, each match once.
 whole() {
     "${search[@]}" "$2" "$3" "${words[@]}" > found 2> told
@@ -192,9 +174,6 @@ for length in 0 1 20; do
     head -c $length empty/words > cut/words
     whole "words that were cut to $length bytes" cut 5
 done
-cp -r empty other
-printf 'other' > other/words
-refuses "words of another search" other
 (
     cd room && rm -rf ./* && cp "$work"/{photos.par2,image} .
     for name in -n -- '* ?' $'line\nfeed' ' '; do "${search[@]}" -- "$name" 9 "${words[@]}" 2> ../told | cmp - ../wanted || exit 1; done
@@ -235,35 +214,4 @@ else
 fi
 whole "the same folder once one run has ended" two 7
 
-# A run that is ended leaves no parv running, and leaves its folder to the next run.
-truncate -s 1T endless
-"${search[@]}" ended 5 photos.par2 image endless > found 2> told &
-comes [ -e ended/$(($(wc -l < wanted) / 5)) ]
-kill $!
-wait $!
-status=$?
-if [ $status -eq 143 ] && flock -w "$most" ended true; then
-    echo "ok: a search that is ended leaves its folder to the next"
-else
-    fails "a search that is ended: status $status, $(cat told)"
-fi
-
-# A program that doesn't write the last line leaves no part.
-for program in true echo false; do
-    PARV=$(type -P $program) timeout "$most" "${search[@]}" "no$program" 5 "${words[@]}" > found 2> told
-    status=$?
-    if [ $status -eq 6 ] && [ ! -s found ] && [ ! -e "no$program/1" ]; then
-        echo "ok: in place of parv: $program"
-    else
-        fails "in place of parv: $program: status $status, $(find "no$program" | wc -l) files, $(cat told)"
-    fi
-done
-limited 0 "${search[@]}" none 5 "${words[@]}" > found 2> told
-status=$?
-if [ $status -eq 6 ] && [ ! -s found ]; then
-    echo "ok: a folder on a full disk"
-else
-    fails "a folder on a full disk: status $status, $(cat told)"
-fi
-whole "the same folder once there is room" none 5
 exit $failed

@@ -236,20 +236,6 @@ for text in 38 "harbour.raw: 12 moved" "slice 3: moved, in ./port.raw at 3072" "
     "slice 1: missing" "slice 0: in place" "24 in place, 12 moved, 2 missing; need 2 have 1"; do
     grep -qxF "$text" read || fails "neither page nor drawing has $text"
 done
-# Neither option overwrites a file that exists.
-cp page.html kept
-printf 'mine' > mine
-ln -s mine link
-ln -s none broken
-for file in mine link broken; do
-    for kind in html svg; do
-        wants "--$kind where $file is" 6 "" "$me: $file is there already" "$map" --$kind $file photos.par2 beach.raw
-    done
-done
-{ [ "$(cat mine)" = mine ] && [ ! -e none ] && [ -L link ]; } || fails "something was written over"
-wants "a folder that isn't there" 6 "" "$me: cannot write none/page.html: No such file or directory" \
-    "$map" --html none/page.html photos.par2
-
 # Names that are markup or lead elsewhere. parv-map doesn't open what they lead to, which would be a FIFO.
 PYTHONPATH=$tools python3 "$tools/checks/slice_map_names.py"
 rm page.html drawing.svg
