@@ -27,8 +27,8 @@ demo:
 # out/build.log.
 build:
 	@mkdir -p out && : > out/build.log
-	@echo "Proves the program and all below it and builds $(PARV): on four processors up to"
-	@echo "a quarter of an hour the first time, then what changed. The log is out/build.log."
+	@echo "Proves the program and all below it and builds $(PARV): 11 minutes on four"
+	@echo "processors the first time, then what changed. The log is out/build.log."
 	@cd crates/parv && ../../tools/proving.py ../../out/build.log rt run -- packets data/v.par2
 
 # Runs the gate: every proof, the mutants of must-fail/, every test, and then the checks of the

@@ -9,7 +9,7 @@ mkdir -p out
 log=out/gate.log
 tee "$log" << END
 The gate: every proof, the mutants of must-fail/, every test, then checks of the built program.
-From nothing it takes up to an hour on four processors. The log is $log.
+From nothing it takes 31 minutes on four processors, 47 on two. The log is $log.
 END
 
 # The number of crates that `rt ci` works on at once: one for each processor, if each can have 5 GB.
