@@ -125,7 +125,7 @@ class Copy:
 
     def __init__(self, at):
         self.at, self.of = at, libraries()
-        copied(TOP, {crate: (*PARTS, *FOLDERS) for crate in self.of}, at)
+        copied(TOP, {crate: (*PARTS, *FOLDERS, "out/incremental", "out/rlib") for crate in self.of}, at)
 
     def sum_of(self, crate):
         """Returns a checksum of what a verdict on a mutant of the crate rests on, but for the mutant."""
