@@ -198,20 +198,23 @@ def regular(folder):
 
 
 def by_par2(folder, whole, owner):
-    """Returns whether par2 repairs all of it, with some packet file of the set first."""
-    names = regular(folder)
+    """Returns whether par2 repairs all of it, with some packet file of the set first, and the last thing that par2 says
+    otherwise."""
+    names, why = regular(folder), "no packet file of the set"
     for first in [name for name in names if name.endswith(".par2")]:
         if bytes.fromhex(owner) not in read(os.path.join(folder, first)):
             continue
         copy = folder + ".par2"
         shutil.copytree(folder, copy)
-        subprocess.run(["par2", "repair", "-q", "-q", "-t1", f"./{first}", *[f"./{name}" for name in names]], cwd=copy,
-                       stdout=subprocess.DEVNULL, stderr=subprocess.DEVNULL)
+        ended = subprocess.run(["par2", "repair", "-q", "-t1", f"./{first}", *[f"./{name}" for name in names]], cwd=copy,
+                               capture_output=True)
+        lines = (ended.stdout + ended.stderr).decode("ascii", "backslashreplace").split("\n")
+        why = f"{ended.returncode}: {next((line.strip() for line in reversed(lines) if line.strip()), '')}"
         repaired = is_whole(copy, whole)
         shutil.rmtree(copy)
         if repaired:
-            return True
-    return False
+            return True, ""
+    return False, why
 
 
 def verdict_of(folder, whole, owner):
@@ -275,13 +278,13 @@ def by_command(folder, whole, owner, statuses):
 
 def end_of(folder, whole, owner):
     """Returns how one set ended."""
-    was_whole, by_them = is_whole(folder, whole), by_par2(folder, whole, owner)
+    was_whole, (by_them, why) = is_whole(folder, whole), by_par2(folder, whole, owner)
     status, wrong, reason = by_command(folder, whole, owner, wanted_statuses(folder, whole, owner, by_them))
     if wrong:
         return f"WRONG: {wrong}; status {status}, {reason}"
     if status != 0:
         return f"left as it was, status {status}: {reason}"
-    return "complete" + (" as it was" if was_whole else ", as by par2" if by_them else ", which par2 can't do")
+    return "complete" + (" as it was" if was_whole else ", as by par2" if by_them else f", which par2 can't do: {why}")
 
 
 def main():
