@@ -10,7 +10,6 @@ import contextlib
 import ctypes
 import errno
 import os
-import stat
 from typing import Callable, Iterator, Optional, Union
 
 Observer = Callable[[str, str], None]
@@ -18,7 +17,7 @@ observer: Optional[Observer] = None
 
 _MOST = 1 << 30         # the greatest number of bytes that one call writes
 _NOREPLACE = 1          # the flag RENAME_NOREPLACE
-_NO_LINK = (errno.EPERM, errno.EOPNOTSUPP, errno.EMLINK)    # errors of a link to a folder, or where there are no links
+_NO_LINK = (errno.EPERM, errno.EOPNOTSUPP, errno.ENOSYS, errno.EMLINK)   # errors of a link where there can't be any
 _libc = ctypes.CDLL(None, use_errno=True)
 Data = Union[bytes, memoryview]
 
@@ -160,16 +159,17 @@ def move(place: int, name: bytes, new_place: int, new_name: bytes) -> None:
 
 
 def move_entry(place: int, name: bytes, new_name: bytes) -> None:
-    """Gives an entry of any kind another name in its folder, which must not be used yet. (A folder has no links. Where
-    `move` can't be done in one call, it is renamed, which never replaces more than an empty folder.)"""
-    if not stat.S_ISDIR(os.stat(name, dir_fd=place, follow_symlinks=False).st_mode):
-        move(place, name, place, new_name)
-        return
+    """Gives an entry of any kind another name in its folder, which must not be used yet. (A folder has no links, and on
+    some file systems, such as exFAT, nothing has. Where `move` can't be done for that, it is renamed after a look
+    whether the name is used.)"""
     try:
         move(place, name, place, new_name)
     except OSError as fault:
         if fault.errno not in _NO_LINK:
             raise
+        with contextlib.suppress(FileNotFoundError):
+            os.stat(new_name, dir_fd=place, follow_symlinks=False)
+            raise FileExistsError(errno.EEXIST, os.strerror(errno.EEXIST)) from fault
         with _change("rename"):
             os.rename(name, new_name, src_dir_fd=place, dst_dir_fd=place)
 

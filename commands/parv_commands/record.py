@@ -8,7 +8,6 @@ another one, such as that of a copied folder, only the ID of its set is read; th
 from __future__ import annotations
 
 import copy
-import errno
 import fcntl
 import os
 import re
@@ -92,6 +91,8 @@ class Record:
         elif not self.end:
             self._begin([self.head])
             self._sync_folder()
+        else:
+            self._remove_other_name()
         for number, line in enumerate(lines or [], 2):
             try:
                 self._take(*line.split(" "))
@@ -103,9 +104,8 @@ class Record:
         self.shown = self._shown(name)
         with faults_of("open", self.shown):
             place = changes.open_file(self.folder.place, name, makes)
-        now = os.fstat(place)
-        if not stat.S_ISREG(now.st_mode) or now.st_nlink != 1:
-            raise Fault(FILES, f"{self.shown} is a link or no file")
+        if not stat.S_ISREG(os.fstat(place).st_mode):
+            raise Fault(FILES, f"{self.shown} is no file")
         try:
             fcntl.flock(place, fcntl.LOCK_EX | fcntl.LOCK_NB)
         except BlockingIOError as fault:
@@ -113,6 +113,14 @@ class Record:
         except OSError as fault:
             raise Fault(FILES, f"cannot lock {self.shown}: {fault.strerror}") from fault
         return place
+
+    def _remove_other_name(self) -> None:
+        """Removes the name under which this user's own record was made. (A file gets another name by two calls on some
+        file systems, and a run may have been ended between them. Others count one name more while a file is open.)"""
+        now = self.folder.look(NEW)
+        if now is not None and os.path.samestat(now, os.fstat(self.place)):
+            with faults_of("write in", self.folder.shown):
+                changes.remove_file(self.folder.place, NEW)
 
     # One that isn't this user's own.
 
@@ -146,21 +154,17 @@ class Record:
         self.shown = self._shown(NAME)
 
     def _rename(self, name: bytes, new_name: bytes) -> None:
-        """Gives a record another name, which isn't used. (On a file system without links, such as exFAT, there may be
-        no call that makes sure of that.)"""
+        """Gives a record another name, which isn't used."""
         with faults_of("rename", self._shown(name)):
-            try:
-                changes.move(self.folder.place, name, self.folder.place, new_name)
-            except OSError as fault:
-                if fault.errno not in (errno.EPERM, errno.EOPNOTSUPP):
-                    raise
-                changes.replace(self.folder.place, name, new_name)
+            changes.move_entry(self.folder.place, name, new_name)
 
     # Reading and writing lines.
 
     def _begin(self, lines: List[str]) -> None:
         """Brings the first lines to the disk, and the secret of the seals before them. Of these lines, the record may
-        have a part already."""
+        have a part already, if it has no other name, by which it may be a file of the user."""
+        if os.fstat(self.place).st_nlink != 1:
+            raise Fault(FILES, f"{self.shown} is a link")
         self.chain = Chain(seals.seal_to_write(KIND, self.folder.place, self.place))
         data = b"".join(self.chain.line(line.encode()) for line in lines)
         with faults_of("write", self.shown):

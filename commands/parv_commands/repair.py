@@ -275,7 +275,9 @@ class Repair:
         """Ends the run unless all files are complete now."""
         self.scene.gather(found)
         looked = self.scene.look_at_all(found, self.scene.to_scan(found))
-        if not self.scene.is_complete(found, self.scene.settled(found, looked.sources)):
+        sources = self.scene.settled(found, looked.sources)
+        if not all(source is not None and (source == file.name or self.scene.is_at(file.name, source))
+                   for file, source in zip(found.set.files, sources)):
             raise Fault(NO_REPAIR, f"it isn't complete after the repair: {looked.verdict.counts}")
 
     # Backups.

@@ -215,6 +215,11 @@ class Scene:
                 settled.append(file.name if own else source)
         return settled
 
+    def is_at(self, name: bytes, source: bytes) -> bool:
+        """Returns whether a name leads to the content of a file, though it may be listed in another form, as on a file
+        system that lists all names in lower case."""
+        return self.folder.is_file(name) and is_same(self.folder, name, source)
+
     def is_complete(self, found: Found, sources: Sequence[Optional[bytes]]) -> bool:
         return all(file.name == source for file, source in zip(found.set.files, sources))
 

@@ -19,7 +19,11 @@ from .rooms import PARV, SECONDS, Room, write
 BIN = os.path.join(os.path.dirname(os.path.dirname(os.path.realpath(parv_commands.__file__ or ""))), "bin")
 Ended = Tuple[int, str, str]
 MAKES: Dict[str, List[str]] = {"ext4": ["mkfs.ext4", "-q", "-F"], "xfs": ["mkfs.xfs", "-q"], "btrfs": ["mkfs.btrfs", "-q"],
-                               "ntfs": ["mkfs.ntfs", "-F", "-q"]}
+                               "ntfs": ["mkfs.ntfs", "-F", "-q"], "exfat": ["mkfs.exfat"]}
+MOUNTS = {"ntfs": "lowntfs-3g -o ignore_case ntfs disk", "exfat": "mount -t exfat-fuse -o loop exfat disk",
+          "tmpfs": "mount -t tmpfs tmpfs disk",
+          "overlay": "mkdir below && mount -t tmpfs tmpfs below && mkdir below/lower below/upper below/work && mount -t "
+                     "overlay -o lowerdir=below/lower,upperdir=below/upper,workdir=below/work overlay disk"}
 LENGTH = 320 << 20      # the length of an image, of which only a part is written
 
 
@@ -90,14 +94,14 @@ class Calls(unittest.TestCase):
     def disk(self, kind: str) -> str:
         """Makes a file system of a kind in a file, or in memory. Returns the command that mounts it at `disk`."""
         os.makedirs(os.path.join(self.room.top, "disk"), exist_ok=True)
-        if kind == "tmpfs":
-            return "mount -t tmpfs tmpfs disk"
+        if kind not in MAKES:
+            return MOUNTS[kind]
         image = os.path.join(self.room.top, kind)
         with open(image, "wb") as out:
             out.truncate(LENGTH)
         if not shutil.which(MAKES[kind][0]) or subprocess.run([*MAKES[kind], image], capture_output=True).returncode:
             self.skipTest(f"no {kind} can be made here")
-        return "lowntfs-3g -o ignore_case ntfs disk" if kind == "ntfs" else f"mount -o loop {kind} disk"
+        return MOUNTS.get(kind, f"mount -o loop {kind} disk")
 
     def program(self, name: str, text: str) -> str:
         path = os.path.join(self.room.top, name)

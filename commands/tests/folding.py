@@ -12,12 +12,14 @@ from typing import Any, Callable, Iterator
 
 from parv_commands import changes
 
-CALLS = ("open", "stat", "mkdir", "unlink", "rmdir", "symlink", "readlink")
+CALLS = ("open", "stat", "access", "mkdir", "unlink", "rmdir", "symlink", "readlink")
 Fold = Callable[[bytes], bytes]
 
 
-def _found(place: int, name: bytes, fold: Fold) -> bytes:
+def _found(place: int, name: bytes, fold: Fold, renames: bool) -> bytes:
     """Returns the name of the entry that such a file system takes for this name."""
+    if renames:
+        return fold(name)
     there = [os.fsencode(each) for each in os.listdir(f"/proc/self/fd/{place}")]
     if name in there:
         return name
@@ -27,29 +29,33 @@ def _found(place: int, name: bytes, fold: Fold) -> bytes:
 class _Library:
     """The C library, with the call that gives a file another name."""
 
-    def __init__(self, library: Any, fold: Fold) -> None:
-        self.syncfs, self._library, self._fold = library.syncfs, library, fold
+    def __init__(self, library: Any, found: Callable[[int, bytes], bytes]) -> None:
+        self.syncfs, self._library, self._found = library.syncfs, library, found
 
     def renameat2(self, place: int, name: bytes, new_place: int, new_name: bytes, flags: int) -> int:
-        if _found(new_place, new_name, self._fold) in map(os.fsencode, os.listdir(f"/proc/self/fd/{new_place}")):
+        new_name = self._found(new_place, new_name)
+        if new_name in map(os.fsencode, os.listdir(f"/proc/self/fd/{new_place}")):
             ctypes.set_errno(errno.EEXIST)
             return -1
-        answer = self._library.renameat2(place, _found(place, name, self._fold), new_place, new_name, flags)
+        answer = self._library.renameat2(place, self._found(place, name), new_place, new_name, flags)
         return int(answer)
 
 
 @contextlib.contextmanager
-def folding(fold: Fold) -> Iterator[None]:
-    """Makes names that `fold` makes equal be names of one entry of a folder."""
+def folding(fold: Fold, renames: bool = False) -> Iterator[None]:
+    """Makes names that `fold` makes equal be names of one entry of a folder. If it `renames`, each entry has the name
+    that `fold` makes, also a new one."""
+    def found(place: int, name: bytes) -> bytes:
+        return _found(place, name, fold, renames)
     def wrapped(real: Callable[..., Any], at: int) -> Callable[..., Any]:
         def call(*given: Any, **options: Any) -> Any:
             place, name = options.get("dir_fd"), given[at] if at < len(given) else None
             if isinstance(place, int) and isinstance(name, bytes) and name not in (b".", b"..") and b"/" not in name:
-                given = (*given[:at], _found(place, name, fold), *given[at + 1:])
+                given = (*given[:at], found(place, name), *given[at + 1:])
             return real(*given, **options)
         return call
     with contextlib.ExitStack() as kept:
         for name in CALLS:
             kept.enter_context(unittest.mock.patch.object(os, name, wrapped(getattr(os, name), name == "symlink")))
-        kept.enter_context(unittest.mock.patch.object(changes, "_libc", _Library(changes._libc, fold)))
+        kept.enter_context(unittest.mock.patch.object(changes, "_libc", _Library(changes._libc, found)))
         yield

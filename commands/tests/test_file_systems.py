@@ -16,7 +16,7 @@ from parv_commands import repair
 
 from .calls import BIN, Calls
 from .folding import folding
-from .rooms import KILLED, At, Room, ends_by
+from .rooms import KILLED, STAGE, At, Room, ends_by, read
 from .test_repair_crashes import WHOLE, damage
 
 
@@ -95,6 +95,19 @@ class FileSystems(Calls):
                     self.assertEqual((again.status, self.room.lacks()), (0, []), (number, first, again))
                     self.assertFalse(held - self.room.contents(), number)
 
+    def test_names_that_are_listed_in_lower_case_are_complete_once_they_are_given(self) -> None:
+        room = Room({"Song.flac": b"a song", "in/B": b"another one", "a": b"another one"})
+        self.addCleanup(room.close)
+        room.rename("Song.flac", "song.flac")
+        room.rename("in/B", "in/b")
+        room.put("song.flac", b"damage")
+        for _ in range(2):
+            with folding(bytes.lower, True):
+                ended = room.run(repair.main, ["room"])
+            self.assertEqual((ended.status, ended.last()), (0, "complete"), ended)
+            self.assertEqual([read(room.path(name)) for name in ("song.flac", "in/b", "song.flac.1")],
+                             [b"a song", b"another one", b"damage"])
+
     def test_two_names_of_a_set_that_are_one_are_refused(self) -> None:
         room = Room({"song": b"a song", "SONG": b"another"})
         self.addCleanup(room.close)
@@ -136,6 +149,18 @@ class FileSystems(Calls):
 
     def test_a_repair_on_tmpfs(self) -> None:
         self.on("tmpfs")
+
+    def test_a_repair_on_overlayfs(self) -> None:
+        self.on("overlay")
+
+    def test_a_repair_on_exfat_says_why_it_ends(self) -> None:
+        mount = self.disk("exfat")
+        script = (f'{mount} || exit 99\ncp -r room disk/room; echo mine > disk/room/{STAGE}; '
+                  'find disk/room > before; "$@" disk/room; echo $?; find disk/room | diff before - | grep "^[<>]"')
+        ended = self.mounting(script, os.path.join(BIN, "parv-repair"))
+        self.assertIn("this file system has no links, by which par2 gets the files", ended[2])
+        self.assertEqual(ended[1].splitlines(), [
+            "6", f"< disk/room/{STAGE}", "> disk/room/parv-repair.kept.1"], ended)
 
     def test_a_repair_where_case_is_folded(self) -> None:
         self.folded()

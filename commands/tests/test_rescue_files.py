@@ -7,6 +7,7 @@ import hashlib
 import itertools
 import os
 import shutil
+import types
 import unittest
 import unittest.mock
 from typing import Callable, Dict, List, Optional
@@ -310,7 +311,9 @@ class Copies(Folders):
         self.assertEqual((ended.status, ended.out, os.path.exists(self.path("new"))), (6, "", False), ended)
         self.assertIn("XDG_STATE_HOME can name a folder", ended.said)
 
-    def test_a_kill_while_a_copy_is_taken_up_and_the_next_run_goes_on(self) -> None:
+    def each_kill(self, *odd: str) -> None:
+        """Kills a run that takes up a copy, before and after each of its calls. The next run goes on, and leaves a
+        folder of these entries at most in addition to the usual ones."""
         self.begin()
         shutil.copytree(self.path("new"), self.path("copy"))
         count = len(self.run_it("part2", "copy").calls)
@@ -322,8 +325,27 @@ class Copies(Folders):
                 ended = self.run_it("part2", "copy")
                 self.assertEqual(ended.status, 0, (number, when, ended))
                 self.assertEqual(read(self.path("copy/big")), BIG)
-                self.assertEqual(sorted(os.listdir(self.path("copy"))),
+                self.assertEqual(sorted(set(os.listdir(self.path("copy"))) - set(odd)),
                                  [".parv-rescue", "big", "parv-rescue.kept.1"], (number, when))
+                self.says(self.run_it("part2", "copy"), 0, WHOLE.format(0), "", (number, when))
+
+    def test_a_kill_while_a_copy_is_taken_up_and_the_next_run_goes_on(self) -> None:
+        self.each_kill()
+
+    def test_a_kill_while_a_file_has_two_names_and_the_next_run_goes_on(self) -> None:
+        with unittest.mock.patch.object(changes, "_libc", types.SimpleNamespace()):     # so it can't be renamed by one call
+            self.each_kill("parv-rescue.kept.2")
+
+    def test_a_record_counts_as_long_as_another_name_of_it_does(self) -> None:
+        """(Some file systems count the name that an open file had before.)"""
+        self.begin()
+        os.link(self.path("new/.parv-rescue"), self.path("other"))
+        self.says(self.run_it("part2"), 0, WHOLE.format(11), "")
+        os.remove(self.path("new/.parv-rescue"))
+        self.put("mine", b"")
+        os.link(self.path("mine"), self.path("new/.parv-rescue"))
+        self.says(self.run_it("part2"), 6, "", "parv-rescue: new/.parv-rescue is a link\n")
+        self.assertEqual(read(self.path("mine")), b"")
 
     def test_a_copy_goes_on_where_there_are_no_links(self) -> None:
         self.begin()

@@ -67,8 +67,17 @@ class Systems(Calls):
         self.on(self.disk("tmpfs"))
 
     def test_a_rescue_on_overlayfs(self) -> None:
-        self.on("mkdir disk below && mount -t tmpfs tmpfs below && mkdir below/lower below/upper below/work && mount -t "
-                "overlay -o lowerdir=below/lower,upperdir=below/upper,workdir=below/work overlay disk")
+        self.on(self.disk("overlay"))
+
+    def test_a_rescue_on_exfat(self) -> None:
+        """(It has no links, and no holes. A file may have another inode each time.)"""
+        mount = self.disk("exfat")
+        ended = self.mounting(f'{mount} || exit 99\n"$1" disk/new room/set.par2 part1; "$1" disk/new room/set.par2 part2\n'
+                              f'umount disk; {mount} || exit 99\n"$1" disk/new room/set.par2 part2; cmp disk/new/big '
+                              'room/big && ls disk/new/.parv-rescue && cp -r disk/new disk/copy\n'
+                              '"$1" disk/copy room/set.par2 part2', RESCUE)
+        self.assertEqual((ended[0], ended[1]), (0, PART.format(5) + WHOLE.format(11) + WHOLE.format(0)
+                                                + "disk/new/.parv-rescue\n" + WHOLE.format(0)), ended)
 
     def test_a_folder_on_a_lower_layer_is_taken_up_by_its_content(self) -> None:
         """(There a file gets another inode once it is written.)"""
