@@ -204,7 +204,7 @@ def by_par2(folder, whole, owner):
     for first in [name for name in names if name.endswith(".par2")]:
         if bytes.fromhex(owner) not in read(os.path.join(folder, first)):
             continue
-        copy = folder + ".par2"
+        copy = folder + "-copy"      # (par2 takes each file for a packet file whose path has .par2 anywhere)
         shutil.copytree(folder, copy)
         ended = subprocess.run(["par2", "repair", "-q", "-t1", f"./{first}", *[f"./{name}" for name in names]], cwd=copy,
                                capture_output=True)
