@@ -10,7 +10,7 @@ DOCDIR ?= $(PREFIX)/share/doc/parv
 LIBDIR ?= $(PREFIX)/lib/parv
 EXAMPLES = $(notdir $(wildcard examples/*))
 COMMANDS = $(notdir $(wildcard commands/bin/*))
-MODULES = $(notdir $(wildcard commands/parv_commands/*.py))
+MODULES = $(patsubst commands/%,%,$(wildcard commands/parv_commands/*.py commands/parv_commands/*/*.py))
 CRATE ?= parv
 SIZE ?= small
 PARV = crates/parv/out/parv
@@ -89,8 +89,9 @@ install:
 	@test -x $(PARV) || { echo "There is no program at $(PARV): 'make build' builds it." >&2; exit 1; }
 	install -D -m 755 $(PARV) "$(DESTDIR)$(PREFIX)/bin/parv"
 	install -m 755 $(COMMANDS:%=commands/bin/%) "$(DESTDIR)$(PREFIX)/bin"
-	install -d "$(DESTDIR)$(LIBDIR)/parv_commands"
-	install -m 644 $(MODULES:%=commands/parv_commands/%) "$(DESTDIR)$(LIBDIR)/parv_commands"
+	for module in $(MODULES); do \
+		install -D -m 644 "commands/$$module" "$(DESTDIR)$(LIBDIR)/$$module" || exit 1; \
+	done
 	for name in parv $(COMMANDS); do \
 		install -D -m 644 docs/$$name.1 "$(DESTDIR)$(MANDIR)/man1/$$name.1" \
 			&& install -D -m 644 completions/parv.bash "$(DESTDIR)$(BASHDIR)/$$name" \
@@ -110,8 +111,9 @@ uninstall:
 			"$(DESTDIR)$(BASHDIR)/$$name" "$(DESTDIR)$(FISHDIR)/$$name.fish"; \
 	done
 	rm -f "$(DESTDIR)$(ZSHDIR)/_parv"
-	rm -f $(MODULES:%="$(DESTDIR)$(LIBDIR)/parv_commands/%")
-	for folder in "$(DESTDIR)$(LIBDIR)/parv_commands" "$(DESTDIR)$(LIBDIR)"; do \
+	rm -f $(MODULES:%="$(DESTDIR)$(LIBDIR)/%")
+	for folder in $(sort $(dir $(MODULES))) parv_commands .; do \
+		folder="$(DESTDIR)$(LIBDIR)/$$folder"; \
 		[ ! -d "$$folder" ] || rmdir --ignore-fail-on-non-empty "$$folder"; \
 	done
 	rm -f "$(DESTDIR)$(DOCDIR)/FORMATS.md" "$(DESTDIR)$(DOCDIR)/GLOSSARY.md" $(EXAMPLES:%="$(DESTDIR)$(DOCDIR)/examples/%")

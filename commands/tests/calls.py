@@ -12,7 +12,7 @@ import unittest
 from typing import Dict, List, Optional, Tuple
 
 import parv_commands
-from parv_commands.signals import SIGNALS
+from parv_commands.common.signals import SIGNALS
 
 from .rooms import PARV, SECONDS, Room, write
 

@@ -10,7 +10,7 @@ import os
 import unittest.mock
 from typing import Any, Callable, Iterator
 
-from parv_commands import changes
+from parv_commands.common import changes
 
 CALLS = ("open", "stat", "access", "mkdir", "unlink", "rmdir", "symlink", "readlink")
 Fold = Callable[[bytes], bytes]

@@ -18,7 +18,7 @@ import unittest.mock
 import zlib
 from typing import Any, Callable, Dict, Iterator, List, NamedTuple, Optional, Sequence, Set, Tuple
 
-from parv_commands import changes
+from parv_commands.common import changes
 
 PARV = os.environ.get("PARV", "parv")
 PAR2 = """#!/bin/sh

@@ -13,7 +13,7 @@ from collections import Counter
 from typing import Dict, Iterator, List, Set, Tuple
 
 import parv_commands
-from parv_commands import repair
+from parv_commands.repair import command as repair
 
 from .rooms import Room
 from .test_repair_crashes import WHOLE, damage
@@ -35,10 +35,11 @@ CALLS = dict(pair.split(":") for pair in """mkdir:mkdir mkdirat:mkdir unlinkat:u
 
 
 def modules() -> Iterator[Tuple[str, ast.Module]]:
-    for name in sorted(os.listdir(PACKAGE)):
-        if name.endswith(".py") and name != "changes.py":
-            with open(os.path.join(PACKAGE, name), encoding="utf-8") as file:
-                yield name, ast.parse(file.read())
+    for folder, _, names in sorted(os.walk(PACKAGE)):
+        for name in sorted(names):
+            if name.endswith(".py") and name != "changes.py":
+                with open(os.path.join(folder, name), encoding="utf-8") as file:
+                    yield name, ast.parse(file.read())
 
 
 def wrong_calls(name: str, tree: ast.Module) -> List[str]:
@@ -86,7 +87,7 @@ class Changes(unittest.TestCase):
         damage(room)
         above = os.path.dirname(PACKAGE)
         environment = {**os.environ, **room.environment(), "PYTHONPATH": above}
-        run = "import sys; from parv_commands import repair; sys.argv = ['', 'room']; sys.exit(repair.main())"
+        run = "import sys; from parv_commands.repair.command import main; sys.argv = ['', 'room']; sys.exit(main())"
         words = [strace, "-o", trace, "-e", "trace=" + ",".join(CALLS), sys.executable, "-B", "-S", "-c", run]
         ended = subprocess.run(words, cwd=room.top, env=environment, stdout=subprocess.DEVNULL)
         self.assertEqual((ended.returncode, room.lacks()), (0, []))

@@ -10,13 +10,14 @@ import unittest
 import unittest.mock
 from typing import Any, Callable, Dict, List
 
-from parv_commands import journal, repair, tree
-from parv_commands.contents import SKETCH, Alike
-from parv_commands.folders import Folder, Identity, identity_of
-from parv_commands.journal import Made, Moves
-from parv_commands.names import numbered, shown
-from parv_commands.packets import Member
-from parv_commands.plan import Plan
+from parv_commands.common.equal_files import SKETCH, Alike
+from parv_commands.common.folders import Folder, Identity, identity_of
+from parv_commands.common.names import numbered, shown
+from parv_commands.common.packets import Member
+from parv_commands.repair import command as repair, journal
+from parv_commands.repair.journal import Made, Moves
+from parv_commands.repair.plan import Plan
+from parv_commands.tree import command as tree
 
 from .rooms import KILLED, At, Room, ends_by, read, write
 
@@ -140,7 +141,7 @@ class Equal(unittest.TestCase):
             files = [Member("", 0, 1, 1, shown(name), name, b"", b"", None, None) for name in there]
             origins = [b".parv-repair/made/%d" % number for number in range(count)]
             with unittest.mock.patch.object(Folder, "look", autospec=True, side_effect=Folder.look) as looks, \
-                    unittest.mock.patch("parv_commands.folders.numbered", side_effect=numbered) as names:
+                    unittest.mock.patch("parv_commands.common.folders.numbered", side_effect=numbered) as names:
                 plan = Plan(folder, files, there, origins, set(), set())
                 moves = Moves(folder, b".parv-repair", plan.steps(lambda path: Identity(1, 2, 3)), self.fail)
                 before = room.listing()

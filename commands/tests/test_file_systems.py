@@ -10,9 +10,9 @@ import unittest
 import unittest.mock
 from typing import Any, Dict, List, Tuple
 
-from parv_commands import folders
-from parv_commands import map as drawing
-from parv_commands import repair
+from parv_commands.common import folders
+from parv_commands.map import command as drawing
+from parv_commands.repair import command as repair
 
 from .calls import BIN, Calls
 from .folding import folding

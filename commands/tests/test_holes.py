@@ -9,9 +9,10 @@ import unittest.mock
 import zlib
 from typing import Any, Dict, List, Tuple
 
-from parv_commands import holes, placing, rescue
-from parv_commands.faults import Refused
-from parv_commands.placing import fill, sums_of_zeros
+from parv_commands.common import holes, slices
+from parv_commands.common.faults import Refused
+from parv_commands.common.slices import fill, sums_of_zeros
+from parv_commands.rescue import command as rescue
 
 from .rooms import Room, md5, packet, spent, write
 
@@ -50,7 +51,7 @@ class Files(unittest.TestCase):
             self.skipTest("the file system knows no holes")
 
     def read_by(self, does: str, *given: Any) -> Tuple[Any, int]:
-        """Returns what a function of `holes` or `placing` returns, and how many bytes it has read."""
+        """Returns what a function of `holes` or `slices` returns, and how many bytes it has read."""
         counts: List[int] = []
         real = os.pread
 
@@ -58,7 +59,7 @@ class Files(unittest.TestCase):
             counts.append(len(real(opened, length, at)))
             return real(opened, length, at)
         with unittest.mock.patch.object(os, "pread", counted):
-            found = getattr(placing if does == "is_there" else holes, does)(self.opened, *given)
+            found = getattr(slices if does == "is_there" else holes, does)(self.opened, *given)
             if does == "pieces":
                 found = b"".join(found)
         return found, sum(counts)
@@ -97,7 +98,7 @@ class Files(unittest.TestCase):
         data = bytes(32 << 20) + b"x" + bytes(4095)
         with open(self.path, "r+b") as file:
             file.truncate(160 * len(data))
-        with unittest.mock.patch.object(placing, "_runs_that_differ", wraps=placing._runs_that_differ) as looks:
+        with unittest.mock.patch.object(slices, "_runs_that_differ", wraps=slices._runs_that_differ) as looks:
             for number in range(9, 160):
                 fill(self.opened, data, number * len(data))
         self.assertEqual(looks.call_count, 1)

@@ -6,7 +6,8 @@ import os
 import unittest
 import unittest.mock
 
-from parv_commands import names, repair
+from parv_commands.common import names
+from parv_commands.repair import command as repair
 
 from .folding import folding
 from .rooms import KILLED, STAGE, At, Room, read, set_of

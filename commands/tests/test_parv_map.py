@@ -7,7 +7,8 @@ import shutil
 import signal
 from typing import List, Optional
 
-from parv_commands import changes, map as map_command
+from parv_commands.common import changes
+from parv_commands.map import command as map_command
 
 from .calls import BIN, Calls
 from .rooms import FULL, KILLED, MAKING, PARV, At, Ended, From, Room, file_id, read, write

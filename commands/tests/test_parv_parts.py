@@ -9,7 +9,8 @@ import signal
 import subprocess
 from typing import Callable, List, Optional
 
-from parv_commands import changes, parts
+from parv_commands.common import changes
+from parv_commands.parts import command as parts
 
 from .calls import BIN, Calls
 from .rooms import FULL, KILLED, MAKING, PARV, SECONDS, At, Ended, From, Room, logged, read, write

@@ -9,7 +9,8 @@ import subprocess
 import termios
 from typing import List, Tuple
 
-from parv_commands import progress, progress_of_parv
+from parv_commands.common import progress
+from parv_commands.progress import command as progress_of_parv
 
 from .calls import BIN, Calls, slow, terminal_text
 from .rooms import PARV, Room

@@ -9,7 +9,7 @@ import signal
 import unittest
 from typing import Iterator, List, Set, Tuple
 
-from parv_commands import repair
+from parv_commands.repair import command as repair
 
 from . import rooms
 from .rooms import FULL, KILLED, MAKING, At, Ended, From, Room

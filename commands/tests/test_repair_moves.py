@@ -13,11 +13,12 @@ import unittest
 import unittest.mock
 from typing import Callable, Dict, List
 
-from parv_commands import changes, journal, repair
-from parv_commands.faults import Refused
-from parv_commands.folders import Folder, Identity
-from parv_commands.journal import Made, Move, Step
-from parv_commands.stage import Stage
+from parv_commands.common import changes
+from parv_commands.common.faults import Refused
+from parv_commands.common.folders import Folder, Identity
+from parv_commands.repair import command as repair, journal
+from parv_commands.repair.journal import Made, Move, Step
+from parv_commands.repair.work_folder import Stage
 
 from .rooms import FULL, KILLED, SECRET, STAGE, At, Ended, Listing, Room, ends_by, logged, read, spent, write
 

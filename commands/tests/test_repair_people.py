@@ -10,7 +10,7 @@ import subprocess
 import unittest
 from typing import Callable, Dict, Set
 
-from parv_commands import repair
+from parv_commands.repair import command as repair
 
 from . import test_repair_crashes
 from .calls import BIN, Calls

@@ -5,7 +5,7 @@ from __future__ import annotations
 import unittest
 from typing import Dict, List, Tuple
 
-from parv_commands import repair
+from parv_commands.repair import command as repair
 
 from . import test_repair_crashes
 from .rooms import KILLED, At, Noting

@@ -9,7 +9,8 @@ import unittest
 import unittest.mock
 from typing import List, Optional, Set
 
-from parv_commands import changes, rescue, search, writer
+from parv_commands.common import changes, search
+from parv_commands.rescue import command as rescue, writer
 
 from .rooms import FULL, KILLED, MAKING, At, Ended, From, Room, ends_by, logged, read, set_of, write
 

@@ -12,7 +12,8 @@ import unittest
 import unittest.mock
 from typing import Callable, Dict, List, Optional
 
-from parv_commands import changes, record, rescue
+from parv_commands.common import changes
+from parv_commands.rescue import command as rescue, record
 
 from .calls import BIN, Calls
 from .rooms import KILLED, At, Ended, Room, file_id, read, set_of, unchanged, write

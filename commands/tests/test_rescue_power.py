@@ -15,7 +15,8 @@ import unittest
 import unittest.mock
 from typing import Callable, Dict, List, Set
 
-from parv_commands import changes, rescue
+from parv_commands.common import changes
+from parv_commands.rescue import command as rescue
 
 from .rooms import KILLED, At, Ended, Room, read, write
 

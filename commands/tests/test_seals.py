@@ -14,10 +14,10 @@ import unittest
 import unittest.mock
 from typing import Callable, Dict, List, Optional, Tuple
 
-from parv_commands import changes, seals, words
-from parv_commands.faults import FILES, Fault
-from parv_commands.folders import Folder
-from parv_commands.seals import Chain, Seal
+from parv_commands.common import arguments, changes, seals
+from parv_commands.common.faults import FILES, Fault
+from parv_commands.common.folders import Folder
+from parv_commands.common.seals import Chain, Seal
 
 from .rooms import FULL, KILLED, SECONDS, At, Ended, Room, logged, read, write
 
@@ -28,7 +28,7 @@ def sealing() -> int:
         place = os.open(b".", os.O_RDONLY)
         os.write(1, seals.seal_to_write(b"kind", place).mark(b"text"))
         return 0
-    return words.ended("sealing", run)
+    return arguments.ended("sealing", run)
 
 
 class Marks(unittest.TestCase):
@@ -172,7 +172,7 @@ class Secrets(unittest.TestCase):
 
     def test_reading_makes_nothing(self) -> None:
         def reads() -> int:
-            return words.ended("reads", lambda: 0 if seals.seal_to_read(b"kind") is None else 1)
+            return arguments.ended("reads", lambda: 0 if seals.seal_to_read(b"kind") is None else 1)
         ended = self.room.run(reads, [])
         self.assertEqual((ended.status, ended.calls, os.path.exists(self.room.state_home)), (0, [], False), ended)
         os.makedirs(self.folder, 0o700)

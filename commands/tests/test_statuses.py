@@ -15,7 +15,9 @@ import unittest
 import unittest.mock
 from typing import Dict, List, Tuple
 
-from parv_commands import programs, repair, rescue
+from parv_commands.common import programs
+from parv_commands.repair import command as repair
+from parv_commands.rescue import command as rescue
 
 from .calls import BIN, Calls, left_running, take_all_signals
 from .rooms import PARV, Room, packet, read, set_of, write

@@ -18,8 +18,10 @@ import unittest
 import unittest.mock
 from typing import Iterator, List, Tuple
 
-from parv_commands import changes, folders, progress, tree, watch
-from parv_commands.state import HEAD
+from parv_commands.common import changes, folders, progress
+from parv_commands.tree import command as tree
+from parv_commands.tree.state import HEAD
+from parv_commands.watch import command as watch
 
 from .calls import BIN, Calls, left_running, slow, take_all_signals, terminal_text
 from .rooms import FULL, KILLED, PARV, At, Ended, Room, file_id, md5, packet, read, set_of, spent, write

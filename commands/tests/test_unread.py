@@ -8,7 +8,7 @@ import unittest
 import unittest.mock
 from typing import Any, Callable, List, Tuple
 
-from parv_commands import repair
+from parv_commands.repair import command as repair
 
 from .calls import BIN, Calls
 from .rooms import Ended, Room, set_of, write

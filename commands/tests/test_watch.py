@@ -10,7 +10,8 @@ import time
 import unittest.mock
 from typing import List
 
-from parv_commands import folders, watch
+from parv_commands.common import folders
+from parv_commands.watch import command as watch
 
 from .calls import BIN, Calls, take_all_signals
 from .rooms import PARV, Room, set_of, write

@@ -15,7 +15,7 @@ places=$({
 /usr/share/man/man1/$name.1"
     done
     cd "$top/examples" && printf '/usr/share/doc/parv/examples/%s\n' *
-    cd "$top/commands/parv_commands" && printf '/usr/lib/parv/parv_commands/%s\n' *.py
+    cd "$top/commands" && find parv_commands -name '*.py' | sed 's|^|/usr/lib/parv/|'
     echo "/usr/share/doc/parv/FORMATS.md
 /usr/share/doc/parv/GLOSSARY.md"
     echo /usr/share/zsh/site-functions/_parv
@@ -48,7 +48,7 @@ if cmp -s "$parv" "$room/usr/bin/parv" && [ -x "$room/usr/bin/parv" ] \
     && cmp -s "$top/completions/parv.fish" "$room/usr/share/fish/vendor_completions.d/parv.fish" \
     && cmp -s "$top/docs/FORMATS.md" "$room/usr/share/doc/parv/FORMATS.md" \
     && cmp -s "$top/docs/GLOSSARY.md" "$room/usr/share/doc/parv/GLOSSARY.md" \
-    && diff -rq --exclude=__pycache__ "$top/commands/parv_commands" "$room/usr/lib/parv/parv_commands" > /dev/null \
+    && diff -rq --exclude=__pycache__ --exclude=launcher "$top/commands/parv_commands" "$room/usr/lib/parv/parv_commands" > /dev/null \
     && diff -rq "$top/examples" "$room/usr/share/doc/parv/examples" > /dev/null; then
     echo "ok: what is installed is what was built"
 else

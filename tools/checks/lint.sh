@@ -13,7 +13,7 @@ headed() {
     find tools commands examples .ci -name __pycache__ -prune -o -type f -print 2> "$work/none" | while IFS= read -r file; do
         case $file in
         *"$1") echo "$file" ;;
-        commands/bin/*) [ "$1" != .py ] || echo "$file" ;;      # (sh reads their first lines, but they are Python.)
+        */launcher) [ "$1" != .py ] || echo "$file" ;;      # (sh reads its first lines, but it is Python.)
         *.*) ;;
         *) head -n 1 "$file" | grep -aqE "^#!.*\b$2\b" && echo "$file" ;;
         esac

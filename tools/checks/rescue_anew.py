@@ -4,6 +4,7 @@ match that it has had. The variable `commands` names the folder of the command's
 import os
 import sys
 sys.path.insert(0, os.environ["commands"])
-from parv_commands import rescue, search
+from parv_commands.common import search
+from parv_commands.rescue import command as rescue
 search.WASTE = 0
 sys.exit(rescue.main())

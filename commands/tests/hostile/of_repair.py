@@ -14,7 +14,7 @@ import signal
 from random import Random
 from typing import ContextManager, Dict, List, Optional, Tuple
 
-from parv_commands import repair
+from parv_commands.repair import command as repair
 
 from ..folding import folding
 from ..rooms import KILLED, SECRET, STAGE, At, Ended, From, Room, ends_by, fails_with, read, set_of, write

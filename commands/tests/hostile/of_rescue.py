@@ -15,7 +15,7 @@ import signal
 from random import Random
 from typing import Dict, Optional, Tuple
 
-from parv_commands import rescue
+from parv_commands.rescue import command as rescue
 
 from ..rooms import KILLED, SECRET, At, Ended, From, Room, ends_by, fails_with, read, set_of, write
 from .people import copied

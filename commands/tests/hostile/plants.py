@@ -8,10 +8,10 @@ import stat
 from random import Random
 from typing import List
 
-from parv_commands import journal
-from parv_commands.folders import Folder, Identity
-from parv_commands.journal import Made, Move, Step
-from parv_commands.stage import Stage
+from parv_commands.common.folders import Folder, Identity
+from parv_commands.repair import journal
+from parv_commands.repair.journal import Made, Move, Step
+from parv_commands.repair.work_folder import Stage
 
 from ..rooms import SECRET, STAGE, Room
 from .promises import Log

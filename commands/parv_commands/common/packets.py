@@ -1,0 +1,210 @@
+"""Reads the packets of which a set is made, as parv chooses them, and writes packet files from them."""
+
+from __future__ import annotations
+
+import hashlib
+import os
+from typing import BinaryIO, Callable, Dict, Iterable, Iterator, List, NamedTuple, Optional, Sequence, Set, Tuple
+
+from . import changes
+from .faults import FILES, Fault, faults_of
+from .parv import Parv
+from .parv_output import PacketLine, SetAnswer
+
+MAGIC = b"PAR2\0PKT"
+HEADER = 64
+PAIR = 20               # bytes of the checksums of a slice: an MD5 and a CRC-32
+PIECE = 1 << 20
+KINDS = {"main": b"PAR 2.0\0Main\0\0\0\0", "filedesc": b"PAR 2.0\0FileDesc", "ifsc": b"PAR 2.0\0IFSC\0\0\0\0",
+         "recvslic": b"PAR 2.0\0RecvSlic"}
+Key = Tuple[object, ...]
+Opener = Callable[[str], BinaryIO]
+
+
+class Member(NamedTuple):
+    """A file of the set. `first` is the number of its first slice in the whole set. `sums` has the checksums of each
+    slice, as a packet has them, or is None."""
+    id: str
+    first: int
+    length: int
+    slices: int
+    shown: str
+    name: bytes
+    whole: bytes
+    description: bytes
+    sums: Optional[List[bytes]]
+    sums_packet: Optional[bytes]
+
+    @property
+    def numbers(self) -> range:
+        """Returns the numbers of its slices in the whole set."""
+        return range(self.first, self.first + self.slices)
+
+    @property
+    def last(self) -> int:
+        return self.first + self.slices - 1
+
+
+class RecoverySet(NamedTuple):
+    """A set, with the packets that describe it. `have` is the number of its recovery slices."""
+    id: str
+    size: int
+    line: str
+    files: List[Member]
+    main: bytes
+    have: int
+
+    def own_length(self, file: Member, number: int) -> int:
+        """Returns the length without padding of the slice with this number in its file."""
+        return min(self.size, file.length - number * self.size)
+
+    def is_short(self, file: Member) -> bool:
+        """Returns whether the last slice of a file is shorter than the slice size."""
+        return file.length % self.size != 0
+
+
+def changed() -> Fault:
+    return Fault(FILES, "the packet files have changed meanwhile")
+
+
+def packet_of(owner: str, kind: str, body: bytes) -> bytes:
+    hashed = bytes.fromhex(owner) + KINDS[kind] + body
+    return MAGIC + (32 + len(hashed)).to_bytes(8, "little") + hashlib.md5(hashed).digest() + hashed
+
+
+class PacketFiles:
+    """The packet files of a call of parv. Packets are read again at the offsets that it has found."""
+
+    def __init__(self, parv: Parv, words: Sequence[str], opener: Opener) -> None:
+        self.parv, self.words, self.opener = parv, words, opener
+        self._opened: Optional[Tuple[str, BinaryIO]] = None
+
+    def _file(self, word: str) -> BinaryIO:
+        if self._opened is None or self._opened[0] != word:
+            self.close()
+            self._opened = (word, self.opener(word))
+        return self._opened[1]
+
+    def close(self) -> None:
+        if self._opened is not None:
+            self._opened[1].close()
+            self._opened = None
+
+    def name_of(self, word: str) -> str:
+        return self.parv.links.shown[word]
+
+    def pieces(self, line: PacketLine) -> Iterator[bytes]:
+        """Yields the bytes of a packet, in pieces. They must be the bytes that parv has read."""
+        hashed = hashlib.md5()
+        with faults_of("read", self.name_of(line.word)):
+            file = self._file(line.word)
+            file.seek(line.offset)
+            head = file.read(HEADER)
+        kind = KINDS.get(line.kind)
+        if (len(head) < HEADER or head[:8] != MAGIC or int.from_bytes(head[8:16], "little") != line.length
+                or head[32:48].hex() != line.set or kind not in (None, head[48:64])):
+            raise changed()
+        hashed.update(head[32:])
+        yield head
+        left = line.length - HEADER
+        while left:
+            with faults_of("read", self.name_of(line.word)):
+                piece = file.read(min(left, PIECE))
+            if not piece:
+                raise changed()
+            hashed.update(piece)
+            left -= len(piece)
+            yield piece
+        if hashed.digest() != head[16:32]:
+            raise changed()
+
+    def read(self, line: PacketLine) -> bytes:
+        return b"".join(self.pieces(line))
+
+    def exponent(self, line: PacketLine) -> int:
+        """Returns the exponent of a recovery slice, by which it differs from others."""
+        with faults_of("read", self.name_of(line.word)):
+            file = self._file(line.word)
+            file.seek(line.offset + HEADER)
+            return int.from_bytes(file.read(4), "little")
+
+
+def _key(line: PacketLine, packet: bytes) -> Key:
+    """Returns what a packet describes. If several describe the same, the first counts."""
+    if line.kind == "main":
+        return ("main",)
+    owner = packet[64:80].hex()
+    return (line.kind, owner) if line.kind == "filedesc" else (line.kind, owner, (len(packet) - 80) // PAIR)
+
+
+def read_recovery_set(found: SetAnswer, files: PacketFiles, lines: Iterable[PacketLine]) -> RecoverySet:
+    """Returns the set with the packets that parv has chosen for it."""
+    chosen: Dict[Key, bytes] = {}
+    for line in lines:
+        if line.set == found.id and line.kind in ("main", "filedesc", "ifsc") and (line.word,
+                                                                                   line.offset) not in found.aside:
+            packet = files.read(line)
+            chosen.setdefault(_key(line, packet), packet)
+    members: List[Member] = []
+    first = 0
+    try:
+        for file in found.files:
+            description = chosen["filedesc", file.id]
+            sums = chosen["ifsc", file.id, file.slices] if file.known else None
+            members.append(Member(file.id, first, file.length, file.slices, file.shown, file.name, description[80:96],
+                                  description, None if sums is None else
+                                  [sums[at:at + PAIR] for at in range(80, len(sums), PAIR)], sums))
+            first += file.slices
+        return RecoverySet(found.id, found.size, found.line, members, chosen["main",], found.have)
+    except KeyError as lost:
+        raise changed() from lost
+
+
+def recovery_lines(found: SetAnswer, files: PacketFiles, lines: Iterable[PacketLine]) -> List[PacketLine]:
+    """Returns the recovery slices that parv has counted: for each exponent the first."""
+    taken: Dict[int, PacketLine] = {}
+    for line in lines:
+        if line.set == found.id and line.kind == "recvslic" and (line.word, line.offset) not in found.aside:
+            taken.setdefault(files.exponent(line), line)
+    if len(taken) != found.have:
+        raise changed()
+    return list(taken.values())
+
+
+def names_of_others(found: SetAnswer, files: PacketFiles, lines: Iterable[PacketLine]) -> Set[bytes]:
+    """Returns the names of files of other sets in the same packet files."""
+    return {files.read(line)[120:].rstrip(b"\0") for line in lines
+            if line.set != found.id and line.kind == "filedesc"}
+
+
+def packets_for(found: RecoverySet, wanted: Set[int]) -> bytes:
+    """Returns the packets of the set. Slices that aren't wanted get checksums that no bytes will have."""
+    packets, nothing = [found.main], os.urandom(PAIR)
+    for file in found.files:
+        packets.append(file.description)
+        if file.sums and not wanted.isdisjoint(file.numbers):
+            pairs = [pair if number in wanted else nothing for number, pair in zip(file.numbers, file.sums)]
+            packets.append(packet_of(found.id, "ifsc", bytes.fromhex(file.id) + b"".join(pairs)))
+    return b"".join(packets)
+
+
+def write_for_par2(opened: int, found: RecoverySet, names: Sequence[bytes], files: PacketFiles,
+                   recovery: Iterable[PacketLine], told: Callable[[int], None]) -> None:
+    """Writes the packet file that par2 gets: the recovery slices, and the packets of the set with other names, so that
+    par2 sees no name of the set."""
+    head = [found.main]
+    for file, name in zip(found.files, names):
+        body = file.description[64:120] + name + bytes(-len(name) % 4)
+        head.append(packet_of(found.id, "filedesc", body))
+        if file.sums_packet is not None:
+            head.append(file.sums_packet)
+    pending, done = bytearray(b"".join(head)), 0
+    for line in recovery:
+        for piece in files.pieces(line):
+            pending += piece
+            if len(pending) >= PIECE:
+                changes.write(opened, bytes(pending))
+                done += len(pending)
+                pending.clear()
+                told(done)
+    changes.write(opened, bytes(pending))

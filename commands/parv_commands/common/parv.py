@@ -1,0 +1,155 @@
+"""Runs parv over files of any name. Each is a link with a short name in a temporary folder. So a command line has space
+for as many files as parv accepts, and parv misunderstands no name."""
+
+from __future__ import annotations
+
+import contextlib
+import os
+import re
+import secrets
+import stat
+from typing import Dict, Iterable, Iterator, List, Mapping, Optional, Sequence, Tuple
+
+from . import changes, parv_output, progress
+from .faults import FILES, MEMORY, NO_SET, USAGE, Fault, NoProgram, faults_of
+from .folders import Folder
+from .names import is_packet_file, shown
+from .programs import Answer, Program, answer_of
+
+MOST_FILES = 65_535         # the most files in one command line
+SPARE_FILES = 32            # files that are open in addition to those that are named
+LONGEST_LINE = 1 << 17      # the most bytes in the line of a match
+_FAULTS = (USAGE, NO_SET, FILES, MEMORY)
+_PRINTABLE = re.compile("[ -~]*")
+_ABOUT = re.compile(rb"parv: (cannot open|read fault in) ([^\n]*)\n?")
+
+
+class Links:
+    """The temporary folder of links, and the names in messages of the files by their words. `kept` has opened folders
+    through which links lead."""
+
+    def __init__(self, folder: Folder, kept: Tuple[int, ...]) -> None:
+        self.folder, self.kept = folder, kept
+        self.shown: Dict[str, str] = {}
+
+    def word(self, target: bytes, name: str, is_packet_file: bool = False) -> str:
+        """Returns the word for a file, by which parv takes it for what it is."""
+        word = f"{len(self.shown)}{'.par2' if is_packet_file else ''}"
+        with faults_of("make a link in", self.folder.shown):
+            changes.make_link(self.folder.place, word.encode(), target)
+        self.shown[word] = name
+        return word
+
+
+def _clear(folder: Folder) -> None:
+    """Removes everything in a temporary folder, which has only files and links."""
+    for name in folder.names():
+        changes.remove_file(folder.place, name)
+
+
+@contextlib.contextmanager
+def folder_within(above: Folder) -> Iterator[Folder]:
+    """Makes a new folder for temporary files, and removes it when it isn't used any more."""
+    name = f"parv-{secrets.token_hex(8)}".encode()
+    with faults_of("make a temporary folder in", above.shown):
+        changes.make_folder(above.place, name, 0o700)
+    try:
+        with faults_of("open", above.shown):
+            folder = above.inner(name)
+        try:
+            yield folder
+        finally:
+            with contextlib.suppress(OSError):
+                _clear(folder)
+            folder.close()
+    finally:
+        with contextlib.suppress(OSError):
+            changes.remove_folder(above.place, name)
+
+
+@contextlib.contextmanager
+def temporary_folder() -> Iterator[Folder]:
+    """Makes a folder for temporary files, which is removed however the command ends."""
+    above = Folder.opened(os.fsencode(os.path.abspath(os.environ.get("TMPDIR") or "/tmp")))
+    try:
+        with folder_within(above) as folder:
+            yield folder
+    finally:
+        above.close()
+
+
+def path_below(folder: Folder, name: bytes) -> bytes:
+    """Returns a path of a file below an opened folder, for a child that has the folder open too."""
+    return b"/proc/self/fd/%d/%s" % (folder.place, name)
+
+
+def fault_of(program: Program, status: int, said: bytes, command: str, names: Mapping[str, str]) -> Fault:
+    """Returns the error of a run without an answer, from what parv has said. `names` has the names for messages, by the
+    words."""
+    line = said.decode("utf-8", "backslashreplace").split("\n")[0]
+    if status < 0:
+        return NoProgram(FILES, f"{program.shown} was ended by signal {-status}")
+    if status not in _FAULTS:
+        return NoProgram(FILES, f"{program.shown} {command} has ended with status {status}, and isn't parv")
+    if not line.startswith("parv: "):
+        return parv_output.NoAnswer(command)
+    if status == USAGE and said == parv_output.CURSOR_OF_OTHERS:   # the command itself has made the cursor
+        return Fault(FILES, "a file that is searched has another length now than before")
+    about = _ABOUT.match(said)
+    name = names.get(about[2].decode("ascii", "replace")) if about else None
+    if about and name:
+        return Fault(status, f"{about[1].decode()} {name}")
+    return Fault(status, line[6:] if _PRINTABLE.fullmatch(line) else shown(os.fsencode(line[6:])))
+
+
+def most_read(files: Iterable[bytes], times: int) -> int:
+    """Returns how many bytes of these files parv reads at most: three times the length of a packet file, and `times`
+    times the length of each other one. (It reads more of packet files only if their packets overlap.)"""
+    most = 0
+    for file in files:
+        with contextlib.suppress(OSError, ValueError):
+            now = os.stat(file)
+            if stat.S_ISREG(now.st_mode):
+                most += now.st_size * (3 if is_packet_file(file) else times)
+    return most
+
+
+class Parv:
+    """The program, and the links to the files that it gets."""
+
+    def __init__(self, program: Program, links: Links) -> None:
+        self.program, self.links = program, links
+
+    def fault_of(self, status: int, said: bytes, command: str) -> Fault:
+        """Returns the error of a run without an answer."""
+        return fault_of(self.program, status, said, command, self.links.shown)
+
+    def answer(self, command: str, words: Sequence[str], most: int = 0) -> Answer:
+        with progress.doing(f"parv {command}", most):
+            return answer_of(self.program, [command.encode(), *map(os.fsencode, words)], self.links.folder.place,
+                             self.links.kept)
+
+    def text(self, command: str, words: Sequence[str]) -> bytes:
+        ended = self.answer(command, words)
+        if ended.status != 0:
+            raise self.fault_of(ended.status, ended.said, command)
+        return ended.out
+
+    def set(self, packet_words: Sequence[str], chosen: Optional[str]) -> parv_output.SetAnswer:
+        return parv_output.read_set(self.text("set", [*(["--set", chosen] if chosen else []), "--", *packet_words]))
+
+    def packets(self, packet_words: Sequence[str], chosen: Optional[str] = None) -> List[parv_output.PacketLine]:
+        found = parv_output.read_packets(self.text("packets", [*(["--set", chosen] if chosen else []), "--",
+                                                           *packet_words]))
+        if not all(packet.word in self.links.shown for packet in found):
+            raise parv_output.NoAnswer("packets")
+        return found
+
+    def verify(self, found: parv_output.SetAnswer, packet_words: Sequence[str], words: Sequence[str], tails: bool = False,
+               most: int = 0) -> parv_output.Verdict:
+        """Returns the verdict over these files. Ends with an error of parv if there is none."""
+        ended = self.answer("verify", [*(["--tails"] if tails else []), "--set", found.id, "--", *packet_words, *words],
+                            most)
+        if ended.status not in (0, 1, 2):
+            raise self.fault_of(ended.status, ended.said, "verify")
+        return parv_output.read_verdict(ended.out, ended.status, found)

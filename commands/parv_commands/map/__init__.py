@@ -1,0 +1,1 @@
+"""parv-map: draws which slices of a set are where."""

@@ -1,0 +1,1 @@
+"""parv-parts: searches for slices a part at a time."""

@@ -1,0 +1,283 @@
+"""parv-parts: searches large files for the slices of a set, a part at a time, and resumes a search that was stopped."""
+
+from __future__ import annotations
+
+import contextlib
+import fcntl
+import os
+import re
+from typing import Iterator, List, NamedTuple, Optional, Sequence
+
+from ..common import arguments, changes, output, parv_output, programs, progress
+from ..common.faults import FILES, USAGE, Fault, faults_of
+from ..common.folders import Folder
+from ..common.names import shown
+from ..common.parv import LONGEST_LINE, fault_of, most_read
+from ..common.programs import Program
+from ..common.signals import interruptible
+
+WORDS = b"words"        # the file with the arguments of the search
+NEW = b"new"            # the part that is being written
+END = "end"
+LONGEST_LAST = 4096     # the most bytes in the last line of a part
+PIECE = 1 << 20
+_ODD = re.compile(rb"[^ -~\n]")       # bytes that aren't in any line of parv
+_LAST = re.compile(rb"(end|cursor [0-9a-f:]+)\n")
+
+USAGE_TEXT = """usage: parv-parts [--tails] PARTS LIMIT FILES
+
+Searches large files for the slices of a PAR2 set, a part of LIMIT matches at a
+time, and writes all of them at the end, as `parv find` does.
+  parv-parts parts 1000 photos.par2 disc.img
+
+  --tails         finds short slices before other bytes too
+  -h, --help      prints this
+
+FILES are packet files of the set and files to be searched; they are only read.
+Each part is a file in the folder PARTS, which is made, or is empty, or is that
+of an earlier run. So a search that was stopped goes on after its last whole part
+when it is called again with the same words. LIMIT may be another one then.
+
+The exit status:
+  0  all matches were written
+  3  wrong words, no packet file, or PARTS has other files, is of a search with
+     other words, or is used by another run. Also if a searched file has another
+     length than before
+  4  no set in the packet files, or with --tails too many lengths
+  6  a file can't be read or written, or parv can't be run
+  8  no memory
+PARV names the program, if it isn't in PATH. man parv-parts has more.
+"""
+
+
+class Asked(NamedTuple):
+    """The files and options of the command line."""
+    tails: bool
+    folder: bytes
+    limit: bytes
+    files: List[bytes]
+
+
+class Part(NamedTuple):
+    """A part that is whole: its last line, and how many bytes are before it."""
+    last: str
+    length: int
+
+
+def text_of(asked: Asked) -> bytes:
+    """Returns the arguments by which the folder of a search is recognized. LIMIT isn't one of them."""
+    lines = ["parv-parts 1", *(["--tails"] if asked.tails else []), *(f"file {shown(file)}" for file in asked.files)]
+    return "".join(line + "\n" for line in lines).encode("ascii")
+
+
+class Parts:
+    """The folder of a search, and its whole parts, in order."""
+
+    def __init__(self, folder: Folder, words_text: bytes) -> None:
+        self.folder = folder
+        self._take_words(words_text)
+        self.parts: List[Part] = []
+        while not self.is_over:
+            part = self._read(b"%d" % (len(self.parts) + 1))
+            if part is None:
+                break
+            self.parts.append(part)
+
+    @property
+    def last(self) -> Optional[str]:
+        return self.parts[-1].last if self.parts else None
+
+    @property
+    def is_over(self) -> bool:
+        return self.last == END
+
+    def _shown(self, name: bytes) -> str:
+        return f"{self.folder.shown}/{name.decode()}"
+
+    def _bytes_of(self, name: bytes, most: int) -> bytes:
+        """Returns the last bytes of a regular file, or none if it isn't one."""
+        if not self.folder.is_file(name):
+            return b""
+        with faults_of("read", self._shown(name)):
+            opened = self.folder.open_to_read(name)
+            try:
+                return os.pread(opened, most, max(0, os.fstat(opened).st_size - most))
+            finally:
+                os.close(opened)
+
+    def _take_words(self, text: bytes) -> None:
+        """Records the arguments in a new folder. A folder that has other files, or other arguments, is left as it
+        is."""
+        there = set(self.folder.entries())
+        if WORDS in there and not self.folder.is_file(WORDS):
+            raise Fault(USAGE, f"{self.folder.shown} has other files")
+        written = self._bytes_of(WORDS, len(text) + 1)
+        if not written and there - {WORDS}:
+            raise Fault(USAGE, f"{self.folder.shown} has other files")
+        # (If only the arguments are there, they may have been cut.)
+        if not written or there == {WORDS} and text.startswith(written):
+            with faults_of("write", self._shown(WORDS)):
+                self._remove(WORDS)
+                with changes.new_file(self.folder.place, WORDS) as opened:
+                    changes.write(opened, text)
+                    changes.sync(opened)
+                changes.sync_folder(self.folder.place)
+        elif written != text:
+            raise Fault(USAGE, f"{self.folder.shown} is of a search with other words")
+
+    def _remove(self, name: bytes) -> None:
+        if not self.folder.is_free(name):
+            changes.remove_file(self.folder.place, name)
+
+    def _read(self, name: bytes) -> Optional[Part]:
+        """Returns a part, if it is whole: if its last line is `end`, or `cursor` and the place from which to go on."""
+        end = self._bytes_of(name, LONGEST_LAST)
+        line = end[end[:-1].rfind(b"\n") + 1:]
+        last = _LAST.fullmatch(line)
+        if last is None:
+            return None
+        now = self.folder.look(name)
+        return None if now is None else Part(last[1].decode("ascii"), now.st_size - len(line))
+
+    def add(self, pieces: Iterator[bytes]) -> int:
+        """Writes the next part, and returns its number of matches. When the part gets its name, it is on the disk, and
+        no older part comes after it."""
+        lines, pending = 0, bytearray()
+        with faults_of("write", self._shown(NEW)):
+            self._remove(NEW)
+            opened = changes.make_file(self.folder.place, NEW)
+        try:
+            for piece in pieces:
+                pending += piece
+                lines += piece.count(b"\n")
+                if len(pending) >= PIECE:
+                    with faults_of("write", self._shown(NEW)):
+                        changes.write(opened, bytes(pending))
+                    pending.clear()
+            with faults_of("write", self._shown(NEW)):
+                changes.write(opened, bytes(pending))
+                changes.sync(opened)
+        finally:
+            os.close(opened)
+        part = self._read(NEW)
+        if part is None:
+            raise parv_output.NoAnswer("find")
+        number = len(self.parts) + 1
+        with faults_of("write in", self.folder.shown):
+            self._remove(b"%d" % (number + 1))
+            self._remove(b"%d" % number)
+            changes.sync_folder(self.folder.place)
+            changes.move(self.folder.place, NEW, self.folder.place, b"%d" % number)
+            changes.sync_folder(self.folder.place)
+        self.parts.append(part)
+        return lines - 1
+
+    def tell(self) -> None:
+        """Writes the lines of all parts to standard output."""
+        for number, part in enumerate(self.parts, 1):
+            name, at = b"%d" % number, 0
+            with faults_of("read", self._shown(name)):
+                opened = self.folder.open_to_read(name)
+            try:
+                while at < part.length:
+                    with faults_of("read", self._shown(name)):
+                        piece = os.pread(opened, min(PIECE, part.length - at), at)
+                    if not piece or _ODD.search(piece):
+                        raise Fault(FILES, f"{self._shown(name)} is damaged; you may remove it")
+                    with interruptible():
+                        output.pass_on(piece)
+                    at += len(piece)
+            finally:
+                os.close(opened)
+
+
+@contextlib.contextmanager
+def locked(folder: Folder) -> Iterator[None]:
+    """Keeps other runs out of a folder. (parv doesn't inherit the lock; it ends with the command.)"""
+    lock = os.open(b".", os.O_RDONLY | os.O_DIRECTORY | os.O_CLOEXEC, dir_fd=folder.place)
+    try:
+        with faults_of("lock", folder.shown):
+            try:
+                fcntl.flock(lock, fcntl.LOCK_EX | fcntl.LOCK_NB)
+            except BlockingIOError as fault:
+                raise Fault(USAGE, f"another run is at work in {folder.shown}") from fault
+        yield
+    finally:
+        os.close(lock)
+
+
+def _is_next(line: bytes, cursor: Sequence[bytes]) -> bool:
+    """Returns whether a line has a cursor other than the one at which a part has begun."""
+    return _LAST.fullmatch(line + b"\n") is not None and line[7:] not in cursor
+
+
+def find(program: Program, asked: Asked, cursor: Sequence[bytes]) -> Iterator[bytes]:
+    """Yields the output of parv for a part, in pieces of whole lines."""
+    tails = [b"--tails"] if asked.tails else []
+    given = [b"find", *tails, b"--limit", asked.limit, *cursor, b"--", *asked.files]
+    said, rest, left = programs.Said(program), b"", int(asked.limit)       # how many matches may still come
+    with progress.doing("parv find", most_read(asked.files, 1)), programs.running(program, given) as process:
+        for piece in programs.pieces_of(process, said):
+            *lines, rest = (rest + piece).split(b"\n")
+            for line in lines:
+                if line == b"end" and left >= 0 or left == 0 and _is_next(line, cursor):
+                    left = -1       # nothing may follow the last line
+                elif left > 0 and parv_output.read_sighting(line):
+                    left -= 1
+                else:
+                    raise parv_output.NoAnswer("find")
+            if len(rest) > LONGEST_LINE:
+                raise parv_output.NoAnswer("find")
+            yield b"".join(line + b"\n" for line in lines)
+        status = programs.status_of(process)
+    if status == USAGE and bytes(said) == parv_output.CURSOR_OF_OTHERS:
+        raise Fault(USAGE, "a searched file has another length than when this search began")
+    if status != 0:
+        raise fault_of(program, status, bytes(said), "find", {})
+    if rest:
+        raise parv_output.NoAnswer("find")
+
+
+def refuse_odd(files: Sequence[bytes]) -> None:
+    """Ends the run if parv rejects a word like one of these. (The files get no links with other names, because the
+    fingerprint in a cursor covers the words.)"""
+    for file in files:
+        try:
+            file.decode("utf-8")
+        except UnicodeDecodeError as fault:
+            raise Fault(USAGE, f"the name {shown(file)} isn't UTF-8, and can't be searched") from fault
+
+
+def search(asked: Asked) -> int:
+    """Runs the command, and returns its exit status."""
+    program = arguments.needed_parv()
+    refuse_odd(asked.files)
+    programs.raise_file_limit()
+    with faults_of("make", shown(asked.folder)):
+        changes.make_path(asked.folder)
+    with contextlib.closing(Folder.opened(asked.folder)) as folder, locked(folder):
+        parts = Parts(folder, text_of(asked))
+        while not parts.is_over:
+            cursor = [b"--cursor", parts.last[7:].encode()] if parts.last else []
+            count = parts.add(find(program, asked, cursor))
+            output.say(f"part {len(parts.parts)}: {count} matches, {parts.last}")
+        parts.tell()
+    return 0
+
+
+def main() -> int:
+    parser = arguments.parser_of(USAGE_TEXT)
+    parser.add_argument("--tails", action="store_true")
+    parser.add_argument("names", metavar="FILES", nargs="*")
+
+    def run() -> int:
+        given = arguments.parsed(parser)
+        if given.help:
+            return arguments.help_lines(USAGE_TEXT)
+        names = list(map(os.fsencode, given.names))
+        if len(names) < 3 or not names[0]:
+            parser.error("there is no PARTS, no LIMIT, or there are no FILES")
+        if not re.fullmatch(rb"[1-9][0-9]{0,18}", names[1]):
+            parser.error("LIMIT is a number from 1 on")
+        return search(Asked(given.tails, names[0], names[1], names[2:]))
+    return arguments.ended("parv-parts", run)

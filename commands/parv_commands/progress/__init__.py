@@ -1,0 +1,1 @@
+"""parv-progress: runs parv, and shows how much it has read."""

@@ -1,0 +1,1 @@
+"""parv-repair: makes the files of a set complete."""

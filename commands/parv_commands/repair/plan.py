@@ -1,0 +1,163 @@
+"""The plan of a repair: which file gets which name, what is copied, made and kept, and the moves for that."""
+
+from __future__ import annotations
+
+import os
+from typing import Callable, Dict, List, NamedTuple, Optional, Sequence, Set, Tuple
+
+from ..common.equal_files import Alike
+from ..common.faults import Refused
+from ..common.folders import Folder, Identity
+from ..common.names import Taken, has_room_for_number, is_reserved, shown
+from ..common.packets import Member
+from ..common.signals import wait_point
+from .journal import ASIDE, Made, Move, Step
+from .work_folder import MADE, path_of
+
+
+class Copy(NamedTuple):
+    """A file that is copied, for the file of the set with this number."""
+    number: int
+    source: bytes
+    target: bytes
+
+
+class Backup(NamedTuple):
+    """A file that makes way for the file of the set with this number, and the name under which it is kept."""
+    number: int
+    kept: bytes
+    file: Identity
+
+
+class Plan:
+    """What is to be done for the files of a set.
+
+    For each of them, `sources` has the path of a file with its content: its own name if it is complete, and a path in
+    the stage if it is to be made. The files with names in `names_kept` keep these, since they are names of other sets.
+    """
+
+    def __init__(self, folder: Folder, files: Sequence[Member], there: Dict[bytes, Identity], sources: Sequence[bytes],
+                 repairs: Set[int], names_kept: Set[bytes]) -> None:
+        self.folder, self.files, self.there = folder, files, there
+        self.sources, self.repairs = list(sources), repairs
+        self.lines: List[str] = []
+        self.copies: List[Copy] = []
+        self.backups: List[Backup] = []
+        self._stays = names_kept | {file.name for file, source in zip(files, sources) if file.name == source}
+        self._alike = Alike(folder, there)
+        self._by_inode: Optional[Dict[int, bytes]] = None
+        self._used: Set[bytes] = set()
+        self._leaves: Set[bytes] = set()
+        self._asides: Dict[bytes, bytes] = {}
+        self._names = Taken(file.name for file in files)      # and the names under which other files are kept
+        self._number_of_cut = 1     # the number from which a name on is looked for that is cut
+        self._made: List[Made] = []
+        # For each move: the file, its origin and its target, and whether it is kept as a backup.
+        self._moves: List[Tuple[bytes, bytes, bytes, bool]] = []
+        origins = {number: origin for number in range(len(files)) for origin in [self._decide(number)]
+                   if origin is not None}
+        for number in origins:
+            self._make_way(number)
+        self._ways = len(self._moves)       # the folders are made after these moves, and before the others
+        self._make_folders([self.files[number].name for number in origins])
+        for number, origin in origins.items():
+            name = self.files[number].name
+            self._moves.append((origin, self._asides.get(origin, origin), name, False))
+
+    def _is_spare(self, name: bytes) -> bool:
+        """Returns whether a file may be renamed: it doesn't keep its name, and isn't used for a file of the set yet."""
+        return name not in self._stays and name not in self._used and not is_reserved(name)
+
+    def _spare_like(self, source: bytes) -> Optional[bytes]:
+        """Returns another file with the same bytes that may be renamed, or None. (A file that isn't spare now won't be
+        spare later.)"""
+        alike = self._alike.of(source)
+        while alike and not self._is_spare(alike[0]):
+            alike.popleft()
+        return alike[0] if alike else None
+
+    def _decide(self, number: int) -> Optional[bytes]:
+        """Returns what gets the name of a file, if that doesn't have it yet: a file that is there, or one that is to be
+        made."""
+        file, source = self.files[number], self.sources[number]
+        if source == file.name:
+            return None
+        if source not in self.there:
+            self.lines.append(f"{'repair' if number in self.repairs else 'make'} {file.shown}")
+            return source
+        if not self._is_spare(source):
+            source = self._spare_like(source) or source
+        is_spare = self._is_spare(source)
+        word = "repair" if number in self.repairs else "rename" if is_spare else "copy"
+        self.lines.append(f"{word} {file.shown}" if word == "repair" else f"{word} {shown(source)} to {file.shown}")
+        self._used.add(source)
+        if is_spare:
+            self._leaves.add(source)
+            return source
+        self.copies.append(Copy(number, source, path_of(MADE, b"copy%d" % number)))
+        return self.copies[-1].target
+
+    def _make_way(self, number: int) -> None:
+        """Moves the file that has the name of a file of the set: through the stage if it is to be renamed, otherwise to
+        a free name."""
+        name = self.files[number].name
+        now = self.folder.look(name)
+        if now is None:
+            return
+        here = name if name in self.there else self._name_of(now)
+        if here is None:
+            raise Refused(f"{shown(name)} has come meanwhile")
+        if here != name and here in self._stays:
+            raise Refused(f"{shown(name)} and {shown(here)} are one name in this file system")
+        if here in self._leaves:
+            self._asides[here] = path_of(ASIDE, b"%d" % number)
+            self._moves.append((here, here, self._asides[here], False))
+            return
+        kept = self._free_name(name)
+        self._moves.append((here, here, kept, True))
+        self.backups.append(Backup(number, kept, self.there[here]))
+        self.lines.append(f"keep {shown(here)} as {shown(kept)}")
+
+    def _free_name(self, name: bytes) -> bytes:
+        """Returns an unused name like this one. (Names that are cut for the number may be alike then. So each begins
+        with the next number: if all began with 1, their cost would grow with the square of how many they are.)"""
+        is_cut = not has_room_for_number(name)
+        kept = self.folder.free_name(name, self._names, self._number_of_cut if is_cut else 1)
+        self._names.add(kept)
+        if is_cut:
+            self._number_of_cut = int(kept.rpartition(b".")[2]) + 1
+        return kept
+
+    def _name_of(self, now: os.stat_result) -> Optional[bytes]:
+        """Returns the name of a file that is found by another form of it, as on a file system that folds case."""
+        if self._by_inode is None:
+            self._by_inode = {there.inode: name for name, there in self.there.items()}
+        name = self._by_inode.get(now.st_ino)
+        there = None if name is None else self.folder.look(name)
+        return name if there is not None and os.path.samestat(there, now) else None
+
+    def _make_folders(self, members: Sequence[bytes]) -> None:
+        """Adds the folders of these names that are to be made. (In their order, names that share a folder come one
+        after another.)"""
+        before: List[bytes] = []
+        for name in sorted(members):
+            wait_point()
+            parts = name.split(b"/")[:-1]
+            there = self.folder.depth(name)
+            shared = next((at for at, pair in enumerate(zip(before, parts)) if pair[0] != pair[1]),
+                          min(len(before), len(parts)))
+            missing = len(parts) - max(there, shared)
+            if there < len(parts):
+                before = parts
+                if missing > 0:
+                    self._made.append(Made(b"/".join(parts), missing))
+
+    def steps(self, identity: Callable[[bytes], Identity]) -> List[Step]:
+        """Returns the steps for the journal, once everything is made. Each file is recognized by its identity."""
+        moves: List[Step] = [Move(self.there.get(name) or identity(name), origin, path, kept)
+                             for name, origin, path, kept in self._moves]
+        return [*moves[:self._ways], *self._made, *moves[self._ways:]]
+
+    def made(self) -> List[bytes]:
+        """Returns the paths of files in the stage that get a name."""
+        return [origin for name, origin, _, _ in self._moves if name not in self.there]

@@ -1,0 +1,1 @@
+"""parv-rescue: copies the slices of a set out of other files."""

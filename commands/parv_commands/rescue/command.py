@@ -1,0 +1,263 @@
+"""parv-rescue: copies slices of a set out of other files, such as the image of a disc, into files of the set."""
+
+from __future__ import annotations
+
+import contextlib
+import hashlib
+import os
+import time
+from typing import List, NamedTuple, Optional, Set, Tuple
+
+from ..common import arguments, changes, output, seals, signals
+from ..common.command_files import Given, most_at_once, read_given
+from ..common.faults import FILES, NO_SET, USAGE, Fault, faults_of
+from ..common.folders import Folder
+from ..common.names import shown
+from ..common.packets import Member, RecoverySet
+from ..common.parv import Links, Parv, temporary_folder
+from ..common.search import Scanned, Search
+from ..common.slices import crc_of, md5_of
+from .record import KIND, NAME, Record, is_in
+from .states import States
+from .writer import Writer
+
+EXPECTED, TAILS = "expected", "tails"   # the two kinds of search, as the record names them
+MOST_TAILS = 256    # the most lengths that parv looks for at once
+PAUSE = 4           # the least number of seconds between two entries into the record
+
+USAGE_TEXT = """usage: parv-rescue [--tails] [--set ID] FOLDER FILES
+
+Copies the slices of a PAR2 set that are in other files, as in the image of a
+disc, into files of the set below a new folder.
+  parv-rescue saved photos.par2 disc.img
+
+  --tails         then looks at each byte for the short slices that are missing
+  --set ID        says which set, if the packet files have several
+  -h, --help      prints this
+
+FILES are packet files of the set and files to be searched; they are only read.
+FOLDER is made, or is empty, or was filled by this command. Nothing in it is
+overwritten. A run that was stopped goes on when it is called again. Files that
+have changed since are searched again.
+
+The last slice of a file is mostly shorter than the others. It is found at its
+distance from another slice of its file. With --tails it is found wherever it is,
+and so are files that are shorter than a slice. That can take long. Leave it out
+at first: if a line says that it might find more, go on with it in the same FOLDER.
+
+At the end a line for each file says `complete`, `damaged`, `wrong`, `unverified`,
+`missing` or `refused`. After a damaged one, each hole has a line `hole OFFSET
+LENGTH NAME`.
+
+The exit status:
+  0  each file of the set is complete
+  1  some file of the set isn't
+  3  wrong words, no packet file, or FOLDER is of another set or has other files
+  4  no set in the packet files, or with --tails too many lengths are missing
+  6  a file can't be read or written, or parv can't be run
+  8  no memory
+PARV names the program, if it isn't in PATH. man parv-rescue has more.
+"""
+
+
+class Asked(NamedTuple):
+    """The folder, files and options of the command line."""
+    folder: bytes
+    files: List[bytes]
+    tails: bool
+    chosen: Optional[str]
+
+
+def open_folder(path: bytes) -> Folder:
+    """Opens the folder that is written to. It must be new, empty, or have a record."""
+    with faults_of("make", shown(path)):
+        changes.make_path(path)
+    folder = Folder.opened(path)
+    if folder.entries() and not is_in(folder):
+        raise Fault(USAGE, f"{folder.shown} isn't empty, and has no {NAME.decode()}")
+    return folder
+
+
+def bytes_at(source: Scanned, offset: int, own: int, size: int) -> Tuple[bytes, bytes]:
+    """Returns the first `own` bytes of a slice at the offset of a match, and their checksums with zeros up to the slice
+    size."""
+    with faults_of("read", source.shown):
+        opened = source.opener()
+        try:
+            data = os.pread(opened, own, offset)
+        finally:
+            os.close(opened)
+    pieces = [data, bytes(size - len(data))]
+    return data, md5_of(pieces) + crc_of(pieces)
+
+
+def mark_of(given: Given, found: RecoverySet) -> str:
+    """Returns a fingerprint of what is searched: the scanned files, and which files of the set have checksums of slices.
+    (With more packet files, more of them may have some.)"""
+    return hashlib.md5(" ".join([given.mark, *(file.id for file in found.files if file.sums)]).encode()).hexdigest()
+
+
+class Rescue:
+    """A run over a folder. parv gets `most_files` of the searched files at once."""
+
+    def __init__(self, found: RecoverySet, given: Given, parv: Parv, writer: Writer, most_files: int) -> None:
+        self.found, self.given, self.parv, self.writer, self.most_files = found, given, parv, writer, most_files
+        self.complete: Set[str] = set()     # the IDs of files that are reported as complete
+
+    def search(self, tails: bool, wanted: Set[int]) -> Search:
+        return Search(self.found, self.parv, self.given.scanned, tails, wanted, not tails, self.most_files)
+
+    def run(self, tails: bool) -> Tuple[int, List[str], int]:
+        """Returns the exit status, the lines that say what is there, and how many missing short slices a search with
+        --tails might find."""
+        self.writer.prepare()
+        search = self._expected()
+        if self.writer.has_skipped:     # now it is known which files runs have begun to write
+            search = self._expected()
+        short = {number for number in search.wanted
+                 if number == search.owners[number].last and self.found.is_short(search.owners[number])}
+        if tails and short:
+            lengths = {search.owners[number].length % self.found.size for number in short}
+            if len(lengths) > MOST_TAILS:
+                raise Fault(NO_SET, "no usable set: too many tails")
+            self._searches(self.search(True, short), TAILS)
+        self.writer.refuse_begun()
+        status, lines = self._ending()
+        missing = {number for number in short if search.owners[number].id not in self.complete}
+        return status, lines, 0 if tails else self._may_find(search, missing)
+
+    def _expected(self) -> Search:
+        """Searches for what is missing, without --tails, and returns the search."""
+        writer = self.writer
+        wanted = {number for file in self.found.files if file.sums and file.id not in writer.refused
+                  for number in file.numbers if not writer.has(number)}
+        search = self.search(False, wanted)
+        self._searches(search, EXPECTED)
+        return search
+
+    def _reached(self, way: str) -> Tuple[int, int, int]:
+        """Returns the place from which this kind of search goes on in these files. An earlier run may have reached
+        it."""
+        nothing = 0, 0, 0
+        return nothing if self.writer.is_lossy else self.writer.record.reached.get((way, self.writer.mark), nothing)
+
+    def _may_find(self, search: Search, short: Set[int]) -> int:
+        """Returns how many short slices a search with --tails would still look for; 0 if it would be refused."""
+        lengths = {search.owners[number].length % self.found.size for number in short}
+        may = 0 < len(lengths) <= MOST_TAILS and self._reached(TAILS)[0] < len(self.given.scanned)
+        return len(short) if may else 0
+
+    def _searches(self, search: Search, way: str) -> None:
+        """Copies what a search finds, from the place at which it goes on, and records how far it came."""
+        search.at, search.idle = self._reached(way), self.writer.flush
+        try:
+            self._copy(search, way)
+        except BaseException:
+            with contextlib.suppress(Fault, OSError):
+                self.writer.save(search, way)
+            raise
+        self.writer.save(search, way)
+
+    def _copy(self, search: Search, way: str) -> None:
+        """Copies each slice that the search finds."""
+        key: Optional[Tuple[int, int, int]] = None
+        data, sums = b"", b""
+        with contextlib.closing(search.sightings()) as sightings:
+            for at, offset, number in sightings:
+                file, source = search.owners[number], search.scanned[at]
+                own = self.found.own_length(file, number - file.first)
+                if key != (at, offset, own):        # equal slices are found at one place, one after another
+                    key = (at, offset, own)
+                    data, sums = bytes_at(source, offset, own, self.found.size)
+                self._take(search, file, number, data, sums, f"{source.shown} has changed at {offset}")
+                if time.monotonic() - self.writer.saved > PAUSE:
+                    self.writer.save(search, way)
+
+    def _take(self, search: Search, file: Member, number: int, data: bytes, sums: bytes, else_said: str) -> None:
+        """Writes a slice if its bytes still have its checksums."""
+        if not file.sums or sums != file.sums[number - file.first]:
+            self.writer.is_lossy = True
+            output.say(else_said)
+            return
+        is_taken = self.writer.takes(file, number - file.first, data)
+        if is_taken:
+            search.wanted.discard(number)
+        elif is_taken is False:
+            search.wanted.difference_update(file.numbers)
+
+    # The lines at the end.
+
+    def _holes(self, file: Member) -> List[Tuple[int, int]]:
+        """Returns the offset and length of each hole of a file. Slices that are missing in a row make one hole."""
+        gaps: List[Tuple[int, int]] = []
+        for number in range(file.slices):
+            if not self.writer.has(file.first + number):
+                at, length = number * self.found.size, self.found.own_length(file, number)
+                if gaps and sum(gaps[-1]) == at:
+                    gaps[-1] = (gaps[-1][0], gaps[-1][1] + length)
+                else:
+                    gaps.append((at, length))
+        return gaps
+
+    def _lines_about(self, file: Member, state: str, count: int) -> List[str]:
+        """Returns the lines about a file: its state, and its holes."""
+        if state in ("complete", "refused"):
+            return [f"{state} {file.shown}"]
+        gaps = self._holes(file) if state == "damaged" else []
+        return [f"{state} {file.shown} {count}/{file.slices}",
+                *[f"hole {at} {length} {file.shown}" for at, length in gaps]]
+
+    def _ending(self) -> Tuple[int, List[str]]:
+        states = States(self.found, self.writer.folder, self.writer)
+        lines: List[str] = []
+        there = 0
+        for file in self.found.files:
+            state = states.state_of(file)
+            count = states.counts[file.id]
+            lines += self._lines_about(file, state, count)
+            if state == "complete":
+                self.complete.add(file.id)
+            there += 0 if state == "refused" else count
+        self.writer.save()
+        lines.append(f"slices {there}/{sum(file.slices for file in self.found.files)}, copied now {self.writer.copied}")
+        if self.writer.is_limited:
+            return FILES, lines
+        return (0 if len(self.complete) == len(self.found.files) else 1), lines
+
+
+def rescue(asked: Asked) -> int:
+    """Runs the command, and returns its exit status."""
+    program = arguments.needed_parv()
+    most_files = most_at_once()
+    with temporary_folder() as temporary:
+        parv = Parv(program, Links(temporary, ()))
+        given = Given(parv.links, asked.files)
+        found = read_given(parv, given, asked.chosen)[1]
+        seals.seal_to_write(KIND)       # so that nothing is made if there can't be a record
+        folder = open_folder(asked.folder)
+        writer = Writer(found, folder, Record(folder, found.id), mark_of(given, found))
+        status, lines, missing = Rescue(found, given, parv, writer, most_files).run(asked.tails)
+    signals.forget_signals()
+    output.tell(lines)
+    if missing:
+        output.say(f"short slices missing: {missing}; --tails might find more")
+    return status
+
+
+def main() -> int:
+    parser = arguments.parser_of(USAGE_TEXT)
+    parser.add_argument("--tails", action="store_true")
+    parser.add_argument("--set", type=arguments.is_set_id)
+    parser.add_argument("names", metavar="FILES", nargs="*")
+
+    def run() -> int:
+        given = arguments.parsed(parser)
+        if given.help:
+            return arguments.help_lines(USAGE_TEXT)
+        folder, *files = map(os.fsencode, given.names or [""])
+        if not folder or not files:
+            parser.error("there is no FOLDER, or there are no FILES")
+        if os.path.isfile(folder):
+            parser.error(f"{os.fsdecode(folder)} is a file: FOLDER comes before FILES")
+        return rescue(Asked(folder, files, given.tails, given.set))
+    return arguments.ended("parv-rescue", run)

@@ -1,0 +1,1 @@
+"""parv-tree: verifies each set below a folder."""

@@ -1,0 +1,415 @@
+"""parv-tree: checks each set below a folder, prints a line for each, and reports what was lost since the last time."""
+
+from __future__ import annotations
+
+import argparse
+import collections
+import contextlib
+import os
+import re
+from typing import BinaryIO, Deque, Dict, Generator, Iterable, Iterator, List, NamedTuple, Optional, Set, Tuple
+
+from ..common import arguments, output, programs, progress, signals
+from ..common.faults import FILES, NO_SET, USAGE, Fault, faults_of
+from ..common.folders import Descent, Folder
+from ..common.names import is_packet_file, shown
+from ..common.packets import PacketFiles
+from ..common.parv import SPARE_FILES, Links, Parv, folder_within, temporary_folder
+from ..common.pool import Call, Job, Pool
+from ..common.programs import Answer, Program
+from .lines import GONE, Line, Loss, json_of, json_text, json_with, known, losses
+from .looking import Looking
+from .sets import NO_MAIN, Listed, called
+from .state import Key, State, key_of
+
+LOST = 5                # the exit status if something was lost since the last time
+AT_ONCE = 256           # the most packet files that one run of parv lists
+FILES_OF_A_RUN = 8      # how many files are open here for each run of parv
+LEFT_OUT = (b".verify_and_repair", b".parv-repair")
+
+USAGE_TEXT = """usage: parv-tree [-j N] [-q] [--tails] [--json] [--state FILE] FOLDER
+
+Checks every PAR2 set below a folder and prints a line for each, as cron may do
+on a backup. It writes nothing there.
+  parv-tree -q --state backup.state /srv/backup
+
+  -j N            checks N sets side by side
+  -q              leaves out the lines of sets that are complete
+  --tails         finds short slices before other bytes too
+  --json          prints a JSON object for each set, one on a line
+  --state FILE    keeps the state in FILE, and reports what was lost since
+  -h, --help      prints this
+
+A line has the exit status of the set, its ID, what is needed and what is there,
+and its folder and name:
+    1 589c76e09f0580b9203c5b64963b8957 need 5 have 8 2019/photos
+A dash means that there is no verdict or no ID. Names are shown as parv shows
+them. Lines come in the order of folders and names. From status 3 on a line on
+standard error says why.
+
+Lost packet files change no status while all data is whole. With --state such a
+loss is reported, also with -q:
+  fewer ID have 8 was 14 NAME      recovery slices are lost
+  worse ID status 1 was 0 NAME     the status of the set is a greater one now
+  gone ID NAME                     no packet file has a packet of the set
+Each loss is reported once. FILE is written when all lines are. The first run
+has nothing to compare with.
+
+A set is one set ID in one folder: so a folder may have several sets, and a copy
+in another folder is a set of its own. It is called by its folder and by what
+the name of its first packet file has before .par2, or .vol0+1.par2 and the
+like. Packet files in which no packet is left belong to the set that is called
+like them. If there is none, they are a set of their own.
+
+A set is verified with the files in its folder, and with those in the subfolders
+that its names have; other subfolders aren't looked at. Links aren't followed. A
+name that is no plain path below the folder is reported, and nothing is read
+there.
+
+The exit status is the greatest of all:
+  0  each set is complete
+  1  a set is damaged, and a repair can be tried
+  2  a set is damaged, and too little is left for a repair
+  3  wrong words, no packet file at all, or FILE is no state of FOLDER
+  4  packet files without a set
+  5  something was lost since the last run with --state
+  6  a file, a folder or a line can't be read or written, or parv can't be run
+  8  no memory
+PARV names the program, if it isn't in PATH. man parv-tree has more.
+"""
+
+
+class Asked(NamedTuple):
+    """The folder and options of the command line."""
+    folder: bytes
+    sides: int
+    quiet: bool
+    tails: bool
+    json: bool
+    state: Optional[bytes]
+
+
+class Place:
+    """A folder with packet files: its path (with a slash after it, or empty), their names, the lines of its sets once
+    these are known, the messages before each line, and the errors of packet files by their names."""
+
+    def __init__(self, path: bytes) -> None:
+        self.path = path
+        self.packet_files: List[bytes] = []
+        self.lines: List[Optional[Line]] = []
+        self.said: Dict[int, List[str]] = {}
+        self.faults: Dict[bytes, Fault] = {}
+        self.is_known = False
+
+    def add(self, line: Optional[Line] = None) -> int:
+        self.lines.append(line)
+        return len(self.lines) - 1
+
+
+class OneSet(NamedTuple):
+    """A set that is to be verified: the number of its line in its folder, its ID, its name and its packet files."""
+    number: int
+    id: str
+    name: bytes
+    packet_files: List[bytes]
+
+
+def _walk(top: Folder, say_unread: List[Tuple[bytes, str]]) -> Iterator[bytes]:
+    """Yields the paths of all packet files below a folder. A folder that can't be read is recorded, with the reason."""
+    waiting: List[bytes] = [b""]
+    with contextlib.closing(Descent(top)) as descent:
+        while waiting:
+            signals.wait_point()
+            path = waiting.pop()
+            try:
+                with contextlib.closing(descent.opened(path)) as folder, os.scandir(folder.place) as entries:
+                    for entry in entries:
+                        name = os.fsencode(entry.name)
+                        if name in LEFT_OUT:
+                            continue
+                        if entry.is_dir(follow_symlinks=False):
+                            waiting.append(path + name + b"/")
+                        elif is_packet_file(name) and entry.is_file(follow_symlinks=False):
+                            yield path + name
+            except OSError as fault:
+                say_unread.append((path, fault.strerror or str(fault)))
+
+
+class Tree:
+    """A run over a tree."""
+
+    def __init__(self, asked: Asked, program: Program, top: Folder, temporary: Folder, state: Optional[State]) -> None:
+        self.asked, self.program, self.top, self.temporary, self.state = asked, program, top, temporary, state
+        self.most_open = programs.raise_file_limit()
+        self.pool = Pool(program, max(1, min(asked.sides, (self.most_open - SPARE_FILES) // FILES_OF_A_RUN)))
+        self.at_once = max(1, min(AT_ONCE, self.most_open - SPARE_FILES))
+        self.places: Deque[Place] = collections.deque()
+        self.next = 0                               # the line of the first place that is printed next
+        self.status = 0
+        self.count = 0
+        self.unread: List[bytes] = []               # folders that couldn't be read, so nothing is known below them
+        self.unsure: Set[bytes] = set()             # folders in which a packet file could not be read
+        self.sets: Dict[Key, Line] = {}
+
+    def run(self) -> int:
+        """Checks and prints everything, and returns the exit status."""
+        with progress.doing("packet files are looked for"):
+            self._find()
+        self.pool.waiting.extend(self._list(place) for place in self.places)
+        with progress.doing("sets are verified"):
+            self.pool.run(self._tell)
+        self._tell()
+        if not self.count and not self.status:
+            output.say(f"{self.top.shown}: no packet file")
+            self._rises_to(USAGE)
+        if self.state is not None:
+            self._compare(self.state)
+        return self.status
+
+    def _rises_to(self, status: int) -> None:
+        self.status = max(self.status, status)
+
+    def _find(self) -> None:
+        """Finds the packet files, by their folders."""
+        unread: List[Tuple[bytes, str]] = []
+        places: Dict[bytes, Place] = {}
+        for path in sorted(_walk(self.top, unread)):
+            folder, slash, name = path.rpartition(b"/")
+            places.setdefault(folder + slash, Place(folder + slash)).packet_files.append(name)
+        self.places.extend(places.values())
+        for path, why in sorted(unread):
+            output.say(f"{self.top.shown}: cannot read {shown(path[:-1]) or '.'}: {why}")
+            self.unread.append(path)
+            self._rises_to(FILES)
+
+    # The jobs.
+
+    @contextlib.contextmanager
+    def _looking(self, place: Place, said: List[str]) -> Iterator[Looking]:
+        """Runs parv in a folder."""
+        with faults_of("open", shown(place.path[:-1]) or self.top.shown):
+            folder = self.top.inner(place.path[:-1] or b".")
+        with contextlib.closing(folder), folder_within(self.temporary) as temporary:
+            yield Looking(Parv(self.program, Links(temporary, (folder.place,))), folder, said.append)
+
+    def _list(self, place: Place) -> Job:
+        """Finds the sets of a folder, and puts them into the queue, to be verified before all others."""
+        listed = Listed({}, [])
+        sets: List[OneSet] = []
+        try:
+            with self._looking(place, []) as look:
+                words_of = {name: look.word_of(name, True) for name in place.packet_files}
+                for at in range(0, len(place.packet_files), self.at_once):
+                    yield from self._read(look, place, listed, place.packet_files[at:at + self.at_once], words_of)
+                with contextlib.closing(_packet_files(look)) as files:
+                    sets = self._sets(place, listed, files)
+        except (Fault, OSError) as fault:
+            place.lines, place.said = [], {}
+            for name in place.packet_files:
+                place.faults.setdefault(name, _fault_of(fault))
+            sets = self._sets(place, listed, None)
+        place.is_known = True
+        self.pool.waiting.extendleft(self._check(place, each) for each in reversed(sets))
+
+    def _read(self, look: Looking, place: Place, listed: Listed, packet_files: List[bytes],
+              words_of: Dict[bytes, str]) -> Generator[Call, Answer, None]:
+        """Lists the packets of packet files: in one run or, if that fails, in one run for each."""
+        given = [words_of[name] for name in packet_files]
+        here = Listed(look.paths, packet_files)
+        fault: Optional[Fault] = None
+        try:
+            ended = yield look.call("packets", ["--", *given], here.take)
+            if ended.status == 0:
+                here.end()
+            else:
+                fault = look.parv.fault_of(ended.status, ended.said, "packets")
+        except Fault as why:
+            fault = why
+        if fault is not None and len(packet_files) > 1:
+            for name in packet_files:
+                yield from self._read(look, place, listed, [name], words_of)
+            return
+        listed.add(here)
+        if fault is not None:
+            place.faults[packet_files[0]] = fault
+
+    def _sets(self, place: Place, listed: Listed, files: Optional[PacketFiles]) -> List[OneSet]:
+        """Returns the sets of a folder that are to be verified. The lines of the others are known then."""
+        ids = {name: listed.ids.get(name, {}) for name in place.packet_files}
+        found: Dict[str, List[bytes]] = {}
+        lost: Dict[bytes, List[bytes]] = {}
+        for name in place.packet_files:
+            for owner in ids[name]:
+                found.setdefault(owner, []).append(name)
+            if not ids[name]:
+                lost.setdefault(called(name), []).append(name)
+        sets: List[OneSet] = []
+        for owner, packet_files in found.items():
+            name = called(packet_files[0])
+            each = OneSet(place.add(), owner, name, packet_files + lost.get(name, []))
+            if files is None or not self._is_none(place, each, listed, files):
+                sets.append(each)
+        named = {called(name) for name in place.packet_files if ids[name]}
+        for name, packet_files in lost.items():
+            if name not in named:
+                self._lose(place, name, packet_files[0])
+        return sets
+
+    def _is_none(self, place: Place, each: OneSet, listed: Listed, files: PacketFiles) -> bool:
+        """Returns whether it is known without parv that the packets of an ID are no set. Then the line is known too.
+        This isn't said if one of its packet files could not be read."""
+        if any(name in place.faults for name in each.packet_files):
+            return False
+        why = listed.why_none(each.id, files)
+        if why is not None:
+            self._know(place, each, Line(NO_SET, each.id, None, None, place.path, each.name, why), [])
+        return why is not None
+
+    def _lose(self, place: Place, name: bytes, first: bytes) -> None:
+        """Makes the line of packet files without a packet, which belong to no set."""
+        fault = place.faults.pop(first, None)
+        status, reason = (NO_SET, NO_MAIN) if fault is None else (fault.status, str(fault))
+        if fault is not None:
+            self.unsure.add(place.path)
+        number = place.add(Line(status, None, None, None, place.path, name, reason))
+        place.said[number] = [reason]
+
+    def _check(self, place: Place, each: OneSet) -> Job:
+        """Verifies a set."""
+        said: List[str] = []
+        try:
+            with self._looking(place, said) as look:
+                checked = yield from look.check(each.id, each.packet_files, self.asked.tails, self.most_open)
+            line = Line(checked.status, each.id, checked.need, checked.have, place.path, each.name)
+        except (Fault, OSError) as fault:
+            why = _fault_of(fault)
+            line = Line(why.status, each.id, None, None, place.path, each.name, str(why))
+        self._know(place, each, line, said)
+
+    def _know(self, place: Place, each: OneSet, line: Line, said: List[str]) -> None:
+        place.lines[each.number] = line
+        place.said[each.number] = said if line.reason is None else [*said, line.reason]
+
+    # Printing.
+
+    def _tell(self) -> None:
+        """Prints the lines that are known, as far as all lines before them are."""
+        while self.places and self.places[0].is_known:
+            place = self.places[0]
+            while self.next < len(place.lines):
+                line = place.lines[self.next]
+                if line is None:
+                    return
+                for text in place.said.pop(self.next, []):
+                    output.say(f"{line.called}: {text}")
+                self._tell_line(line)
+                self.next += 1
+            for name, fault in sorted(place.faults.items()):
+                output.say(f"{shown(place.path + name)}: {fault}")
+                self.unsure.add(place.path)
+                self._rises_to(fault.status)
+            self.places.popleft()
+            self.next = 0
+
+    def _tell_line(self, line: Line) -> None:
+        """Prints the line of a set, and what the set has lost."""
+        self.count += 1
+        self._rises_to(line.status)
+        before = None if self.state is None else self.state.sets.get(key_of(line))
+        found = [] if before is None else losses(line, before)
+        if line.id is not None:
+            self.sets[key_of(line)] = known(line, before)
+        shows = bool(line.status or not self.asked.quiet)
+        if self.asked.json:
+            fields = json_of(line)
+            if self.state is not None:
+                fields = json_with(fields, found, before)
+            self._write([json_text(fields)] if shows or found else [])
+        else:
+            self._write([line.text] if shows else [])
+            self._write(loss.text for loss in found)
+        if found:
+            self._rises_to(LOST)
+
+    def _write(self, lines: Iterable[str]) -> None:
+        lines = list(lines)
+        if lines:
+            progress.clear()
+            output.tell(lines)
+
+    def _compare(self, state: State) -> None:
+        """Prints which sets are gone, and keeps the new state. If there is no packet file at all, the disk may not be
+        mounted, so the earlier state stays."""
+        for key, before in state.sets.items():
+            if key in self.sets:
+                continue
+            if before.folder in self.unsure or any(before.folder.startswith(folder) for folder in self.unread):
+                self.sets[key] = before
+                continue
+            loss = Loss(GONE, before, before)
+            self._write([json_text(json_with(json_of(before, True), [loss], before)) if self.asked.json else loss.text])
+            self._rises_to(LOST)
+        if not self.count:
+            return
+        if state.is_new:
+            output.say(f"{state.shown} is new: this run has nothing to compare with")
+        try:
+            state.write(self.sets[key] for key in sorted(self.sets, key=lambda each: (each[0], each[1] or "")))
+        except Fault as fault:
+            output.say(str(fault))
+            self._rises_to(fault.status)
+
+
+def _packet_files(look: Looking) -> PacketFiles:
+    """Returns the packet files of a folder, to be read again."""
+    def opener(word: str) -> BinaryIO:
+        return open(look.folder.open_to_read(look.paths[word]), "rb")
+    return PacketFiles(look.parv, list(look.paths), opener)
+
+
+def _fault_of(fault: Exception) -> Fault:
+    """Returns the error of one set, after which the command goes on."""
+    if isinstance(fault, Fault):
+        return fault
+    assert isinstance(fault, OSError)
+    name = f"{shown(os.fsencode(fault.filename))}: " if isinstance(fault.filename, (str, bytes)) else ""
+    return Fault(FILES, f"{name}{fault.strerror or fault}")
+
+
+def tree(asked: Asked) -> int:
+    """Runs the command, and returns its exit status."""
+    program = arguments.needed_parv()
+    with contextlib.ExitStack() as used:
+        top = used.enter_context(contextlib.closing(Folder.opened(asked.folder)))
+        state: Optional[State] = None
+        if asked.state is not None:
+            state = used.enter_context(contextlib.closing(State(asked.state, asked.folder)))
+        temporary = used.enter_context(temporary_folder())
+        status = Tree(asked, program, top, temporary, state).run()
+    return status
+
+
+def _sides(text: str) -> int:
+    if not re.fullmatch("[1-9][0-9]{0,4}", text):
+        raise argparse.ArgumentTypeError("it is a number from 1 to 99999")
+    return int(text)
+
+
+def main() -> int:
+    parser = arguments.parser_of(USAGE_TEXT)
+    parser.add_argument("-j", dest="sides", type=_sides, default=1)
+    parser.add_argument("-q", dest="quiet", action="store_true")
+    parser.add_argument("--tails", action="store_true")
+    parser.add_argument("--json", action="store_true")
+    parser.add_argument("--state")
+    parser.add_argument("folder", metavar="FOLDER", nargs="?")
+
+    def run() -> int:
+        given = parser.parse_args()
+        if given.help:
+            return arguments.help_lines(USAGE_TEXT)
+        if not given.folder or given.state == "":
+            parser.error("there is no FOLDER" if not given.folder else "--state has no FILE")
+        return tree(Asked(os.fsencode(given.folder), given.sides, given.quiet, given.tails, given.json,
+                          None if given.state is None else os.fsencode(given.state)))
+    return arguments.ended("parv-tree", run)

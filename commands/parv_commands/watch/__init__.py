@@ -1,0 +1,1 @@
+"""parv-watch: verifies a folder in which files are still arriving."""
