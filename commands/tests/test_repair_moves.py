@@ -16,7 +16,7 @@ from typing import Callable, Dict, List
 from parv_commands.common import changes
 from parv_commands.common.faults import Refused
 from parv_commands.common.folders import Folder, Identity
-from parv_commands.repair import command as repair, journal
+from parv_commands.repair import carry_out, command as repair, journal
 from parv_commands.repair.journal import Made, Move, Step
 from parv_commands.repair.work_folder import Stage
 
@@ -257,7 +257,7 @@ class Moves(unittest.TestCase):
         with unittest.mock.patch.object(changes, "set_owner", side_effect=PermissionError(1, "not allowed")):
             for mode, group, wanted in ((0o640, 7, 0o600), (0o664, 0, 0o664), (0o607, 7, 0o607)):
                 before = os.stat_result([mode, *now[1:4], now[4] + 1, now[5] + group, *now[6:]])
-                repair._set_like(opened, before, b"")
+                carry_out._set_like(opened, before, b"")
                 self.assertEqual(os.fstat(opened).st_mode & 0o7777, wanted)
 
     def test_a_folder_that_becomes_a_link_leads_no_file_out(self) -> None:

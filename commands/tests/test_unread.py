@@ -159,8 +159,8 @@ class Unread(Calls):
         self.assertIn("no packet file that can be read\n", ended.said)
         self.room.fresh()
         with self.closed():
-            self.room.rename("set.par2", "moved")
-            os.symlink("moved", self.room.path("set.par2"))
+            self.room.rename("set.par2", "../moved")
+            os.symlink("../moved", self.room.path("set.par2"))
             ended = self.run_it()
         self.assertEqual((ended.status, ended.said), (3, f"{SAYS}set.par2 is a link, and isn't read\n{SAYS}no packet "
                                                          "file\n"))

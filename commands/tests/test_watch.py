@@ -92,7 +92,8 @@ class Watch(Calls):
         self.says(0, "complete")
         os.rename(self.room.path("deep/in"), os.path.join(self.room.top, "in"))
         os.symlink(os.path.join(self.room.top, "in"), self.room.path("deep/in"))
-        self.says(2, "not enough for a repair: need 2 have 0")
+        self.says(6, "can't tell whether enough is there for a repair: need 2 have 0; not looked at: deep/in (a link)")
+        os.remove(self.room.path("deep/in"))
         self.room.put("set.par2", set_of(files, 8, 0))
         self.room.put("up", b"")
         self.says(2, "not enough for a repair: need 2 have 0")
@@ -120,15 +121,17 @@ class Watch(Calls):
         self.room.rename("other/track1", "two/deep/track1")
         says_all(2, "not enough for a repair", 2)
 
-    def test_links_to_files_are_followed_and_others_left_out(self) -> None:
-        self.room.rename("first", "../elsewhere")
-        os.symlink("../elsewhere", self.room.path("first"))
+    def test_links_and_what_is_no_file_are_left_out(self) -> None:
+        os.symlink("first", self.room.path("another"))
         os.symlink("/dev/zero", self.room.path("zero"))
         os.symlink("none", self.room.path("broken"))
         os.mkfifo(self.room.path("pipe"))
         os.mkfifo(self.room.path("pipe.par2"))
         os.mkdir(self.room.path("folder.par2"))
         self.says(0, "complete")
+        self.room.rename("first", "../elsewhere")
+        os.symlink("../elsewhere", self.room.path("first"))
+        self.says(1, "a repair can be tried: need 0 have 20")      # (by its twin)
 
     def test_a_subfolder_that_may_not_be_looked_into_ends_nothing(self) -> None:
         self.room.put("set.par2", set_of({b"in/a": b"content"}, 8, 0))

@@ -68,7 +68,7 @@ def _looked_at(path: bytes) -> os.stat_result:
 
 def read_given(parv: Parv, given: Given, chosen: Optional[str]) -> Tuple[SetAnswer, RecoverySet]:
     """Returns the set of the packet files, or the one with the chosen ID. If none is chosen, a line names others."""
-    answer = parv.set(given.packet_words, chosen)
+    answer = programs.finished(parv.set(given.packet_words, chosen))
     files = PacketFiles(parv, given.packet_words, given.opener)
     listing = Listing(parv, answer.id, MOST_OTHERS + 1)
     listing.read(given.packet_words, given.packet_bytes)

@@ -124,32 +124,32 @@ class Parv:
         """Returns the error of a run without an answer."""
         return fault_of(self.program, status, said, command, self.links.shown)
 
-    def answer(self, command: str, words: Sequence[str], most: int = 0) -> Answer:
+    async def answer(self, command: str, words: Sequence[str], most: int = 0) -> Answer:
         with progress.doing(f"parv {command}", most):
-            return answer_of(self.program, [command.encode(), *map(os.fsencode, words)], self.links.folder.place,
+            return await answer_of(self.program, [command.encode(), *map(os.fsencode, words)], self.links.folder.place,
                              self.links.kept)
 
-    def text(self, command: str, words: Sequence[str]) -> bytes:
-        ended = self.answer(command, words)
+    async def text(self, command: str, words: Sequence[str]) -> bytes:
+        ended = await self.answer(command, words)
         if ended.status != 0:
             raise self.fault_of(ended.status, ended.said, command)
         return ended.out
 
-    def set(self, packet_words: Sequence[str], chosen: Optional[str]) -> parv_output.SetAnswer:
-        return parv_output.read_set(self.text("set", [*(["--set", chosen] if chosen else []), "--", *packet_words]))
+    async def set(self, packet_words: Sequence[str], chosen: Optional[str]) -> parv_output.SetAnswer:
+        return parv_output.read_set(await self.text("set", [*(["--set", chosen] if chosen else []), "--", *packet_words]))
 
-    def packets(self, packet_words: Sequence[str], chosen: Optional[str] = None) -> List[parv_output.PacketLine]:
-        found = parv_output.read_packets(self.text("packets", [*(["--set", chosen] if chosen else []), "--",
+    async def packets(self, packet_words: Sequence[str], chosen: Optional[str] = None) -> List[parv_output.PacketLine]:
+        found = parv_output.read_packets(await self.text("packets", [*(["--set", chosen] if chosen else []), "--",
                                                            *packet_words]))
         if not all(packet.word in self.links.shown for packet in found):
             raise parv_output.NoAnswer("packets")
         return found
 
-    def verify(self, found: parv_output.SetAnswer, packet_words: Sequence[str], words: Sequence[str], tails: bool = False,
-               most: int = 0) -> parv_output.Verdict:
+    async def verify(self, found: parv_output.SetAnswer, packet_words: Sequence[str], words: Sequence[str], tails: bool = False,
+                     most: int = 0, base: str = "") -> parv_output.Verdict:
         """Returns the verdict over these files. Ends with an error of parv if there is none."""
-        ended = self.answer("verify", [*(["--tails"] if tails else []), "--set", found.id, "--", *packet_words, *words],
-                            most)
+        ended = await self.answer("verify", [*(["--tails"] if tails else []), *(["-B", base] if base else []),
+                                             "--set", found.id, "--", *packet_words, *words], most)
         if ended.status not in (0, 1, 2):
             raise self.fault_of(ended.status, ended.said, "verify")
         return parv_output.read_verdict(ended.out, ended.status, found)

@@ -10,7 +10,7 @@ import selectors
 import signal
 import subprocess
 import time
-from typing import Callable, Container, Dict, Iterator, List, NamedTuple, Optional, Sequence, Tuple
+from typing import Any, Callable, Container, Coroutine, Dict, Iterator, List, NamedTuple, Optional, Sequence, Tuple, TypeVar, cast
 
 from . import progress
 from .faults import FILES, NoProgram
@@ -24,6 +24,7 @@ MOST_SAID = 1 << 16         # the most bytes of standard error that are kept
 _PR_SET_PDEATHSIG = 1
 _ROUNDS, _ROUND = 200, 0.01     # how often, and after how many seconds, it looks whether a group has ended
 _libc = ctypes.CDLL(None)
+T = TypeVar("T")
 
 
 class Program(NamedTuple):
@@ -192,7 +193,7 @@ def status_of(process: subprocess.Popen[bytes]) -> int:
         progress.show(progress.read_by(process.pid))
 
 
-def answer_of(program: Program, words: Sequence[bytes], place: Optional[int] = None, kept: Tuple[int, ...] = (),
+async def answer_of(program: Program, words: Sequence[bytes], place: Optional[int] = None, kept: Tuple[int, ...] = (),
               most: int = MOST_OUTPUT) -> Answer:
     """Runs a program to its end."""
     out, said = bytearray(), Said(program)
@@ -202,3 +203,12 @@ def answer_of(program: Program, words: Sequence[bytes], place: Optional[int] = N
             if len(out) > most:
                 raise too_much(program)
         return Answer(status_of(process), bytes(out), bytes(said))
+
+
+def finished(job: Coroutine[Any, Any, T]) -> T:
+    """Runs a coroutine to its end."""
+    try:
+        job.send(None)
+    except StopIteration as end:
+        return cast(T, end.value)
+    raise AssertionError

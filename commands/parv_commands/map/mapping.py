@@ -11,6 +11,7 @@ from ..common.faults import FILES, Fault, faults_of
 from ..common.names import shown
 from ..common.packets import Member, RecoverySet
 from ..common.parv import Parv
+from ..common.programs import finished
 from ..common.parv_output import SetAnswer, State
 from ..common.search import Scanned, Search
 from ..common.signals import wait_point
@@ -103,7 +104,8 @@ def maps_of(found: RecoverySet, answer: SetAnswer, given: Given, parv: Parv, tai
     if any(file.sums is None and file.slices for file in found.files):
         candidates = _may_be_whole(found, given, most_files)
         most = sum(scanned.length for scanned in candidates) * 2
-        verdict = parv.verify(answer, given.packet_words, [scanned.word for scanned in candidates], False, most)
+        verdict = finished(parv.verify(answer, given.packet_words, [scanned.word for scanned in candidates], False,
+                                       most))
         maps = [_map_of_unknown(each.file, state, by_name.get(each.file.name, [])) if each.file.sums is None else each
                 for each, state in zip(maps, verdict.states)]
     _take_moved(maps, Search(found, parv, given.scanned, tails, _missing(maps), most_files=most_files))

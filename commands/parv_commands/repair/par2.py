@@ -1,31 +1,31 @@
-"""Runs par2 in the stage. It gets one packet file that is written for it, and links to the files. All have names of
-their own, so par2 reads no packet that parv hasn't chosen, and no name of the set."""
+"""Lets par2 make files in the stage. It gets one packet file that is written for it, and links to the files. All have
+names of their own, so par2 reads no packet that parv hasn't chosen, and no name of the set."""
 
 from __future__ import annotations
 
 import contextlib
 import errno
 import os
-from typing import Dict, List, NamedTuple, Optional, Sequence
+import stat
+from typing import Dict, List, NamedTuple, NoReturn, Optional, Sequence, Set
 
 from ..common import changes, progress
-from ..common.faults import FILES, NO_REPAIR, Fault, NoProgram, faults_of
+from ..common.equal_files import is_same
+from ..common.faults import FILES, NO_REPAIR, Fault, NoProgram, Refused, faults_of
 from ..common.folders import Folder
 from ..common.names import shown
-from ..common.packets import PacketFiles, RecoverySet, write_for_par2
+from ..common.packets import PacketFiles, RecoverySet, recovery_lines, write_for_par2
 from ..common.parv_output import PacketLine
-from ..common.programs import Program, answer_of, find_program
+from ..common.programs import Program, answer_of, find_program, finished
+from ..common.search import Scanned
 from ..common.signals import wait_point
+from ..common.slices import fill
+from .situation import Inspection, Situation
+from .work_folder import FILES_OF_PAR2, Stage, name_for, path_of
 
 PACKETS = b"set.par2"
 _NO_LINKS = (errno.EPERM, errno.EOPNOTSUPP, errno.ENOSYS)
 UP = b"../../"          # from the folder in which par2 works to the one that is repaired
-
-
-def name_for(number: int) -> bytes:
-    """Returns the name by which par2 knows the file of the set with this number. (A name of one letter makes par2
-    0.8.1 end.)"""
-    return b"file%d" % number
 
 
 def needed_par2() -> Program:
@@ -80,7 +80,7 @@ class Bench:
         """Lets par2 repair the linked files, with files under these further names."""
         program = needed_par2()
         with progress.doing("par2 repair"):
-            ended = answer_of(program, [b"repair", b"-q", PACKETS, *extra], self.place.place)
+            ended = finished(answer_of(program, [b"repair", b"-q", PACKETS, *extra], self.place.place))
         lines = [line for line in (ended.out + b"\n" + ended.said).replace(b"\r", b"\n").split(b"\n") if line.strip()]
         last = shown(lines[-1].strip()) if lines else ""
         if ended.status < 0:
@@ -107,6 +107,101 @@ def _passed(done: int) -> None:
     progress.show(done)
 
 
-def files_of(names: Sequence[bytes]) -> List[bytes]:
-    """Returns the words for files under numbers."""
-    return [b"other%d" % number for number in range(len(names))]
+class Making:
+    """The files that par2 makes in the stage."""
+
+    def __init__(self, inspection: Inspection, situation: Situation, stage: Stage) -> None:
+        self.inspection, self.stage = inspection, stage
+        self.the_set, self.sources, self.repairs = situation.the_set, situation.sources, situation.repairs
+        self.scanned = list(inspection.verification.scanned)
+
+    def made(self) -> Dict[int, bytes]:
+        """Returns the paths of the files that were made, by their numbers."""
+        inspection = self.inspection
+        with contextlib.closing(self.stage.opened.inner(FILES_OF_PAR2)) as inner:
+            bench = Bench(inner, self.the_set)
+            self._link(bench)
+            bench.write_packets(inspection.packets,
+                                recovery_lines(inspection.answer, inspection.packets, inspection.lines))
+            linked = set(self.sources)
+            others: List[bytes] = []
+            for path in self.scanned:
+                if path not in linked:
+                    others.append(b"other%d" % len(others))
+                    bench.link(others[-1], path)
+            tried = bench.repair(others)
+            made = self._look(bench)
+            if len(made) < len(self.repairs) and tried.may_try_again:
+                bench.clear()
+                self._link(bench)
+                self._assemble(bench)
+                tried = bench.repair([])
+                made = self._look(bench)
+            if len(made) < len(self.repairs):
+                self._fail(tried.text, made)
+            return made
+
+    def _fail(self, text: str, made: Dict[int, bytes]) -> NoReturn:
+        if text == "par2 repair has ended":
+            first = min(self.repairs - set(made))
+            text += f", but {self.the_set.files[first].shown} isn't complete"
+        raise Fault(NO_REPAIR, text)
+
+    def _link(self, bench: Bench) -> None:
+        """Shows par2 the whole files."""
+        for number, source in enumerate(self.sources):
+            if source is not None:
+                bench.link(name_for(number), source)
+
+    def _look(self, bench: Bench) -> Dict[int, bytes]:
+        """Returns the files in the stage that are complete according to parv."""
+        there = bench.entries()
+        wanted = [number for number in sorted(self.repairs) if name_for(number) in there]
+        paths: Dict[int, bytes] = {}
+        for number in wanted:
+            name = name_for(number)
+            source = bench.source_of(name)
+            if source is not None:
+                if source in self.inspection.verification.files.there:
+                    paths[number] = source
+            elif stat.S_ISREG(there[name].st_mode):
+                paths[number] = path_of(FILES_OF_PAR2, name)
+        sources = finished(self.inspection.verification.sources_in_parts(list(dict.fromkeys(paths.values()))))
+        made: Dict[int, bytes] = {}
+        for number, path in paths.items():
+            source = sources[number]        # the first of several files with this content
+            if source is not None and (source == path or is_same(self.inspection.folder, source, path)):
+                made[number] = path
+        return made
+
+    def _assemble(self, bench: Bench) -> None:
+        """Puts the slices that parv has found into the files that are to be repaired, each at its offset."""
+        found = self.the_set
+        wanted = {number for one in self.repairs if found.files[one].sums for number in found.files[one].numbers}
+        begun: Set[int] = set()
+        owners = {number: one for one in self.repairs for number in found.files[one].numbers}
+        search = self.inspection.search(self.scanned, wanted, True)
+        with contextlib.closing(search.sightings()) as sightings, faults_of("write in", self.inspection.folder.shown):
+            for at, offset, number in sightings:
+                one = owners[number]
+                if one not in begun:
+                    with changes.new_file(bench.place.place, name_for(one)) as opened:
+                        changes.set_length(opened, found.files[one].length)
+                    begun.add(one)
+                place = changes.open_file(bench.place.place, name_for(one))
+                try:
+                    self._place(place, one, number, search.scanned[at], offset)
+                finally:
+                    os.close(place)
+                search.wanted.discard(number)
+
+    def _place(self, opened: int, one: int, number: int, scanned: Scanned, offset: int) -> None:
+        found = self.the_set
+        file = found.files[one]
+        source = scanned.opener()
+        try:
+            data = os.pread(source, found.own_length(file, number - file.first), offset)
+        finally:
+            os.close(source)
+        with contextlib.suppress(Refused):      # then par2 says that the slice is missing
+            fill(opened, data, (number - file.first) * found.size)

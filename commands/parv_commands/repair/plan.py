@@ -3,15 +3,15 @@
 from __future__ import annotations
 
 import os
-from typing import Callable, Dict, List, NamedTuple, Optional, Sequence, Set, Tuple
+from typing import Callable, Dict, List, NamedTuple, Optional, Sequence, Set
 
 from ..common.equal_files import Alike
 from ..common.faults import Refused
-from ..common.folders import Folder, Identity
+from ..common.folders import Identity
 from ..common.names import Taken, has_room_for_number, is_reserved, shown
-from ..common.packets import Member
 from ..common.signals import wait_point
 from .journal import ASIDE, Made, Move, Step
+from .situation import Situation
 from .work_folder import MADE, path_of
 
 
@@ -29,40 +29,71 @@ class Backup(NamedTuple):
     file: Identity
 
 
-class Plan:
-    """What is to be done for the files of a set.
+class NewName(NamedTuple):
+    """A move of a file: the path by which it is listed, the origin and the target of the move, and whether the file is
+    kept as a backup."""
+    file: bytes
+    origin: bytes
+    target: bytes
+    is_kept: bool
 
-    For each of them, `sources` has the path of a file with its content: its own name if it is complete, and a path in
-    the stage if it is to be made. The files with names in `names_kept` keep these, since they are names of other sets.
-    """
 
-    def __init__(self, folder: Folder, files: Sequence[Member], there: Dict[bytes, Identity], sources: Sequence[bytes],
-                 repairs: Set[int], names_kept: Set[bytes]) -> None:
-        self.folder, self.files, self.there = folder, files, there
-        self.sources, self.repairs = list(sources), repairs
+class Plan(NamedTuple):
+    """What is to be done for the files of a set: the lines that say it, and the copies, the moves before the folders are
+    made, these folders, and the moves after that. `backups` has the files that the first moves keep."""
+    lines: List[str]
+    copies: List[Copy]
+    moves_away: List[NewName]
+    folders: List[Made]
+    moves_in: List[NewName]
+    backups: List[Backup]
+    there: Dict[bytes, Identity]
+
+    def steps(self, identity: Callable[[bytes], Identity]) -> List[Step]:
+        """Returns the steps for the journal, once everything is made. Each file is recognized by its identity."""
+        away, inward = [[Move(self.there.get(each.file) or identity(each.file), each.origin, each.target, each.is_kept)
+                         for each in moves] for moves in (self.moves_away, self.moves_in)]
+        return [*away, *self.folders, *inward]
+
+    def made(self) -> List[bytes]:
+        """Returns the paths of files in the stage that get a name."""
+        return [each.origin for each in self.moves_in if each.file not in self.there]
+
+
+def plan_of(situation: Situation) -> Plan:
+    """Returns what is to be done."""
+    return _Planner(situation).plan()
+
+
+class _Planner:
+    """Makes a plan. A file of the folder is used for one file of the set only; for others it is copied."""
+
+    def __init__(self, situation: Situation) -> None:
+        self.folder, self.files, self.there = situation.folder, situation.the_set.files, situation.there
+        self.origins, self.repairs = situation.origins, situation.repairs
         self.lines: List[str] = []
         self.copies: List[Copy] = []
         self.backups: List[Backup] = []
-        self._stays = names_kept | {file.name for file, source in zip(files, sources) if file.name == source}
-        self._alike = Alike(folder, there)
+        self.moves_away: List[NewName] = []
+        self._stays = situation.names_of_others | {file.name for file, origin in zip(self.files, self.origins)
+                                                   if file.name == origin}
+        self._alike = Alike(self.folder, self.there)
         self._by_inode: Optional[Dict[int, bytes]] = None
         self._used: Set[bytes] = set()
         self._leaves: Set[bytes] = set()
         self._asides: Dict[bytes, bytes] = {}
-        self._names = Taken(file.name for file in files)      # and the names under which other files are kept
+        self._names = Taken(file.name for file in self.files)   # and the names under which other files are kept
         self._number_of_cut = 1     # the number from which a name on is looked for that is cut
-        self._made: List[Made] = []
-        # For each move: the file, its origin and its target, and whether it is kept as a backup.
-        self._moves: List[Tuple[bytes, bytes, bytes, bool]] = []
-        origins = {number: origin for number in range(len(files)) for origin in [self._decide(number)]
+
+    def plan(self) -> Plan:
+        origins = {number: origin for number in range(len(self.files)) for origin in [self._decide(number)]
                    if origin is not None}
         for number in origins:
             self._make_way(number)
-        self._ways = len(self._moves)       # the folders are made after these moves, and before the others
-        self._make_folders([self.files[number].name for number in origins])
-        for number, origin in origins.items():
-            name = self.files[number].name
-            self._moves.append((origin, self._asides.get(origin, origin), name, False))
+        folders = self._folders([self.files[number].name for number in origins])
+        moves_in = [NewName(origin, self._asides.get(origin, origin), self.files[number].name, False)
+                    for number, origin in origins.items()]
+        return Plan(self.lines, self.copies, self.moves_away, folders, moves_in, self.backups, self.there)
 
     def _is_spare(self, name: bytes) -> bool:
         """Returns whether a file may be renamed: it doesn't keep its name, and isn't used for a file of the set yet."""
@@ -79,7 +110,7 @@ class Plan:
     def _decide(self, number: int) -> Optional[bytes]:
         """Returns what gets the name of a file, if that doesn't have it yet: a file that is there, or one that is to be
         made."""
-        file, source = self.files[number], self.sources[number]
+        file, source = self.files[number], self.origins[number]
         if source == file.name:
             return None
         if source not in self.there:
@@ -111,10 +142,10 @@ class Plan:
             raise Refused(f"{shown(name)} and {shown(here)} are one name in this file system")
         if here in self._leaves:
             self._asides[here] = path_of(ASIDE, b"%d" % number)
-            self._moves.append((here, here, self._asides[here], False))
+            self.moves_away.append(NewName(here, here, self._asides[here], False))
             return
         kept = self._free_name(name)
-        self._moves.append((here, here, kept, True))
+        self.moves_away.append(NewName(here, here, kept, True))
         self.backups.append(Backup(number, kept, self.there[here]))
         self.lines.append(f"keep {shown(here)} as {shown(kept)}")
 
@@ -136,9 +167,10 @@ class Plan:
         there = None if name is None else self.folder.look(name)
         return name if there is not None and os.path.samestat(there, now) else None
 
-    def _make_folders(self, members: Sequence[bytes]) -> None:
-        """Adds the folders of these names that are to be made. (In their order, names that share a folder come one
+    def _folders(self, members: Sequence[bytes]) -> List[Made]:
+        """Returns the folders of these names that are to be made. (In their order, names that share a folder come one
         after another.)"""
+        folders: List[Made] = []
         before: List[bytes] = []
         for name in sorted(members):
             wait_point()
@@ -150,14 +182,5 @@ class Plan:
             if there < len(parts):
                 before = parts
                 if missing > 0:
-                    self._made.append(Made(b"/".join(parts), missing))
-
-    def steps(self, identity: Callable[[bytes], Identity]) -> List[Step]:
-        """Returns the steps for the journal, once everything is made. Each file is recognized by its identity."""
-        moves: List[Step] = [Move(self.there.get(name) or identity(name), origin, path, kept)
-                             for name, origin, path, kept in self._moves]
-        return [*moves[:self._ways], *self._made, *moves[self._ways:]]
-
-    def made(self) -> List[bytes]:
-        """Returns the paths of files in the stage that get a name."""
-        return [origin for name, origin, _, _ in self._moves if name not in self.there]
+                    folders.append(Made(b"/".join(parts), missing))
+        return folders

@@ -39,6 +39,12 @@ def path_of(*parts: bytes) -> bytes:
     return b"/".join([NAME, *parts])
 
 
+def name_for(number: int) -> bytes:
+    """Returns the name by which par2 knows the file of the set with this number. (A name of one letter makes par2
+    0.8.1 end.)"""
+    return b"file%d" % number
+
+
 class Stage:
     """The stage of a folder, while it exists. The secret is that of the user, if there is one."""
 

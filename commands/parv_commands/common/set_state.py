@@ -1,0 +1,369 @@
+"""Answers what state a set is in, with the files that are in a folder.
+
+It decides for all commands which files of the folder are packet files, which files parv gets and by which words, and what
+the verdict of parv means:
+
+- A file of the set is complete if parv finds its whole content in a file, and that file has its name, or the same bytes
+  as the one that has. This counts only if that file has stayed the same since it was listed.
+- What isn't looked at can only make a verdict better. So if something wasn't, nobody can tell that too little is left.
+"""
+
+from __future__ import annotations
+
+import contextlib
+import errno
+import itertools
+import os
+import re
+import stat
+from typing import BinaryIO, Callable, Dict, Iterable, List, NamedTuple, Optional, Sequence, Tuple
+
+from . import changes, names, parv_output, progress
+from .equal_files import is_same
+from .faults import FILES, IMPOSSIBLE, NO_SET, POSSIBLE, Fault, faults_of
+from .folders import Folder, Identity, identity_of
+from .names import RESERVED, shown
+from .packets import MAGIC
+from .parv import MOST_FILES, SPARE_FILES, Parv, path_below
+from .parv_output import SetAnswer, SetFile, Verdict
+from .signals import wait_point
+
+HERE = b"f"             # the link to the folder
+PLACE = 9               # bytes that an argument takes in addition to its own
+PART_OF_ROOM = 4        # paths take at most a fourth of a command line's capacity, so that short words fit too
+MOST_NAMED = 3          # how many files a line names that aren't looked at
+_NUMBER = re.compile(rb"[0-9]+(\.par2)?")
+Report = Callable[[str], None]
+Sources = List[Optional[bytes]]     # for each file of the set, the path of a file with its content
+Unread = Dict[bytes, str]           # what isn't looked at, and why
+
+
+# Which files there are.
+
+def why_unread(folder: Folder, name: bytes, now: os.stat_result, is_wanted: bool) -> Optional[str]:
+    """Returns why the content at a name of a folder isn't read, or None if it is, or if none is there. (A link that
+    leads to no file has none, but it may be at a name that is wanted.)"""
+    if stat.S_ISLNK(now.st_mode):
+        try:
+            is_file = stat.S_ISREG(os.stat(name, dir_fd=folder.place).st_mode)
+        except OSError as fault:
+            is_file = fault.errno != errno.ENOENT
+        return "a link" if is_wanted or is_file else None
+    if stat.S_ISREG(now.st_mode) and not os.access(name, os.R_OK, dir_fd=folder.place, effective_ids=True):
+        return os.strerror(errno.EACCES)
+    return None
+
+
+def link_on_the_way(folder: Folder, name: bytes) -> Optional[bytes]:
+    """Returns the front of a plain name at which there is a link, or None."""
+    at = 0
+    with faults_of("open", shown(name)), contextlib.closing(folder.levels(name)) as levels:
+        for _, part, now in levels:
+            at += len(part) + 1
+            if now is not None and stat.S_ISLNK(now.st_mode):
+                return name[:at - 1]
+    return None
+
+
+def _begins_as_packet_file(folder: Folder, name: bytes) -> bool:
+    with contextlib.suppress(OSError):
+        opened = folder.open_to_read(name)
+        try:
+            return os.pread(opened, len(MAGIC), 0) == MAGIC
+        finally:
+            os.close(opened)
+    return False
+
+
+class PacketFileNames(NamedTuple):
+    """The names of packet files in a folder, and of those that can't be read."""
+    names: List[bytes]
+    unread: Unread
+
+
+def packet_files_of(folder: Folder) -> PacketFileNames:
+    """Returns the packet files of a folder: those that are called so, and those that begin with a packet. parv gets no
+    more than it takes."""
+    files: List[bytes] = []
+    unread: Unread = {}
+    for name, now in folder.entries().items():
+        wait_point()
+        if names.is_packet_file(name):
+            why = why_unread(folder, name, now, True)
+            if why is not None:
+                unread[name] = why
+            elif stat.S_ISREG(now.st_mode):
+                files.append(name)
+        elif stat.S_ISREG(now.st_mode) and now.st_size >= len(MAGIC) and _begins_as_packet_file(folder, name):
+            files.append(name)
+    files.sort(key=lambda name: (not names.is_packet_file(name), name))
+    for name in files[MOST_FILES:]:
+        unread[name] = f"parv takes {MOST_FILES} files"
+    return PacketFileNames(files[:MOST_FILES], unread)
+
+
+def subfolders_of(folder: Folder, members: Iterable[bytes]) -> List[bytes]:
+    """Returns the subfolders in plain names of a set, each with a slash after it."""
+    is_there: Dict[bytes, bool] = {}
+    for name in members:
+        wait_point()
+        above = names.above(name)
+        if above and above not in is_there:
+            with faults_of("open", shown(above)):
+                is_there[above] = folder.is_folder(above)
+    return sorted(path + b"/" for path, is_folder in is_there.items() if is_folder)
+
+
+class FilesOfSet(NamedTuple):
+    """The files with which a set may be verified, what isn't looked at, and the names of the set that are refused."""
+    there: Dict[bytes, Identity]
+    unread: Unread
+    refused: Dict[bytes, str]
+
+
+def files_of(folder: Folder, members: Sequence[SetFile], packet_files: Sequence[bytes] = ()) -> FilesOfSet:
+    """Returns the files of a folder, and of the subfolders that names of the set have. A packet file is among them only
+    if it has the name of a file of the set, or begins with a packet and has the length of one."""
+    own, lengths = {file.name for file in members}, {file.length for file in members}
+    packets = set(packet_files)
+    refused: Dict[bytes, str] = {}
+    for name in own:
+        why = names.refusal(name, RESERVED)
+        if why is not None:
+            refused[name] = why
+    there: Dict[bytes, Identity] = {}
+    unread: Unread = {}
+    for path in [b"", *subfolders_of(folder, own - set(refused))]:
+        wait_point()
+        with faults_of("open", shown(path[:-1]) or folder.shown):
+            inner = folder.inner(path[:-1] or b".")
+        with contextlib.closing(inner):
+            for name, now in inner.entries().items():
+                is_own = path + name in own
+                if not is_own and (names.is_packet_file(name) or path + name in packets and now.st_size not in lengths):
+                    continue
+                why = why_unread(inner, name, now, is_own)
+                if why is not None:
+                    unread[path + name] = why
+                elif stat.S_ISREG(now.st_mode):
+                    there[path + name] = identity_of(now)
+    return FilesOfSet(there, unread, refused)
+
+
+def preferred(there: Dict[bytes, Identity], members: Sequence[SetFile]) -> List[bytes]:
+    """Returns files in the order in which they are used if there are too many: those with names of the set, then those
+    with the length of one of its files, then the longest."""
+    own, lengths = {file.name for file in members}, {file.length for file in members}
+
+    def order(path: bytes) -> Tuple[bool, bool, int]:
+        length = there[path].length or 0
+        return path not in own, length not in lengths, -length
+    return sorted(there, key=order)
+
+
+# The words by which parv gets them.
+
+def _is_text(word: bytes) -> bool:
+    try:
+        word.decode()
+    except UnicodeDecodeError:
+        return False
+    return True
+
+
+class FolderWords:
+    """The words by which parv gets files of a folder: the path below a link to the folder, whose name parv takes off. A
+    file gets a link of its own if parv would misunderstand that word, or if the words don't all fit into a command line.
+    """
+
+    def __init__(self, folder: Folder, parv: Parv) -> None:
+        self.folder, self.parv = folder, parv
+        self.paths: Dict[str, bytes] = {}       # of the files, by their words as parv shows them
+        self._by_name: Dict[str, bytes] = {}    # .. and as it shows them without the link's name
+        self._words: Dict[Tuple[bytes, bool], str] = {}
+        self._room = os.sysconf("SC_ARG_MAX") // PART_OF_ROOM
+        with faults_of("make a link in", parv.links.folder.shown):
+            changes.make_link(parv.links.folder.place, HERE, path_below(folder, b"."))
+
+    def word_of(self, path: bytes, is_packet_file: bool = False) -> str:
+        key = path, is_packet_file
+        if key not in self._words:
+            self._words[key] = self._new_word(path, is_packet_file)
+        return self._words[key]
+
+    def _new_word(self, path: bytes, is_packet_file: bool) -> str:
+        # (A path that is a number has a link too: then no two words are shown alike.)
+        word = b"%s/%s" % (HERE, path)
+        if (len(word) + PLACE <= self._room and names.is_packet_file(path) == is_packet_file and _is_text(word)
+                and not _NUMBER.fullmatch(path)):
+            self._room -= len(word) + PLACE
+            self.parv.links.shown[shown(word)] = shown(path)
+            self._by_name[shown(path)] = path
+        else:
+            wait_point()
+            word = self.parv.links.word(path_below(self.folder, path), shown(path), is_packet_file).encode()
+            self._by_name[shown(word)] = path
+        self.paths[shown(word)] = path
+        return word.decode()
+
+    def opener(self, word: str) -> BinaryIO:
+        """Opens a file by its word, as parv shows it."""
+        return open(self.folder.open_to_read(self.paths[word]), "rb")
+
+    async def verify(self, the_set: SetAnswer, packet_words: Sequence[str], paths: Sequence[bytes], tails: bool,
+                     most: int) -> Tuple[Verdict, Sources]:
+        """Returns the verdict of parv over these files, and for each file of the set the path of one of them with its
+        content."""
+        verdict = await self.parv.verify(the_set, packet_words, list(map(self.word_of, paths)), tails, most,
+                                         HERE.decode())
+        sources: Sources = []
+        for state in verdict.states:
+            if state.word is not None and state.word not in self._by_name:
+                raise parv_output.NoAnswer("verify")
+            sources.append(None if state.word is None else self._by_name[state.word])
+        return verdict, sources
+
+
+# The state of a set.
+
+class SetState(NamedTuple):
+    """The state of a set: its files as parv lists them, the files of the folder, for each file of the set the path of
+    one with its content (its own name, if that is one), the verdict, and what wasn't looked at."""
+    the_set: SetAnswer
+    there: Dict[bytes, Identity]
+    sources: Sources
+    verdict: Verdict
+    unread: Unread
+
+    @property
+    def is_complete(self) -> bool:
+        return all(file.name == source for file, source in zip(self.the_set.files, self.sources))
+
+    @property
+    def status(self) -> int:
+        """Returns the exit status that says the same."""
+        if self.is_complete:
+            return 0
+        if self.verdict.status == IMPOSSIBLE:
+            return FILES if self.unread else IMPOSSIBLE
+        return POSSIBLE
+
+
+def text_of(unread: Unread) -> str:
+    """Returns what isn't looked at: some of it, and how much more."""
+    some = [f"{shown(path)} ({why})" for path, why in itertools.islice(unread.items(), MOST_NAMED)]
+    return ", ".join(some) + (f" and {len(unread) - len(some)} more" if len(unread) > len(some) else "")
+
+
+class Verification:
+    """Verifies a set with the files of a folder. parv gets these packet files by their words, of which `packet_files` are
+    in the folder, and may have `most_open` files open."""
+
+    def __init__(self, words: FolderWords, the_set: SetAnswer, packet_words: Sequence[str], most_open: int,
+                 report: Report, packet_files: Sequence[bytes] = ()) -> None:
+        self.words, self.folder, self.the_set, self.report = words, words.folder, the_set, report
+        self.packet_words, self.packet_files = packet_words, packet_files
+        self.room = max(min(MOST_FILES, most_open - SPARE_FILES) - len(packet_words), 0)
+        self.files = FilesOfSet({}, {}, {})
+        self.scanned: List[bytes] = []          # the files that parv gets at once ..
+        self._left: List[bytes] = []            # .. and those of the set for which there is no room beside them
+
+    def gather(self) -> None:
+        """Lists the files of the folder anew."""
+        with progress.waiting("the folder is read"):
+            files = files_of(self.folder, self.the_set.files, self.packet_files)
+        self.files, self.scanned, self._left = files, list(files.there), []
+        if len(self.scanned) > self.room:
+            self.report(f"{len(files.there) - self.room} of {len(files.there)} files aren't looked at: parv takes "
+                        f"{self.room} here")
+            order = preferred(files.there, self.the_set.files)
+            members = {file.name for file in self.the_set.files}
+            for path in order[self.room:]:
+                files.unread[path] = f"parv takes {self.room} files"
+            self.scanned, self._left = order[:self.room], [path for path in order[self.room:] if path in members]
+
+    def find_links(self, sources: Sources) -> None:
+        """Adds the names of the set that lead through a link to what isn't looked at."""
+        for file, source in zip(self.the_set.files, sources):
+            if source != file.name and file.name not in self.files.refused:
+                link = link_on_the_way(self.folder, file.name)
+                if link is not None:
+                    self.files.unread[link] = "a link"
+
+    def _own_first(self, others_count: bool) -> List[bytes]:
+        """Returns the files with names of the set if they may be all that is needed, and the others are worth leaving
+        out: then these are verified first."""
+        there = self.files.there
+        own = [file.name for file in self.the_set.files
+               if file.name in there and there[file.name].length == file.length]
+        total = sum(there[path].length or 0 for path in self.scanned)
+        others = total - sum(there[name].length or 0 for name in set(own))
+        is_worth = len(own) == len(self.the_set.files) and (others > total - others or others_count and others > 0)
+        return own if is_worth and len(own) <= self.room else []
+
+    async def state(self, tails: bool = False, is_one_of_many: bool = False) -> SetState:
+        """Returns the state of the set with the files that were gathered. If it is one of many sets of the folder, or the
+        folder has much else, the other files are read only if those with names of the set aren't complete."""
+        own = self._own_first(is_one_of_many)
+        if own:
+            state = await self._state(own, tails)
+            if state.is_complete:
+                return state
+        state = await self._state(self.scanned, tails)
+        more = await self.sources_in_parts(self._left)
+        state = state._replace(sources=[source or other for source, other in zip(state.sources, more)])
+        self._refuse_changed(state)
+        return state
+
+    async def _state(self, paths: Sequence[bytes], tails: bool) -> SetState:
+        verdict, sources = await self.words.verify(self.the_set, self.packet_words, paths, tails,
+                                                   self._most(paths, tails))
+        state = SetState(self.the_set, self.files.there, self._own_sources(sources), verdict, self.files.unread)
+        self._refuse_changed(state)
+        return state
+
+    def _most(self, paths: Sequence[bytes], tails: bool) -> int:
+        there = self.files.there
+        return sum((there[path].length or 0) * (3 if tails else 2) for path in paths if path in there)
+
+    def _refuse_changed(self, state: SetState) -> None:
+        """Ends this if the set seems to be complete, but one of its files has changed since it was listed."""
+        if state.is_complete:
+            for file in self.the_set.files:
+                if not self.files.there[file.name].fits(self.folder.look(file.name)):
+                    raise Fault(FILES, f"{file.shown} has changed while it was read")
+
+    def _own_sources(self, sources: Sources) -> Sources:
+        """Returns `sources`, but with the own name of each file that has its content there, even if parv names another
+        one first."""
+        own: Sources = []
+        with progress.doing("equal files are compared"):
+            for file, source in zip(self.the_set.files, sources):
+                is_own = (source is not None and source != file.name and file.name in self.files.there
+                          and is_same(self.folder, file.name, source))
+                own.append(file.name if is_own else source)
+        return own
+
+    async def state_by_any_means(self, is_one_of_many: bool = False) -> Tuple[SetState, Optional[Fault]]:
+        """Returns the state of the set. If too little is left, it looks again for short last slices, before other bytes
+        too (--tails). If parv refuses that, the first state stays, and the reason comes with it."""
+        state = await self.state(False, is_one_of_many)
+        if state.verdict.status != IMPOSSIBLE or None not in state.sources:
+            return state, None
+        try:
+            return await self.state(True, is_one_of_many), None
+        except Fault as fault:
+            if fault.status != NO_SET:
+                raise
+            return state, fault
+
+    async def sources_in_parts(self, paths: Sequence[bytes]) -> Sources:
+        """Returns, for each file of the set, the path of one of these files with its content. parv gets as many of them
+        at once as it accepts."""
+        sources: Sources = [None] * len(self.the_set.files)
+        room = max(self.room, 1)
+        for at in range(0, len(paths), room):
+            part = paths[at:at + room]
+            _, more = await self.words.verify(self.the_set, self.packet_words, part, False, self._most(part, False))
+            sources = [source or other for source, other in zip(sources, more)]
+        return self._own_sources(sources)

@@ -1,0 +1,206 @@
+"""Carries a repair out: makes the files that are missing, gives each file its name, and verifies the result. If that
+fails, it puts everything back."""
+
+from __future__ import annotations
+
+import contextlib
+import functools
+import os
+import stat
+from typing import Callable, List, Optional, Sequence
+
+from ..common import changes, names, progress, seals, signals
+from ..common.faults import FILES, Fault, Refused, faults_of
+from ..common.folders import Folder, Identity, identity_of
+from ..common.names import shown
+from . import work_folder
+from .journal import Moves
+from .par2 import Making
+from .plan import Backup, Plan, plan_of
+from .situation import Inspection, Situation, refuse_mounted
+from .work_folder import MADE, Stage, path_of
+
+PIECE = 1 << 20
+
+
+def carry_out(inspection: Inspection, situation: Situation, removes_backups: bool) -> List[str]:
+    """Makes all files complete, and returns the lines that say what was done."""
+    folder = situation.folder
+    stage = Stage(folder, seals.needed_secret(), inspection.report)
+    moves: Optional[Moves] = None
+    try:
+        stage.make()
+        _make_empty_files(stage, situation)
+        if situation.repairs:
+            situation = situation.with_made(Making(inspection, situation, stage).made())
+        _keep_closed(situation)
+        with progress.doing("equal files are compared"):
+            plan = plan_of(situation)
+        _copy(stage, plan)
+        moves = _moves_of(folder, plan, inspection)
+        with progress.waiting("what was made is brought to the disk"):
+            stage.note(moves.steps, plan.made())
+        with progress.waiting("files are moved"):
+            moves.make()
+        inspection.verify()
+        with progress.waiting("what was moved is brought to the disk"), faults_of("write in", folder.shown):
+            changes.sync_all(folder.place)
+        removable = _removable(inspection, plan.backups) if removes_backups else []
+    except Refused as why:
+        _put_back(stage, moves, inspection)
+        raise Fault(FILES, str(why)) from why
+    except BaseException:
+        _put_back(stage, moves, inspection)
+        raise
+    with progress.waiting("temporary files are removed"):
+        stage.forget()
+        stage.clear()
+    removed = [backup.kept for backup in removable if _remove(inspection, backup)]
+    return [*plan.lines, *(f"remove {shown(kept)}" for kept in removed), "complete"]
+
+
+def _put_back(stage: Stage, moves: Optional[Moves], inspection: Inspection) -> None:
+    """Undoes what was done, and removes the stage. An error says what couldn't be undone."""
+    if not work_folder.is_there(stage.folder):
+        return
+    try:
+        with progress.waiting("all is put back"), contextlib.closing(stage):
+            if moves is not None and stage.opened.look(work_folder.JOURNAL) is not None:
+                moves.undo()
+                moves.sync()
+                stage.forget()
+            stage.clear()
+    except (Fault, Refused, OSError) as fault:
+        inspection.report(f"{fault}; {shown(work_folder.NAME)} stays, for the next run to finish or to undo")
+
+
+# Files in the stage.
+
+def _make_file(stage: Stage, name: bytes, fill: Callable[[int], None]) -> None:
+    with faults_of("write in", stage.folder.shown), contextlib.closing(stage.opened.inner(MADE)) as made:
+        with changes.new_file(made.place, name) as opened:
+            fill(opened)
+
+
+def _make_empty_files(stage: Stage, situation: Situation) -> None:
+    inside = path_of(MADE) + b"/"
+    for origin in situation.origins:
+        if origin.startswith(inside):
+            _make_file(stage, origin[len(inside):], lambda opened: None)
+
+
+def _copy(stage: Stage, plan: Plan) -> None:
+    """Makes the copies in a plan."""
+    for copy in plan.copies:
+        with progress.doing(f"{shown(copy.source)} is copied", plan.there[copy.source].length or 0):
+            _make_file(stage, names.base_of(copy.target), functools.partial(_fill, stage.folder, copy.source))
+
+
+def _fill(folder: Folder, path: bytes, opened: int) -> None:
+    """Copies a file of the folder with its times, its mode and, if that can be given, its owner."""
+    source = folder.open_to_read(path)
+    try:
+        now = os.fstat(source)
+        done = 0
+        while piece := os.read(source, PIECE):
+            signals.wait_point()
+            changes.write(opened, piece)
+            done += len(piece)
+            progress.show(done)
+        _set_like(opened, now, _access_list(source))
+        changes.set_times(opened, now.st_atime_ns, now.st_mtime_ns)
+    finally:
+        os.close(source)
+
+
+def _keep_closed(situation: Situation) -> None:
+    """Gives each file that was made the mode of the file that it replaces, and its owner if that can be given. So what
+    was private isn't readable for others, as a file that par2 makes may be."""
+    folder = situation.folder
+    for file, origin in zip(situation.the_set.files, situation.origins):
+        if origin in situation.there or not folder.is_file(file.name):
+            continue
+        with faults_of("write in", folder.shown), contextlib.ExitStack() as stack:
+            before = folder.open_to_read(file.name)
+            stack.callback(os.close, before)
+            opened = folder.open_to_read(origin)
+            stack.callback(os.close, opened)
+            _set_like(opened, os.fstat(before), _access_list(before))
+
+
+def _access_list(opened: int) -> bytes:
+    """Returns the access control list of an open file, which is empty if there are only the rights in its mode."""
+    with contextlib.suppress(OSError):
+        return os.getxattr(opened, "system.posix_acl_access")
+    return b""
+
+
+def _set_like(opened: int, before: os.stat_result, access_list: bytes) -> None:
+    """Gives a file the owner and the mode of another one. If it can't have that group, or hasn't the same access control
+    list, nobody but its owner and all others gets rights: in a mode with such a list, those of the group are the
+    greatest of all that it names. (The file loses the bits by which it would run as its owner.)"""
+    now, mode = os.fstat(opened), stat.S_IMODE(before.st_mode) & 0o777
+    if (now.st_uid, now.st_gid) != (before.st_uid, before.st_gid):
+        try:
+            changes.set_owner(opened, before.st_uid, before.st_gid)
+        except OSError:
+            if now.st_gid != before.st_gid:
+                mode &= ~stat.S_IRWXG
+    if stat.S_IMODE(now.st_mode) != mode:
+        changes.set_mode(opened, mode)
+    if mode & stat.S_IRWXG and _access_list(opened) != access_list:
+        changes.set_mode(opened, mode & ~stat.S_IRWXG)
+
+
+# Moves.
+
+def _moves_of(folder: Folder, plan: Plan, inspection: Inspection) -> Moves:
+    """Returns the moves of a plan. Within one file system, a move is done completely or not at all."""
+    def identity(path: bytes) -> Identity:
+        now = folder.look(path)
+        if now is None or not stat.S_ISREG(now.st_mode):
+            raise Refused(f"{shown(path)} has changed meanwhile")
+        return identity_of(now)
+    moves = Moves(folder, work_folder.NAME, plan.steps(identity), inspection.report)
+    ends = [end for step in moves.moves() for end in (step.origin, step.target)]
+    refuse_mounted(folder, set(map(names.above, ends)))
+    for path in ends:
+        # (Only now is the stage there, so only now can another form of its name be seen.)
+        why = None if moves.is_staged(path) else folder.obstacle(path, work_folder.NAME)
+        if why is not None:
+            raise Refused(f"{shown(path)} can't be used: {why}")
+    return moves
+
+
+# Backups.
+
+def _removable(inspection: Inspection, backups: Sequence[Backup]) -> List[Backup]:
+    """Returns the backups that may be removed: those that contain a slice of the file whose name they had."""
+    removable: List[Backup] = []
+    for backup in backups:
+        if _has_slices(inspection, backup):
+            removable.append(backup)
+        else:
+            inspection.report(f"{shown(backup.kept)} has no slice of {inspection.the_set.files[backup.number].shown} that "
+                              "is found without --tails, and stays")
+    return removable
+
+
+def _has_slices(inspection: Inspection, backup: Backup) -> bool:
+    file = inspection.the_set.files[backup.number]
+    if not file.sums or inspection.verification.files.there.get(backup.kept) != backup.file:
+        return False
+    search = inspection.search([backup.kept], set(file.numbers), False)
+    with contextlib.closing(search.sightings()) as sightings:
+        return next(sightings, None) is not None
+
+
+def _remove(inspection: Inspection, backup: Backup) -> bool:
+    """Removes a backup, if it is still the file that was kept."""
+    folder = inspection.folder
+    with faults_of("remove", shown(backup.kept)), folder.above(backup.kept) as above:
+        if not backup.file.fits(folder.look(backup.kept)):
+            inspection.report(f"{shown(backup.kept)} has changed meanwhile, and stays")
+            return False
+        changes.remove_file(above, names.base_of(backup.kept))
+        return True
