@@ -348,6 +348,22 @@ class Copies(Folders):
         self.says(self.run_it("part2"), 6, "", "parv-rescue: new/.parv-rescue is a link\n")
         self.assertEqual(read(self.path("mine")), b"")
 
+    def test_a_record_with_both_names_of_one_goes_on(self) -> None:
+        """(It has both after a kill, where a file gets another name by two calls. A copy may keep that.)"""
+        self.begin()
+        shutil.copytree(self.path("new"), self.path("copy"))
+        os.link(self.path("copy/.parv-rescue"), self.path("copy/.parv-rescue.new"))
+        ended = self.run_it("part2", "copy")
+        self.assertEqual((ended.status, ended.out), (0, WHOLE.format(11)), ended)
+        for name in "parv-rescue.kept.1", "parv-rescue.kept.2":
+            self.assertEqual(read(self.path("copy", name)), read(self.path("new/.parv-rescue")))
+        self.put("empty/.parv-rescue", b"")
+        os.link(self.path("empty/.parv-rescue"), self.path("empty/.parv-rescue.new"))
+        self.says(self.run_it("part1", "empty"), 1, PART.format(5), "")
+        for name in "copy", "empty":
+            self.says(self.run_it("part2", name), 0, WHOLE.format(0 if name == "copy" else 11), "")
+            self.assertFalse(os.path.lexists(self.path(name, ".parv-rescue.new")))
+
     def test_a_copy_goes_on_where_there_are_no_links(self) -> None:
         self.begin()
         shutil.copytree(self.path("new"), self.path("copy"))

@@ -88,11 +88,11 @@ class Record:
             self._name_new()
         if lines is None:
             self._set_aside()
-        elif not self.end:
-            self._begin([self.head])
-            self._sync_folder()
         else:
             self._remove_other_name()
+            if not self.end:
+                self._begin([self.head])
+                self._sync_folder()
         for number, line in enumerate(lines or [], 2):
             try:
                 self._take(*line.split(" "))
@@ -114,11 +114,16 @@ class Record:
             raise Fault(FILES, f"cannot lock {self.shown}: {fault.strerror}") from fault
         return place
 
-    def _remove_other_name(self) -> None:
-        """Removes the name under which this user's own record was made. (A file gets another name by two calls on some
-        file systems, and a run may have been ended between them. Others count one name more while a file is open.)"""
+    def _has_other_name(self) -> bool:
+        """Returns whether the record also has the name under which one is made. (A file gets another name by two calls
+        on some file systems, and a run may have been ended between them. Others count one name more while a file is
+        open.)"""
         now = self.folder.look(NEW)
-        if now is not None and os.path.samestat(now, os.fstat(self.place)):
+        return now is not None and os.path.samestat(now, os.fstat(self.place))
+
+    def _remove_other_name(self) -> None:
+        """Removes the name under which this user's own record was made."""
+        if self._has_other_name():
             with faults_of("write in", self.folder.shown):
                 changes.remove_file(self.folder.place, NEW)
 
@@ -126,7 +131,9 @@ class Record:
 
     def _set_aside(self) -> None:
         """Gives the record another name, once there is a new one. (If a run was ended while it did that, and the folder
-        was copied then, the new one isn't this user's own either.)"""
+        was copied then, the new one isn't this user's own either, or is the record itself.)"""
+        if self._has_other_name():
+            self._keep(NEW)
         old, self.place = self.place, self._opened(NEW, True)
         try:
             if self._lines() is None:
