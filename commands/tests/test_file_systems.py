@@ -10,7 +10,7 @@ import unittest
 import unittest.mock
 from typing import Any, Dict, List, Tuple
 
-from parv_commands.common import folders
+from parv_commands.common import changes, folders
 from parv_commands.map import command as drawing
 from parv_commands.repair import command as repair
 
@@ -65,6 +65,27 @@ class FileSystems(Calls):
         self.assertEqual(ended.said, "parv-repair: room: cannot make a link in room/.parv-repair/files: Operation not "
                                      "permitted: this file system has no links, by which par2 gets the files; copy the "
                                      "folder to another one, and repair it there\n")
+
+    def test_a_file_system_on_which_no_file_can_be_moved_gets_a_message_that_says_so(self) -> None:
+        self.room.fresh()
+        self.room.rename("fine", "stray")
+        before, fault = self.room.listing(), PermissionError(errno.EPERM, os.strerror(errno.EPERM))
+        with unittest.mock.patch.object(changes, "move", side_effect=fault):
+            ended = self.room.run(repair.main, ["room"])
+        self.assertEqual((ended.status, ended.out, self.room.listing()), (6, "", before), ended)
+        self.assertEqual(ended.said, "parv-repair: room: cannot move a file in room: Operation not permitted: this file "
+                                     "system has no links, by which a file gets a name without the danger of replacing "
+                                     "another one; copy the folder to another one, and repair it there\n")
+
+    def test_a_name_that_is_another_file_in_each_form_is_said_to_be_one(self) -> None:
+        """(exFAT by FUSE does that, where case is folded.)"""
+        self.room.fresh()
+        self.room.rename("fine", "Fine")
+        before = self.room.listing()
+        with folding(bytes.lower), unittest.mock.patch.object(os.path, "samestat", return_value=False):
+            ended = self.room.run(repair.main, ["room"])
+        self.assertEqual((ended.status, ended.out, self.room.listing()), (6, "", before), ended)
+        self.assertEqual(ended.said, "parv-repair: room: fine has come meanwhile, or is Fine in this file system\n")
 
     def folded(self) -> None:
         self.room.fresh()
@@ -161,6 +182,16 @@ class FileSystems(Calls):
         self.assertIn("this file system has no links, by which par2 gets the files", ended[2])
         self.assertEqual(ended[1].splitlines(), [
             "6", f"< disk/room/{STAGE}", "> disk/room/parv-repair.kept.1"], ended)
+
+    def test_a_rename_on_exfat_says_why_it_ends(self) -> None:
+        self.room.fresh()
+        script = (f'{self.disk("exfat")} || exit 99\nfor name in stray Fine; do cp -r room disk/$name\n'
+                  'mv disk/$name/fine x; mv x disk/$name/$name; find disk > before\n'
+                  '"$@" disk/$name; echo $?; find disk | diff before -; done')
+        ended = self.mounting(script, os.path.join(BIN, "parv-repair"))
+        self.assertEqual(ended[1].splitlines()[-2:], ["6", "6"], ended)
+        self.assertIn("cannot move a file in disk/stray: Operation not permitted: this file system has no", ended[2])
+        self.assertIn("disk/Fine: fine has come meanwhile, or is Fine in this file system", ended[2])
 
     def test_a_repair_where_case_is_folded(self) -> None:
         self.folded()

@@ -17,7 +17,7 @@ observer: Optional[Observer] = None
 
 _MOST = 1 << 30         # the greatest number of bytes that one call writes
 _NOREPLACE = 1          # the flag RENAME_NOREPLACE
-_NO_LINK = (errno.EPERM, errno.EOPNOTSUPP, errno.ENOSYS, errno.EMLINK)   # errors of a link where there can't be any
+NO_LINK = (errno.EPERM, errno.EOPNOTSUPP, errno.ENOSYS, errno.EMLINK)    # errors of a link where there can't be any
 _libc = ctypes.CDLL(None, use_errno=True)
 Data = Union[bytes, memoryview]
 
@@ -165,7 +165,7 @@ def move_entry(place: int, name: bytes, new_name: bytes) -> None:
     try:
         move(place, name, place, new_name)
     except OSError as fault:
-        if fault.errno not in _NO_LINK:
+        if fault.errno not in NO_LINK:
             raise
         with contextlib.suppress(FileNotFoundError):
             os.stat(new_name, dir_fd=place, follow_symlinks=False)

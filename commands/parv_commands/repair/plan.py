@@ -137,7 +137,9 @@ class _Planner:
             return
         here = name if name in self.there else self._name_of(now)
         if here is None:
-            raise Refused(f"{shown(name)} has come meanwhile")
+            twin = next((f", or is {shown(each)} in this file system" for each in self.there
+                         if each.lower() == name.lower()), "")
+            raise Refused(f"{shown(name)} has come meanwhile{twin}")
         if here != name and here in self._stays:
             raise Refused(f"{shown(name)} and {shown(here)} are one name in this file system")
         if here in self._leaves:

@@ -120,9 +120,21 @@ class Stage:
             with changes.new_file(self.opened.place, NEW) as new:
                 changes.write(new, self.sealed(JOURNAL, journal.encoded(steps)))
                 changes.sync(new)
-            changes.move(self.opened.place, NEW, self.opened.place, JOURNAL)
+            self._name_journal()
             changes.sync_folder(self.opened.place)
             changes.sync_folder(self.folder.place)
+
+    def _name_journal(self) -> None:
+        """Gives the journal its name. It is moved as the files of the folder will be, so this ends the run first where
+        none can be moved."""
+        try:
+            changes.move(self.opened.place, NEW, self.opened.place, JOURNAL)
+        except OSError as fault:
+            if fault.errno not in changes.NO_LINK:
+                raise
+            raise Fault(FILES, f"cannot move a file in {self.folder.shown}: {fault.strerror}: this file system has no "
+                               "links, by which a file gets a name without the danger of replacing another one; copy the "
+                               "folder to another one, and repair it there") from fault
 
     def forget(self) -> None:
         """Removes the journal, after all moves."""
