@@ -6,6 +6,7 @@ from __future__ import annotations
 import errno
 import os
 import re
+import resource
 import shutil
 import signal
 import subprocess
@@ -135,6 +136,23 @@ class Statuses(Calls):
         for name in os.listdir(BIN):
             ended = self.call("sh", os.path.join(BIN, name), "-h")
             self.assertEqual((ended[0], ended[1].split()[:2], ended[2]), (0, ["usage:", name], ""), name)
+
+    def test_too_little_memory_for_python_is_not_another_status(self) -> None:
+        for name in os.listdir(BIN):
+            for size in range(9000, 16001, 500):
+                ended = self.call(os.path.join(BIN, name), "-h", shell=f'ulimit -v {size}; exec "$@"')
+                self.assertEqual(ended, (8, "", f"{name}: out of memory\n"), size)
+
+    def test_a_shell_that_can_begin_no_program_is_not_another_status(self) -> None:
+        def limited() -> None:
+            resource.setrlimit(resource.RLIMIT_NPROC, (0, 0))
+            if not os.geteuid():        # whom this limit isn't for
+                os.setuid(65534)
+        for name in os.listdir(BIN):
+            with open(os.path.join(BIN, name), "rb") as script:
+                ended = subprocess.run(["/bin/sh"], cwd="/", stdin=script, capture_output=True, preexec_fn=limited)
+            self.assertEqual((ended.returncode, ended.stdout), (6, b""), (name, ended))
+            self.assertTrue(ended.stderr.decode().endswith(f"{name}: cannot begin\n"), ended)
 
     def test_a_signal_while_python_starts_is_not_another_status(self) -> None:
         if subprocess.run(["/usr/bin/env", "--block-signal=2", "/bin/true"], stderr=subprocess.DEVNULL).returncode:
