@@ -13,10 +13,11 @@ from typing import Any, Callable, Dict, List
 from parv_commands.common.equal_files import SKETCH, Alike
 from parv_commands.common.folders import Folder, Identity, identity_of
 from parv_commands.common.names import numbered, shown
-from parv_commands.common.packets import Member
+from parv_commands.common.packets import Member, RecoverySet
 from parv_commands.repair import command as repair, journal
 from parv_commands.repair.journal import Made, Moves
-from parv_commands.repair.plan import Plan
+from parv_commands.repair.plan import Plan, plan_of
+from parv_commands.repair.situation import Situation
 from parv_commands.tree import command as tree
 
 from .rooms import KILLED, At, Room, ends_by, read, write
@@ -115,16 +116,20 @@ class Equal(unittest.TestCase):
             counted.append(Counted("open", "stat").calls(room, main=tree.main))
         self.assertLess(counted[1], 5 * counted[0])
 
+    def plan(self, folder: Folder, members: List[bytes], there: Dict[bytes, Identity]) -> Plan:
+        """Returns the plan for files of which none is complete, and each is made."""
+        files = [Member("", number, 1, 1, shown(name), name, b"", b"", None, None) for number, name in enumerate(members)]
+        recovery_set = RecoverySet("", 1, "", files, b"", 0)
+        return plan_of(Situation(folder, recovery_set, there, [None] * len(files), set(), set(), ""))
+
     def test_long_names_cost_no_more_memory_than_a_few_copies_of_them(self) -> None:
         members = [b"/".join([b"%06d" % number] + [b"x" * 19] * 198 + [b"f"]) for number in range(100)]
-        files = [Member("", 0, 1, 1, shown(name), name, b"", b"", None, None) for name in members]
-        origins = [b".parv-repair/made/%d" % number for number in range(len(members))]
         room = self.room_of({"one": b"one"})
         folder = Folder.opened(os.fsencode(room.folder))
         self.addCleanup(folder.close)
         tracemalloc.start()
         self.addCleanup(tracemalloc.stop)
-        steps = Plan(folder, files, {}, origins, set(), set()).steps(lambda path: Identity(1, 2, 3))
+        steps = self.plan(folder, members, {}).steps(lambda path: Identity(1, 2, 3))
         journal.decoded(journal.encoded(steps))
         Moves(folder, b".parv-repair", steps, self.fail).sync()
         self.assertLess(tracemalloc.get_traced_memory()[1], 12 * sum(map(len, members)))
@@ -138,11 +143,9 @@ class Equal(unittest.TestCase):
             folder = Folder.opened(os.fsencode(room.folder))
             self.addCleanup(folder.close)
             there = {name: identity_of(os.stat(name, dir_fd=folder.place)) for name in map(os.fsencode, room.files)}
-            files = [Member("", 0, 1, 1, shown(name), name, b"", b"", None, None) for name in there]
-            origins = [b".parv-repair/made/%d" % number for number in range(count)]
             with unittest.mock.patch.object(Folder, "look", autospec=True, side_effect=Folder.look) as looks, \
                     unittest.mock.patch("parv_commands.common.folders.numbered", side_effect=numbered) as names:
-                plan = Plan(folder, files, there, origins, set(), set())
+                plan = self.plan(folder, list(there), there)
                 moves = Moves(folder, b".parv-repair", plan.steps(lambda path: Identity(1, 2, 3)), self.fail)
                 before = room.listing()
                 moves.undo()        # when no move has been made
