@@ -77,10 +77,10 @@ def manual(text):
 
 
 def usage(text):
-    """Yields the lines of a usage text, without the options and exit statuses before their
-    meanings."""
+    """Yields the lines of a usage text, without the arguments, options and exit statuses before
+    their meanings."""
     for number, line in enumerate(text.splitlines(), 1):
-        yield number, re.sub(r"^  (?:-\S.*?|\d+)(?:  +|$)", "", line).strip()
+        yield number, re.sub(r"^  (?:[A-Z]+|-\S.*?|\d+)(?:  +|$)", "", line).strip()
 
 
 def pages():
@@ -155,10 +155,10 @@ def try_patterns():
     wrong = [sentence for sentence in GOOD if list(hits(markdown(sentence)))]
     code = list(hits(markdown("    where it stands\n## Where it stands\n```\nalone\n```\n")))
     pages_text = list(hits(manual(".Bd -literal\nwhere it stands\n.Ed\n.Dl told\nIt is told.\n")))
-    help_text = list(hits(usage("usage: X FILES\n  6  where parv can't be run\n")))
+    help_text = list(hits(usage("usage: X FILES\n  FILES  What is read\n  6      where parv can't be run\n")))
     for sentence in missed + wrong:
         print(f"FAILED: the patterns say something else of: {sentence}")
-    fine = not (missed or wrong or code) and len(pages_text) == 1 and len(help_text) == 1
+    fine = not (missed or wrong or code) and len(pages_text) == 1 and len(help_text) == 2
     print("ok: each pattern of hard phrases was tried" if fine else "FAILED: the patterns of hard phrases")
     return fine
 

@@ -22,9 +22,12 @@ COMMANDS: Dict[str, Tuple[List[str], str, str]] = {
              "-j -q --tails --json --state 0 1 2 3 4 5 6 8 parv-tree"),
     "map": (["-B", "room", *GIVEN], "[--tails] [--set ID] [-B DIR] [--width N] [--html FILE] [--svg FILE] FILES",
             "--tails --set -B --width --html --svg 0 3 4 6 8 parv-map"),
-    "watch": (["room", "0", "1"], "[--tails] FOLDER [SECONDS [CHECKS]]", "--tails SECONDS CHECKS 0 1 2 3 4 6 8 parv-watch"),
-    "parts": (["parts", "9", *GIVEN], "[--tails] PARTS LIMIT FILES", "--tails 0 3 4 6 8 parv-parts"),
-    "progress": (["verify", "-B", "room", *GIVEN], "find|verify [options] FILES", "3 6 parv-progress")}
+    "watch": (["room", "0", "1"], "[-h] [--tails] FOLDER [SECONDS] [CHECKS]",
+              "FOLDER SECONDS CHECKS --tails 0 1 2 3 4 6 8 parv-watch"),
+    "parts": (["parts", "9", *GIVEN], "[-h] [--tails] PARTS LIMIT FILES",
+              "PARTS LIMIT FILES --tails 0 3 4 6 8 parv-parts"),
+    "progress": (["verify", "-B", "room", *GIVEN], "[-h] find|verify ARGUMENTS",
+                 "find|verify ARGUMENTS 3 6 parv-progress")}
 
 
 class Each(Calls):
@@ -45,7 +48,7 @@ class Each(Calls):
             status, out, said = self.call(os.path.join(BIN, f"parv-{name}"), "-h")
             self.assertEqual((status, out.split("\n")[0], said), (0, f"usage: parv-{name} {usage}", ""))
             for word in [*has.split(), "-h"]:
-                self.assertRegex(out, re.compile(f"^  {word}[ ,]", re.M), name)
+                self.assertRegex(out, re.compile(f"^  {re.escape(word)}[ ,]", re.M), name)
             self.assertEqual(self.call(os.path.join(BIN, f"parv-{name}"), "--help"), (status, out, said))
             self.assertTrue(name != "repair" or "No bytes that were in the folder are\n" in out)
 

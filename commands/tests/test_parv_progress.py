@@ -44,9 +44,9 @@ class Progress(Calls):
     def test_other_words_are_refused(self) -> None:
         wrong: List[List[str]] = [[], ["set"], ["packets", "room/set.par2"], ["-q", "verify"]]
         for words in wrong:
-            self.assertEqual(self.call(PROGRESS, *words), (3, "", "parv-progress: the first word is find or verify\n"
-                                                                  "parv-progress: usage: parv-progress find|verify "
-                                                                  "[options] FILES\n"))
+            self.assertEqual(self.call(PROGRESS, *words), (
+                3, "", "parv-progress: the first argument must be find or verify\n"
+                       "parv-progress: usage: parv-progress [-h] find|verify ARGUMENTS\n"))
 
     def test_words_come_through(self) -> None:
         shows = self.program("shows", '#!/bin/bash\nprintf "[%s]" "$@"\n')

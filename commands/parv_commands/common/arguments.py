@@ -1,4 +1,4 @@
-"""Reads the arguments of a command, and begins and ends it."""
+"""Reads the arguments of a command, prints its help, and begins and ends it."""
 
 from __future__ import annotations
 
@@ -7,12 +7,78 @@ import os
 import re
 import sys
 import traceback
-from typing import Callable, NoReturn
+from typing import Any, Callable, NoReturn, Optional
 
 from . import output, programs, signals
 from .faults import FILES, MEMORY, USAGE, Fault
 from .names import shown
 from .programs import Program
+
+WIDTH = 80
+# The help of arguments that several commands have.
+SEARCHED = "packet files of the set, and files to search (only read)"
+TAILS = "also find short slices that other bytes follow, as in an image"
+CHOSEN_SET = "choose this set, if the packet files have several"
+_REQUIRED = "the following arguments are required: "     # as argparse begins this message
+_NUL = "\0"      # no argument of a command line has one
+
+
+class _Format(argparse.RawDescriptionHelpFormatter):
+    """Formats a help in the same way on each terminal and with each version of Python."""
+
+    def __init__(self, prog: str) -> None:
+        super().__init__(prog, width=WIDTH)
+
+    def _format_action_invocation(self, action: argparse.Action) -> str:
+        """Returns the names of an option and its value once, as `-B, --base DIR`."""
+        if not action.option_strings or action.nargs == 0:
+            return super()._format_action_invocation(action)
+        return f"{', '.join(action.option_strings)} {self._format_args(action, '')}"
+
+    def _format_args(self, action: argparse.Action, default_metavar: str) -> str:
+        """Returns FILES if there may be several, and not `FILES [FILES ...]`."""
+        if action.nargs in (argparse.ONE_OR_MORE, argparse.REMAINDER):
+            return str(action.metavar)
+        return super()._format_args(action, default_metavar)
+
+
+class Parser(argparse.ArgumentParser):
+    """The arguments of a command, and its help. A usage error ends the command with 3, as it ends parv."""
+
+    def __init__(self, prog: str, description: str, epilog: str) -> None:
+        super().__init__(prog=prog, description=description, epilog=epilog, formatter_class=_Format, allow_abbrev=False)
+        self._positionals.title, self._optionals.title = "arguments", "options"
+        self.color = False      # (from Python 3.14 on, a help on a terminal would have colours)
+
+    def print_help(self, file: Any = None) -> None:
+        output.tell(self.format_help().rstrip("\n").split("\n"))
+
+    def exit(self, status: int = 0, message: Optional[str] = None) -> NoReturn:
+        """Ends the command after its help or an error."""
+        signals.forget_signals()
+        sys.exit(status)
+
+    def error(self, message: str) -> NoReturn:
+        if message.startswith(_REQUIRED):
+            names = message[len(_REQUIRED):]
+            message = f"missing argument{'s' if ', ' in names else ''}: {names}"
+        output.say(shown(os.fsencode(message.replace(_NUL, ""))))
+        output.say(" ".join(self.format_usage().split()))
+        self.exit(USAGE)
+
+
+def read(parser: Parser) -> argparse.Namespace:
+    """Returns the arguments of the command line. Options may come between the others, but no argument after `--` is an
+    option. (argparse by itself forgets that, so it gets each of these with a NUL before it.)"""
+    words = sys.argv[1:]
+    end = words.index("--") + 1 if "--" in words else len(words)
+    options = parser.parse_intermixed_args([*words[:end], *(_NUL + word for word in words[end:])])
+    for name, value in vars(options).items():
+        if isinstance(value, str):
+            setattr(options, name, value.lstrip(_NUL))
+        elif isinstance(value, list):
+            setattr(options, name, [each.lstrip(_NUL) for each in value])
+    return options
 
 
 class Words(argparse.ArgumentParser):

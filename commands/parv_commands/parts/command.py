@@ -24,29 +24,23 @@ PIECE = 1 << 20
 _ODD = re.compile(rb"[^ -~\n]")       # bytes that aren't in any line of parv
 _LAST = re.compile(rb"(end|cursor [0-9a-f:]+)\n")
 
-USAGE_TEXT = """usage: parv-parts [--tails] PARTS LIMIT FILES
+DESCRIPTION = """\
+Runs a long `parv find` in parts, so that you can stop it and continue later. At
+the end it prints the matches of all parts, as `parv find` does.
 
-Searches large files for the slices of a PAR2 set, a part of LIMIT matches at a
-time, and writes all of them at the end, as `parv find` does.
   parv-parts parts 1000 photos.par2 disc.img
 
-  --tails         finds short slices before other bytes too
-  -h, --help      prints this
-
-FILES are packet files of the set and files to be searched; they are only read.
-Each part is a file in the folder PARTS, which is made, or is empty, or is that
-of an earlier run. So a search that was stopped goes on after its last whole part
-when it is called again with the same words. LIMIT may be another one then.
-
-The exit status:
-  0  all matches were written
-  3  wrong words, no packet file, or PARTS has other files, is of a search with
-     other words, or is used by another run. Also if a searched file has another
-     length than before
-  4  no set in the packet files, or with --tails too many lengths
+To continue, run it again with the same arguments; only LIMIT may differ.
+"""
+EPILOG = """\
+exit status:
+  0  all matches were printed
+  3  usage error, or no packet file; PARTS has other files, belongs to another
+     search, or is in use; or a searched file has another length than before
+  4  no usable set, or --tails and short slices of more than 256 lengths
   6  a file can't be read or written, or parv can't be run
-  8  no memory
-PARV names the program, if it isn't in PATH. man parv-parts has more.
+  8  out of memory
+PARV names the program if it isn't in PATH. See man parv-parts.
 """
 
 
@@ -265,19 +259,23 @@ def search(asked: Asked) -> int:
     return 0
 
 
-def main() -> int:
-    parser = arguments.parser_of(USAGE_TEXT)
-    parser.add_argument("--tails", action="store_true")
-    parser.add_argument("names", metavar="FILES", nargs="*")
+def parser() -> arguments.Parser:
+    reader = arguments.Parser("parv-parts", DESCRIPTION, EPILOG)
+    reader.add_argument("parts", metavar="PARTS", help="the folder for the parts: new, empty, or of an earlier run")
+    reader.add_argument("limit", metavar="LIMIT", help="the most matches in a part")
+    reader.add_argument("files", metavar="FILES", nargs="+", help=arguments.SEARCHED)
+    reader.add_argument("--tails", action="store_true", help=arguments.TAILS)
+    return reader
 
+
+def main() -> int:
     def run() -> int:
-        given = arguments.parsed(parser)
-        if given.help:
-            return arguments.help_lines(USAGE_TEXT)
-        names = list(map(os.fsencode, given.names))
-        if len(names) < 3 or not names[0]:
-            parser.error("there is no PARTS, no LIMIT, or there are no FILES")
-        if not re.fullmatch(rb"[1-9][0-9]{0,18}", names[1]):
-            parser.error("LIMIT is a number from 1 on")
-        return search(Asked(given.tails, names[0], names[1], names[2:]))
+        reader = parser()
+        options = arguments.read(reader)
+        if not options.parts:
+            reader.error("missing argument: PARTS")
+        if not re.fullmatch("[1-9][0-9]{0,18}", options.limit):
+            reader.error("LIMIT is a number from 1 on")
+        return search(Asked(options.tails, os.fsencode(options.parts), os.fsencode(options.limit),
+                            list(map(os.fsencode, options.files))))
     return arguments.ended("parv-parts", run)

@@ -3,6 +3,7 @@ reads."""
 
 from __future__ import annotations
 
+import argparse
 import os
 import signal
 import sys
@@ -15,29 +16,28 @@ from ..common.programs import Program
 
 COMMANDS = ("find", "verify")
 
-USAGE_TEXT = """usage: parv-progress find|verify [options] FILES
+DESCRIPTION = """\
+Runs parv and shows on a terminal how much it has read, how much it reads at
+most, and how fast. The output and the exit status are those of parv.
 
-Runs parv and shows on a terminal how much it has read, of how much at most, and
-how fast. All words are those of parv, and so are its output and exit status. It
-changes nothing.
   parv-progress verify -B . ./*
+"""
+EPILOG = """\
+-h works only as the first argument: all others are read by parv.
 
-  -h, --help      prints this, as the first word
-
-Each half second a line on standard error shows how much was read:
+While parv reads, a line on standard error is updated twice a second:
   123 MiB of at most 4567 MiB, 89 MiB/s
-At most it reads three times the length of a packet file, and more only if its
-packets lie in one another. Of another file it reads its length by `find`, and
-twice its length by `verify`, or with --tails three times. Mostly it is less.
-That is no sign that anything is left out.
+The second number is a limit. It counts each packet file three times, and each
+other file once for `find`, and twice for `verify` or three times with --tails.
+parv usually reads less; nothing is skipped by that.
 
-If standard error is no terminal, nothing is shown. Nor is it if `find` writes its
-lines to a terminal: these say how far it is.
+If standard error isn't a terminal, nothing is shown. Nor is it if `find` prints
+its matches on a terminal, since these show how far it is.
 
-The exit status is that of parv, and also
-  3  if the first word isn't find or verify
-  6  if a file can't be read, the output can't be written, or parv can't be run
-PARV names the program, if it isn't in PATH. man parv-progress has more.
+exit status (that of parv, and also):
+  3  usage error: the first argument isn't find or verify
+  6  a file can't be read, the output can't be written, or parv can't be run
+PARV names the program if it isn't in PATH. See man parv-progress.
 """
 
 
@@ -74,13 +74,23 @@ def _show(program: Program, given: List[bytes]) -> int:
     return status if status >= 0 else 128 - status
 
 
+def parser() -> arguments.Parser:
+    """Returns the help of the command. Only parv reads its arguments, except the first one."""
+    reader = arguments.Parser("parv-progress", DESCRIPTION, EPILOG)
+    reader.add_argument("command", metavar="|".join(COMMANDS), choices=COMMANDS, help="the command of parv")
+    reader.add_argument("words", metavar="ARGUMENTS", nargs=argparse.REMAINDER,
+                        help="its options and files")
+    return reader
+
+
 def main() -> int:
     def run() -> int:
         given = list(map(os.fsencode, sys.argv[1:]))
         if given[:1] in ([b"-h"], [b"--help"]):
-            return arguments.help_lines(USAGE_TEXT)
+            parser().print_help()
+            return 0
         if not given or given[0] not in map(os.fsencode, COMMANDS):
-            arguments.parser_of(USAGE_TEXT).error("the first word is find or verify")
+            parser().error("the first argument must be find or verify")
         program = arguments.needed_parv()
         programs.raise_file_limit()
         if not progress.can_show() or given[0] == b"find" and _is_terminal(1):

@@ -18,28 +18,25 @@ from ..common.set_state import FolderWords, SetState, Verification, packet_files
 COMPLETE = 0
 SECONDS = 60.0      # seconds from one check to the next
 
-USAGE_TEXT = """usage: parv-watch [--tails] FOLDER [SECONDS [CHECKS]]
+DESCRIPTION = """\
+Verifies FOLDER again and again until all files of its PAR2 set are complete,
+for example during a download. It prints a line for each check, and changes
+nothing.
 
-Verifies a folder into which the files of a PAR2 set still come, again and again,
-until each file of the set is complete. It prints a line for each check, and
-changes nothing. It looks at the files in FOLDER and in the subfolders that
-names of the set have, and reads all of them in each check.
   parv-watch download
+"""
+EPILOG = """\
+Each check reads all files in FOLDER and in the subfolders of the set.
 
-  --tails         finds short slices before other bytes too
-  -h, --help      prints this
-  SECONDS         how long it waits between two checks, else 60
-  CHECKS          after how many checks it ends in any case
-
-The exit status is that of the last check:
-  0  complete
+exit status (of the last check):
+  0  all files are complete
   1  a repair can be tried
-  2  not enough is there for a repair
-  3  no packet file, or wrong words
-  4  no set in the packet files, or with --tails too many lengths
-  6  a file can't be read, the lines can't be written, or parv can't be run
-  8  no memory, which ends it
-PARV names the program, if it isn't in PATH. man parv-watch has more.
+  2  too few slices are there for a repair
+  3  usage error, or no packet file
+  4  no usable set, or --tails and short slices of more than 256 lengths
+  6  a file can't be read, a line can't be written, or parv can't be run
+  8  out of memory; no check follows
+PARV names the program if it isn't in PATH. See man parv-watch.
 """
 
 
@@ -120,21 +117,25 @@ def asked_for(folder: str, tails: bool, numbers: Sequence[str]) -> Optional[Aske
                  int(numbers[1]) if len(numbers) > 1 else None)
 
 
-def main() -> int:
-    parser = arguments.parser_of(USAGE_TEXT)
-    parser.add_argument("--tails", action="store_true")
-    parser.add_argument("names", metavar="FOLDER", nargs="*")
+def parser() -> arguments.Parser:
+    reader = arguments.Parser("parv-watch", DESCRIPTION, EPILOG)
+    reader.add_argument("folder", metavar="FOLDER", help="the folder into which the files come")
+    reader.add_argument("seconds", metavar="SECONDS", nargs="?", help="the time between two checks (default: 60)")
+    reader.add_argument("checks", metavar="CHECKS", nargs="?",
+                        help="how many checks to make at most (default: no limit)")
+    reader.add_argument("--tails", action="store_true", help=arguments.TAILS)
+    return reader
 
+
+def main() -> int:
     def run() -> int:
-        given = arguments.parsed(parser)
-        if given.help:
-            return arguments.help_lines(USAGE_TEXT)
-        if not given.names or not given.names[0]:
-            parser.error("there is no FOLDER")
-        if len(given.names) > 3:
-            parser.error("there are more words than FOLDER, SECONDS and CHECKS")
-        asked = asked_for(given.names[0], given.tails, given.names[1:])
+        reader = parser()
+        options = arguments.read(reader)
+        if not options.folder:
+            reader.error("missing argument: FOLDER")
+        numbers = [number for number in (options.seconds, options.checks) if number is not None]
+        asked = asked_for(options.folder, options.tails, numbers)
         if asked is None:
-            parser.error("SECONDS is a number such as 60 or 0.5, and CHECKS a whole number from 1 on")
+            reader.error("SECONDS is a number such as 60 or 0.5, and CHECKS a whole number from 1 on")
         return watch(asked)
     return arguments.ended("parv-watch", run)
