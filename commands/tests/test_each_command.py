@@ -17,11 +17,12 @@ GIVEN = ["room/set.par2", "room/first", "room/second"]
 COMMANDS: Dict[str, Tuple[List[str], str, str]] = {
     "repair": (["--dry-run", "room"], "[--dry-run] [--remove-backups] [--set ID] FOLDER",
                "--dry-run --remove-backups --set 0 1 2 3 4 5 6 8"),
-    "rescue": (["new", *GIVEN], "[--tails] [--set ID] FOLDER FILES", "--tails --set 0 1 3 4 6 8 parv-rescue"),
+    "rescue": (["new", *GIVEN], "[-h] [--tails] [--set ID] FOLDER FILES",
+               "FOLDER FILES --tails --set 0 1 3 4 6 8 parv-rescue"),
     "tree": (["room"], "[-j N] [-q] [--tails] [--json] [--state FILE] FOLDER",
              "-j -q --tails --json --state 0 1 2 3 4 5 6 8 parv-tree"),
-    "map": (["-B", "room", *GIVEN], "[--tails] [--set ID] [-B DIR] [--width N] [--html FILE] [--svg FILE] FILES",
-            "--tails --set -B --width --html --svg 0 3 4 6 8 parv-map"),
+    "map": (["-B", "room", *GIVEN], "[-h] [--tails] [--set ID] [-B DIR] [--width N] [--html FILE] [--svg FILE] FILES",
+            "FILES --tails --set -B --width --html --svg 0 3 4 6 8 parv-map"),
     "watch": (["room", "0", "1"], "[-h] [--tails] FOLDER [SECONDS] [CHECKS]",
               "FOLDER SECONDS CHECKS --tails 0 1 2 3 4 6 8 parv-watch"),
     "parts": (["parts", "9", *GIVEN], "[-h] [--tails] PARTS LIMIT FILES",
@@ -46,7 +47,8 @@ class Each(Calls):
     def test_the_help_begins_with_the_usage_and_has_each_option_and_status(self) -> None:
         for name, (_, usage, has) in COMMANDS.items():
             status, out, said = self.call(os.path.join(BIN, f"parv-{name}"), "-h")
-            self.assertEqual((status, out.split("\n")[0], said), (0, f"usage: parv-{name} {usage}", ""))
+            first = " ".join(out.split("\n\n")[0].split())
+            self.assertEqual((status, first, said), (0, f"usage: parv-{name} {usage}", ""))
             for word in [*has.split(), "-h"]:
                 self.assertRegex(out, re.compile(f"^  {re.escape(word)}[ ,]", re.M), name)
             self.assertEqual(self.call(os.path.join(BIN, f"parv-{name}"), "--help"), (status, out, said))

@@ -173,7 +173,7 @@ mkdir out
 printf 'mine' > out/mine
 wants "a folder of others" 3 "" "$me: out isn't empty, and has no $record" "$extract" out "${names[@]}"
 [ "$(ls -A out)" = mine ] || fails "the folder of others has more now: $(ls -A out)"
-usage="$me: usage: $me [--tails] [--set ID] FOLDER FILES"
+usage="$me: usage: $me [-h] [--tails] [--set ID] FOLDER FILES"
 wants "a file in place of the folder" 3 "" "$me: out/mine is a file: FOLDER comes before FILES
 $usage" "$extract" out/mine "${names[@]}"
 wants "no folder" 3 "" "$me: names.par2 is a file: FOLDER comes before FILES
@@ -191,7 +191,7 @@ wants "another run at work" 3 "" "$me: another run is at work in out" "$extract"
 exec 9<&-
 
 # Wrong arguments, and files that can't be read.
-wants "no files" 3 "" "$me: there is no FOLDER, or there are no FILES
+wants "no files" 3 "" "$me: missing argument: FILES
 $usage" "$extract" new
 wants "an option that there isn't" 3 "" "$me: unrecognized arguments: --tail
 $usage" "$extract" --tail new names.par2

@@ -253,8 +253,8 @@ else
 fi
 
 # Wrong arguments, and files that can't be read.
-usage="$me: usage: $me [--tails] [--set ID] [-B DIR] [--width N] [--html FILE] [--svg FILE] FILES"
-wants "no files" 3 "" "$me: there are no FILES
+usage="$me: usage: $me [-h] [--tails] [--set ID] [-B DIR] [--width N] [--html FILE] [--svg FILE] FILES"
+wants "no files" 3 "" "$me: missing argument: FILES
 $usage" "$map"
 wants "no width" 3 "" "$me: a line has one character at least
 $usage" "$map" --width 0 photos.par2

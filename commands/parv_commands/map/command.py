@@ -17,44 +17,30 @@ from .new_files import NewFiles
 
 USUAL_WIDTH = 80        # if a terminal doesn't say how wide it is
 
-USAGE_TEXT = """usage: parv-map [--tails] [--set ID] [-B DIR] [--width N] [--html FILE] [--svg FILE] FILES
+DESCRIPTION = """\
+Shows which slices of each file of a PAR2 set are in place, moved or missing. In
+the folder of the files:
 
-Draws which slices of each file of a PAR2 set are in place, which are moved, and
-which are missing. In the folder of the files:
   parv-map -B . ./*
+"""
+EPILOG = """\
+Each sign is a slice. If a file would take more than four lines, a sign is
+several slices in a row and shows the worst of them. From the worst to the best:
+  .  missing
+  ?  not known: the packet files don't have the checksums of the file's slices
+  +  moved: found at another offset, or in a file of another name
+  #  in place: found at its offset in a file of its name
+On a terminal the signs have colours, unless NO_COLOR is set.
 
-  --tails         sees short last slices before other bytes too, as in an image
-  --set ID        says which set, if the packet files have several
-  -B, --base DIR  takes DIR/ off the names of searched files
-  --width N       writes lines of N characters
-  --html FILE     writes a page too
-  --svg FILE      writes a drawing too
-  -h, --help      prints this
+--html and --svg write a complete file or none, and never overwrite a file.
 
-FILES are packet files of the set and files to be searched, and -B takes a folder
-off their names, all as for `parv verify`. A slice is in place if a searched file
-of its file's name has it at its offset. It is moved if it is only at another
-offset or in another file; else it is missing. If the checksums of a file aren't
-known, its slices are in place if it is complete, moved if it is renamed, and else
-not known.
-
-The picture is text, as wide as the terminal or N characters. A sign is one
-slice, or several in a row if a file would take more than four lines. Of several
-the worst is shown: missing, not known, moved, in place. It has colours on a
-terminal, unless NO_COLOR is set.
-
---html FILE writes a page with the picture. It has more cells, and says what each
-means, and the place of each moved slice. --svg FILE writes a picture to show
-elsewhere. Each is written whole or not at all, and never over a file that is
-there.
-
-The exit status:
+exit status:
   0  the picture was drawn, whatever it shows
-  3  wrong words, or no packet file
-  4  no set in the packet files, or with --tails too many lengths
+  3  usage error, or no packet file
+  4  no usable set, or --tails and short slices of more than 256 lengths
   6  a file can't be read or written, or parv can't be run
-  8  no memory
-PARV names the program, if it isn't in PATH. man parv-map has more.
+  8  out of memory
+PARV names the program if it isn't in PATH. See man parv-map.
 """
 
 
@@ -93,26 +79,28 @@ def draw(asked: Asked) -> int:
     return 0
 
 
-def main() -> int:
-    parser = arguments.parser_of(USAGE_TEXT)
-    parser.add_argument("--tails", action="store_true")
-    parser.add_argument("--set", type=arguments.is_set_id)
-    parser.add_argument("-B", "--base", default="", metavar="DIR")
-    parser.add_argument("--width", type=int, metavar="N")
-    parser.add_argument("--html", type=os.fsencode, metavar="FILE")
-    parser.add_argument("--svg", type=os.fsencode, metavar="FILE")
-    parser.add_argument("names", nargs="*", metavar="FILES")
+def parser() -> arguments.Parser:
+    reader = arguments.Parser("parv-map", DESCRIPTION, EPILOG)
+    reader.add_argument("files", metavar="FILES", nargs="+", help=arguments.SEARCHED)
+    reader.add_argument("--tails", action="store_true", help=arguments.TAILS)
+    reader.add_argument("--set", metavar="ID", type=arguments.is_set_id, help=arguments.CHOSEN_SET)
+    reader.add_argument("-B", "--base", metavar="DIR", default="", help="remove DIR/ from the names of searched files")
+    reader.add_argument("--width", metavar="N", type=int,
+                        help="draw lines of N characters (default: as wide as the terminal)")
+    reader.add_argument("--html", metavar="FILE", type=os.fsencode,
+                        help="also write a page, with the position of each moved slice")
+    reader.add_argument("--svg", metavar="FILE", type=os.fsencode, help="also write a picture")
+    return reader
 
+
+def main() -> int:
     def run() -> int:
-        given = arguments.parsed(parser)
-        if given.help:
-            return arguments.help_lines(USAGE_TEXT)
-        if not given.names:
-            parser.error("there are no FILES")
-        if given.width is not None and given.width < 1:
-            parser.error("a line has one character at least")
-        if b"" in (given.html, given.svg):
-            parser.error("a page or a picture needs a name")
-        return draw(Asked(list(map(os.fsencode, given.names)), given.tails, given.set, os.fsencode(given.base),
-                          given.width, given.html, given.svg))
+        reader = parser()
+        options = arguments.read(reader)
+        if options.width is not None and options.width < 1:
+            reader.error("a line has one character at least")
+        if b"" in (options.html, options.svg):
+            reader.error("a page or a picture needs a name")
+        return draw(Asked(list(map(os.fsencode, options.files)), options.tails, options.set, os.fsencode(options.base),
+                          options.width, options.html, options.svg))
     return arguments.ended("parv-map", run)

@@ -25,38 +25,34 @@ EXPECTED, TAILS = "expected", "tails"   # the two kinds of search, as the record
 MOST_TAILS = 256    # the most lengths that parv looks for at once
 PAUSE = 4           # the least number of seconds between two entries into the record
 
-USAGE_TEXT = """usage: parv-rescue [--tails] [--set ID] FOLDER FILES
+DESCRIPTION = """\
+Searches an image, a download or other files for the slices of a PAR2 set, and
+copies each slice to its place in a file below FOLDER. The names of the searched
+files don't matter.
 
-Copies the slices of a PAR2 set that are in other files, as in the image of a
-disc, into files of the set below a new folder.
   parv-rescue saved photos.par2 disc.img
 
-  --tails         then looks at each byte for the short slices that are missing
-  --set ID        says which set, if the packet files have several
-  -h, --help      prints this
+You may interrupt it. Run it again to continue: with the same arguments, with
+--tails, or with other files such as a second image. Only intact slices are
+copied, so keep the searched files.
+"""
+EPILOG = """\
+The last slice of a file is usually shorter than the others. It is found at its
+distance from other slices of the file. With --tails it is found anywhere, as is
+a file that is shorter than a slice. A message says if --tails might find more.
 
-FILES are packet files of the set and files to be searched; they are only read.
-FOLDER is made, or is empty, or was filled by this command. Nothing in it is
-overwritten. A run that was stopped goes on when it is called again. Files that
-have changed since are searched again.
+At the end there is a line for each file: `complete`, `damaged`, `wrong`,
+`unverified`, `missing` or `refused`. After a damaged file, each hole in it has
+a line `hole OFFSET LENGTH NAME`.
 
-The last slice of a file is mostly shorter than the others. It is found at its
-distance from another slice of its file. With --tails it is found wherever it is,
-and so are files that are shorter than a slice. That can take long. Leave it out
-at first: if a line says that it might find more, go on with it in the same FOLDER.
-
-At the end a line for each file says `complete`, `damaged`, `wrong`, `unverified`,
-`missing` or `refused`. After a damaged one, each hole has a line `hole OFFSET
-LENGTH NAME`.
-
-The exit status:
-  0  each file of the set is complete
-  1  some file of the set isn't
-  3  wrong words, no packet file, or FOLDER is of another set or has other files
-  4  no set in the packet files, or with --tails too many lengths are missing
+exit status:
+  0  all files of the set are complete
+  1  a file of the set isn't complete
+  3  usage error, no packet file, or FOLDER has other files or another set
+  4  no usable set, or --tails and short slices of more than 256 lengths
   6  a file can't be read or written, or parv can't be run
-  8  no memory
-PARV names the program, if it isn't in PATH. man parv-rescue has more.
+  8  out of memory
+PARV names the program if it isn't in PATH. See man parv-rescue.
 """
 
 
@@ -244,20 +240,26 @@ def rescue(asked: Asked) -> int:
     return status
 
 
-def main() -> int:
-    parser = arguments.parser_of(USAGE_TEXT)
-    parser.add_argument("--tails", action="store_true")
-    parser.add_argument("--set", type=arguments.is_set_id)
-    parser.add_argument("names", metavar="FILES", nargs="*")
+def parser() -> arguments.Parser:
+    reader = arguments.Parser("parv-rescue", DESCRIPTION, EPILOG)
+    reader.add_argument("folder", metavar="FOLDER",
+                        help="a folder that is new, empty, or of an earlier run; nothing in it is overwritten")
+    reader.add_argument("files", metavar="FILES", nargs="+", help=arguments.SEARCHED)
+    reader.add_argument("--tails", action="store_true",
+                        help="also look for missing short slices at each offset; this can take long, so leave it out "
+                             "at first")
+    reader.add_argument("--set", metavar="ID", type=arguments.is_set_id, help=arguments.CHOSEN_SET)
+    return reader
 
+
+def main() -> int:
     def run() -> int:
-        given = arguments.parsed(parser)
-        if given.help:
-            return arguments.help_lines(USAGE_TEXT)
-        folder, *files = map(os.fsencode, given.names or [""])
-        if not folder or not files:
-            parser.error("there is no FOLDER, or there are no FILES")
-        if os.path.isfile(folder):
-            parser.error(f"{os.fsdecode(folder)} is a file: FOLDER comes before FILES")
-        return rescue(Asked(folder, files, given.tails, given.set))
+        reader = parser()
+        options = arguments.read(reader)
+        if not options.folder:
+            reader.error("missing argument: FOLDER")
+        if os.path.isfile(options.folder):
+            reader.error(f"{options.folder} is a file: FOLDER comes before FILES")
+        return rescue(Asked(os.fsencode(options.folder), list(map(os.fsencode, options.files)), options.tails,
+                            options.set))
     return arguments.ended("parv-rescue", run)
