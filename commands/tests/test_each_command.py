@@ -3,11 +3,16 @@ as may be open."""
 
 from __future__ import annotations
 
+import argparse
+import importlib
 import os
 import re
 import shutil
 import sys
+import unittest.mock
 from typing import Dict, Iterator, List, Tuple
+
+from parv_commands.common import arguments
 
 from .calls import BIN, Calls
 from .rooms import Room
@@ -16,19 +21,17 @@ GIVEN = ["room/set.par2", "room/first", "room/second"]
 # How each command is called, its usage, and what has a line of its own in its help.
 COMMANDS: Dict[str, Tuple[List[str], str, str]] = {
     "repair": (["--dry-run", "room"], "[--dry-run] [--remove-backups] [--set ID] FOLDER",
-               "--dry-run --remove-backups --set 0 1 2 3 4 5 6 8"),
-    "rescue": (["new", *GIVEN], "[-h] [--tails] [--set ID] FOLDER FILES",
+               "FOLDER --dry-run --remove-backups --set 0 1 2 3 4 5 6 8 parv-repair"),
+    "rescue": (["new", *GIVEN], "[--tails] [--set ID] FOLDER FILES", 
                "FOLDER FILES --tails --set 0 1 3 4 6 8 parv-rescue"),
     "tree": (["room"], "[-j N] [-q] [--tails] [--json] [--state FILE] FOLDER",
-             "-j -q --tails --json --state 0 1 2 3 4 5 6 8 parv-tree"),
-    "map": (["-B", "room", *GIVEN], "[-h] [--tails] [--set ID] [-B DIR] [--width N] [--html FILE] [--svg FILE] FILES",
+             "FOLDER -j -q --tails --json --state 0 1 2 3 4 5 6 8 parv-tree"),
+    "map": (["-B", "room", *GIVEN], "[--tails] [--set ID] [-B DIR] [--width N] [--html FILE] [--svg FILE] FILES",
             "FILES --tails --set -B --width --html --svg 0 3 4 6 8 parv-map"),
-    "watch": (["room", "0", "1"], "[-h] [--tails] FOLDER [SECONDS] [CHECKS]",
+    "watch": (["room", "0", "1"], "[--tails] FOLDER [SECONDS] [CHECKS]",
               "FOLDER SECONDS CHECKS --tails 0 1 2 3 4 6 8 parv-watch"),
-    "parts": (["parts", "9", *GIVEN], "[-h] [--tails] PARTS LIMIT FILES",
-              "PARTS LIMIT FILES --tails 0 3 4 6 8 parv-parts"),
-    "progress": (["verify", "-B", "room", *GIVEN], "[-h] find|verify ARGUMENTS",
-                 "find|verify ARGUMENTS 3 6 parv-progress")}
+    "parts": (["parts", "9", *GIVEN], "[--tails] PARTS LIMIT FILES", "PARTS LIMIT FILES --tails 0 3 4 6 8 parv-parts"),
+    "progress": (["verify", "-B", "room", *GIVEN], "find|verify ARGUMENTS", "find|verify ARGUMENTS 3 6 parv-progress")}
 
 
 class Each(Calls):
@@ -48,11 +51,49 @@ class Each(Calls):
         for name, (_, usage, has) in COMMANDS.items():
             status, out, said = self.call(os.path.join(BIN, f"parv-{name}"), "-h")
             first = " ".join(out.split("\n\n")[0].split())
-            self.assertEqual((status, first, said), (0, f"usage: parv-{name} {usage}", ""))
+            self.assertEqual((status, first, said), (0, f"usage: parv-{name} [-h] {usage}", ""))
             for word in [*has.split(), "-h"]:
                 self.assertRegex(out, re.compile(f"^  {re.escape(word)}[ ,]", re.M), name)
-            self.assertEqual(self.call(os.path.join(BIN, f"parv-{name}"), "--help"), (status, out, said))
-            self.assertTrue(name != "repair" or "No bytes that were in the folder are\n" in out)
+            lines = out.splitlines()
+            self.assertTrue(len(lines) <= 60 and max(map(len, lines)) <= 80, name)
+            for words in ["--help"], ["-h", "--wrong"]:
+                ended = self.call(os.path.join(BIN, f"parv-{name}"), *words, COLUMNS="40")
+                self.assertEqual(ended, (status, out, said))
+            self.assertTrue(name != "repair" or "No bytes that were in the folder are lost" in " ".join(out.split()))
+
+    def test_the_arguments_of_each_command_can_be_asked_for(self) -> None:
+        for name in COMMANDS:
+            parser = importlib.import_module(f"parv_commands.{name}.command").parser()
+            self.assertIsInstance(parser, argparse.ArgumentParser)
+            self.assertEqual(parser.format_help(), self.call(os.path.join(BIN, f"parv-{name}"), "-h")[1])
+            for action in parser._actions:
+                self.assertTrue(action.help and (action.metavar or action.nargs == 0), (name, action.dest))
+
+    def test_usage_errors(self) -> None:
+        errors: List[Tuple[str, List[str], str]] = [
+            ("repair", [], "missing argument: FOLDER"), ("tree", [""], "missing argument: FOLDER"),
+            ("watch", ["--tails"], "missing argument: FOLDER"), ("map", ["--"], "missing argument: FILES"),
+            ("rescue", [], "missing arguments: FOLDER, FILES"),
+            ("rescue", ["new", "--"], "missing argument: FILES"),
+            ("parts", ["--tails", "parts"], "missing arguments: LIMIT, FILES"),
+            ("progress", [], "the first argument must be find or verify"),
+            ("repair", ["--", "room", "--set"], "unrecognized arguments: --set"),
+            ("repair", ["--dry", "room"], "unrecognized arguments: --dry"),
+            ("map", ["x", "--base", "--", "y"], "argument -B/--base: expected one argument")]
+        for name, words, message in errors:
+            usage = f"parv-{name}: usage: parv-{name} [-h] {COMMANDS[name][1]}"
+            self.assertEqual(self.call(os.path.join(BIN, f"parv-{name}"), *words),
+                             (3, "", f"parv-{name}: {message}\n{usage}\n"))
+
+    def test_no_argument_after_two_dashes_is_an_option(self) -> None:
+        parser = importlib.import_module("parv_commands.rescue.command").parser()
+        for words, folder, files, tails in (
+                (["new", "--tails", "a", "b"], "new", ["a", "b"], True), (["new", "a", "--"], "new", ["a"], False),
+                (["new", "a", "--", "--tails"], "new", ["a", "--tails"], False),
+                (["--tails", "--", "--", "-x", "--", "-h"], "--", ["-x", "--", "-h"], True)):
+            with unittest.mock.patch.object(sys, "argv", ["parv-rescue", *words]):
+                options = arguments.read(parser)
+            self.assertEqual((options.folder, options.files, options.tails), (folder, files, tails))
 
     def test_that_there_is_no_parv_is_said_before_all_else(self) -> None:
         os.mkdir(os.path.join(self.room.top, "path"))

@@ -13,13 +13,13 @@ one_set=$tools/make/one_set.py
 demo=$top/demo
 photos=589c76e09f0580b9203c5b64963b8957
 
-usage='usage: parv-tree [-j N] [-q] [--tails] [--json] [--state FILE] FOLDER'
+usage='usage: parv-tree [-h] [-j N] [-q] [--tails] [--json] [--state FILE] FOLDER'
 while IFS='|' read -r words why; do
     # shellcheck disable=SC2086 # (these are words)
     wants "wrong words: $words" 3 "" "parv-tree: $why
 parv-tree: $usage" "$script" $words
 done << 'END'
-|there is no FOLDER
+|missing argument: FOLDER
 --wrong tree|unrecognized arguments: --wrong
 tree tree|unrecognized arguments: tree
 -j 0 tree|argument -j: it is a number from 1 to 99999

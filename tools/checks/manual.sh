@@ -43,7 +43,7 @@ for command in "$commands"/*; do
     grep -q "^\.Xr $name 1\b" "$top/docs/parv.1" || fails "the page of parv doesn't tell of $name"
     "$command" -h > help
     sed -nE 's/^  (-[A-Za-z], )?(--[a-z-]+).*/\2/p; s/^  (-[A-Za-z]) .*/\1/p
-        /^(The )?exit status/,$s/^  ([0-9]) .*/\1/p' help | sort > wanted
+        /^exit status/,$s/^  ([0-9]) .*/\1/p' help | sort > wanted
     { sed -nE 's/^\.It Fl ([A-Za-z] , )?-([a-z-]+).*/--\2/p; s/^\.It Fl ([A-Za-z])( Ar .*)?$/-\1/p' "$page"
         sed -n '/^\.Sh EXIT STATUS/,/^\.El/s/^\.It \([0-9]\)$/\1/p' "$page"; } | sort > told
     if [ "$(wc -l < wanted)" -ge 3 ] && cmp -s wanted told; then

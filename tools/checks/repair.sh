@@ -24,11 +24,11 @@ fails_with() {
     as_before "$1"
 }
 
-usage='usage: parv-repair [--dry-run] [--remove-backups] [--set ID] FOLDER'
+usage='usage: parv-repair [-h] [--dry-run] [--remove-backups] [--set ID] FOLDER'
 say='parv-repair: room:'
 named="$say the name"
 refused_names="$say the set is refused for its names"
-wants "no word" 3 "" "parv-repair: there is no FOLDER
+wants "no word" 3 "" "parv-repair: missing argument: FOLDER
 parv-repair: $usage" "$script"
 wants "an option that there isn't" 3 "" "parv-repair: unrecognized arguments: --wrong
 parv-repair: $usage" "$script" --wrong room

@@ -81,44 +81,10 @@ def read(parser: Parser) -> argparse.Namespace:
     return options
 
 
-class Words(argparse.ArgumentParser):
-    """A parser of arguments. Wrong ones end the command with 3, as those of parv do."""
-
-    def error(self, message: str) -> NoReturn:
-        output.say(shown(os.fsencode(message)))
-        output.say(self.format_usage().strip())
-        sys.exit(USAGE)
-
-
-def parser_of(text: str) -> Words:
-    """Returns a parser whose help is this text, of which the first line is the usage."""
-    usage, _, rest = text.partition("\n\n")
-    parser = Words(usage=usage[7:], description=rest.strip(), formatter_class=argparse.RawDescriptionHelpFormatter,
-                   allow_abbrev=False, add_help=False)
-    parser.add_argument("-h", "--help", action="store_true")
-    return parser
-
-
-def parsed(parser: Words) -> argparse.Namespace:
-    """Returns the options of the command line, and its other arguments as `names`. Options may come between these, but
-    no argument after `--` is an option. (argparse by itself forgets that.)"""
-    given = sys.argv[1:]
-    end = given.index("--") if "--" in given else len(given)
-    found = parser.parse_intermixed_args(given[:end])
-    found.names = [*found.names, *given[end + 1:]]
-    return found
-
-
 def is_set_id(text: str) -> str:
     if not re.fullmatch("[0-9A-Fa-f]{32}", text):
         raise argparse.ArgumentTypeError("a set ID has 32 hexadecimal digits")
     return text.lower()
-
-
-def help_lines(text: str) -> int:
-    """Writes a help, and returns the exit status."""
-    output.tell(text.strip().split("\n"))
-    return 0
 
 
 def needed_parv() -> Program:

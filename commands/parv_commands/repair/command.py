@@ -23,32 +23,30 @@ from .situation import Inspection, Situation
 
 _NUMBERED = re.compile(rb".+\.[1-9][0-9]*", re.DOTALL)
 
-USAGE_TEXT = """usage: parv-repair [--dry-run] [--remove-backups] [--set ID] FOLDER
+DESCRIPTION = """\
+Restores the files of the PAR2 set in FOLDER: renames intact files that have
+wrong names, rebuilds damaged and missing ones with par2, and verifies the
+result. The last line is `complete` if all files are. The first of these calls
+only shows what the second one would do:
 
-Makes the files of a PAR2 set complete. No bytes that were in the folder are
-lost, and none that you put there in between. If a run is ended in the middle,
-the next one completes its moves or undoes them. The exit status is true.
+  parv-repair --dry-run download
+  parv-repair download
 
-  --dry-run           says what it would do, and writes nothing
-  --remove-backups    removes the damaged files that this run has kept
-  --set ID            says which set, if FOLDER has several
-  -h, --help          prints this
-
-It verifies FOLDER and the subfolders that names of the set have, gives renamed
-files their names back, has par2 repair make those that are damaged or missing,
-and verifies again. Its last word is `complete` then. A damaged file stays as
-NAME.1.
-
-The exit status:
-  0  each file is complete
-  1  a repair can be tried, by --dry-run
-  2  not enough is left for one
-  3  wrong words, no packet file, or several sets
-  4  no set, or one that is refused
-  5  par2 has failed
+No bytes that were in the folder are lost, and none that you put there
+meanwhile: a damaged file is kept as NAME.1. You may interrupt a run at any
+time; the next one completes its moves or undoes them.
+"""
+EPILOG = """\
+exit status:
+  0  all files were verified and are complete
+  1  a repair can be tried (with --dry-run only)
+  2  too few slices are left for a repair
+  3  usage error, no packet file, or several sets and no --set
+  4  no usable set, or a set that is refused
+  5  par2 failed
   6  undecided, or a file can't be read, made or moved, or parv can't be run
-  8  no memory
-PARV and PAR2 name the programs, if they aren't in PATH. man parv-repair has more.
+  8  out of memory
+PARV and PAR2 name the programs if they aren't in PATH. See man parv-repair.
 """
 
 
@@ -151,18 +149,22 @@ def repair(asked: Asked) -> int:
     return status
 
 
-def main() -> int:
-    parser = arguments.parser_of(USAGE_TEXT)
-    parser.add_argument("--dry-run", action="store_true")
-    parser.add_argument("--remove-backups", action="store_true")
-    parser.add_argument("--set", type=arguments.is_set_id)
-    parser.add_argument("folder", metavar="FOLDER", nargs="?")
+def parser() -> arguments.Parser:
+    reader = arguments.Parser("parv-repair", DESCRIPTION, EPILOG)
+    reader.add_argument("folder", metavar="FOLDER",
+                        help="the folder with the packet files and the files of the set, which may be in subfolders")
+    reader.add_argument("--dry-run", action="store_true", help="print what a run would do, and change nothing")
+    reader.add_argument("--remove-backups", action="store_true",
+                        help="at the end, remove the damaged files that this run has kept")
+    reader.add_argument("--set", metavar="ID", type=arguments.is_set_id, help=arguments.CHOSEN_SET)
+    return reader
 
+
+def main() -> int:
     def run() -> int:
-        given = parser.parse_args()
-        if given.help:
-            return arguments.help_lines(USAGE_TEXT)
-        if not given.folder:
-            parser.error("there is no FOLDER")
-        return repair(Asked(os.fsencode(given.folder), given.dry_run, given.remove_backups, given.set))
+        reader = parser()
+        options = arguments.read(reader)
+        if not options.folder:
+            reader.error("missing argument: FOLDER")
+        return repair(Asked(os.fsencode(options.folder), options.dry_run, options.remove_backups, options.set))
     return arguments.ended("parv-repair", run)

@@ -27,55 +27,40 @@ AT_ONCE = 256           # the most packet files that one run of parv lists
 FILES_OF_A_RUN = 8      # how many files are open here for each run of parv
 LEFT_OUT = (b".verify_and_repair", b".parv-repair")
 
-USAGE_TEXT = """usage: parv-tree [-j N] [-q] [--tails] [--json] [--state FILE] FOLDER
+DESCRIPTION = """\
+Verifies every PAR2 set below FOLDER and prints a line for each. It writes
+nothing there, so cron can run it on a backup every night.
 
-Checks every PAR2 set below a folder and prints a line for each, as cron may do
-on a backup. It writes nothing there.
   parv-tree -q --state backup.state /srv/backup
+"""
+EPILOG = """\
+A line has the status of the set, its ID, how many slices it needs, how many
+recovery slices there are, and its folder and name:
+  1 589c76e09f0580b9203c5b64963b8957 need 5 have 8 2019/photos
+A dash stands for an unknown ID or number. From status 3 on, a message gives the
+reason.
 
-  -j N            checks N sets side by side
-  -q              leaves out the lines of sets that are complete
-  --tails         finds short slices before other bytes too
-  --json          prints a JSON object for each set, one on a line
-  --state FILE    keeps the state in FILE, and reports what was lost since
-  -h, --help      prints this
-
-A line has the exit status of the set, its ID, what is needed and what is there,
-and its folder and name:
-    1 589c76e09f0580b9203c5b64963b8957 need 5 have 8 2019/photos
-A dash means that there is no verdict or no ID. Names are shown as parv shows
-them. Lines come in the order of folders and names. From status 3 on a line on
-standard error says why.
-
-Lost packet files change no status while all data is whole. With --state such a
-loss is reported, also with -q:
-  fewer ID have 8 was 14 NAME      recovery slices are lost
-  worse ID status 1 was 0 NAME     the status of the set is a greater one now
+With --state a loss is reported once, also with -q. The first run has nothing to
+compare with.
+  fewer ID have 8 was 14 NAME      recovery slices were lost
+  worse ID status 1 was 0 NAME     the status of the set is higher now
   gone ID NAME                     no packet file has a packet of the set
-Each loss is reported once. FILE is written when all lines are. The first run
-has nothing to compare with.
 
-A set is one set ID in one folder: so a folder may have several sets, and a copy
-in another folder is a set of its own. It is called by its folder and by what
-the name of its first packet file has before .par2, or .vol0+1.par2 and the
-like. Packet files in which no packet is left belong to the set that is called
-like them. If there is none, they are a set of their own.
+A set is verified with the files in its folder and in the subfolders that belong
+to it. Links aren't followed. A copy of a set in another folder is a set of its
+own. A set has the name of its first packet file, without .par2, .vol0+1.par2 or
+the like.
 
-A set is verified with the files in its folder, and with those in the subfolders
-that its names have; other subfolders aren't looked at. Links aren't followed. A
-name that is no plain path below the folder is reported, and nothing is read
-there.
-
-The exit status is the greatest of all:
-  0  each set is complete
+exit status (the highest of these):
+  0  all sets are complete
   1  a set is damaged, and a repair can be tried
-  2  a set is damaged, and too little is left for a repair
-  3  wrong words, no packet file at all, or FILE is no state of FOLDER
-  4  packet files without a set
+  2  a set is damaged, and too few slices are left for a repair
+  3  usage error, no packet file at all, or FILE isn't a state of FOLDER
+  4  packet files without a usable set
   5  something was lost since the last run with --state
-  6  a file, a folder or a line can't be read or written, or parv can't be run
-  8  no memory
-PARV names the program, if it isn't in PATH. man parv-tree has more.
+  6  a file, folder or line can't be read or written, or parv can't be run
+  8  out of memory
+PARV names the program if it isn't in PATH. See man parv-tree.
 """
 
 
@@ -395,21 +380,27 @@ def _sides(text: str) -> int:
     return int(text)
 
 
-def main() -> int:
-    parser = arguments.parser_of(USAGE_TEXT)
-    parser.add_argument("-j", dest="sides", type=_sides, default=1)
-    parser.add_argument("-q", dest="quiet", action="store_true")
-    parser.add_argument("--tails", action="store_true")
-    parser.add_argument("--json", action="store_true")
-    parser.add_argument("--state")
-    parser.add_argument("folder", metavar="FOLDER", nargs="?")
+def parser() -> arguments.Parser:
+    reader = arguments.Parser("parv-tree", DESCRIPTION, EPILOG)
+    reader.add_argument("folder", metavar="FOLDER", help="the folder above all sets")
+    reader.add_argument("-j", metavar="N", dest="sides", type=_sides, default=1,
+                        help="verify N sets at once (default: 1)")
+    reader.add_argument("-q", dest="quiet", action="store_true", help="leave out the lines of sets that are complete")
+    reader.add_argument("--tails", action="store_true", help=arguments.TAILS)
+    reader.add_argument("--json", action="store_true", help="print a JSON object for each set, one on a line")
+    reader.add_argument("--state", metavar="FILE", 
+                        help="keep the state in FILE, and report what was lost since the last run")
+    return reader
 
+
+def main() -> int:
     def run() -> int:
-        given = parser.parse_args()
-        if given.help:
-            return arguments.help_lines(USAGE_TEXT)
-        if not given.folder or given.state == "":
-            parser.error("there is no FOLDER" if not given.folder else "--state has no FILE")
-        return tree(Asked(os.fsencode(given.folder), given.sides, given.quiet, given.tails, given.json,
-                          None if given.state is None else os.fsencode(given.state)))
+        reader = parser()
+        options = arguments.read(reader)
+        if not options.folder:
+            reader.error("missing argument: FOLDER")
+        if options.state == "":
+            reader.error("--state has no FILE")
+        return tree(Asked(os.fsencode(options.folder), options.sides, options.quiet, options.tails, options.json,
+                          None if options.state is None else os.fsencode(options.state)))
     return arguments.ended("parv-tree", run)
