@@ -56,7 +56,6 @@ class States(unittest.TestCase):
             the_set = finished(parv.set(packet_words, set_id))
             verification = Verification(words, the_set, packet_words, most_open, self.messages.append,
                                         packet_files.names)
-            verification.gather()
             return finished(verification.state(tails, is_one_of_many))
 
     def sources(self) -> Dict[bytes, Optional[bytes]]:

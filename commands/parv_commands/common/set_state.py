@@ -54,6 +54,11 @@ def why_unread(folder: Folder, name: bytes, now: os.stat_result, is_wanted: bool
     return None
 
 
+def _may_read(folder: Folder, name: bytes) -> bool:
+    with faults_of("open", shown(name)), folder.above(name) as place:
+        return os.access(names.base_of(name), os.R_OK, dir_fd=place, effective_ids=True)
+
+
 def link_on_the_way(folder: Folder, name: bytes) -> Optional[bytes]:
     """Returns the front of a plain name at which there is a link, or None."""
     at = 0
@@ -255,6 +260,11 @@ def text_of(unread: Unread) -> str:
     return ", ".join(some) + (f" and {len(unread) - len(some)} more" if len(unread) > len(some) else "")
 
 
+def _most_bytes(there: Dict[bytes, Identity], paths: Sequence[bytes], tails: bool) -> int:
+    """Returns how many bytes parv reads of these files at most."""
+    return sum((there[path].length or 0) * (3 if tails else 2) for path in paths if path in there)
+
+
 class Verification:
     """Verifies a set with the files of a folder. parv gets these packet files by their words, of which `packet_files` are
     in the folder, and may have `most_open` files open."""
@@ -265,6 +275,7 @@ class Verification:
         self.packet_words, self.packet_files = packet_words, packet_files
         self.room = max(min(MOST_FILES, most_open - SPARE_FILES) - len(packet_words), 0)
         self.files = FilesOfSet({}, {}, {})
+        self._is_listed = False
         self.scanned: List[bytes] = []          # the files that parv gets at once ..
         self._left: List[bytes] = []            # .. and those of the set for which there is no room beside them
 
@@ -272,7 +283,7 @@ class Verification:
         """Lists the files of the folder anew."""
         with progress.waiting("the folder is read"):
             files = files_of(self.folder, self.the_set.files, self.packet_files)
-        self.files, self.scanned, self._left = files, list(files.there), []
+        self.files, self.scanned, self._left, self._is_listed = files, list(files.there), [], True
         if len(self.scanned) > self.room:
             self.report(f"{len(files.there) - self.room} of {len(files.there)} files aren't looked at: parv takes "
                         f"{self.room} here")
@@ -290,56 +301,78 @@ class Verification:
                 if link is not None:
                     self.files.unread[link] = "a link"
 
-    def _own_first(self, others_count: bool) -> List[bytes]:
-        """Returns the files with names of the set if they may be all that is needed, and the others are worth leaving
-        out: then these are verified first."""
-        there = self.files.there
-        own = [file.name for file in self.the_set.files
-               if file.name in there and there[file.name].length == file.length]
+    def _own_files(self) -> Dict[bytes, Identity]:
+        """Returns the files with the names of the set, if each is there with its length and can be read; otherwise
+        none."""
+        there: Dict[bytes, Identity] = {}
+        for file in self.the_set.files:
+            wait_point()
+            if names.refusal(file.name, RESERVED) is not None:
+                return {}
+            with faults_of("open", file.shown):
+                now = self.folder.look(file.name)
+            if now is None or not stat.S_ISREG(now.st_mode) or now.st_size != file.length or not _may_read(
+                    self.folder, file.name):
+                return {}
+            there[file.name] = identity_of(now)
+        return there
+
+    def _has_much_else(self) -> bool:
+        """Returns whether the files that were gathered have more bytes beside those with names of the set than in
+        them."""
+        there, own = self.files.there, {file.name for file in self.the_set.files}
         total = sum(there[path].length or 0 for path in self.scanned)
-        others = total - sum(there[name].length or 0 for name in set(own))
-        is_worth = len(own) == len(self.the_set.files) and (others > total - others or others_count and others > 0)
-        return own if is_worth and len(own) <= self.room else []
+        return total > 2 * sum(there[path].length or 0 for path in self.scanned if path in own)
 
     async def state(self, tails: bool = False, is_one_of_many: bool = False) -> SetState:
-        """Returns the state of the set with the files that were gathered. If it is one of many sets of the folder, or the
-        folder has much else, the other files are read only if those with names of the set aren't complete."""
-        own = self._own_first(is_one_of_many)
-        if own:
-            state = await self._state(own, tails)
-            if state.is_complete:
+        """Returns the state of the set. If the folder has many sets, or much else, the files with names of the set are
+        verified first, and all files only if these aren't complete. The folder is listed if it wasn't yet, and needs to
+        be."""
+        if is_one_of_many and not self._is_listed:
+            state = await self._state_of_own(tails)
+            if state is not None:
                 return state
-        state = await self._state(self.scanned, tails)
+        if not self._is_listed:
+            self.gather()
+        if self._has_much_else():
+            state = await self._state_of_own(tails)
+            if state is not None:
+                return state
+        state = await self._state(self.files, self.scanned, tails)
         more = await self.sources_in_parts(self._left)
         state = state._replace(sources=[source or other for source, other in zip(state.sources, more)])
         self._refuse_changed(state)
         return state
 
-    async def _state(self, paths: Sequence[bytes], tails: bool) -> SetState:
+    async def _state_of_own(self, tails: bool) -> Optional[SetState]:
+        """Returns the state of the set with the files that have its names, if it is complete."""
+        there = self._own_files()
+        if not there or len(there) > self.room:
+            return None
+        state = await self._state(FilesOfSet(there, self.files.unread, {}), list(there), tails)
+        return state if state.is_complete else None
+
+    async def _state(self, files: FilesOfSet, paths: Sequence[bytes], tails: bool) -> SetState:
         verdict, sources = await self.words.verify(self.the_set, self.packet_words, paths, tails,
-                                                   self._most(paths, tails))
-        state = SetState(self.the_set, self.files.there, self._own_sources(sources), verdict, self.files.unread)
+                                                   _most_bytes(files.there, paths, tails))
+        state = SetState(self.the_set, files.there, self._own_sources(sources, files.there), verdict, files.unread)
         self._refuse_changed(state)
         return state
-
-    def _most(self, paths: Sequence[bytes], tails: bool) -> int:
-        there = self.files.there
-        return sum((there[path].length or 0) * (3 if tails else 2) for path in paths if path in there)
 
     def _refuse_changed(self, state: SetState) -> None:
         """Ends this if the set seems to be complete, but one of its files has changed since it was listed."""
         if state.is_complete:
             for file in self.the_set.files:
-                if not self.files.there[file.name].fits(self.folder.look(file.name)):
+                if not state.there[file.name].fits(self.folder.look(file.name)):
                     raise Fault(FILES, f"{file.shown} has changed while it was read")
 
-    def _own_sources(self, sources: Sources) -> Sources:
+    def _own_sources(self, sources: Sources, there: Dict[bytes, Identity]) -> Sources:
         """Returns `sources`, but with the own name of each file that has its content there, even if parv names another
         one first."""
         own: Sources = []
         with progress.doing("equal files are compared"):
             for file, source in zip(self.the_set.files, sources):
-                is_own = (source is not None and source != file.name and file.name in self.files.there
+                is_own = (source is not None and source != file.name and file.name in there
                           and is_same(self.folder, file.name, source))
                 own.append(file.name if is_own else source)
         return own
@@ -361,9 +394,10 @@ class Verification:
         """Returns, for each file of the set, the path of one of these files with its content. parv gets as many of them
         at once as it accepts."""
         sources: Sources = [None] * len(self.the_set.files)
-        room = max(self.room, 1)
+        there, room = self.files.there, max(self.room, 1)
         for at in range(0, len(paths), room):
             part = paths[at:at + room]
-            _, more = await self.words.verify(self.the_set, self.packet_words, part, False, self._most(part, False))
+            _, more = await self.words.verify(self.the_set, self.packet_words, part, False,
+                                              _most_bytes(there, part, False))
             sources = [source or other for source, other in zip(sources, more)]
-        return self._own_sources(sources)
+        return self._own_sources(sources, there)

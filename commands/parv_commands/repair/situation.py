@@ -115,7 +115,7 @@ class Inspection:
 
     def state(self) -> SetState:
         """Returns the state of the set. Ends the run if too little is left for a repair."""
-        self.verification.gather()
+        self.verification.gather()      # (always, since it looks for more than the set: what isn't read, and backups)
         state, refusal = finished(self.verification.state_by_any_means())
         if state.verdict.status == IMPOSSIBLE and None in state.sources:
             raise self._too_few(state, refusal)

@@ -59,7 +59,6 @@ def state_of(folder: Folder, program: Program, tails: bool, most_open: int) -> S
         packet_words = [words.word_of(name, True) for name in packet_files.names]
         the_set = finished(parv.set(packet_words, None))
         verification = Verification(words, the_set, packet_words, most_open, output.say, packet_files.names)
-        verification.gather()
         state = finished(verification.state(tails))
         verification.find_links(state.sources)
         return state._replace(unread={**packet_files.unread, **state.unread})
