@@ -112,8 +112,8 @@ uninstall:
 	done
 	rm -f "$(DESTDIR)$(ZSHDIR)/_parv"
 	rm -f $(MODULES:%="$(DESTDIR)$(LIBDIR)/%")
-	for folder in $(sort $(dir $(MODULES))) parv_commands .; do \
-		folder="$(DESTDIR)$(LIBDIR)/$$folder"; \
+	for folder in $(filter-out /parv_commands/,$(addprefix /,$(sort $(dir $(MODULES))))) /parv_commands ""; do \
+		folder="$(DESTDIR)$(LIBDIR)$$folder"; \
 		[ ! -d "$$folder" ] || rmdir --ignore-fail-on-non-empty "$$folder"; \
 	done
 	rm -f "$(DESTDIR)$(DOCDIR)/FORMATS.md" "$(DESTDIR)$(DOCDIR)/GLOSSARY.md" $(EXAMPLES:%="$(DESTDIR)$(DOCDIR)/examples/%")

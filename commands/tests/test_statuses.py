@@ -149,8 +149,8 @@ class Statuses(Calls):
             if not os.geteuid():        # whom this limit isn't for
                 os.setuid(65534)
         for name in os.listdir(BIN):
-            with open(os.path.join(BIN, name), "rb") as script:
-                ended = subprocess.run(["/bin/sh"], cwd="/", stdin=script, capture_output=True, preexec_fn=limited)
+            text = read(os.path.join(BIN, name))
+            ended = subprocess.run(["/bin/sh", "-c", text, f"bin/{name}"], cwd="/", capture_output=True, preexec_fn=limited)
             self.assertEqual((ended.returncode, ended.stdout), (6, b""), (name, ended))
             self.assertTrue(ended.stderr.decode().endswith(f"{name}: cannot begin\n"), ended)
 

@@ -159,10 +159,17 @@ wants "a record that is a link" 6 "" "$me: cannot open out/$record: Too many lev
     "$extract" out "${names[@]}"
 rm out/$record
 ln elsewhere/$record out/$record
-wants "a record that has another name too" 6 "" "$me: out/$record is a link or no file" "$extract" out "${names[@]}"
-rm out/$record
+cp elsewhere/$record "$said/record"
+"$extract" out "${names[@]}" > "$said/out" 2> "$said/line"
+if grep -q "it is now parv-rescue.kept.1, " "$said/line" && cmp -s "$said/record" elsewhere/$record; then
+    echo "ok: a record that has another name too is set aside, and not written to"
+else
+    fails "a record that has another name too: $(cat "$said/line")"
+fi
+rm -r out
+mkdir out
 mkfifo out/$record
-wants "a record that is a FIFO" 6 "" "$me: out/$record is a link or no file" "$extract" out "${names[@]}"
+wants "a record that is a FIFO" 6 "" "$me: out/$record is no file" "$extract" out "${names[@]}"
 around > "$said/now"
 sed -i '/parv-rescue /d' "$said/around" "$said/now"
 cmp -s "$said/around" "$said/now" || fails "around the folder: $(diff "$said/around" "$said/now")"
