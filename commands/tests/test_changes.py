@@ -26,7 +26,7 @@ READS: Dict[str, Set[str]] = {      # what the commands may use of modules that 
               stat_result strerror sysconf urandom write""".split()),
     "shutil": {"get_terminal_size"}, "tempfile": set(), "ctypes": {"CDLL"}, "pathlib": set(), "io": set(),
 }
-SAYING = {"output.py", "progress.py"}       # modules that write to standard output and standard error
+SAYING = {"output.py"}       # modules that write to standard output and standard error
 CALLS = dict(pair.split(":") for pair in """mkdir:mkdir mkdirat:mkdir unlinkat:unlink unlink:unlink rmdir:rmdir
     symlinkat:symlink symlink:symlink renameat2:rename rename:rename renameat:rename linkat:link link:link write:write
     pwrite64:pwrite ftruncate:ftruncate truncate:ftruncate fchmod:fchmod fchmodat:fchmod chmod:fchmod

@@ -11,7 +11,7 @@ import unittest
 import unittest.mock
 from typing import List
 
-from parv_commands.common import changes, names, parv_output, programs, progress
+from parv_commands.common import changes, names, output, parv_output, programs
 from parv_commands.common.faults import Fault
 from parv_commands.common.folders import Folder
 from parv_commands.map import command as map_command
@@ -132,12 +132,12 @@ class Progress(unittest.TestCase):
             try:
                 os.chdir(room.top)
                 os.environ.update(PARV=program, PAR2=room.stand_in, TMPDIR=room.temporary)
-                progress.EACH = 0.05
+                output.PROGRESS_EACH = 0.05
                 if is_slow:
-                    progress.FIRST = 0.1
+                    output.PROGRESS_FROM = 0.1
                 else:       # (on a clock that goes on by a millisecond each time that somebody looks, for less than two seconds)
                     times = itertools.count(1000, 0.001)
-                    setattr(progress, "time", unittest.mock.Mock(monotonic=lambda: min(next(times), 1001.9)))
+                    setattr(output, "time", unittest.mock.Mock(monotonic=lambda: min(next(times), 1001.9)))
                 import sys
                 sys.argv = ["command", *words]
                 ended = main()      # type: ignore[operator]
@@ -161,7 +161,7 @@ class Progress(unittest.TestCase):
 
     def test_calls_that_tell_nothing_themselves_are_told_while_they_last(self) -> None:
         def lasts(*_: object) -> None:
-            while progress._Progress.what and not progress._Progress.shown:
+            while output._Progress.what and not output._Progress.shown:
                 time.sleep(0.01)
         with unittest.mock.patch.multiple(changes, sync=lasts, sync_all=lasts):
             text = self.on_terminal(["room"], repair.main)
@@ -172,7 +172,7 @@ class Progress(unittest.TestCase):
             self.assertIn("\r\x1b[Kwhat was copied is brought to the disk\r\x1b[K", text)
 
     def test_what_takes_less_than_two_seconds_is_not(self) -> None:
-        self.assertEqual(progress.FIRST, 2.0)
+        self.assertEqual(output.PROGRESS_FROM, 2.0)
         self.assertEqual(self.on_terminal(["room"], repair.main, 0, False), "repair first\r\ncomplete\r\n")
 
 

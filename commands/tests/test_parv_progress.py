@@ -9,7 +9,7 @@ import subprocess
 import termios
 from typing import List, Tuple
 
-from parv_commands.common import progress
+from parv_commands.common import output
 from parv_commands.progress import command as progress_of_parv
 
 from .calls import BIN, Calls, slow, terminal_text
@@ -74,7 +74,7 @@ class Progress(Calls):
                 termios.tcsetattr(2, termios.TCSANOW, settings)
                 if not out:
                     os.dup2(os.open("lines", os.O_WRONLY | os.O_CREAT | os.O_TRUNC), 1)
-                progress.EACH = 0.05
+                output.PROGRESS_EACH = 0.05
                 import sys
                 sys.argv = ["command", *words]
                 status = progress_of_parv.main()

@@ -18,7 +18,7 @@ import unittest
 import unittest.mock
 from typing import Iterator, List, Tuple
 
-from parv_commands.common import changes, folders, progress
+from parv_commands.common import changes, folders, output
 from parv_commands.tree import command as tree
 from parv_commands.tree.state import HEAD
 from parv_commands.watch import command as watch
@@ -602,7 +602,7 @@ class Statuses(TreeTest):
             try:
                 os.chdir(self.room.top)
                 os.environ.update(PARV=waits, TMPDIR=self.room.temporary)
-                progress.FIRST, progress.EACH = 0.1, 0.05
+                output.PROGRESS_FROM, output.PROGRESS_EACH = 0.1, 0.05
                 sys.argv = ["command", "room"]
                 status = tree.main()
             finally:

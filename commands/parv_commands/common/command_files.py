@@ -9,7 +9,7 @@ import os
 import stat
 from typing import BinaryIO, Dict, List, Optional, Sequence, Tuple
 
-from . import output, programs, progress
+from . import output, programs
 from .faults import FILES, USAGE, Fault, faults_of
 from .listing import Listing
 from .names import is_packet_file, shown
@@ -75,5 +75,5 @@ def read_given(parv: Parv, given: Given, chosen: Optional[str]) -> Tuple[SetAnsw
     if chosen is None and listing.others:
         others = " ".join(list(listing.others)[:MOST_OTHERS]) + (" .." if len(listing.others) > MOST_OTHERS else "")
         output.say(f"there are several sets, of which this is {answer.id}; --set takes another one: {others}")
-    with contextlib.closing(files), progress.waiting("packets are read"):
+    with contextlib.closing(files), output.waiting("packets are read"):
         return answer, read_recovery_set(answer, files, listing.lines)

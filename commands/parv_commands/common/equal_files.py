@@ -7,7 +7,7 @@ import hashlib
 import os
 from typing import Callable, Deque, Dict, Iterable, List, Mapping, Optional, Tuple
 
-from . import progress
+from . import output
 from .folders import Folder, Identity
 from .signals import wait_point
 from .slices import pieces_of_file, told
@@ -32,7 +32,7 @@ def is_same(folder: Folder, name: bytes, other: bytes) -> bool:
             if not pieces[0]:
                 return True
             at += len(pieces[0])
-            progress.show(at)
+            output.show_progress(at)
     finally:
         for each in opened:
             os.close(each)

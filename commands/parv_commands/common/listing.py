@@ -5,7 +5,7 @@ from __future__ import annotations
 
 from typing import Dict, List, Sequence
 
-from . import progress
+from . import output
 from .parv import Parv
 from .parv_output import NoAnswer, PacketLine, PacketLines
 from .programs import Said, pieces_of, running, status_of, too_much
@@ -24,7 +24,7 @@ class Listing:
         program, links, packets = self.parv.program, self.parv.links, PacketLines()
         said = Said(program)
         words = [b"packets", b"--", *(word.encode() for word in packet_words)]
-        with progress.doing("parv packets"), running(program, words, links.folder.place, links.kept) as process:
+        with output.doing("parv packets"), running(program, words, links.folder.place, links.kept) as process:
             for piece in pieces_of(process, said):
                 for packet in packets.take(piece):
                     self._take(packet)

@@ -10,7 +10,7 @@ import secrets
 import stat
 from typing import Dict, Iterable, Iterator, List, Mapping, Optional, Sequence, Tuple
 
-from . import changes, parv_output, progress
+from . import changes, output, parv_output
 from .faults import FILES, MEMORY, NO_SET, USAGE, Fault, NoProgram, faults_of
 from .folders import Folder
 from .names import is_packet_file, shown
@@ -125,7 +125,7 @@ class Parv:
         return fault_of(self.program, status, said, command, self.links.shown)
 
     async def answer(self, command: str, words: Sequence[str], most: int = 0) -> Answer:
-        with progress.doing(f"parv {command}", most):
+        with output.doing(f"parv {command}", most):
             return await answer_of(self.program, [command.encode(), *map(os.fsencode, words)], self.links.folder.place,
                              self.links.kept)
 

@@ -9,7 +9,7 @@ import selectors
 import time
 from typing import IO, Callable, Deque, Generator, List, NamedTuple, Optional, Sequence, Tuple, Union
 
-from . import progress
+from . import output
 from .faults import Fault
 from .programs import MOST_OUTPUT, PIECE, Answer, Program, Said, running, too_much
 from .signals import interruptible
@@ -63,7 +63,7 @@ class _Run:
         if status is None or not self.pipes:
             return status
         self.over = self.over or time.monotonic()
-        return status if time.monotonic() - self.over > progress.EACH else None
+        return status if time.monotonic() - self.over > output.PROGRESS_EACH else None
 
 
 class Pool:
@@ -114,7 +114,7 @@ class Pool:
         """Waits until a program writes or ends, and lets the jobs of those that have ended continue."""
         ready: List[Tuple[selectors.SelectorKey, int]] = []
         with interruptible():
-            ready = self._pipes.select(progress.EACH if all(run.pipes for run in self._runs) else _SOON)
+            ready = self._pipes.select(output.PROGRESS_EACH if all(run.pipes for run in self._runs) else _SOON)
         for key, _ in ready:
             if key.data in self._runs:
                 self._take(key.data, key.fileobj)       # type: ignore[arg-type]
@@ -147,8 +147,8 @@ class Pool:
 
     def _show(self) -> None:
         """Shows on a terminal how much all runs have read."""
-        if time.monotonic() - self._shown >= progress.EACH:
+        if time.monotonic() - self._shown >= output.PROGRESS_EACH:
             for run in self._runs:
-                run.read = max(run.read, progress.read_by(run.process.pid))
-            progress.show(self._read + sum(run.read for run in self._runs))
+                run.read = max(run.read, output.read_by(run.process.pid))
+            output.show_progress(self._read + sum(run.read for run in self._runs))
             self._shown = time.monotonic()

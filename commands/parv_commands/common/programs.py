@@ -12,7 +12,7 @@ import subprocess
 import time
 from typing import Any, Callable, Container, Coroutine, Dict, Iterator, List, NamedTuple, Optional, Sequence, Tuple, TypeVar, cast
 
-from . import progress
+from . import output
 from .faults import FILES, NoProgram
 from .names import shown
 from .signals import interruptible
@@ -136,10 +136,10 @@ def outputs_of(process: subprocess.Popen[bytes]) -> Iterator[Tuple[int, bytes]]:
             is_over = process.poll() is not None
             ready: List[selectors.SelectorKey] = []
             with interruptible():
-                ready = [key for key, _ in waiting.select(progress.EACH)]
+                ready = [key for key, _ in waiting.select(output.PROGRESS_EACH)]
             if is_over and not ready:
                 return
-            progress.show(progress.read_by(process.pid))
+            output.show_progress(output.read_by(process.pid))
             for key in ready:
                 piece = os.read(key.fd, PIECE)
                 if piece:
@@ -189,8 +189,8 @@ def status_of(process: subprocess.Popen[bytes]) -> int:
     signal."""
     while True:
         with contextlib.suppress(subprocess.TimeoutExpired), interruptible():
-            return process.wait(progress.EACH)
-        progress.show(progress.read_by(process.pid))
+            return process.wait(output.PROGRESS_EACH)
+        output.show_progress(output.read_by(process.pid))
 
 
 async def answer_of(program: Program, words: Sequence[bytes], place: Optional[int] = None, kept: Tuple[int, ...] = (),

@@ -7,7 +7,7 @@ import hashlib
 import os
 from typing import Callable, Dict, Generator, Iterator, List, NamedTuple, Sequence, Set, Tuple
 
-from . import changes, progress
+from . import changes, output
 from .faults import Fault, faults_of
 from .packets import Member, RecoverySet, packets_for
 from .parv import LONGEST_LINE, MOST_FILES, Parv
@@ -158,7 +158,7 @@ class Search:
         """Yields what parv writes, as it comes. Whenever all of it was taken, `idle` is called: more may come late."""
         program, links, said, rest = self.parv.program, self.parv.links, Said(self.parv.program), b""
         given = [b"find", *(word.encode() for word in words)]
-        with progress.doing("parv find", most), running(program, given, links.folder.place, links.kept) as process:
+        with output.doing("parv find", most), running(program, given, links.folder.place, links.kept) as process:
             for piece in pieces_of(process, said):
                 *lines, rest = (rest + piece).split(b"\n")
                 for line in lines:

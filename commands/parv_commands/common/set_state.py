@@ -18,7 +18,7 @@ import re
 import stat
 from typing import BinaryIO, Callable, Dict, Iterable, List, NamedTuple, Optional, Sequence, Tuple
 
-from . import changes, names, parv_output, progress
+from . import changes, names, output, parv_output
 from .equal_files import is_same
 from .faults import FILES, IMPOSSIBLE, NO_SET, POSSIBLE, Fault, faults_of
 from .folders import Folder, Identity, identity_of
@@ -281,7 +281,7 @@ class Verification:
 
     def gather(self) -> None:
         """Lists the files of the folder anew."""
-        with progress.waiting("the folder is read"):
+        with output.waiting("the folder is read"):
             files = files_of(self.folder, self.the_set.files, self.packet_files)
         self.files, self.scanned, self._left, self._is_listed = files, list(files.there), [], True
         if len(self.scanned) > self.room:
@@ -370,7 +370,7 @@ class Verification:
         """Returns `sources`, but with the own name of each file that has its content there, even if parv names another
         one first."""
         own: Sources = []
-        with progress.doing("equal files are compared"):
+        with output.doing("equal files are compared"):
             for file, source in zip(self.the_set.files, sources):
                 is_own = (source is not None and source != file.name and file.name in there
                           and is_same(self.folder, file.name, source))

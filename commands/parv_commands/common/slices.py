@@ -9,7 +9,7 @@ import os
 import zlib
 from typing import Iterable, Iterator, List, Optional, Tuple
 
-from . import changes, holes, progress
+from . import changes, holes, output
 from .faults import Refused
 from .holes import PIECE
 from .signals import wait_point
@@ -79,7 +79,7 @@ def told(pieces: Iterable[bytes]) -> Iterator[bytes]:
         wait_point()
         yield piece
         done += len(piece)
-        progress.show(done)
+        output.show_progress(done)
 
 
 @functools.lru_cache(maxsize=1)

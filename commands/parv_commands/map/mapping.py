@@ -5,7 +5,7 @@ from __future__ import annotations
 import os
 from typing import BinaryIO, Dict, List, NamedTuple, Sequence, Set, Tuple
 
-from ..common import progress
+from ..common import output
 from ..common.command_files import Given
 from ..common.faults import FILES, Fault, faults_of
 from ..common.names import shown
@@ -59,18 +59,18 @@ def _map_in_place(found: RecoverySet, file: Member, paths: Sequence[bytes], tail
     """Returns the map of a file from the scanned files with its name. All other slices are missing, or not known."""
     states = [NOT_KNOWN if file.sums is None else MISSING] * file.slices
     for path in paths if file.sums else []:
-        with progress.doing(f"{file.shown} is read", file.length), faults_of("read", shown(path)), \
+        with output.doing(f"{file.shown} is read", file.length), faults_of("read", shown(path)), \
                 open(path, "rb") as opened:
             for number in range(file.slices):
                 wait_point()
-                progress.show(number * found.size)
+                output.show_progress(number * found.size)
                 if states[number] != IN_PLACE and _is_in_place(found, file, number, opened, tails):
                     states[number] = IN_PLACE
     return Map(file, states, {})
 
 
 def _has_content(path: bytes, file: Member) -> bool:
-    with progress.doing(f"{file.shown} is read", file.length), faults_of("read", shown(path)), \
+    with output.doing(f"{file.shown} is read", file.length), faults_of("read", shown(path)), \
             open(path, "rb") as opened:
         return md5_of(told(pieces_of_file(opened.fileno()))) == file.whole
 

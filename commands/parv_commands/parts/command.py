@@ -8,7 +8,7 @@ import os
 import re
 from typing import Iterator, List, NamedTuple, Optional, Sequence
 
-from ..common import arguments, changes, output, parv_output, programs, progress
+from ..common import arguments, changes, output, parv_output, programs
 from ..common.faults import FILES, USAGE, Fault, faults_of
 from ..common.folders import Folder
 from ..common.names import shown
@@ -210,7 +210,7 @@ def find(program: Program, asked: Asked, cursor: Sequence[bytes]) -> Iterator[by
     tails = [b"--tails"] if asked.tails else []
     given = [b"find", *tails, b"--limit", asked.limit, *cursor, b"--", *asked.files]
     said, rest, left = programs.Said(program), b"", int(asked.limit)       # how many matches may still come
-    with progress.doing("parv find", most_read(asked.files, 1)), programs.running(program, given) as process:
+    with output.doing("parv find", most_read(asked.files, 1)), programs.running(program, given) as process:
         for piece in programs.pieces_of(process, said):
             *lines, rest = (rest + piece).split(b"\n")
             for line in lines:

@@ -9,7 +9,7 @@ import signal
 import sys
 from typing import List, NoReturn
 
-from ..common import arguments, output, programs, progress, signals
+from ..common import arguments, output, programs, signals
 from ..common.faults import FILES, NoProgram
 from ..common.parv import most_read
 from ..common.programs import Program
@@ -64,10 +64,10 @@ def _show(program: Program, given: List[bytes]) -> int:
     is_terminal = _is_terminal(1)
     options = given[:given.index(b"--")] if b"--" in given else given
     times = 1 if given[0] == b"find" else 3 if b"--tails" in options else 2
-    with progress.doing("parv", most_read(given[1:], times), True), \
+    with output.doing("parv", most_read(given[1:], times), True), \
             programs.running(program, given, own=(0,) if is_terminal else (0, 1)) as process:
         for number, piece in programs.outputs_of(process):
-            progress.stop()     # (From now on, removing the line would remove output.)
+            output.stop_progress()     # (From now on, removing the line would remove output.)
             with signals.interruptible():
                 output.pass_on(piece, number)
         status = programs.status_of(process)
@@ -93,7 +93,7 @@ def main() -> int:
             parser().error("the first argument must be find or verify")
         program = arguments.needed_parv()
         programs.raise_file_limit()
-        if not progress.can_show() or given[0] == b"find" and _is_terminal(1):
+        if not output.can_show_progress() or given[0] == b"find" and _is_terminal(1):
             _become(program, given)
         return _show(program, given)
     return arguments.ended("parv-progress", run)

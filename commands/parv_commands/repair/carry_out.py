@@ -9,7 +9,7 @@ import os
 import stat
 from typing import Callable, List, Optional, Sequence
 
-from ..common import changes, names, progress, seals, signals
+from ..common import changes, names, output, seals, signals
 from ..common.faults import FILES, Fault, Refused, faults_of
 from ..common.folders import Folder, Identity, identity_of
 from ..common.names import shown
@@ -34,16 +34,16 @@ def carry_out(inspection: Inspection, situation: Situation, removes_backups: boo
         if situation.repairs:
             situation = situation.with_made(Making(inspection, situation, stage).made())
         _keep_closed(situation)
-        with progress.doing("equal files are compared"):
+        with output.doing("equal files are compared"):
             plan = plan_of(situation)
         _copy(stage, plan)
         moves = _moves_of(folder, plan, inspection)
-        with progress.waiting("what was made is brought to the disk"):
+        with output.waiting("what was made is brought to the disk"):
             stage.note(moves.steps, plan.made())
-        with progress.waiting("files are moved"):
+        with output.waiting("files are moved"):
             moves.make()
         inspection.verify()
-        with progress.waiting("what was moved is brought to the disk"), faults_of("write in", folder.shown):
+        with output.waiting("what was moved is brought to the disk"), faults_of("write in", folder.shown):
             changes.sync_all(folder.place)
         removable = _removable(inspection, plan.backups) if removes_backups else []
     except Refused as why:
@@ -52,7 +52,7 @@ def carry_out(inspection: Inspection, situation: Situation, removes_backups: boo
     except BaseException:
         _put_back(stage, moves, inspection)
         raise
-    with progress.waiting("temporary files are removed"):
+    with output.waiting("temporary files are removed"):
         stage.forget()
         stage.clear()
     removed = [backup.kept for backup in removable if _remove(inspection, backup)]
@@ -64,7 +64,7 @@ def _put_back(stage: Stage, moves: Optional[Moves], inspection: Inspection) -> N
     if not work_folder.is_there(stage.folder):
         return
     try:
-        with progress.waiting("all is put back"), contextlib.closing(stage):
+        with output.waiting("all is put back"), contextlib.closing(stage):
             if moves is not None and stage.opened.look(work_folder.JOURNAL) is not None:
                 moves.undo()
                 moves.sync()
@@ -92,7 +92,7 @@ def _make_empty_files(stage: Stage, situation: Situation) -> None:
 def _copy(stage: Stage, plan: Plan) -> None:
     """Makes the copies in a plan."""
     for copy in plan.copies:
-        with progress.doing(f"{shown(copy.source)} is copied", plan.there[copy.source].length or 0):
+        with output.doing(f"{shown(copy.source)} is copied", plan.there[copy.source].length or 0):
             _make_file(stage, names.base_of(copy.target), functools.partial(_fill, stage.folder, copy.source))
 
 
@@ -106,7 +106,7 @@ def _fill(folder: Folder, path: bytes, opened: int) -> None:
             signals.wait_point()
             changes.write(opened, piece)
             done += len(piece)
-            progress.show(done)
+            output.show_progress(done)
         _set_like(opened, now, _access_list(source))
         changes.set_times(opened, now.st_atime_ns, now.st_mtime_ns)
     finally:

@@ -8,7 +8,7 @@ import os
 import re
 from typing import Iterator, List, NamedTuple, Optional, Tuple
 
-from ..common import arguments, output, programs, progress, signals
+from ..common import arguments, output, programs, signals
 from ..common.faults import FILES, POSSIBLE, Fault, NoProgram, Refused
 from ..common.folders import Folder
 from ..common.names import shown
@@ -77,7 +77,7 @@ def _recover(folder: Folder, is_trial: bool, report: Report) -> bool:
     if is_trial:
         work_folder.say_of_earlier(folder, report)
         return False
-    with progress.waiting("a run that was ended is finished"):
+    with output.waiting("a run that was ended is finished"):
         return work_folder.recover(folder, report)
 
 
@@ -94,7 +94,7 @@ def _report_earlier_backups(inspection: Inspection) -> None:
 
 def _trial(inspection: Inspection, situation: Situation) -> Tuple[int, List[str]]:
     """Returns the exit status and the lines of a run that only says what it would do."""
-    with progress.doing("equal files are compared"):
+    with output.doing("equal files are compared"):
         plan = plan_of(situation)
     if situation.repairs:
         try:

@@ -9,7 +9,7 @@ import os
 import stat
 from typing import Dict, List, NamedTuple, NoReturn, Optional, Sequence, Set
 
-from ..common import changes, progress
+from ..common import changes, output
 from ..common.equal_files import is_same
 from ..common.faults import FILES, NO_REPAIR, Fault, NoProgram, Refused, faults_of
 from ..common.folders import Folder
@@ -52,7 +52,7 @@ class Bench:
 
     def write_packets(self, files: PacketFiles, recovery: Sequence[PacketLine]) -> None:
         most = sum(line.length for line in recovery)
-        with progress.doing("recovery slices are copied", most), faults_of("write", f"{self.place.shown}/set.par2"):
+        with output.doing("recovery slices are copied", most), faults_of("write", f"{self.place.shown}/set.par2"):
             with changes.new_file(self.place.place, PACKETS) as opened:
                 write_for_par2(opened, self.found, [name_for(number) for number in range(len(self.found.files))], files,
                                recovery, _passed)
@@ -79,7 +79,7 @@ class Bench:
     def repair(self, extra: Sequence[bytes]) -> Tried:
         """Lets par2 repair the linked files, with files under these further names."""
         program = needed_par2()
-        with progress.doing("par2 repair"):
+        with output.doing("par2 repair"):
             ended = finished(answer_of(program, [b"repair", b"-q", PACKETS, *extra], self.place.place))
         lines = [line for line in (ended.out + b"\n" + ended.said).replace(b"\r", b"\n").split(b"\n") if line.strip()]
         last = shown(lines[-1].strip()) if lines else ""
@@ -104,7 +104,7 @@ class Bench:
 def _passed(done: int) -> None:
     """Shows how far a copy has got. A signal may end the command here."""
     wait_point()
-    progress.show(done)
+    output.show_progress(done)
 
 
 class Making:

@@ -7,7 +7,7 @@ import re
 import stat
 from typing import Dict, List, NamedTuple, Optional, Sequence, Set
 
-from ..common import names, output, progress
+from ..common import names, output
 from ..common.equal_files import is_same
 from ..common.faults import FILES, IMPOSSIBLE, NO_REPAIR, NO_SET, USAGE, Fault, Refused
 from ..common.folders import Folder, Identity
@@ -72,7 +72,7 @@ class Inspection:
         self.lines: List[PacketLine] = []
         self.answer = self._set_of(packet_words, set_id)
         self.packets = PacketFiles(self.parv, packet_words, self.words.opener)
-        with progress.waiting("packets are read"):
+        with output.waiting("packets are read"):
             self.the_set: RecoverySet = read_recovery_set(self.answer, self.packets, self.lines)
         self.verification = Verification(self.words, self.answer, packet_words, most_open, self.report,
                                          self.packet_files.names)

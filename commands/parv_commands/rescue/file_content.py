@@ -6,7 +6,7 @@ import os
 import zlib
 from typing import NamedTuple, Set, Tuple
 
-from ..common import holes, progress
+from ..common import holes, output
 from ..common.packets import Member, RecoverySet
 from ..common.signals import wait_point
 from ..common.slices import md5_of, sums_of_zeros, window
@@ -26,11 +26,11 @@ def content_of(found: RecoverySet, file: Member, place: int) -> Content:
     odd: Set[int] = set()
     has_data = False
     sums_of_file = (file.sums or []) if os.fstat(place).st_size == file.length else []
-    with progress.doing(f"{file.shown} is read", file.length):
+    with output.doing(f"{file.shown} is read", file.length):
         for number, sums in zip(file.numbers, sums_of_file):
             wait_point()
             offset = (number - file.first) * found.size
-            progress.show(offset)
+            output.show_progress(offset)
             is_right, is_zeros = _look_at(place, offset, found.own_length(file, number - file.first), found.size, sums)
             if is_right:
                 there.add(number)

@@ -6,7 +6,7 @@ import os
 import stat
 from typing import Dict, Optional
 
-from ..common import holes, output, progress
+from ..common import holes, output
 from ..common.faults import Refused
 from ..common.folders import Folder
 from ..common.names import base_of
@@ -76,7 +76,7 @@ class States:
                 return "damaged" if self.counts[file.id] else "missing"
         if not self._may_be_hashed(file, place):
             return "unverified"
-        with progress.doing(f"{file.shown} is verified", file.length):
+        with output.doing(f"{file.shown} is verified", file.length):
             is_right = md5_of(told(holes.pieces(place, file.length))) == file.whole
         if is_right:
             return "complete"

@@ -19,7 +19,7 @@ import stat
 import time
 from typing import Dict, Iterator, List, NamedTuple, Optional, Set
 
-from ..common import changes, names, output, progress
+from ..common import changes, names, output
 from ..common.faults import FILES, Fault, Refused, faults_of
 from ..common.folders import Folder
 from ..common.packets import Member, RecoverySet
@@ -315,7 +315,7 @@ class Writer:
     def save(self, search: Optional[Search] = None, way: str = "") -> None:
         """Brings the slices to the disk. Then the record says that they are there, and how far the search came."""
         self.flush()
-        with progress.waiting("what was copied is brought to the disk"):
+        with output.waiting("what was copied is brought to the disk"):
             self._sync()
         there = self._there - self.record.there
         if there:

@@ -9,7 +9,7 @@ import os
 import re
 from typing import BinaryIO, Deque, Dict, Generator, Iterable, Iterator, List, NamedTuple, Optional, Set, Tuple
 
-from ..common import arguments, output, programs, progress, signals
+from ..common import arguments, output, programs, signals
 from ..common.faults import FILES, NO_SET, USAGE, Fault, faults_of
 from ..common.folders import Descent, Folder
 from ..common.names import is_packet_file, shown
@@ -138,10 +138,10 @@ class Tree:
 
     def run(self) -> int:
         """Checks and prints everything, and returns the exit status."""
-        with progress.doing("packet files are looked for"):
+        with output.doing("packet files are looked for"):
             self._find()
         self.pool.waiting.extend(self._list(place) for place in self.places)
-        with progress.doing("sets are verified"):
+        with output.doing("sets are verified"):
             self.pool.run(self._tell)
         self._tell()
         if not self.count and not self.status:
@@ -319,7 +319,7 @@ class Tree:
     def _write(self, lines: Iterable[str]) -> None:
         lines = list(lines)
         if lines:
-            progress.clear()
+            output.clear_progress()
             output.tell(lines)
 
     def _compare(self, state: State) -> None:
