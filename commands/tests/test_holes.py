@@ -9,10 +9,11 @@ import unittest.mock
 import zlib
 from typing import Any, Dict, List, Tuple
 
-from parv_commands.common import holes, slices
+from parv_commands.common import slices
 from parv_commands.common.faults import Refused
 from parv_commands.common.slices import fill, sums_of_zeros
 from parv_commands.rescue import command as rescue
+from parv_commands.rescue import states
 
 from .rooms import Room, md5, packet, spent, write
 
@@ -47,11 +48,11 @@ class Files(unittest.TestCase):
                 file.write(DATA)
         self.opened = os.open(self.path, os.O_RDWR)
         self.addCleanup(os.close, self.opened)
-        if holes.data_from(self.opened, 0) == 0:
+        if slices.data_from(self.opened, 0) == 0:
             self.skipTest("the file system knows no holes")
 
     def read_by(self, does: str, *given: Any) -> Tuple[Any, int]:
-        """Returns what a function of `holes` or `slices` returns, and how many bytes it has read."""
+        """Returns what a function of `slices` returns, and how many bytes it has read."""
         counts: List[int] = []
         real = os.pread
 
@@ -59,18 +60,18 @@ class Files(unittest.TestCase):
             counts.append(len(real(opened, length, at)))
             return real(opened, length, at)
         with unittest.mock.patch.object(os, "pread", counted):
-            found = getattr(slices if does == "is_there" else holes, does)(self.opened, *given)
-            if does == "pieces":
+            found = getattr(slices, does)(self.opened, *given)
+            if does == "pieces_around_holes":
                 found = b"".join(found)
         return found, sum(counts)
 
     def test_only_data_are_read(self) -> None:
         with open(self.path, "rb") as file:
             whole = file.read()
-        found, count = self.read_by("pieces", 64 << 20)
+        found, count = self.read_by("pieces_around_holes", 64 << 20)
         self.assertEqual(found, whole)
         self.assertLess(count, 3 << 20)
-        zeros, count = self.read_by("zeros_in", 64 << 20)
+        zeros, count = self.read_by("zeros_in_holes", 64 << 20)
         self.assertEqual(count, 0)
         self.assertTrue(0 <= (64 << 20) - zeros - 2 * len(DATA) < 1 << 18, zeros)
         for offset, length, wanted in ((0, 1 << 20, True), (3 << 20, 1, False), (4 << 20, 36 << 20, True),
@@ -88,9 +89,9 @@ class Files(unittest.TestCase):
     def test_a_file_system_that_knows_no_holes(self) -> None:
         for answer in (lambda opened, at, how: at), unittest.mock.Mock(side_effect=OSError(22, "Invalid argument")):
             with unittest.mock.patch.object(os, "lseek", answer):
-                self.assertEqual(self.read_by("zeros_in", 64 << 20)[0], 0)
-                self.assertEqual(self.read_by("pieces", 64 << 20)[1], 64 << 20)
-                self.assertFalse(holes.is_hole(self.opened, 0, SIZE))
+                self.assertEqual(self.read_by("zeros_in_holes", 64 << 20)[0], 0)
+                self.assertEqual(self.read_by("pieces_around_holes", 64 << 20)[1], 64 << 20)
+                self.assertFalse(slices.is_hole(self.opened, 0, SIZE))
                 self.assertRaises(Refused, fill, self.opened, bytes(9) + b"other" * 9, 3 << 20)
                 self.assertEqual(os.pread(self.opened, len(DATA), 3 << 20), DATA)
 
@@ -123,7 +124,7 @@ class Rescues(unittest.TestCase):
             for name, right in (("right", whole), ("wrong", bytes(16))):
                 self.put_set(slices, right)
                 folder = f"{name}{free}"
-                with unittest.mock.patch.object(holes, "FREE_ZEROS", free):
+                with unittest.mock.patch.object(states, "FREE_ZEROS", free):
                     ended = self.room.run(rescue.main, ["--tails", folder, "huge.par2", "image"])
                 is_whole = free > 0 and name == "right"
                 line = state if free == 0 or is_whole else f"damaged huge 1/{slices + 1}"

@@ -6,14 +6,17 @@ import os
 import stat
 from typing import Dict, Optional
 
-from ..common import holes, output
+from ..common import output
 from ..common.faults import Refused
 from ..common.folders import Folder
 from ..common.names import base_of
 from ..common.packets import Member, RecoverySet
-from ..common.slices import is_there, md5_of, told
+from ..common.slices import is_there, md5_of, pieces_around_holes, told, zeros_in_holes
 from .record import left_by
 from .writer import OTHER, TAKEN, Writer
+
+FREE_ZEROS = 1 << 30    # the most zeros in holes that a run hashes, in addition to ..
+MOST_ZEROS = 64         # .. this number of zeros for each byte of a file that isn't in a hole
 
 
 class States:
@@ -21,7 +24,7 @@ class States:
 
     def __init__(self, found: RecoverySet, folder: Folder, writer: Writer) -> None:
         self.found, self.folder, self.writer = found, folder, writer
-        self.zeros = holes.FREE_ZEROS       # how many zeros in holes may still be hashed
+        self.zeros = FREE_ZEROS             # how many zeros in holes may still be hashed
         self.counts: Dict[str, int] = {}    # how many slices of a file are in their places, by its ID
 
     def state_of(self, file: Member) -> str:
@@ -77,15 +80,15 @@ class States:
         if not self._may_be_hashed(file, place):
             return "unverified"
         with output.doing(f"{file.shown} is verified", file.length):
-            is_right = md5_of(told(holes.pieces(place, file.length))) == file.whole
+            is_right = md5_of(told(pieces_around_holes(place, file.length))) == file.whole
         if is_right:
             return "complete"
         return "wrong" if self.counts[file.id] == file.slices else "damaged" if self.counts[file.id] else "missing"
 
     def _may_be_hashed(self, file: Member, place: int) -> bool:
         """Returns whether the holes of a file aren't much longer than the rest. Then the zeros there are hashed."""
-        zeros = holes.zeros_in(place, file.length)
-        more = max(0, zeros - holes.MOST_ZEROS * (file.length - zeros))
+        zeros = zeros_in_holes(place, file.length)
+        more = max(0, zeros - MOST_ZEROS * (file.length - zeros))
         if more > self.zeros:
             output.say(f"{file.shown} isn't verified: {zeros} of its {file.length} bytes are in holes")
             return False

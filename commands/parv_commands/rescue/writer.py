@@ -25,8 +25,7 @@ from ..common.folders import Folder
 from ..common.packets import Member, RecoverySet
 from ..common.search import LINE, Search
 from ..common.signals import wait_point
-from ..common.slices import fill
-from .file_content import content_of
+from ..common.slices import content_of, fill
 from .record import NEW, Left, Record, left_by, runs_of
 
 MANY = 64               # the most files and folders that are written to the disk one by one
