@@ -148,7 +148,7 @@ class Secrets(unittest.TestCase):
                 self.assertEqual(os.listdir(self.folder), ["secret"])
 
     def test_runs_that_begin_at_once_make_one(self) -> None:
-        text = ("import os, sys; sys.path.insert(0, sys.argv[1]); from parv_commands import seals\n"
+        text = ("import os, sys; sys.path.insert(0, sys.argv[1]); from parv_commands.common import seals\n"
                 "place = os.open('.', os.O_RDONLY); print(seals.seal_to_write(b'kind', place).mark(b'text'))")
         above = os.path.dirname(os.path.dirname(os.path.realpath(seals.__file__)))
         for _ in range(5):
