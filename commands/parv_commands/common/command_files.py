@@ -11,9 +11,8 @@ from typing import BinaryIO, Dict, List, Optional, Sequence, Tuple
 
 from . import output, programs
 from .faults import FILES, USAGE, Fault, faults_of
-from .listing import Listing
 from .names import is_packet_file, shown
-from .packets import PacketFiles, RecoverySet, read_recovery_set
+from .packets import PacketFiles, RecoverySet, list_packets, read_recovery_set
 from .parv import MOST_FILES, SPARE_FILES, Links, Parv
 from .parv_output import SetAnswer
 from .search import Scanned
@@ -70,10 +69,9 @@ def read_given(parv: Parv, given: Given, chosen: Optional[str]) -> Tuple[SetAnsw
     """Returns the set of the packet files, or the one with the chosen ID. If none is chosen, a line names others."""
     answer = programs.finished(parv.set(given.packet_words, chosen))
     files = PacketFiles(parv, given.packet_words, given.opener)
-    listing = Listing(parv, answer.id, MOST_OTHERS + 1)
-    listing.read(given.packet_words, given.packet_bytes)
+    listing = list_packets(parv, given.packet_words, answer.id, given.packet_bytes, MOST_OTHERS + 1)
     if chosen is None and listing.others:
-        others = " ".join(list(listing.others)[:MOST_OTHERS]) + (" .." if len(listing.others) > MOST_OTHERS else "")
+        others = " ".join(listing.others[:MOST_OTHERS]) + (" .." if len(listing.others) > MOST_OTHERS else "")
         output.say(f"there are several sets, of which this is {answer.id}; --set takes another one: {others}")
     with contextlib.closing(files), output.waiting("packets are read"):
         return answer, read_recovery_set(answer, files, listing.lines)

@@ -1,15 +1,18 @@
-"""Reads the packets of which a set is made, as parv chooses them, and writes packet files from them."""
+"""Lists and reads the packets of which a set is made, as parv chooses them, and writes packet files from them."""
 
 from __future__ import annotations
 
+import contextlib
 import hashlib
 import os
-from typing import BinaryIO, Callable, Dict, Iterable, Iterator, List, NamedTuple, Optional, Sequence, Set, Tuple
+from typing import (BinaryIO, Callable, Dict, Generator, Iterable, Iterator, List, NamedTuple, Optional, Sequence, Set,
+                    Tuple)
 
-from . import changes
+from . import changes, output
 from .faults import FILES, Fault, faults_of
 from .parv import Parv
-from .parv_output import PacketLine, SetAnswer
+from .parv_output import NoAnswer, PacketLine, PacketLines, SetAnswer
+from .programs import Said, pieces_of, running, status_of, too_much
 
 MAGIC = b"PAR2\0PKT"
 HEADER = 64
@@ -65,6 +68,44 @@ class RecoverySet(NamedTuple):
 
 def changed() -> Fault:
     return Fault(FILES, "the packet files have changed meanwhile")
+
+
+class Listing(NamedTuple):
+    """The packets of a set, and the IDs of other sets that have a Main packet."""
+    lines: List[PacketLine]
+    others: List[str]
+
+
+def _packet_lines(parv: Parv, words: Sequence[str], most: int) -> Generator[PacketLine, None, None]:
+    """Yields the packets of these packet files as parv lists them. There can't be more than `most`."""
+    reader, said = PacketLines(), Said(parv.program)
+    arguments = [b"packets", b"--", *map(str.encode, words)]
+    with output.doing("parv packets"), running(parv.program, arguments, parv.links.folder.place,
+                                               parv.links.kept) as process:
+        for piece in pieces_of(process, said):
+            yield from reader.take(piece)
+            if reader.count > most:
+                raise too_much(parv.program)
+        status = status_of(process)
+    if status != 0:
+        raise parv.fault_of(status, bytes(said), "packets")
+    reader.end()
+
+
+def list_packets(parv: Parv, words: Sequence[str], owner: str, most: int, most_others: int) -> Listing:
+    """Lists the packets of the set with an ID in these packet files, which can't have more than `most`, and other sets,
+    at most `most_others`. The packets of these, of which a file may have millions, take no memory."""
+    lines: List[PacketLine] = []
+    others: Dict[str, None] = {}
+    with contextlib.closing(_packet_lines(parv, words, most)) as packets:
+        for packet in packets:
+            if packet.word not in parv.links.shown:
+                raise NoAnswer("packets")
+            if packet.set == owner:
+                lines.append(packet)
+            elif packet.kind == "main" and len(others) < most_others:
+                others[packet.set] = None
+    return Listing(lines, list(others))
 
 
 def packet_of(owner: str, kind: str, body: bytes) -> bytes:
