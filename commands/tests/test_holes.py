@@ -13,7 +13,6 @@ from parv_commands.common import slices
 from parv_commands.common.faults import Refused
 from parv_commands.common.slices import fill, sums_of_zeros
 from parv_commands.rescue import command as rescue
-from parv_commands.rescue import states
 
 from .rooms import Room, md5, packet, spent, write
 
@@ -124,7 +123,7 @@ class Rescues(unittest.TestCase):
             for name, right in (("right", whole), ("wrong", bytes(16))):
                 self.put_set(slices, right)
                 folder = f"{name}{free}"
-                with unittest.mock.patch.object(states, "FREE_ZEROS", free):
+                with unittest.mock.patch.object(rescue, "FREE_ZEROS", free):
                     ended = self.room.run(rescue.main, ["--tails", folder, "huge.par2", "image"])
                 is_whole = free > 0 and name == "right"
                 line = state if free == 0 or is_whole else f"damaged huge 1/{slices + 1}"
