@@ -5,15 +5,21 @@ from __future__ import annotations
 import contextlib
 import os
 import shutil
-from typing import List, NamedTuple, Optional
+from typing import BinaryIO, Dict, List, NamedTuple, Optional, Sequence, Set
 
 from ..common import arguments, output, signals
 from ..common.command_files import Given, most_at_once, read_given
-from ..common.faults import USAGE, Fault
+from ..common.faults import FILES, USAGE, Fault, faults_of
+from ..common.names import shown
+from ..common.packets import Member, RecoverySet
 from ..common.parv import Links, Parv, temporary_folder
-from . import drawing, pictures
-from .mapping import maps_of
+from ..common.parv_output import SetAnswer, State
+from ..common.programs import finished
+from ..common.search import Scanned, Search
+from ..common.slices import is_there, md5_of, pieces_of_file, told
+from . import pictures
 from .new_files import NewFiles
+from .pictures import IN_PLACE, MISSING, MOVED, NOT_KNOWN, Map
 
 USUAL_WIDTH = 80        # if a terminal doesn't say how wide it is
 
@@ -55,6 +61,92 @@ class Asked(NamedTuple):
     picture: Optional[bytes]
 
 
+def bare(path: bytes, base: bytes) -> bytes:
+    """Returns the name of a scanned file, without the folder of -B."""
+    front = base if base.endswith(b"/") else base + b"/"
+    return path[len(front):] if base and path.startswith(front) else path
+
+
+def _is_in_place(found: RecoverySet, file: Member, number: int, opened: BinaryIO, tails: bool) -> bool:
+    """Returns whether an open file has the slice at its offset, by the rules of parv."""
+    own, offset = found.own_length(file, number), number * found.size
+    behind = os.fstat(opened.fileno()).st_size - offset
+    looked = own if tails else max(own, min(found.size, behind))
+    return file.sums is not None and is_there(opened.fileno(), offset, looked, found.size, file.sums[number])
+
+
+def _map_in_place(found: RecoverySet, file: Member, paths: Sequence[bytes], tails: bool) -> Map:
+    """Returns the map of a file from the scanned files with its name. All other slices are missing, or not known."""
+    states = [NOT_KNOWN if file.sums is None else MISSING] * file.slices
+    for path in paths if file.sums else []:
+        with output.doing(f"{file.shown} is read", file.length), faults_of("read", shown(path)), \
+                open(path, "rb") as opened:
+            for number in range(file.slices):
+                signals.wait_point()
+                output.show_progress(number * found.size)
+                if states[number] != IN_PLACE and _is_in_place(found, file, number, opened, tails):
+                    states[number] = IN_PLACE
+    return Map(file, states, {})
+
+
+def _has_content(path: bytes, file: Member) -> bool:
+    with output.doing(f"{file.shown} is read", file.length), faults_of("read", shown(path)), \
+            open(path, "rb") as opened:
+        return md5_of(told(pieces_of_file(opened.fileno()))) == file.whole
+
+
+def _map_of_unknown(file: Member, state: State, paths: Sequence[bytes]) -> Map:
+    """Returns the map of a file whose slices have no checksums, from what parv says about the whole file."""
+    if state.word is None:
+        return Map(file, [NOT_KNOWN] * file.slices, {})
+    return Map(file, [IN_PLACE if any(_has_content(path, file) for path in paths) else MOVED] * file.slices, {})
+
+
+def _may_be_whole(found: RecoverySet, given: Given, most_files: int) -> List[Scanned]:
+    """Returns the searched files that may have the content of a file whose slices have no checksums: those with the
+    length of one."""
+    lengths = {file.length for file in found.files if file.sums is None and file.slices}
+    candidates = [scanned for scanned in given.scanned if scanned.length in lengths]
+    if len(candidates) > most_files - len(given.packet_words):
+        raise Fault(FILES, f"{len(candidates)} files have the length of one without checksums of slices; parv takes "
+                           f"{max(0, most_files - len(given.packet_words))} here")
+    return candidates
+
+
+def maps_of(found: RecoverySet, answer: SetAnswer, given: Given, parv: Parv, tails: bool, base: bytes,
+            most_files: int) -> List[Map]:
+    """Returns the maps of all files. parv gets `most_files` at once."""
+    by_name: Dict[bytes, List[bytes]] = {}
+    for scanned in given.scanned:
+        path = given.paths[scanned.word]
+        by_name.setdefault(bare(path, base), []).append(path)
+    maps = [_map_in_place(found, file, by_name.get(file.name, []), tails) for file in found.files]
+    if any(file.sums is None and file.slices for file in found.files):
+        candidates = _may_be_whole(found, given, most_files)
+        most = sum(scanned.length for scanned in candidates) * 2
+        verdict = finished(parv.verify(answer, given.packet_words, [scanned.word for scanned in candidates], False,
+                                       most))
+        maps = [_map_of_unknown(each.file, state, by_name.get(each.file.name, [])) if each.file.sums is None else each
+                for each, state in zip(maps, verdict.states)]
+    _take_moved(maps, Search(found, parv, given.scanned, tails, _missing(maps), most_files=most_files))
+    return maps
+
+
+def _missing(maps: Sequence[Map]) -> Set[int]:
+    """Returns the numbers, in the whole set, of the missing slices."""
+    return {number for each in maps for number, state in zip(each.file.numbers, each.states) if state == MISSING}
+
+
+def _take_moved(maps: Sequence[Map], search: Search) -> None:
+    """Records where a search finds slices that were missing until then."""
+    owners = [each for each in maps for _ in each.states]
+    for at, offset, number in search.sightings():
+        search.wanted.discard(number)
+        each = owners[number]
+        each.states[number - each.file.first] = MOVED
+        each.where[number - each.file.first] = search.scanned[at].shown, offset
+
+
 def draw(asked: Asked) -> int:
     """Runs the command, and returns its exit status."""
     program = arguments.needed_parv()
@@ -71,7 +163,7 @@ def draw(asked: Asked) -> int:
             answer, found = read_given(parv, given, asked.chosen)
             maps = maps_of(found, answer, given, parv, asked.tails, asked.base, most_files)
         has_colours = os.isatty(1) and not os.environ.get("NO_COLOR")
-        lines = drawing.lines_of(found, maps, asked.width or shutil.get_terminal_size().columns or USUAL_WIDTH,
+        lines = pictures.lines_of(found, maps, asked.width or shutil.get_terminal_size().columns or USUAL_WIDTH,
                                  has_colours)
         with signals.interruptible():
             output.tell(lines)

@@ -1,14 +1,19 @@
-"""Pictures of a set: a drawing as SVG, and a page as HTML."""
+"""Pictures of the slices of a set: as text, as a drawing in SVG, and as a page in HTML."""
 
 from __future__ import annotations
 
 import html
-from typing import List, NamedTuple, Sequence, Tuple
+from typing import Dict, List, NamedTuple, Sequence, Tuple
 
-from ..common.packets import RecoverySet
-from .drawing import cut, spans
-from .mapping import WORDS, Map, all_states, need, tally
+from ..common.packets import Member, RecoverySet
 
+IN_PLACE, MOVED, NOT_KNOWN, MISSING = range(4)      # from the best to the worst
+WORDS = ["in place", "moved", "not known", "missing"]
+SIGNS = "#+?."
+COLOURS = ["\x1b[32m", "\x1b[33m", "\x1b[35m", "\x1b[31m"]
+PLAIN = "\x1b[0m"
+LINES = 4           # the greatest number of lines for a file
+NARROW = 48         # a line of fewer characters is too short for the words of all signs
 FILLS = ["#2e7d32", "#e08600", "#7a7a7a", "#c62828"]
 # A square, half of one, a bar, and a frame: paths from their upper left corners, 9 by 9.
 SHAPES = ["h9v9h-9z", "v9h9z", "m0 3h9v3h-9z", "h9v9h-9zm2 2v5h5v-5z"]
@@ -19,6 +24,73 @@ MOST_NAME = 40      # the most characters of a name in a drawing
 LETTER = 7.3        # the width of a character there
 
 
+class Map(NamedTuple):
+    """The states of a file's slices and, by number, the name and offset where a moved one is."""
+    file: Member
+    states: List[int]
+    where: Dict[int, Tuple[str, int]]
+
+
+def _tally(states: Sequence[int]) -> str:
+    """Returns how many slices are in each state, in words."""
+    return ", ".join(f"{states.count(state)} {WORDS[state]}" for state in range(4) if state in states) or "no slices"
+
+
+def _need(found: RecoverySet, states: Sequence[int]) -> str:
+    return f"need {states.count(MISSING) + states.count(NOT_KNOWN)} have {found.have}"
+
+
+def _all_states(maps: Sequence[Map]) -> List[int]:
+    return [state for each in maps for state in each.states]
+
+
+def _spans(length: int, most: int) -> List[Tuple[int, int]]:
+    """Cuts a list of this length into at most `most` parts, and returns their beginnings and ends."""
+    count = min(length, most)
+    return [(at * length // count, (at + 1) * length // count) for at in range(count)]
+
+
+def _cut(name: str, most: int) -> str:
+    return name if len(name) <= most else name[:max(most - 2, 0)] + ".."
+
+
+# As text: a sign for each slice, or for several in a row.
+
+def _painted(signs: str, colour: bool) -> str:
+    """Returns a line of signs, in colours if these are asked for."""
+    if not colour:
+        return signs
+    text, last = "", ""
+    for sign in signs:
+        text += sign if sign == last else COLOURS[SIGNS.index(sign)] + sign
+        last = sign
+    return text + PLAIN
+
+
+def _lines_of_file(each: Map, width: int, colour: bool) -> List[str]:
+    """Returns the lines of a file: its name and how much of it is there, and the signs of its slices."""
+    parts = _spans(len(each.states), width * LINES)
+    most = max((end - begin for begin, end in parts), default=1)
+    about = f": {_tally(each.states)}" + (f"; up to {most} slices a sign" if most > 1 else "")
+    signs = "".join(SIGNS[max(each.states[begin:end])] for begin, end in parts)
+    rows = [_painted(signs[at:at + width], colour) for at in range(0, len(signs), width)]
+    fits = len(each.file.shown + about) <= width
+    head = [each.file.shown + about] if fits else [_cut(each.file.shown, width), _cut(about[2:], width)]
+    return ["", *head, *rows]
+
+
+def lines_of(found: RecoverySet, maps: Sequence[Map], width: int, colour: bool) -> List[str]:
+    """Returns the lines of the whole picture."""
+    states = _all_states(maps)
+    signs = [f"{_painted(sign, colour)} {word}" for sign, word in zip(SIGNS, WORDS)]
+    lines = [found.line, ("  " if width >= NARROW else "\n").join(signs)]
+    for each in maps:
+        lines += _lines_of_file(each, width, colour)
+    return [*lines, "", f"{_tally(states)}; {_need(found, states)}"]
+
+
+# As drawings: a cell for each slice, or for several in a row.
+
 def _place_of(at: int) -> str:
     """Returns the corner of a cell in a grid."""
     return f"{at % COLUMNS * PITCH} {at // COLUMNS * PITCH}"
@@ -27,7 +99,7 @@ def _place_of(at: int) -> str:
 def _grid(each: Map, is_told: bool) -> Tuple[List[str], int]:
     """Returns the cells of a file, and how many rows they take. Each cell says what it means, or all cells of a state
     are one."""
-    parts = spans(len(each.states), COLUMNS * ROWS)
+    parts = _spans(len(each.states), COLUMNS * ROWS)
     worst = [max(each.states[begin:end]) for begin, end in parts]
     cells: List[str] = []
     if is_told:
@@ -44,7 +116,7 @@ def _grid(each: Map, is_told: bool) -> Tuple[List[str], int]:
 
 def _cell_told(each: Map, begin: int, end: int) -> str:
     if end - begin > 1:
-        return f"slices {begin} to {end - 1}: {tally(each.states[begin:end])}"
+        return f"slices {begin} to {end - 1}: {_tally(each.states[begin:end])}"
     if begin in each.where:
         name, offset = each.where[begin]
         return f"slice {begin}: moved, in {name} at {offset}"
@@ -63,9 +135,9 @@ def _legend() -> List[str]:
 
 def svg_of(found: RecoverySet, maps: Sequence[Map]) -> str:
     """Returns a drawing of all files with their names."""
-    states = all_states(maps)
-    labels = [f"{cut(each.file.shown, MOST_NAME)}: {tally(each.states)}" for each in maps]
-    labels.append(f"{tally(states)}; {need(found, states)}")
+    states = _all_states(maps)
+    labels = [f"{_cut(each.file.shown, MOST_NAME)}: {_tally(each.states)}" for each in maps]
+    labels.append(f"{_tally(states)}; {_need(found, states)}")
     parts, y = [f'<g transform="translate(10 10)">{"".join(_legend())}</g>'], 40
     for each, label in zip(maps, labels):
         cells, rows = _grid(each, False)
@@ -109,15 +181,15 @@ def _runs(each: Map, size: int) -> List[Run]:
 
 def page_of(found: RecoverySet, maps: Sequence[Map]) -> str:
     """Returns a page with a drawing of each file."""
-    states = all_states(maps)
+    states = _all_states(maps)
     parts = ["<!DOCTYPE html>", '<html lang="en"><head><meta charset="utf-8">', f"<title>Set {found.id}</title>",
              "<style>body{font:14px monospace;background:#fff;color:#222}h2{font-size:1em;overflow-wrap:anywhere}"
              "li{overflow-wrap:anywhere}</style></head><body>",
-             f"<p>{found.line}</p>", f"<p>{tally(states)}; {need(found, states)}</p>",
+             f"<p>{found.line}</p>", f"<p>{_tally(states)}; {_need(found, states)}</p>",
              f'<svg width="640" height="14">{"".join(_legend())}</svg>']
     for each in maps:
         cells, rows = _grid(each, True)
-        parts += [f"<h2>{html.escape(each.file.shown)}: {tally(each.states)}</h2>",
+        parts += [f"<h2>{html.escape(each.file.shown)}: {_tally(each.states)}</h2>",
                   f'<svg width="{COLUMNS * PITCH}" height="{rows * PITCH}">{"".join(cells)}</svg>']
         runs = _runs(each, found.size)
         if runs:
