@@ -59,6 +59,30 @@ def new_file(place: int, name: bytes) -> Iterator[int]:
         os.close(opened)
 
 
+@contextlib.contextmanager
+def whole_file(place: int, name: bytes, temporary: bytes,
+               replaces: Callable[[], bool] = lambda: False) -> Iterator[int]:
+    """Makes a file at a temporary name, which isn't used, and keeps it open while it is written. Once the disk has it,
+    it gets its name. `replaces` says then whether that may be the name of another file. If anything fails, the
+    temporary one is removed."""
+    opened = make_file(place, temporary)
+    try:
+        try:
+            yield opened
+            sync(opened)
+        finally:
+            os.close(opened)
+        if replaces():
+            replace(place, temporary, name)
+        else:
+            move(place, temporary, place, name)
+    except BaseException:
+        with contextlib.suppress(OSError):
+            remove_file(place, temporary)
+        raise
+    sync_folder(place)
+
+
 def make_path(path: bytes, mode: int = 0o777) -> None:
     """Makes a folder, and those above it, if they aren't there. The mode is that of the folder itself."""
     with _change("mkdir"):

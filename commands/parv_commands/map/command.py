@@ -4,13 +4,14 @@ from __future__ import annotations
 
 import contextlib
 import os
+import secrets
 import shutil
-from typing import BinaryIO, Dict, List, NamedTuple, Optional, Sequence, Set
+from typing import BinaryIO, Dict, Iterator, List, NamedTuple, Optional, Sequence, Set
 
-from ..common import arguments, output, signals
+from ..common import arguments, changes, output, signals
 from ..common.command_files import Given, most_at_once, read_given
 from ..common.faults import FILES, USAGE, Fault, faults_of
-from ..common.names import shown
+from ..common.names import base_of, shown
 from ..common.packets import Member, RecoverySet
 from ..common.parv import Links, Parv, temporary_folder
 from ..common.parv_output import SetAnswer, State
@@ -18,7 +19,6 @@ from ..common.programs import finished
 from ..common.search import Scanned, Search
 from ..common.slices import is_there, md5_of, pieces_of_file, told
 from . import pictures
-from .new_files import NewFiles
 from .pictures import IN_PLACE, MISSING, MOVED, NOT_KNOWN, Map
 
 USUAL_WIDTH = 80        # if a terminal doesn't say how wide it is
@@ -147,16 +147,68 @@ def _take_moved(maps: Sequence[Map], search: Search) -> None:
         each.where[number - each.file.first] = search.scanned[at].shown, offset
 
 
+# Pages and pictures in files.
+
+class NewFile(NamedTuple):
+    """A file that is to be made: the opened folder that it is in, its name there, and its name in messages."""
+    place: int
+    name: bytes
+    shown: str
+
+    def refuse_taken(self) -> None:
+        """Ends the command if something has the name already."""
+        if not self.name:
+            raise Fault(FILES, f"cannot write {self.shown}: Is a directory")
+        with contextlib.suppress(FileNotFoundError):
+            os.stat(self.name, dir_fd=self.place, follow_symlinks=False)
+            raise Fault(FILES, f"{self.shown} is there already")
+
+    def is_same(self, other: NewFile) -> bool:
+        return self.name == other.name and os.path.samestat(os.fstat(self.place), os.fstat(other.place))
+
+    @contextlib.contextmanager
+    def written(self, text: str) -> Iterator[None]:
+        """Writes the file with a temporary name. At the end it gets its own, unless something has that by then."""
+        temporary = b".parv-%s" % secrets.token_hex(8).encode()
+        with faults_of("write", self.shown):
+            try:
+                with changes.whole_file(self.place, self.name, temporary) as opened:
+                    changes.write(opened, text.encode("ascii"))
+                    yield
+            except FileExistsError as fault:
+                raise Fault(FILES, f"{self.shown} is there already") from fault
+
+
+@contextlib.contextmanager
+def new_files(paths: Sequence[bytes]) -> Iterator[List[NewFile]]:
+    """Opens the folders of files that are to be made at these paths. Nothing may be there yet."""
+    with contextlib.ExitStack() as stack:
+        files: List[NewFile] = []
+        for path in paths:
+            with faults_of("write", shown(path)):
+                place = os.open(os.path.dirname(path) or b".", os.O_RDONLY | os.O_DIRECTORY | os.O_CLOEXEC)
+                stack.callback(os.close, place)
+                files.append(NewFile(place, base_of(path), shown(path)))
+                files[-1].refuse_taken()
+        if len(files) == 2 and files[0].is_same(files[1]):
+            raise Fault(USAGE, f"{files[0].shown} and {files[1].shown} are one file: --html and --svg need one each")
+        yield files
+
+
+def write_all(files: Sequence[NewFile], texts: Sequence[str]) -> None:
+    """Makes the files, each with its text. None gets its name before all are written."""
+    with contextlib.ExitStack() as stack:
+        for file, text in reversed(list(zip(files, texts))):    # (the last one gets its name first)
+            stack.enter_context(file.written(text))
+
+
 def draw(asked: Asked) -> int:
     """Runs the command, and returns its exit status."""
     program = arguments.needed_parv()
     most_files = most_at_once()
     writers = [(path, text_of) for path, text_of in
                ((asked.page, pictures.page_of), (asked.picture, pictures.svg_of)) if path is not None]
-    with contextlib.closing(NewFiles([path for path, _ in writers])) as new:
-        twins = new.twins()
-        if twins:
-            raise Fault(USAGE, f"{twins[0]} and {twins[1]} are one file: --html and --svg need one each")
+    with new_files([path for path, _ in writers]) as files:
         with temporary_folder() as temporary:
             parv = Parv(program, Links(temporary, ()))
             given = Given(parv.links, asked.files)
@@ -164,10 +216,10 @@ def draw(asked: Asked) -> int:
             maps = maps_of(found, answer, given, parv, asked.tails, asked.base, most_files)
         has_colours = os.isatty(1) and not os.environ.get("NO_COLOR")
         lines = pictures.lines_of(found, maps, asked.width or shutil.get_terminal_size().columns or USUAL_WIDTH,
-                                 has_colours)
+                                  has_colours)
         with signals.interruptible():
             output.tell(lines)
-        new.write([text_of(found, maps) for _, text_of in writers])
+        write_all(files, [text_of(found, maps) for _, text_of in writers])
     return 0
 
 

@@ -117,24 +117,22 @@ class Stage:
                     changes.sync(opened)
                 finally:
                     os.close(opened)
-            with changes.new_file(self.opened.place, NEW) as new:
-                changes.write(new, self.sealed(JOURNAL, journal.encoded(steps)))
-                changes.sync(new)
-            self._name_journal()
-            changes.sync_folder(self.opened.place)
+            with self._naming_journal(), changes.whole_file(self.opened.place, JOURNAL, NEW) as opened:
+                changes.write(opened, self.sealed(JOURNAL, journal.encoded(steps)))
             changes.sync_folder(self.folder.place)
 
-    def _name_journal(self) -> None:
-        """Gives the journal its name. It is moved as the files of the folder will be, so this ends the run first where
-        none can be moved."""
+    @contextlib.contextmanager
+    def _naming_journal(self) -> Iterator[None]:
+        """Says why the journal can't get its name. It is moved as the files of the folder will be, so this ends the run
+        first where none can be moved."""
         try:
-            changes.move(self.opened.place, NEW, self.opened.place, JOURNAL)
+            yield
         except OSError as fault:
             if fault.errno not in changes.NO_LINK:
                 raise
             raise Fault(FILES, f"cannot move a file in {self.folder.shown}: {fault.strerror}: this file system has no "
-                               "links, by which a file gets a name without the danger of replacing another one; copy the "
-                               "folder to another one, and repair it there") from fault
+                               "links, by which a file gets a name without the danger of replacing another one; copy "
+                               "the folder to another one, and repair it there") from fault
 
     def forget(self) -> None:
         """Removes the journal, after all moves."""

@@ -2,7 +2,6 @@
 
 from __future__ import annotations
 
-import contextlib
 import hashlib
 import os
 import re
@@ -109,25 +108,14 @@ class State:
         text = b"%s%s\nfolder %s\n" % (HEAD, VERSION, shown(self.tree).encode())
         text += b"".join(b"%s\n" % line.text.encode() for line in sets)
         new = b"%s.%s" % (self.name[:_LONGEST_NAME], secrets.token_hex(8).encode())
-        with faults_of("write", self.shown):
-            try:
-                with changes.new_file(self._folder.place, new) as opened:
-                    if self._mode is not None:
-                        changes.set_mode(opened, self._mode)
-                    changes.write(opened, text + self._end(text))
-                    changes.sync(opened)
-                self._put(new)
-            except BaseException:
-                with contextlib.suppress(OSError):
-                    changes.remove_file(self._folder.place, new)
-                raise
-            changes.sync_folder(self._folder.place)
+        with faults_of("write", self.shown), changes.whole_file(
+                self._folder.place, self.name, new, self._replaces) as opened:
+            if self._mode is not None:
+                changes.set_mode(opened, self._mode)
+            changes.write(opened, text + self._end(text))
 
-    def _put(self, new: bytes) -> None:
-        """Gives the new file the name, unless somebody else has written a state meanwhile."""
+    def _replaces(self) -> bool:
+        """Returns whether there is an old state. Ends the command if somebody else has written one meanwhile."""
         if self._look() != self._read:
             raise Fault(FILES, f"{self.shown} has changed meanwhile, and stays as it is: is another run at work?")
-        if self._read is None:
-            changes.move(self._folder.place, new, self._folder.place, self.name)
-        else:
-            changes.replace(self._folder.place, new, self.name)
+        return self._read is not None
