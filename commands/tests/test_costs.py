@@ -12,7 +12,7 @@ from typing import Any, Callable, Dict, List
 
 from parv_commands.common.equal_files import SKETCH, Alike
 from parv_commands.common.folders import Folder, Identity, identity_of
-from parv_commands.common.names import numbered, shown
+from parv_commands.common.names import shown, with_number
 from parv_commands.common.packets import Member, RecoverySet
 from parv_commands.repair import command as repair, journal
 from parv_commands.repair.journal import Made, Moves
@@ -144,7 +144,7 @@ class Equal(unittest.TestCase):
             self.addCleanup(folder.close)
             there = {name: identity_of(os.stat(name, dir_fd=folder.place)) for name in map(os.fsencode, room.files)}
             with unittest.mock.patch.object(Folder, "look", autospec=True, side_effect=Folder.look) as looks, \
-                    unittest.mock.patch("parv_commands.common.folders.numbered", side_effect=numbered) as names:
+                    unittest.mock.patch("parv_commands.common.folders.with_number", side_effect=with_number) as names:
                 plan = self.plan(folder, list(there), there)
                 moves = Moves(folder, b".parv-repair", plan.steps(lambda path: Identity(1, 2, 3)), self.fail)
                 before = room.listing()

@@ -10,7 +10,7 @@ import zlib
 from typing import Any, Dict, List, Tuple
 
 from parv_commands.common import slices
-from parv_commands.common.faults import Refused
+from parv_commands.common.faults import Refusal
 from parv_commands.common.slices import fill, sums_of_zeros
 from parv_commands.rescue import command as rescue
 
@@ -91,7 +91,7 @@ class Files(unittest.TestCase):
                 self.assertEqual(self.read_by("zeros_in_holes", 64 << 20)[0], 0)
                 self.assertEqual(self.read_by("pieces_around_holes", 64 << 20)[1], 64 << 20)
                 self.assertFalse(slices.is_hole(self.opened, 0, SIZE))
-                self.assertRaises(Refused, fill, self.opened, bytes(9) + b"other" * 9, 3 << 20)
+                self.assertRaises(Refusal, fill, self.opened, bytes(9) + b"other" * 9, 3 << 20)
                 self.assertEqual(os.pread(self.opened, len(DATA), 3 << 20), DATA)
 
     def test_equal_slices_in_holes_are_written_without_a_look_at_each_block(self) -> None:

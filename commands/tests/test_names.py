@@ -30,24 +30,24 @@ def short(name: bytes) -> bytes:
 
 class Reserved(unittest.TestCase):
     def test_reserved_names_are_refused_as_any_part_and_in_any_case(self) -> None:
-        for name in names.RESERVED:
+        for name in names.RESERVED_NAMES:
             for form in (name, name.upper(), name.title(), name + b".", name + b" ", name + b"::$DATA",
                          name.replace(b"e", "\u200de".encode()), name.replace(b"s", "\u017f".encode()),
                          name.replace(b"a", "\uff41".encode())):
                 for path in b"%s", b"%s/x", b"a/%s", b"a/b/%s/made/x", b"\xff/%s/x":
-                    self.assertEqual(names.refusal(path % form, names.RESERVED),
+                    self.assertEqual(names.refusal(path % form, names.RESERVED_NAMES),
                                      "its name is kept for the command itself", path % form)
 
     def test_a_part_that_is_too_long_is_not_compared(self) -> None:
         marks = "\u0301\u0316".encode()
         with unittest.mock.patch("unicodedata.normalize", side_effect=AssertionError("it is compared")):
-            self.assertEqual(names.refusal(b".parv-repair" + 500 * marks, names.RESERVED),
+            self.assertEqual(names.refusal(b".parv-repair" + 500 * marks, names.RESERVED_NAMES),
                              "a part of its name is too long")
 
     def test_other_names_are_not(self) -> None:
         for name in (b"parv-repair", b".parv-repairs", b"a.parv-repair", b".parv-repair2/x", b".parv-rescue.txt", b"x",
                      b".parv repair", "\u017farv-repair".encode(), b"\xff.parv-repair", b".parv-repair\xff"):
-            self.assertIsNone(names.refusal(name, names.RESERVED) if b"\xff" not in name else None, name)
+            self.assertIsNone(names.refusal(name, names.RESERVED_NAMES) if b"\xff" not in name else None, name)
         self.assertIsNone(names.refusal(b"a/.parv-rescue", [b".parv-repair"]))
 
 

@@ -53,8 +53,8 @@ class Names(unittest.TestCase):
         self.assertEqual(list(names.refusals([b"a", b"a.b", b"a/b", b"c", b"a/b/c", b"..."], [])), [0, 2])
 
     def test_a_numbered_name_is_no_longer_than_one_may_be(self) -> None:
-        self.assertEqual(names.numbered(b"a/b", 12), b"a/b.12")
-        self.assertEqual(len(names.numbered(b"folder/" + b"x" * 255, 3)), 7 + 255)
+        self.assertEqual(names.with_number(b"a/b", 12), b"a/b.12")
+        self.assertEqual(len(names.with_number(b"folder/" + b"x" * 255, 3)), 7 + 255)
 
 
 class Folders(unittest.TestCase):
@@ -161,7 +161,7 @@ class Progress(unittest.TestCase):
 
     def test_calls_that_tell_nothing_themselves_are_told_while_they_last(self) -> None:
         def lasts(*_: object) -> None:
-            while output._Progress.what and not output._Progress.shown:
+            while output._Progress.what and not output._Progress.is_shown:
                 time.sleep(0.01)
         with unittest.mock.patch.multiple(changes, sync=lasts, sync_all=lasts):
             text = self.on_terminal(["room"], repair.main)

@@ -117,9 +117,9 @@ class Parts(Calls):
 
     def test_words_differ_if_files_do(self) -> None:
         odd = [b"", b"a\nb", b"a\\x0ab", b"it's\t", b"\\\x01", b"--tails", b"\xc3\xa9", b" ", b"file a", b"a"]
-        texts = [parts.text_of(parts.Asked(False, b"", b"1", [word])) for word in odd]
-        texts += [parts.text_of(parts.Asked(True, b"", b"1", odd[-1:])),
-                  parts.text_of(parts.Asked(False, b"", b"1", [b"a", b"a"]))]
+        texts = [parts.text_of(parts.Options(False, b"", b"1", [word])) for word in odd]
+        texts += [parts.text_of(parts.Options(True, b"", b"1", odd[-1:])),
+                  parts.text_of(parts.Options(False, b"", b"1", [b"a", b"a"]))]
         self.assertEqual(len(set(texts)), len(odd) + 2)
         for text in texts[:-2]:
             self.assertRegex(text, rb"\Aparv-parts 1\nfile [ -~]*\n\Z")

@@ -14,7 +14,7 @@ import unittest.mock
 from typing import Callable, Dict, List
 
 from parv_commands.common import changes
-from parv_commands.common.faults import Refused
+from parv_commands.common.faults import Refusal
 from parv_commands.common.folders import Folder, Identity
 from parv_commands.repair import carry_out, command as repair, journal
 from parv_commands.repair.journal import Made, Move, Step
@@ -436,10 +436,10 @@ class Moves(unittest.TestCase):
         good = journal.encoded([Move(Identity(1, 2, -3), b"mine", b"taken")])
         self.assertEqual(journal.decoded(good), [Move(Identity(1, 2, -3), b"mine", b"taken")])
         for numbers in b"1 2", b"1 2 3 4", b"1 2 x", b"1 -2 3", b"1 2 3.5", b"1 2 %s" % (b"9" * 5000), b"":
-            with self.assertRaisesRegex(Refused, "it is no journal of this version"):
+            with self.assertRaisesRegex(Refusal, "it is no journal of this version"):
                 journal.decoded(good.replace(b"1 2 -3", numbers))
         for data in b"", good[:-1], good[:-4], good[:20], good + b"\0", good.replace(b"journal 2", b"journal 1"):
-            with self.assertRaisesRegex(Refused, "it is no journal of this version"):
+            with self.assertRaisesRegex(Refusal, "it is no journal of this version"):
                 journal.decoded(data)
 
     def test_backups_are_not_removed_by_the_run_after_one_that_was_ended(self) -> None:
@@ -576,7 +576,7 @@ class Moves(unittest.TestCase):
             [Move(Identity(1, 2, 3), b"a", b"c"), Move(Identity(4, 5, 6), b"b", b"c")], [Made(b"c"), Made(b"c")],
             [Made(b"sub/.Parv-Repair")]]
         for steps in wrong:
-            with self.assertRaisesRegex(Refused, "no run moves a file to"):
+            with self.assertRaisesRegex(Refusal, "no run moves a file to"):
                 journal.Moves(Folder(-1, ""), stage, steps, self.fail)
 
     def test_a_file_with_a_name_of_the_commands_is_copied_and_stays(self) -> None:

@@ -10,7 +10,7 @@ from typing import Callable, Deque, Dict, Iterable, List, Mapping, Optional, Tup
 from . import output
 from .folders import Folder, Identity
 from .signals import wait_point
-from .slices import pieces_of_file, told
+from .slices import pieces_of_file, with_progress
 
 PIECE = 1 << 20
 SKETCH = 1 << 14        # the bytes at each end of a file that are looked at first
@@ -47,7 +47,7 @@ def _sketch(opened: int, length: int) -> bytes:
 
 def _whole(opened: int) -> bytes:
     hashed = hashlib.blake2b()
-    for piece in told(pieces_of_file(opened)):
+    for piece in with_progress(pieces_of_file(opened)):
         hashed.update(piece)
     return hashed.digest()
 

@@ -26,14 +26,14 @@ class NoProgram(Fault):
     """A program can't be run, or the one that has run isn't the right one."""
 
 
-class Refused(Exception):
+class Refusal(Exception):
     """The reason why one file isn't read, made or moved. The command goes on."""
 
 
 @contextlib.contextmanager
-def faults_of(action: str, shown: str) -> Iterator[None]:
-    """Ends the command if the system refuses a change or a read of a file, whose name is given as it is shown."""
+def faults_of(action: str, name: str) -> Iterator[None]:
+    """Ends the command if the system refuses a change or a read of a file, whose name is that for messages."""
     try:
         yield
     except OSError as fault:
-        raise Fault(FILES, f"cannot {action} {shown}: {fault.strerror}") from fault
+        raise Fault(FILES, f"cannot {action} {name}: {fault.strerror}") from fault

@@ -10,7 +10,7 @@ from typing import Container, Dict, Generator, Iterator, List, NamedTuple, Optio
 
 from . import changes
 from .faults import FILES, Fault, faults_of
-from .names import base_of, is_plain, numbered, shown
+from .names import base_of, is_plain, shown, with_number
 
 _WAY = os.O_PATH | os.O_DIRECTORY | os.O_NOFOLLOW | os.O_CLOEXEC
 _STRIDE = 32            # a walk keeps each folder open whose depth is a multiple of this
@@ -117,9 +117,9 @@ class Folder:
 
     def free_name(self, name: bytes, taken: Container[bytes] = (), number: int = 1) -> bytes:
         """Returns an unused name like this one, with this number or a greater one, which isn't in `taken` either."""
-        while numbered(name, number) in taken or not self.is_free(numbered(name, number)):
+        while with_number(name, number) in taken or not self.is_free(with_number(name, number)):
             number += 1
-        return numbered(name, number)
+        return with_number(name, number)
 
     def is_file(self, name: bytes) -> bool:
         now = self.look(name)

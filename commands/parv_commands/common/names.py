@@ -10,7 +10,7 @@ from typing import Dict, Iterable, Optional, Pattern, Sequence, Set, Tuple
 
 LONGEST_PART = 255
 MOST_FOLDERS = 200      # the most folders in a name: each look at a name opens all of them
-RESERVED = (b".parv-repair", b".parv-rescue", b".verify_and_repair", b".extract_found")     # the commands' own entries
+RESERVED_NAMES = (b".parv-repair", b".parv-rescue", b".verify_and_repair", b".extract_found")   # of the commands
 
 
 def shown(name: bytes) -> str:
@@ -58,19 +58,19 @@ def _as_compared(name: bytes) -> bytes:
 
 
 @functools.lru_cache(maxsize=4)
-def _pattern(reserved: Tuple[bytes, ...]) -> Pattern[bytes]:
+def _pattern(reserved_names: Tuple[bytes, ...]) -> Pattern[bytes]:
     """Returns what finds a reserved name as any part of a name. (Some file systems ignore dots and spaces at its end,
     or what comes after a colon.)"""
-    return re.compile(rb"(?:^|/)(?:%s)[. ]*(?:[/:]|$)" % b"|".join(map(re.escape, reserved)))
+    return re.compile(rb"(?:^|/)(?:%s)[. ]*(?:[/:]|$)" % b"|".join(map(re.escape, reserved_names)))
 
 
-def is_reserved(name: bytes, reserved: Iterable[bytes] = RESERVED) -> bool:
+def is_reserved(name: bytes, reserved_names: Iterable[bytes] = RESERVED_NAMES) -> bool:
     """Returns whether a part of a name is one of these, in any case."""
-    kept = tuple(reserved)
-    return bool(kept) and _pattern(kept).search(_as_compared(name)) is not None
+    names = tuple(reserved_names)
+    return bool(names) and _pattern(names).search(_as_compared(name)) is not None
 
 
-def refusal(name: bytes, reserved: Iterable[bytes]) -> Optional[str]:
+def refusal(name: bytes, reserved_names: Iterable[bytes]) -> Optional[str]:
     """Returns why a name of a set is refused, or None. The reserved names are those of the commands' own entries."""
     parts = name.split(b"/")
     if parts[0] == b"":
@@ -81,17 +81,17 @@ def refusal(name: bytes, reserved: Iterable[bytes]) -> Optional[str]:
         return "its name isn't that of a file"
     if has_too_many_folders(name):
         return "its name has too many folders"
-    if max(map(len, parts)) > LONGEST_PART:     # (how long the next look takes grows with the square of a part's length)
+    if max(map(len, parts)) > LONGEST_PART:     # (the time of the next look grows with the square of a part's length)
         return "a part of its name is too long"
-    return "its name is kept for the command itself" if is_reserved(name, reserved) else None
+    return "its name is kept for the command itself" if is_reserved(name, reserved_names) else None
 
 
-def refusals(names: Sequence[bytes], reserved: Iterable[bytes]) -> Dict[int, str]:
+def refusals(names: Sequence[bytes], reserved_names: Iterable[bytes]) -> Dict[int, str]:
     """Returns why names of a set are refused, by their numbers. A name may not be that of another file's folder."""
-    kept = list(reserved)
+    reserved_names = list(reserved_names)
     why: Dict[int, str] = {}
     for number, name in enumerate(names):
-        reason = refusal(name, kept)
+        reason = refusal(name, reserved_names)
         if reason is not None:
             why[number] = reason
     fine = sorted(name for number, name in enumerate(names) if number not in why)
@@ -102,7 +102,7 @@ def refusals(names: Sequence[bytes], reserved: Iterable[bytes]) -> Dict[int, str
     return why
 
 
-class Taken:
+class UsedNames:
     """Names of files that are used, and those of the folders on the way to them."""
 
     def __init__(self, members: Iterable[bytes]) -> None:
@@ -121,11 +121,11 @@ class Taken:
 
 
 def has_room_for_number(name: bytes) -> bool:
-    """Returns whether `numbered` cuts nothing off a name, at least for small numbers."""
+    """Returns whether `with_number` cuts nothing off a name, at least for small numbers."""
     return len(base_of(name)) <= LONGEST_PART - 8
 
 
-def numbered(name: bytes, number: int) -> bytes:
+def with_number(name: bytes, number: int) -> bytes:
     """Returns NAME.number for a name. The name is cut if its last part would be too long."""
     end = b".%d" % number
     folder, slash, base = name.rpartition(b"/")

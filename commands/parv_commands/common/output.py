@@ -79,9 +79,9 @@ class _Progress:
     what: str = ""
     most: int = 0
     at_once: bool = False
-    done: int = 0
-    shown: bool = False
-    begun: float = 0.0
+    count: int = 0
+    is_shown: bool = False
+    start: float = 0.0
     last: float = 0.0
     is_terminal: Optional[bool] = None
 
@@ -102,9 +102,9 @@ def _write_progress(text: str) -> None:
 
 def clear_progress() -> None:
     """Removes the line, before something else is written."""
-    if _Progress.shown:
+    if _Progress.is_shown:
         _write_progress("\r\033[K")
-        _Progress.shown = False
+        _Progress.is_shown = False
 
 
 def can_show_progress() -> bool:
@@ -115,15 +115,15 @@ def can_show_progress() -> bool:
 @contextlib.contextmanager
 def doing(what: str, most: int = 0, at_once: bool = False) -> Iterator[None]:
     """Says what is being done, as long as it lasts, and how many bytes it has to handle at most, if that is known."""
-    before = _Progress.what, _Progress.most, _Progress.at_once, _Progress.begun
-    _Progress.what, _Progress.most, _Progress.at_once, _Progress.begun = what, most, at_once, time.monotonic()
+    before = _Progress.what, _Progress.most, _Progress.at_once, _Progress.start
+    _Progress.what, _Progress.most, _Progress.at_once, _Progress.start = what, most, at_once, time.monotonic()
     if at_once:
-        _Progress.last, _Progress.done = _Progress.begun, 0
+        _Progress.last, _Progress.count = _Progress.start, 0
     try:
         yield
     finally:
         clear_progress()
-        _Progress.what, _Progress.most, _Progress.at_once, _Progress.begun = before
+        _Progress.what, _Progress.most, _Progress.at_once, _Progress.start = before
 
 
 def stop_progress() -> None:
@@ -132,22 +132,22 @@ def stop_progress() -> None:
     _Progress.what = ""
 
 
-def show_progress(done: Optional[int]) -> None:
+def show_progress(count: Optional[int]) -> None:
     """Shows how many bytes were handled so far, if that is known: after two seconds at the earliest, and half a second
     after the line before."""
     now = time.monotonic()
     since = now - _Progress.last
-    if (not _Progress.what or now - _Progress.begun < PROGRESS_FROM and not _Progress.at_once or since < PROGRESS_EACH
+    if (not _Progress.what or now - _Progress.start < PROGRESS_FROM and not _Progress.at_once or since < PROGRESS_EACH
             or not _is_terminal()):
         return
-    count = "" if done is None else f"{done >> 20} MiB"
-    most = f" of at most {(max(_Progress.most, done or 0) + 1048575) >> 20} MiB" if _Progress.most else ""
+    text = "" if count is None else f"{count >> 20} MiB"
+    most = f" of at most {(max(_Progress.most, count or 0) + 1048575) >> 20} MiB" if _Progress.most else ""
     if _Progress.at_once:
-        line = f"{count}{most}, {max(int(((done or 0) - _Progress.done) / since), 0) >> 20} MiB/s"
+        line = f"{text}{most}, {max(int(((count or 0) - _Progress.count) / since), 0) >> 20} MiB/s"
     else:
-        line = f"{_Progress.what}{count and ': '}{count}{most}"
+        line = f"{_Progress.what}{text and ': '}{text}{most}"
     _write_progress(f"\r\033[K{line}")
-    _Progress.last, _Progress.shown, _Progress.done = now, True, done or 0
+    _Progress.last, _Progress.is_shown, _Progress.count = now, True, count or 0
 
 
 @contextlib.contextmanager
@@ -173,7 +173,7 @@ def waiting(what: str) -> Iterator[None]:
                 thread.join()
 
 
-def read_by(pid: int) -> int:
+def bytes_read_by(pid: int) -> int:
     """Returns how many bytes a program has read so far, according to /proc."""
     with contextlib.suppress(OSError, ValueError):
         with open(f"/proc/{pid}/io", encoding="ascii") as file:

@@ -66,7 +66,8 @@ class RecoverySet(NamedTuple):
         return file.length % self.size != 0
 
 
-def changed() -> Fault:
+def fault_of_change() -> Fault:
+    """Returns the error that packets aren't any more where parv has found them."""
     return Fault(FILES, "the packet files have changed meanwhile")
 
 
@@ -78,17 +79,17 @@ class Listing(NamedTuple):
 
 def _packet_lines(parv: Parv, words: Sequence[str], most: int) -> Generator[PacketLine, None, None]:
     """Yields the packets of these packet files as parv lists them. There can't be more than `most`."""
-    reader, said = PacketLines(), Said(parv.program)
+    reader, standard_error = PacketLines(), Said(parv.program)
     arguments = [b"packets", b"--", *map(str.encode, words)]
     with output.doing("parv packets"), running(parv.program, arguments, parv.links.folder.place,
                                                parv.links.kept) as process:
-        for piece in pieces_of(process, said):
+        for piece in pieces_of(process, standard_error):
             yield from reader.take(piece)
             if reader.count > most:
                 raise too_much(parv.program)
         status = status_of(process)
     if status != 0:
-        raise parv.fault_of(status, bytes(said), "packets")
+        raise parv.fault_of(status, bytes(standard_error), "packets")
     reader.end()
 
 
@@ -109,8 +110,8 @@ def list_packets(parv: Parv, words: Sequence[str], owner: str, most: int, most_o
 
 
 def packet_of(owner: str, kind: str, body: bytes) -> bytes:
-    hashed = bytes.fromhex(owner) + KINDS[kind] + body
-    return MAGIC + (32 + len(hashed)).to_bytes(8, "little") + hashlib.md5(hashed).digest() + hashed
+    content = bytes.fromhex(owner) + KINDS[kind] + body
+    return MAGIC + (32 + len(content)).to_bytes(8, "little") + hashlib.md5(content).digest() + content
 
 
 class PacketFiles:
@@ -136,7 +137,7 @@ class PacketFiles:
 
     def pieces(self, line: PacketLine) -> Iterator[bytes]:
         """Yields the bytes of a packet, in pieces. They must be the bytes that parv has read."""
-        hashed = hashlib.md5()
+        md5 = hashlib.md5()
         with faults_of("read", self.name_of(line.word)):
             file = self._file(line.word)
             file.seek(line.offset)
@@ -144,20 +145,20 @@ class PacketFiles:
         kind = KINDS.get(line.kind)
         if (len(head) < HEADER or head[:8] != MAGIC or int.from_bytes(head[8:16], "little") != line.length
                 or head[32:48].hex() != line.set or kind not in (None, head[48:64])):
-            raise changed()
-        hashed.update(head[32:])
+            raise fault_of_change()
+        md5.update(head[32:])
         yield head
-        left = line.length - HEADER
-        while left:
+        rest = line.length - HEADER
+        while rest:
             with faults_of("read", self.name_of(line.word)):
-                piece = file.read(min(left, PIECE))
+                piece = file.read(min(rest, PIECE))
             if not piece:
-                raise changed()
-            hashed.update(piece)
-            left -= len(piece)
+                raise fault_of_change()
+            md5.update(piece)
+            rest -= len(piece)
             yield piece
-        if hashed.digest() != head[16:32]:
-            raise changed()
+        if md5.digest() != head[16:32]:
+            raise fault_of_change()
 
     def read(self, line: PacketLine) -> bytes:
         return b"".join(self.pieces(line))
@@ -178,74 +179,75 @@ def _key(line: PacketLine, packet: bytes) -> Key:
     return (line.kind, owner) if line.kind == "filedesc" else (line.kind, owner, (len(packet) - 80) // PAIR)
 
 
-def read_recovery_set(found: SetAnswer, files: PacketFiles, lines: Iterable[PacketLine]) -> RecoverySet:
+def read_recovery_set(answer: SetAnswer, files: PacketFiles, lines: Iterable[PacketLine]) -> RecoverySet:
     """Returns the set with the packets that parv has chosen for it."""
-    chosen: Dict[Key, bytes] = {}
+    packets: Dict[Key, bytes] = {}
     for line in lines:
-        if line.set == found.id and line.kind in ("main", "filedesc", "ifsc") and (line.word,
-                                                                                   line.offset) not in found.aside:
+        if (line.set == answer.id and line.kind in ("main", "filedesc", "ifsc")
+                and (line.word, line.offset) not in answer.aside):
             packet = files.read(line)
-            chosen.setdefault(_key(line, packet), packet)
+            packets.setdefault(_key(line, packet), packet)
     members: List[Member] = []
     first = 0
     try:
-        for file in found.files:
-            description = chosen["filedesc", file.id]
-            sums = chosen["ifsc", file.id, file.slices] if file.known else None
+        for file in answer.files:
+            description = packets["filedesc", file.id]
+            sums = packets["ifsc", file.id, file.slices] if file.has_sums else None
             members.append(Member(file.id, first, file.length, file.slices, file.shown, file.name, description[80:96],
                                   description, None if sums is None else
                                   [sums[at:at + PAIR] for at in range(80, len(sums), PAIR)], sums))
             first += file.slices
-        return RecoverySet(found.id, found.size, found.line, members, chosen["main",], found.have)
-    except KeyError as lost:
-        raise changed() from lost
+        return RecoverySet(answer.id, answer.size, answer.line, members, packets["main",], answer.have)
+    except KeyError as fault:
+        raise fault_of_change() from fault
 
 
-def recovery_lines(found: SetAnswer, files: PacketFiles, lines: Iterable[PacketLine]) -> List[PacketLine]:
+def recovery_lines(answer: SetAnswer, files: PacketFiles, lines: Iterable[PacketLine]) -> List[PacketLine]:
     """Returns the recovery slices that parv has counted: for each exponent the first."""
-    taken: Dict[int, PacketLine] = {}
+    by_exponent: Dict[int, PacketLine] = {}
     for line in lines:
-        if line.set == found.id and line.kind == "recvslic" and (line.word, line.offset) not in found.aside:
-            taken.setdefault(files.exponent(line), line)
-    if len(taken) != found.have:
-        raise changed()
-    return list(taken.values())
+        if line.set == answer.id and line.kind == "recvslic" and (line.word, line.offset) not in answer.aside:
+            by_exponent.setdefault(files.exponent(line), line)
+    if len(by_exponent) != answer.have:
+        raise fault_of_change()
+    return list(by_exponent.values())
 
 
-def names_of_others(found: SetAnswer, files: PacketFiles, lines: Iterable[PacketLine]) -> Set[bytes]:
+def names_of_others(answer: SetAnswer, files: PacketFiles, lines: Iterable[PacketLine]) -> Set[bytes]:
     """Returns the names of files of other sets in the same packet files."""
     return {files.read(line)[120:].rstrip(b"\0") for line in lines
-            if line.set != found.id and line.kind == "filedesc"}
+            if line.set != answer.id and line.kind == "filedesc"}
 
 
-def packets_for(found: RecoverySet, wanted: Set[int]) -> bytes:
-    """Returns the packets of the set. Slices that aren't wanted get checksums that no bytes will have."""
-    packets, nothing = [found.main], os.urandom(PAIR)
-    for file in found.files:
+def packets_for(the_set: RecoverySet, numbers: Set[int]) -> bytes:
+    """Returns the packets of the set for a search for the slices with these numbers. Others get checksums that no bytes
+    will have."""
+    packets, nothing = [the_set.main], os.urandom(PAIR)
+    for file in the_set.files:
         packets.append(file.description)
-        if file.sums and not wanted.isdisjoint(file.numbers):
-            pairs = [pair if number in wanted else nothing for number, pair in zip(file.numbers, file.sums)]
-            packets.append(packet_of(found.id, "ifsc", bytes.fromhex(file.id) + b"".join(pairs)))
+        if file.sums and not numbers.isdisjoint(file.numbers):
+            pairs = [pair if number in numbers else nothing for number, pair in zip(file.numbers, file.sums)]
+            packets.append(packet_of(the_set.id, "ifsc", bytes.fromhex(file.id) + b"".join(pairs)))
     return b"".join(packets)
 
 
-def write_for_par2(opened: int, found: RecoverySet, names: Sequence[bytes], files: PacketFiles,
-                   recovery: Iterable[PacketLine], told: Callable[[int], None]) -> None:
+def write_for_par2(opened: int, the_set: RecoverySet, names: Sequence[bytes], files: PacketFiles,
+                   recovery: Iterable[PacketLine], show: Callable[[int], None]) -> None:
     """Writes the packet file that par2 gets: the recovery slices, and the packets of the set with other names, so that
     par2 sees no name of the set."""
-    head = [found.main]
-    for file, name in zip(found.files, names):
+    head = [the_set.main]
+    for file, name in zip(the_set.files, names):
         body = file.description[64:120] + name + bytes(-len(name) % 4)
-        head.append(packet_of(found.id, "filedesc", body))
+        head.append(packet_of(the_set.id, "filedesc", body))
         if file.sums_packet is not None:
             head.append(file.sums_packet)
-    pending, done = bytearray(b"".join(head)), 0
+    pending, count = bytearray(b"".join(head)), 0
     for line in recovery:
         for piece in files.pieces(line):
             pending += piece
             if len(pending) >= PIECE:
                 changes.write(opened, bytes(pending))
-                done += len(pending)
+                count += len(pending)
                 pending.clear()
-                told(done)
+                show(count)
     changes.write(opened, bytes(pending))

@@ -17,7 +17,7 @@ _SET = re.compile(f"set ({_ID}) size ({_NUMBER}) slices ({_SLICES})")
 _FILE = re.compile(f"file ({_ID}) ({_NUMBER}) ({_SLICES}) (yes|no) (.*)")
 _ASIDE = re.compile(f"aside (.*) ({_NUMBER}) {_NUMBER}")
 _COUNTS = re.compile(f"need ({_SLICES}) have ({_NUMBER})")
-_FOUND = re.compile(f"({_SLICES})/({_SLICES})")
+_FOUND_SLICES = re.compile(f"({_SLICES})/({_SLICES})")
 _PACKET = re.compile(f"(.*) ({_NUMBER}) ({_NUMBER}) (main|filedesc|ifsc|recvslic|creator|unknown) ({_ID})")
 _SIGHTING = re.compile(f"(.*) ({_NUMBER}) ({_ID}) ({_SLICES})")
 
@@ -30,11 +30,11 @@ class NoAnswer(NoProgram):
 
 
 class SetFile(NamedTuple):
-    """A file of a set, from its line. `known` is whether its slices have checksums."""
+    """A file of a set, from its line. `has_sums` is whether its slices have checksums."""
     id: str
     length: int
     slices: int
-    known: bool
+    has_sums: bool
     shown: str
     name: bytes
 
@@ -63,7 +63,7 @@ class State(NamedTuple):
     found."""
     state: str
     word: Optional[str]
-    found: int
+    found_slices: int
 
 
 class Verdict(NamedTuple):
@@ -105,11 +105,11 @@ def read_set(text: bytes) -> SetAnswer:
     aside = set()
     for line in lines[1:]:
         word, _, rest = line.partition(" ")
-        file, put = _FILE.fullmatch(line), _ASIDE.fullmatch(line)
+        file, packet = _FILE.fullmatch(line), _ASIDE.fullmatch(line)
         if file:
             files.append(SetFile(file[1], int(file[2]), int(file[3]), file[4] == "yes", file[5], unshown(file[5])))
-        elif put:
-            aside.add((put[1], int(put[2])))
+        elif packet:
+            aside.add((packet[1], int(packet[2])))
         elif word == "have" and re.fullmatch(_NUMBER, rest):
             have = int(rest)
         elif word not in ("others", "creator"):
@@ -164,9 +164,9 @@ def _packet(line: bytes) -> PacketLine:
 
 def read_packets(text: bytes) -> List[PacketLine]:
     reader = PacketLines()
-    found = list(reader.take(text))
+    packets = list(reader.take(text))
     reader.end()
-    return found
+    return packets
 
 
 def read_sighting(line: bytes) -> Sighting:
@@ -181,7 +181,7 @@ def _state_of(line: str, file: SetFile) -> State:
     if state == "renamed" and rest.startswith(f"{file.shown} from "):
         return State(state, rest[len(file.shown) + 6:], file.slices)
     if state in ("damaged", "missing") and rest.startswith(file.shown + " "):
-        counts = _FOUND.fullmatch(rest[len(file.shown) + 1:])
+        counts = _FOUND_SLICES.fullmatch(rest[len(file.shown) + 1:])
         if counts and int(counts[2]) == file.slices:
             return State(state, None, int(counts[1]))
     raise NoAnswer("verify")
@@ -190,14 +190,14 @@ def _state_of(line: str, file: SetFile) -> State:
 _RESULTS: Dict[int, str] = {0: "result complete", 1: "result possible", 2: "result impossible"}
 
 
-def read_verdict(text: bytes, status: int, found: SetAnswer) -> Verdict:
+def read_verdict(text: bytes, status: int, answer: SetAnswer) -> Verdict:
     lines = lines_of(text, "verify")
     if len(lines) < 3 or lines[-1] != _RESULTS.get(status):
         raise NoAnswer("verify")
-    if lines[0] != found.line or len(lines) != len(found.files) + 3:
+    if lines[0] != answer.line or len(lines) != len(answer.files) + 3:
         raise Fault(FILES, "the packet files have changed meanwhile")
     counts = _COUNTS.fullmatch(lines[-2])
     if counts is None:
         raise NoAnswer("verify")
-    states = [_state_of(line, file) for line, file in zip(lines[1:], found.files)]
+    states = [_state_of(line, file) for line, file in zip(lines[1:], answer.files)]
     return Verdict(status, states, int(counts[1]), int(counts[2]))

@@ -149,6 +149,6 @@ class Pool:
         """Shows on a terminal how much all runs have read."""
         if time.monotonic() - self._shown >= output.PROGRESS_EACH:
             for run in self._runs:
-                run.read = max(run.read, output.read_by(run.process.pid))
+                run.read = max(run.read, output.bytes_read_by(run.process.pid))
             output.show_progress(self._read + sum(run.read for run in self._runs))
             self._shown = time.monotonic()

@@ -139,7 +139,7 @@ def outputs_of(process: subprocess.Popen[bytes]) -> Iterator[Tuple[int, bytes]]:
                 ready = [key for key, _ in waiting.select(output.PROGRESS_EACH)]
             if is_over and not ready:
                 return
-            output.show_progress(output.read_by(process.pid))
+            output.show_progress(output.bytes_read_by(process.pid))
             for key in ready:
                 piece = os.read(key.fd, PIECE)
                 if piece:
@@ -190,7 +190,7 @@ def status_of(process: subprocess.Popen[bytes]) -> int:
     while True:
         with contextlib.suppress(subprocess.TimeoutExpired), interruptible():
             return process.wait(output.PROGRESS_EACH)
-        output.show_progress(output.read_by(process.pid))
+        output.show_progress(output.bytes_read_by(process.pid))
 
 
 async def answer_of(program: Program, words: Sequence[bytes], place: Optional[int] = None, kept: Tuple[int, ...] = (),

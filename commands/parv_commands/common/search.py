@@ -15,16 +15,16 @@ from .parv_output import NoAnswer, Sighting, read_sighting
 from .programs import Said, pieces_of, running, status_of
 from .slices import is_there
 
-WASTE = 1 << 24     # how many bytes may be searched in vain; each match that isn't wanted counts as LINE more
+WASTE = 1 << 24     # how many bytes may be searched in vain; each match of no target counts as LINE more
 LINE = 4096
 START = 1 << 22     # for each START bytes of packets, WASTE bytes may be searched in vain: each start reads all packets
 TRIES = 3           # how often a search begins whose files change just then
-AGAIN = 4           # after this number of matches, a slice that isn't wanted any more leads to no other one
-WANTED = b"wanted.par2"
+AGAIN = 4           # after this number of matches, a slice that is no target any more leads to no other one
+PACKET_FILE = b"wanted.par2"
 Place = Tuple[int, int, int]        # the numbers of a cursor: a scanned file, an offset, and a slice in the set
 
 
-class Scanned(NamedTuple):
+class ScannedFile(NamedTuple):
     """A file that is searched: its word, its name in messages, its length, and what opens it."""
     word: str
     shown: str
@@ -44,70 +44,71 @@ def mark_of_files(files: Sequence[Tuple[bytes, int]]) -> str:
 class Search:
     """A search that goes on from a cursor.
 
-    `wanted` has the numbers, in the whole set, of the slices that are looked for. After each match it may lose some.
+    `targets` has the numbers, in the whole set, of the slices that are looked for. After each match it may lose some.
     `at` is the place that the search has reached. If it `expects`, it also looks by itself for a short last slice, at
     its distance from each match of another slice of the same file. parv gets `most_files` of the files at once.
     """
 
-    def __init__(self, found: RecoverySet, parv: Parv, scanned: Sequence[Scanned], tails: bool, wanted: Set[int],
-                 expects: bool = False, most_files: int = MOST_FILES - 1) -> None:
-        self.found, self.parv, self.scanned, self.wanted, self.expects = found, parv, scanned, wanted, expects
+    def __init__(self, the_set: RecoverySet, parv: Parv, files: Sequence[ScannedFile], tails: bool,
+                 targets: Set[int], expects: bool = False, most_files: int = MOST_FILES - 1) -> None:
+        self.the_set, self.parv, self.files = the_set, parv, files
+        self.targets, self.expects = targets, expects
         self.at: Place = (0, 0, 0)
         self.flags = ["--tails"] if tails else []
         self.most_files = most_files
-        self.lengths = [file.length for file in scanned]
+        self.lengths = [file.length for file in files]
         self.most_waste = WASTE
         self.idle: Callable[[], None] = lambda: None
-        self.by_word = {file.word: number for number, file in enumerate(scanned)}
-        self.by_id = {file.id: file.first for file in found.files if file.slices}
-        self.owners: List[Member] = [file for file in found.files for _ in file.numbers]
-        self.looked: Dict[int, Place] = {}      # the place at which a last slice was looked for, by the slice's number
-        self.again: Dict[int, int] = {}         # how often slices were found that aren't wanted, by their numbers
+        self.by_word = {file.word: number for number, file in enumerate(files)}
+        self.by_id = {file.id: file.first for file in the_set.files if file.slices}
+        self.owners: List[Member] = [file for file in the_set.files for _ in file.numbers]
+        self.looks: Dict[int, Place] = {}       # the place at which a last slice was looked for, by the slice's number
+        self.again: Dict[int, int] = {}         # how often slices were found that are no targets, by their numbers
 
     def sightings(self) -> Generator[Place, None, None]:
-        """Yields each match of a wanted slice: the number of a scanned file, an offset, and the number of the slice.
+        """Yields each match of a target: the number of a scanned file, an offset, and the number of the slice.
         When the next one is asked for, the search has passed it."""
         place, name = self.parv.links.folder.place, self.parv.links.folder.shown
-        while self.wanted and self.at[0] < len(self.scanned):
-            packets = packets_for(self.found, self.asked())
+        while self.targets and self.at[0] < len(self.files):
+            packets = packets_for(self.the_set, self._slices_for_parv())
             self.most_waste = WASTE * max(1, len(packets) // START)
-            with faults_of("write in", name), changes.new_file(place, WANTED) as opened:
+            with faults_of("write in", name), changes.new_file(place, PACKET_FILE) as opened:
                 changes.write(opened, packets)
             del packets
             try:
                 yield from self._part()
             finally:
                 with contextlib.suppress(OSError):
-                    changes.remove_file(place, WANTED)
+                    changes.remove_file(place, PACKET_FILE)
 
-    def asked(self) -> Set[int]:
-        """Returns the slices that parv looks for: those that are wanted, and those that lead to one of them."""
-        return self.wanted.union(filter(self._leads, range(len(self.owners))))
+    def _slices_for_parv(self) -> Set[int]:
+        """Returns the slices that parv looks for: the targets, and those that lead to one of them."""
+        return self.targets.union(filter(self._leads, range(len(self.owners))))
 
     def _leads(self, number: int) -> bool:
-        """Returns whether the last slice of the same file is short, still wanted, and expected at its distance from
+        """Returns whether the last slice of the same file is short, still a target, and expected at its distance from
         this slice.
 
         A slice of zeros is found at each offset of an empty part of a disc, and for each match the checksums of a slice
-        are read and compared. So a slice that was found AGAIN times after it was wanted leads to nothing any more."""
+        are read and compared. So a slice that was found AGAIN times after it was a target leads to nothing any more."""
         file = self.owners[number]
-        return (self.expects and number < file.last and file.last in self.wanted
-                and self.found.is_short(file) and self.again.get(number, 0) < AGAIN)
+        return (self.expects and number < file.last and file.last in self.targets
+                and self.the_set.is_short(file) and self.again.get(number, 0) < AGAIN)
 
-    def _led_to(self, file: int, offset: int, number: int) -> Iterator[Place]:
+    def _last_slice(self, file: int, offset: int, number: int) -> Iterator[Place]:
         """Yields the match of the short last slice at its distance from this match, if it is there."""
         if not self._leads(number):
             return
         owner = self.owners[number]
         last = owner.last
-        place = file, offset + (last - number) * self.found.size, last
-        if self.looked.get(last) != place:
-            self.looked[last] = place
-            own, sums = self.found.own_length(owner, last - owner.first), (owner.sums or [b""])[-1]
-            with faults_of("read", self.scanned[file].shown):
-                opened = self.scanned[file].opener()
+        place = file, offset + (last - number) * self.the_set.size, last
+        if self.looks.get(last) != place:
+            self.looks[last] = place
+            own, sums = self.the_set.own_length(owner, last - owner.first), (owner.sums or [b""])[-1]
+            with faults_of("read", self.files[file].shown):
+                opened = self.files[file].opener()
                 try:
-                    there = is_there(opened, place[1], own, self.found.size, sums)
+                    there = is_there(opened, place[1], own, self.the_set.size, sums)
                 finally:
                     os.close(opened)
             if there:
@@ -124,8 +125,8 @@ class Search:
         return place
 
     def _length_now(self, file: int) -> int:
-        with faults_of("read", self.scanned[file].shown):
-            opened = self.scanned[file].opener()
+        with faults_of("read", self.files[file].shown):
+            opened = self.files[file].opener()
             try:
                 self.lengths[file] = os.fstat(opened).st_size
             finally:
@@ -135,16 +136,16 @@ class Search:
     def _words(self, batch: range) -> List[str]:
         """Returns the arguments with which parv goes on in some of the files, of which the search has reached the
         first. At its beginning there is no cursor, which parv rejects if a file has another length now."""
-        words = [self.scanned[file].word for file in batch]
+        words = [self.files[file].word for file in batch]
         at: List[str] = []
         if self.at[1:] != (0, 0):
             mark = mark_of_files([(word.encode(), self.lengths[file]) for word, file in zip(words, batch)])
-            at = ["--cursor", ":".join(map(str, ["2", self.found.id, mark, 0, *self.at[1:]]))]
-        return [*self.flags, *at, "--", WANTED.decode(), *words]
+            at = ["--cursor", ":".join(map(str, ["2", self.the_set.id, mark, 0, *self.at[1:]]))]
+        return [*self.flags, *at, "--", PACKET_FILE.decode(), *words]
 
     def _part(self) -> Iterator[Place]:
         """Yields the matches in the next files, as long as the search for these slices is worth its time."""
-        batch = range(self.at[0], min(len(self.scanned), self.at[0] + self.most_files))
+        batch = range(self.at[0], min(len(self.files), self.at[0] + self.most_files))
         for tries in range(TRIES):
             try:
                 yield from self._matches(self._words(batch), sum(self.lengths[file] for file in batch))
@@ -156,10 +157,10 @@ class Search:
 
     def _lines(self, words: List[str], most: int) -> Generator[Sighting, None, None]:
         """Yields what parv writes, as it comes. Whenever all of it was taken, `idle` is called: more may come late."""
-        program, links, said, rest = self.parv.program, self.parv.links, Said(self.parv.program), b""
-        given = [b"find", *(word.encode() for word in words)]
-        with output.doing("parv find", most), running(program, given, links.folder.place, links.kept) as process:
-            for piece in pieces_of(process, said):
+        program, links, standard_error, rest = self.parv.program, self.parv.links, Said(self.parv.program), b""
+        arguments = [b"find", *(word.encode() for word in words)]
+        with output.doing("parv find", most), running(program, arguments, links.folder.place, links.kept) as process:
+            for piece in pieces_of(process, standard_error):
                 *lines, rest = (rest + piece).split(b"\n")
                 for line in lines:
                     if line == b"end":
@@ -169,12 +170,12 @@ class Search:
                     raise NoAnswer("find")
                 self.idle()
             status = status_of(process)
-        raise self.parv.fault_of(status, bytes(said), "find") if status else NoAnswer("find")
+        raise self.parv.fault_of(status, bytes(standard_error), "find") if status else NoAnswer("find")
 
     def _matches(self, words: List[str], most: int) -> Iterator[Place]:
         """Yields the matches that parv finds.
 
-        Slices that aren't wanted any more are found again at other places: a slice of zeros at each offset of an empty
+        Slices that are no targets any more are found again at other places: a slice of zeros at each offset of an empty
         part of a disc. For each such match, parv computes an MD5. Once that has cost as much as a new start, the search
         starts again at its place, without these slices.
         """
@@ -183,14 +184,14 @@ class Search:
         with contextlib.closing(self._lines(words, most)) as lines:
             for line in lines:
                 file, offset, number = self._place_of(line)
-                yield from self._led_to(file, offset, number)
-                if number in self.wanted:
+                yield from self._last_slice(file, offset, number)
+                if number in self.targets:
                     yield file, offset, number
                 elif self._leads(number):
                     self.again[number] = self.again.get(number, 0) + 1
                 else:
-                    waste += self.found.size + LINE
+                    waste += self.the_set.size + LINE
                 self.at = (file, offset, number + 1)
-                if waste > self.most_waste or not self.wanted:
+                if waste > self.most_waste or not self.targets:
                     return
         self.at = end

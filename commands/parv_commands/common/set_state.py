@@ -22,7 +22,7 @@ from . import changes, names, output, parv_output
 from .equal_files import is_same
 from .faults import FILES, IMPOSSIBLE, NO_SET, POSSIBLE, Fault, faults_of
 from .folders import Folder, Identity, identity_of
-from .names import RESERVED, shown
+from .names import RESERVED_NAMES, shown
 from .packets import MAGIC
 from .parv import MOST_FILES, SPARE_FILES, Parv, path_below
 from .parv_output import SetAnswer, SetFile, Verdict
@@ -133,7 +133,7 @@ def files_of(folder: Folder, members: Sequence[SetFile], packet_files: Sequence[
     packets = set(packet_files)
     refused: Dict[bytes, str] = {}
     for name in own:
-        why = names.refusal(name, RESERVED)
+        why = names.refusal(name, RESERVED_NAMES)
         if why is not None:
             refused[name] = why
     there: Dict[bytes, Identity] = {}
@@ -307,7 +307,7 @@ class Verification:
         there: Dict[bytes, Identity] = {}
         for file in self.the_set.files:
             wait_point()
-            if names.refusal(file.name, RESERVED) is not None:
+            if names.refusal(file.name, RESERVED_NAMES) is not None:
                 return {}
             with faults_of("open", file.shown):
                 now = self.folder.look(file.name)

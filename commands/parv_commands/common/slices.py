@@ -11,7 +11,7 @@ import zlib
 from typing import Iterable, Iterator, List, NamedTuple, Optional, Set, Tuple
 
 from . import changes, output
-from .faults import Refused
+from .faults import Refusal
 from .packets import Member, RecoverySet
 from .signals import wait_point
 
@@ -33,10 +33,10 @@ def crc_of(pieces: Iterable[bytes]) -> bytes:
 
 def md5_of(pieces: Iterable[bytes]) -> bytes:
     """Returns the MD5 of some pieces in order."""
-    hashed = hashlib.md5()
+    md5 = hashlib.md5()
     for piece in pieces:
-        hashed.update(piece)
-    return hashed.digest()
+        md5.update(piece)
+    return md5.digest()
 
 
 @functools.lru_cache(maxsize=1)
@@ -67,14 +67,14 @@ def pieces_of_file(opened: int) -> Iterator[bytes]:
         at += len(data)
 
 
-def told(pieces: Iterable[bytes]) -> Iterator[bytes]:
+def with_progress(pieces: Iterable[bytes]) -> Iterator[bytes]:
     """Yields the pieces, and shows how many bytes they had so far. A signal may end the command between two pieces."""
-    done = 0
+    count = 0
     for piece in pieces:
         wait_point()
         yield piece
-        done += len(piece)
-        output.show_progress(done)
+        count += len(piece)
+        output.show_progress(count)
 
 
 # Holes.
@@ -159,7 +159,7 @@ class Content(NamedTuple):
     has_data: bool
 
 
-def content_of(found: RecoverySet, file: Member, opened: int) -> Content:
+def content_of(the_set: RecoverySet, file: Member, opened: int) -> Content:
     """Reads an open file of the set, which has its length or is empty."""
     there: Set[int] = set()
     odd: Set[int] = set()
@@ -168,11 +168,11 @@ def content_of(found: RecoverySet, file: Member, opened: int) -> Content:
     with output.doing(f"{file.shown} is read", file.length):
         for number, sums in zip(file.numbers, sums_of_file):
             wait_point()
-            offset, own = (number - file.first) * found.size, found.own_length(file, number - file.first)
+            offset, own = (number - file.first) * the_set.size, the_set.own_length(file, number - file.first)
             output.show_progress(offset)
-            if is_there(opened, offset, own, found.size, sums):
+            if is_there(opened, offset, own, the_set.size, sums):
                 there.add(number)
-                has_data = has_data or sums != sums_of_zeros(found.size)
+                has_data = has_data or sums != sums_of_zeros(the_set.size)
             elif not _is_zeros(opened, offset, own):
                 odd.add(number)
     return Content(there, odd, has_data)
@@ -197,7 +197,7 @@ def _runs_that_differ(data: bytes, now: Optional[bytes], shift: int) -> List[Tup
         there = zeros[:end - start] if now is None else now[start:end]
         if data[start:end] != there:
             if there != zeros[:end - start] and not _is_begun(data, there, start, end, shift):
-                raise Refused("it has other bytes where a slice belongs")
+                raise Refusal("it has other bytes where a slice belongs")
             if runs and runs[-1][1] == start:
                 runs[-1] = (runs[-1][0], end)
             else:

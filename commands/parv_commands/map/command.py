@@ -9,15 +9,15 @@ import shutil
 from typing import BinaryIO, Dict, Iterator, List, NamedTuple, Optional, Sequence, Set
 
 from ..common import arguments, changes, output, signals
-from ..common.command_files import Given, most_at_once, read_given
+from ..common.command_files import CommandFiles, link_files, most_files_at_once, read_set
 from ..common.faults import FILES, USAGE, Fault, faults_of
 from ..common.names import base_of, shown
 from ..common.packets import Member, RecoverySet
 from ..common.parv import Links, Parv, temporary_folder
 from ..common.parv_output import SetAnswer, State
 from ..common.programs import finished
-from ..common.search import Scanned, Search
-from ..common.slices import is_there, md5_of, pieces_of_file, told
+from ..common.search import ScannedFile, Search
+from ..common.slices import is_there, md5_of, pieces_of_file, with_progress
 from . import pictures
 from .pictures import IN_PLACE, MISSING, MOVED, NOT_KNOWN, Map
 
@@ -50,11 +50,11 @@ PARV names the program if it isn't in PATH. See man parv-map.
 """
 
 
-class Asked(NamedTuple):
+class Options(NamedTuple):
     """The files and options of the command line."""
     files: List[bytes]
     tails: bool
-    chosen: Optional[str]
+    set_id: Optional[str]
     base: bytes
     width: Optional[int]
     page: Optional[bytes]
@@ -67,15 +67,17 @@ def bare(path: bytes, base: bytes) -> bytes:
     return path[len(front):] if base and path.startswith(front) else path
 
 
-def _is_in_place(found: RecoverySet, file: Member, number: int, opened: BinaryIO, tails: bool) -> bool:
+def _is_in_place(the_set: RecoverySet, file: Member, number: int, opened: BinaryIO, tails: bool) -> bool:
     """Returns whether an open file has the slice at its offset, by the rules of parv."""
-    own, offset = found.own_length(file, number), number * found.size
-    behind = os.fstat(opened.fileno()).st_size - offset
-    looked = own if tails else max(own, min(found.size, behind))
-    return file.sums is not None and is_there(opened.fileno(), offset, looked, found.size, file.sums[number])
+    if file.sums is None:
+        return False
+    size, own, offset = the_set.size, the_set.own_length(file, number), number * the_set.size
+    rest = os.fstat(opened.fileno()).st_size - offset
+    compared_length = own if tails else max(own, min(size, rest))
+    return is_there(opened.fileno(), offset, compared_length, size, file.sums[number])
 
 
-def _map_in_place(found: RecoverySet, file: Member, paths: Sequence[bytes], tails: bool) -> Map:
+def _map_in_place(the_set: RecoverySet, file: Member, paths: Sequence[bytes], tails: bool) -> Map:
     """Returns the map of a file from the scanned files with its name. All other slices are missing, or not known."""
     states = [NOT_KNOWN if file.sums is None else MISSING] * file.slices
     for path in paths if file.sums else []:
@@ -83,8 +85,8 @@ def _map_in_place(found: RecoverySet, file: Member, paths: Sequence[bytes], tail
                 open(path, "rb") as opened:
             for number in range(file.slices):
                 signals.wait_point()
-                output.show_progress(number * found.size)
-                if states[number] != IN_PLACE and _is_in_place(found, file, number, opened, tails):
+                output.show_progress(number * the_set.size)
+                if states[number] != IN_PLACE and _is_in_place(the_set, file, number, opened, tails):
                     states[number] = IN_PLACE
     return Map(file, states, {})
 
@@ -92,7 +94,7 @@ def _map_in_place(found: RecoverySet, file: Member, paths: Sequence[bytes], tail
 def _has_content(path: bytes, file: Member) -> bool:
     with output.doing(f"{file.shown} is read", file.length), faults_of("read", shown(path)), \
             open(path, "rb") as opened:
-        return md5_of(told(pieces_of_file(opened.fileno()))) == file.whole
+        return md5_of(with_progress(pieces_of_file(opened.fileno()))) == file.whole
 
 
 def _map_of_unknown(file: Member, state: State, paths: Sequence[bytes]) -> Map:
@@ -102,33 +104,34 @@ def _map_of_unknown(file: Member, state: State, paths: Sequence[bytes]) -> Map:
     return Map(file, [IN_PLACE if any(_has_content(path, file) for path in paths) else MOVED] * file.slices, {})
 
 
-def _may_be_whole(found: RecoverySet, given: Given, most_files: int) -> List[Scanned]:
+def _may_be_whole(the_set: RecoverySet, files: CommandFiles, most_files: int) -> List[ScannedFile]:
     """Returns the searched files that may have the content of a file whose slices have no checksums: those with the
     length of one."""
-    lengths = {file.length for file in found.files if file.sums is None and file.slices}
-    candidates = [scanned for scanned in given.scanned if scanned.length in lengths]
-    if len(candidates) > most_files - len(given.packet_words):
+    lengths = {file.length for file in the_set.files if file.sums is None and file.slices}
+    candidates = [file for file in files.scanned_files if file.length in lengths]
+    if len(candidates) > most_files - len(files.packet_words):
         raise Fault(FILES, f"{len(candidates)} files have the length of one without checksums of slices; parv takes "
-                           f"{max(0, most_files - len(given.packet_words))} here")
+                           f"{max(0, most_files - len(files.packet_words))} here")
     return candidates
 
 
-def maps_of(found: RecoverySet, answer: SetAnswer, given: Given, parv: Parv, tails: bool, base: bytes,
+def maps_of(the_set: RecoverySet, answer: SetAnswer, files: CommandFiles, parv: Parv, tails: bool, base: bytes,
             most_files: int) -> List[Map]:
     """Returns the maps of all files. parv gets `most_files` at once."""
     by_name: Dict[bytes, List[bytes]] = {}
-    for scanned in given.scanned:
-        path = given.paths[scanned.word]
+    for scanned_file in files.scanned_files:
+        path = files.paths[scanned_file.word]
         by_name.setdefault(bare(path, base), []).append(path)
-    maps = [_map_in_place(found, file, by_name.get(file.name, []), tails) for file in found.files]
-    if any(file.sums is None and file.slices for file in found.files):
-        candidates = _may_be_whole(found, given, most_files)
-        most = sum(scanned.length for scanned in candidates) * 2
-        verdict = finished(parv.verify(answer, given.packet_words, [scanned.word for scanned in candidates], False,
-                                       most))
+    maps = [_map_in_place(the_set, file, by_name.get(file.name, []), tails) for file in the_set.files]
+    if any(file.sums is None and file.slices for file in the_set.files):
+        candidates = _may_be_whole(the_set, files, most_files)
+        most = sum(file.length for file in candidates) * 2
+        words = [file.word for file in candidates]
+        verdict = finished(parv.verify(answer, files.packet_words, words, False, most))
         maps = [_map_of_unknown(each.file, state, by_name.get(each.file.name, [])) if each.file.sums is None else each
                 for each, state in zip(maps, verdict.states)]
-    _take_moved(maps, Search(found, parv, given.scanned, tails, _missing(maps), most_files=most_files))
+    search = Search(the_set, parv, files.scanned_files, tails, _missing(maps), most_files=most_files)
+    _find_moved_slices(maps, search)
     return maps
 
 
@@ -137,14 +140,14 @@ def _missing(maps: Sequence[Map]) -> Set[int]:
     return {number for each in maps for number, state in zip(each.file.numbers, each.states) if state == MISSING}
 
 
-def _take_moved(maps: Sequence[Map], search: Search) -> None:
+def _find_moved_slices(maps: Sequence[Map], search: Search) -> None:
     """Records where a search finds slices that were missing until then."""
     owners = [each for each in maps for _ in each.states]
     for at, offset, number in search.sightings():
-        search.wanted.discard(number)
+        search.targets.discard(number)
         each = owners[number]
         each.states[number - each.file.first] = MOVED
-        each.where[number - each.file.first] = search.scanned[at].shown, offset
+        each.where[number - each.file.first] = search.files[at].shown, offset
 
 
 # Pages and pictures in files.
@@ -167,7 +170,7 @@ class NewFile(NamedTuple):
         return self.name == other.name and os.path.samestat(os.fstat(self.place), os.fstat(other.place))
 
     @contextlib.contextmanager
-    def written(self, text: str) -> Iterator[None]:
+    def writing(self, text: str) -> Iterator[None]:
         """Writes the file with a temporary name. At the end it gets its own, unless something has that by then."""
         temporary = b".parv-%s" % secrets.token_hex(8).encode()
         with faults_of("write", self.shown):
@@ -199,27 +202,27 @@ def write_all(files: Sequence[NewFile], texts: Sequence[str]) -> None:
     """Makes the files, each with its text. None gets its name before all are written."""
     with contextlib.ExitStack() as stack:
         for file, text in reversed(list(zip(files, texts))):    # (the last one gets its name first)
-            stack.enter_context(file.written(text))
+            stack.enter_context(file.writing(text))
 
 
-def draw(asked: Asked) -> int:
+def draw(options: Options) -> int:
     """Runs the command, and returns its exit status."""
     program = arguments.needed_parv()
-    most_files = most_at_once()
+    most_files = most_files_at_once()
     writers = [(path, text_of) for path, text_of in
-               ((asked.page, pictures.page_of), (asked.picture, pictures.svg_of)) if path is not None]
-    with new_files([path for path, _ in writers]) as files:
+               ((options.page, pictures.page_of), (options.picture, pictures.svg_of)) if path is not None]
+    with new_files([path for path, _ in writers]) as pages:
         with temporary_folder() as temporary:
             parv = Parv(program, Links(temporary, ()))
-            given = Given(parv.links, asked.files)
-            answer, found = read_given(parv, given, asked.chosen)
-            maps = maps_of(found, answer, given, parv, asked.tails, asked.base, most_files)
+            files = link_files(parv, options.files)
+            answer, the_set = read_set(parv, files, options.set_id)
+            maps = maps_of(the_set, answer, files, parv, options.tails, options.base, most_files)
         has_colours = os.isatty(1) and not os.environ.get("NO_COLOR")
-        lines = pictures.lines_of(found, maps, asked.width or shutil.get_terminal_size().columns or USUAL_WIDTH,
-                                  has_colours)
+        width = options.width or shutil.get_terminal_size().columns or USUAL_WIDTH
+        lines = pictures.lines_of(the_set, maps, width, has_colours)
         with signals.interruptible():
             output.tell(lines)
-        write_all(files, [text_of(found, maps) for _, text_of in writers])
+        write_all(pages, [text_of(the_set, maps) for _, text_of in writers])
     return 0
 
 
@@ -245,6 +248,6 @@ def main() -> int:
             reader.error("a line has one character at least")
         if b"" in (options.html, options.svg):
             reader.error("a page or a picture needs a name")
-        return draw(Asked(list(map(os.fsencode, options.files)), options.tails, options.set, os.fsencode(options.base),
+        return draw(Options(list(map(os.fsencode, options.files)), options.tails, options.set, os.fsencode(options.base),
                           options.width, options.html, options.svg))
     return arguments.ended("parv-map", run)

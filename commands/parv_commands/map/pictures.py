@@ -36,8 +36,8 @@ def _tally(states: Sequence[int]) -> str:
     return ", ".join(f"{states.count(state)} {WORDS[state]}" for state in range(4) if state in states) or "no slices"
 
 
-def _need(found: RecoverySet, states: Sequence[int]) -> str:
-    return f"need {states.count(MISSING) + states.count(NOT_KNOWN)} have {found.have}"
+def _need(the_set: RecoverySet, states: Sequence[int]) -> str:
+    return f"need {states.count(MISSING) + states.count(NOT_KNOWN)} have {the_set.have}"
 
 
 def _all_states(maps: Sequence[Map]) -> List[int]:
@@ -56,7 +56,7 @@ def _cut(name: str, most: int) -> str:
 
 # As text: a sign for each slice, or for several in a row.
 
-def _painted(signs: str, colour: bool) -> str:
+def _paint(signs: str, colour: bool) -> str:
     """Returns a line of signs, in colours if these are asked for."""
     if not colour:
         return signs
@@ -73,20 +73,20 @@ def _lines_of_file(each: Map, width: int, colour: bool) -> List[str]:
     most = max((end - begin for begin, end in parts), default=1)
     about = f": {_tally(each.states)}" + (f"; up to {most} slices a sign" if most > 1 else "")
     signs = "".join(SIGNS[max(each.states[begin:end])] for begin, end in parts)
-    rows = [_painted(signs[at:at + width], colour) for at in range(0, len(signs), width)]
+    rows = [_paint(signs[at:at + width], colour) for at in range(0, len(signs), width)]
     fits = len(each.file.shown + about) <= width
     head = [each.file.shown + about] if fits else [_cut(each.file.shown, width), _cut(about[2:], width)]
     return ["", *head, *rows]
 
 
-def lines_of(found: RecoverySet, maps: Sequence[Map], width: int, colour: bool) -> List[str]:
+def lines_of(the_set: RecoverySet, maps: Sequence[Map], width: int, colour: bool) -> List[str]:
     """Returns the lines of the whole picture."""
     states = _all_states(maps)
-    signs = [f"{_painted(sign, colour)} {word}" for sign, word in zip(SIGNS, WORDS)]
-    lines = [found.line, ("  " if width >= NARROW else "\n").join(signs)]
+    signs = [f"{_paint(sign, colour)} {word}" for sign, word in zip(SIGNS, WORDS)]
+    lines = [the_set.line, ("  " if width >= NARROW else "\n").join(signs)]
     for each in maps:
         lines += _lines_of_file(each, width, colour)
-    return [*lines, "", f"{_tally(states)}; {_need(found, states)}"]
+    return [*lines, "", f"{_tally(states)}; {_need(the_set, states)}"]
 
 
 # As drawings: a cell for each slice, or for several in a row.
@@ -96,16 +96,16 @@ def _place_of(at: int) -> str:
     return f"{at % COLUMNS * PITCH} {at // COLUMNS * PITCH}"
 
 
-def _grid(each: Map, is_told: bool) -> Tuple[List[str], int]:
-    """Returns the cells of a file, and how many rows they take. Each cell says what it means, or all cells of a state
-    are one."""
+def _grid(each: Map, has_titles: bool) -> Tuple[List[str], int]:
+    """Returns the cells of a file, and how many rows they take. Each cell has a title that says what it means, or
+    all cells of a state are one."""
     parts = _spans(len(each.states), COLUMNS * ROWS)
     worst = [max(each.states[begin:end]) for begin, end in parts]
     cells: List[str] = []
-    if is_told:
+    if has_titles:
         for at, (begin, end) in enumerate(parts):
             cells.append(f'<path fill="{FILLS[worst[at]]}" d="M{_place_of(at)}{SHAPES[worst[at]]}">'
-                         f"<title>{html.escape(_cell_told(each, begin, end))}</title></path>")
+                         f"<title>{html.escape(_cell_title(each, begin, end))}</title></path>")
     else:
         for state in range(4):
             path = "".join(f"M{_place_of(at)}{SHAPES[state]}" for at, now in enumerate(worst) if now == state)
@@ -114,7 +114,7 @@ def _grid(each: Map, is_told: bool) -> Tuple[List[str], int]:
     return cells, -(-len(parts) // COLUMNS)
 
 
-def _cell_told(each: Map, begin: int, end: int) -> str:
+def _cell_title(each: Map, begin: int, end: int) -> str:
     if end - begin > 1:
         return f"slices {begin} to {end - 1}: {_tally(each.states[begin:end])}"
     if begin in each.where:
@@ -133,11 +133,11 @@ def _legend() -> List[str]:
     return parts
 
 
-def svg_of(found: RecoverySet, maps: Sequence[Map]) -> str:
+def svg_of(the_set: RecoverySet, maps: Sequence[Map]) -> str:
     """Returns a drawing of all files with their names."""
     states = _all_states(maps)
     labels = [f"{_cut(each.file.shown, MOST_NAME)}: {_tally(each.states)}" for each in maps]
-    labels.append(f"{_tally(states)}; {_need(found, states)}")
+    labels.append(f"{_tally(states)}; {_need(the_set, states)}")
     parts, y = [f'<g transform="translate(10 10)">{"".join(_legend())}</g>'], 40
     for each, label in zip(maps, labels):
         cells, rows = _grid(each, False)
@@ -150,7 +150,7 @@ def svg_of(found: RecoverySet, maps: Sequence[Map]) -> str:
     return "\n".join([
         f'<svg xmlns="http://www.w3.org/2000/svg" width="{width}" height="{y + 12}" viewBox="0 0 {width} {y + 12}"'
         ' font-family="monospace" font-size="12" fill="#222">',
-        f"<title>The slices of set {found.id}</title>",
+        f"<title>The slices of set {the_set.id}</title>",
         '<rect width="100%" height="100%" fill="#fff"/>', *parts, "</svg>", ""])
 
 
@@ -162,7 +162,7 @@ class Run(NamedTuple):
     name: str
     offset: int
 
-    def told(self) -> str:
+    def text(self) -> str:
         numbers = f"slice {self.first}" if self.first == self.last else f"slices {self.first} to {self.last}"
         return f"{numbers} in {html.escape(self.name)} from {self.offset}"
 
@@ -179,21 +179,21 @@ def _runs(each: Map, size: int) -> List[Run]:
     return runs
 
 
-def page_of(found: RecoverySet, maps: Sequence[Map]) -> str:
+def page_of(the_set: RecoverySet, maps: Sequence[Map]) -> str:
     """Returns a page with a drawing of each file."""
     states = _all_states(maps)
-    parts = ["<!DOCTYPE html>", '<html lang="en"><head><meta charset="utf-8">', f"<title>Set {found.id}</title>",
+    parts = ["<!DOCTYPE html>", '<html lang="en"><head><meta charset="utf-8">', f"<title>Set {the_set.id}</title>",
              "<style>body{font:14px monospace;background:#fff;color:#222}h2{font-size:1em;overflow-wrap:anywhere}"
              "li{overflow-wrap:anywhere}</style></head><body>",
-             f"<p>{found.line}</p>", f"<p>{_tally(states)}; {_need(found, states)}</p>",
+             f"<p>{the_set.line}</p>", f"<p>{_tally(states)}; {_need(the_set, states)}</p>",
              f'<svg width="640" height="14">{"".join(_legend())}</svg>']
     for each in maps:
         cells, rows = _grid(each, True)
         parts += [f"<h2>{html.escape(each.file.shown)}: {_tally(each.states)}</h2>",
                   f'<svg width="{COLUMNS * PITCH}" height="{rows * PITCH}">{"".join(cells)}</svg>']
-        runs = _runs(each, found.size)
+        runs = _runs(each, the_set.size)
         if runs:
             parts.append("<details><summary>where moved slices are</summary><ul>")
-            parts += [f"<li>{run.told()}</li>" for run in runs]
+            parts += [f"<li>{run.text()}</li>" for run in runs]
             parts.append("</ul></details>")
     return "\n".join([*parts, "</body></html>", ""])

@@ -44,7 +44,7 @@ PARV names the program if it isn't in PATH. See man parv-parts.
 """
 
 
-class Asked(NamedTuple):
+class Options(NamedTuple):
     """The files and options of the command line."""
     tails: bool
     folder: bytes
@@ -58,9 +58,10 @@ class Part(NamedTuple):
     length: int
 
 
-def text_of(asked: Asked) -> bytes:
+def text_of(options: Options) -> bytes:
     """Returns the arguments by which the folder of a search is recognized. LIMIT isn't one of them."""
-    lines = ["parv-parts 1", *(["--tails"] if asked.tails else []), *(f"file {shown(file)}" for file in asked.files)]
+    tails = ["--tails"] if options.tails else []
+    lines = ["parv-parts 1", *tails, *(f"file {shown(file)}" for file in options.files)]
     return "".join(line + "\n" for line in lines).encode("ascii")
 
 
@@ -105,18 +106,18 @@ class Parts:
         there = set(self.folder.entries())
         if WORDS in there and not self.folder.is_file(WORDS):
             raise Fault(USAGE, f"{self.folder.shown} has other files")
-        written = self._bytes_of(WORDS, len(text) + 1)
-        if not written and there - {WORDS}:
+        text_there = self._bytes_of(WORDS, len(text) + 1)
+        if not text_there and there - {WORDS}:
             raise Fault(USAGE, f"{self.folder.shown} has other files")
         # (If only the arguments are there, they may have been cut.)
-        if not written or there == {WORDS} and text.startswith(written):
+        if not text_there or there == {WORDS} and text.startswith(text_there):
             with faults_of("write", self._shown(WORDS)):
                 self._remove(WORDS)
                 with changes.new_file(self.folder.place, WORDS) as opened:
                     changes.write(opened, text)
                     changes.sync(opened)
                 changes.sync_folder(self.folder.place)
-        elif written != text:
+        elif text_there != text:
             raise Fault(USAGE, f"{self.folder.shown} is of a search with other words")
 
     def _remove(self, name: bytes) -> None:
@@ -186,18 +187,18 @@ class Parts:
 
 
 @contextlib.contextmanager
-def locked(folder: Folder) -> Iterator[None]:
+def lock(folder: Folder) -> Iterator[None]:
     """Keeps other runs out of a folder. (parv doesn't inherit the lock; it ends with the command.)"""
-    lock = os.open(b".", os.O_RDONLY | os.O_DIRECTORY | os.O_CLOEXEC, dir_fd=folder.place)
+    place = os.open(b".", os.O_RDONLY | os.O_DIRECTORY | os.O_CLOEXEC, dir_fd=folder.place)
     try:
         with faults_of("lock", folder.shown):
             try:
-                fcntl.flock(lock, fcntl.LOCK_EX | fcntl.LOCK_NB)
+                fcntl.flock(place, fcntl.LOCK_EX | fcntl.LOCK_NB)
             except BlockingIOError as fault:
                 raise Fault(USAGE, f"another run is at work in {folder.shown}") from fault
         yield
     finally:
-        os.close(lock)
+        os.close(place)
 
 
 def _is_next(line: bytes, cursor: Sequence[bytes]) -> bool:
@@ -205,29 +206,30 @@ def _is_next(line: bytes, cursor: Sequence[bytes]) -> bool:
     return _LAST.fullmatch(line + b"\n") is not None and line[7:] not in cursor
 
 
-def find(program: Program, asked: Asked, cursor: Sequence[bytes]) -> Iterator[bytes]:
+def find(program: Program, options: Options, cursor: Sequence[bytes]) -> Iterator[bytes]:
     """Yields the output of parv for a part, in pieces of whole lines."""
-    tails = [b"--tails"] if asked.tails else []
-    given = [b"find", *tails, b"--limit", asked.limit, *cursor, b"--", *asked.files]
-    said, rest, left = programs.Said(program), b"", int(asked.limit)       # how many matches may still come
-    with output.doing("parv find", most_read(asked.files, 1)), programs.running(program, given) as process:
-        for piece in programs.pieces_of(process, said):
+    tails = [b"--tails"] if options.tails else []
+    words = [b"find", *tails, b"--limit", options.limit, *cursor, b"--", *options.files]
+    standard_error, rest = programs.Said(program), b""
+    remaining = int(options.limit)      # how many matches may still come
+    with output.doing("parv find", most_read(options.files, 1)), programs.running(program, words) as process:
+        for piece in programs.pieces_of(process, standard_error):
             *lines, rest = (rest + piece).split(b"\n")
             for line in lines:
-                if line == b"end" and left >= 0 or left == 0 and _is_next(line, cursor):
-                    left = -1       # nothing may follow the last line
-                elif left > 0 and parv_output.read_sighting(line):
-                    left -= 1
+                if line == b"end" and remaining >= 0 or remaining == 0 and _is_next(line, cursor):
+                    remaining = -1      # nothing may follow the last line
+                elif remaining > 0 and parv_output.read_sighting(line):
+                    remaining -= 1
                 else:
                     raise parv_output.NoAnswer("find")
             if len(rest) > LONGEST_LINE:
                 raise parv_output.NoAnswer("find")
             yield b"".join(line + b"\n" for line in lines)
         status = programs.status_of(process)
-    if status == USAGE and bytes(said) == parv_output.CURSOR_OF_OTHERS:
+    if status == USAGE and bytes(standard_error) == parv_output.CURSOR_OF_OTHERS:
         raise Fault(USAGE, "a searched file has another length than when this search began")
     if status != 0:
-        raise fault_of(program, status, bytes(said), "find", {})
+        raise fault_of(program, status, bytes(standard_error), "find", {})
     if rest:
         raise parv_output.NoAnswer("find")
 
@@ -242,18 +244,18 @@ def refuse_odd(files: Sequence[bytes]) -> None:
             raise Fault(USAGE, f"the name {shown(file)} isn't UTF-8, and can't be searched") from fault
 
 
-def search(asked: Asked) -> int:
+def search(options: Options) -> int:
     """Runs the command, and returns its exit status."""
     program = arguments.needed_parv()
-    refuse_odd(asked.files)
+    refuse_odd(options.files)
     programs.raise_file_limit()
-    with faults_of("make", shown(asked.folder)):
-        changes.make_path(asked.folder)
-    with contextlib.closing(Folder.opened(asked.folder)) as folder, locked(folder):
-        parts = Parts(folder, text_of(asked))
+    with faults_of("make", shown(options.folder)):
+        changes.make_path(options.folder)
+    with contextlib.closing(Folder.opened(options.folder)) as folder, lock(folder):
+        parts = Parts(folder, text_of(options))
         while not parts.is_over:
             cursor = [b"--cursor", parts.last[7:].encode()] if parts.last else []
-            count = parts.add(find(program, asked, cursor))
+            count = parts.add(find(program, options, cursor))
             output.say(f"part {len(parts.parts)}: {count} matches, {parts.last}")
         parts.tell()
     return 0
@@ -276,6 +278,6 @@ def main() -> int:
             reader.error("missing argument: PARTS")
         if not re.fullmatch("[1-9][0-9]{0,18}", options.limit):
             reader.error("LIMIT is a number from 1 on")
-        return search(Asked(options.tails, os.fsencode(options.parts), os.fsencode(options.limit),
+        return search(Options(options.tails, os.fsencode(options.parts), os.fsencode(options.limit),
                             list(map(os.fsencode, options.files))))
     return arguments.ended("parv-parts", run)

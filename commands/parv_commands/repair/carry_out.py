@@ -10,7 +10,7 @@ import stat
 from typing import Callable, List, Optional, Sequence
 
 from ..common import changes, names, output, seals, signals
-from ..common.faults import FILES, Fault, Refused, faults_of
+from ..common.faults import FILES, Fault, Refusal, faults_of
 from ..common.folders import Folder, Identity, identity_of
 from ..common.names import shown
 from . import work_folder
@@ -46,7 +46,7 @@ def carry_out(inspection: Inspection, situation: Situation, removes_backups: boo
         with output.waiting("what was moved is brought to the disk"), faults_of("write in", folder.shown):
             changes.sync_all(folder.place)
         removable = _removable(inspection, plan.backups) if removes_backups else []
-    except Refused as why:
+    except Refusal as why:
         _put_back(stage, moves, inspection)
         raise Fault(FILES, str(why)) from why
     except BaseException:
@@ -70,7 +70,7 @@ def _put_back(stage: Stage, moves: Optional[Moves], inspection: Inspection) -> N
                 moves.sync()
                 stage.forget()
             stage.clear()
-    except (Fault, Refused, OSError) as fault:
+    except (Fault, Refusal, OSError) as fault:
         inspection.report(f"{fault}; {shown(work_folder.NAME)} stays, for the next run to finish or to undo")
 
 
@@ -159,7 +159,7 @@ def _moves_of(folder: Folder, plan: Plan, inspection: Inspection) -> Moves:
     def identity(path: bytes) -> Identity:
         now = folder.look(path)
         if now is None or not stat.S_ISREG(now.st_mode):
-            raise Refused(f"{shown(path)} has changed meanwhile")
+            raise Refusal(f"{shown(path)} has changed meanwhile")
         return identity_of(now)
     moves = Moves(folder, work_folder.NAME, plan.steps(identity), inspection.report)
     ends = [end for step in moves.moves() for end in (step.origin, step.target)]
@@ -168,7 +168,7 @@ def _moves_of(folder: Folder, plan: Plan, inspection: Inspection) -> Moves:
         # (Only now is the stage there, so only now can another form of its name be seen.)
         why = None if moves.is_staged(path) else folder.obstacle(path, work_folder.NAME)
         if why is not None:
-            raise Refused(f"{shown(path)} can't be used: {why}")
+            raise Refusal(f"{shown(path)} can't be used: {why}")
     return moves
 
 

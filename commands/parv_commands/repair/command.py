@@ -9,7 +9,7 @@ import re
 from typing import Iterator, List, NamedTuple, Optional, Tuple
 
 from ..common import arguments, output, programs, signals
-from ..common.faults import FILES, POSSIBLE, Fault, NoProgram, Refused
+from ..common.faults import FILES, POSSIBLE, Fault, NoProgram, Refusal
 from ..common.folders import Folder
 from ..common.names import shown
 from ..common.parv import Links, temporary_folder
@@ -141,7 +141,7 @@ def repair(asked: Asked) -> int:
         status, lines = _run(asked, folder, program)
     except Fault as fault:
         raise Fault(fault.status, f"{folder.shown}: {fault}") from fault
-    except (OSError, Refused) as fault:
+    except (OSError, Refusal) as fault:
         why = fault.strerror if isinstance(fault, OSError) else fault
         raise Fault(FILES, f"{folder.shown}: {why}") from fault
     signals.forget_signals()

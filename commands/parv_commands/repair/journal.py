@@ -15,9 +15,9 @@ import stat
 from typing import Callable, Iterator, List, NamedTuple, Optional, Sequence, Set, Union
 
 from ..common import changes
-from ..common.faults import FILES, Fault, Refused
+from ..common.faults import FILES, Fault, Refusal
 from ..common.folders import Folder, Identity
-from ..common.names import base_of, is_plain, is_reserved, numbered, shown
+from ..common.names import base_of, is_plain, is_reserved, shown, with_number
 
 HEAD = b"parv-repair journal 2"
 END = b"end"
@@ -58,7 +58,7 @@ def encoded(steps: Sequence[Step]) -> bytes:
                        b"%d %d %d" % (step.file.inode, length or 0, changed or 0), step.origin, step.target, b""]
     data = b"".join(field + b"\0" for field in [*fields, END])
     if len(data) > MOST:
-        raise Refused("a journal of all moves would be too long")
+        raise Refusal("a journal of all moves would be too long")
     return data
 
 
@@ -66,7 +66,7 @@ def decoded(data: bytes) -> List[Step]:
     """Returns the steps of a journal. One of another version is refused."""
     fields = data.split(b"\0")
     if fields[0] != HEAD or fields[-2:] != [END, b""] or (len(fields) - 3) % _FIELDS:
-        raise Refused("it is no journal of this version")
+        raise Refusal("it is no journal of this version")
     steps: List[Step] = []
     for at in range(1, len(fields) - 2, _FIELDS):
         kind, about, origin, target, _ = fields[at:at + _FIELDS]
@@ -75,7 +75,7 @@ def decoded(data: bytes) -> List[Step]:
             continue
         numbers = _NUMBERS.fullmatch(about)
         if kind not in (b"move", b"keep") or numbers is None:
-            raise Refused("it is no journal of this version")
+            raise Refusal("it is no journal of this version")
         steps.append(Move(Identity(*map(int, numbers.groups())), origin, target, kind == b"keep"))
     return steps
 
@@ -87,9 +87,9 @@ def read_file(folder: Folder, name: bytes, most: int = MOST) -> bytes:
     try:
         now = os.fstat(opened)
         if not stat.S_ISREG(now.st_mode):
-            raise Refused("it is no regular file")
+            raise Refusal("it is no regular file")
         if now.st_size > most:
-            raise Refused("it is too long")
+            raise Refusal("it is too long")
         data = bytearray()
         while len(data) <= most and (piece := os.read(opened, min(PIECE, most + 1 - len(data)))):
             data += piece
@@ -117,9 +117,9 @@ class Moves:
             for end, inside in (name, self.stage), (target, self.stage + ASIDE + b"/"):
                 is_inside = end.startswith(inside) and end.count(b"/") == 2
                 if not is_plain(end) or is_reserved(end) and not is_inside:
-                    raise Refused(f"no run moves a file to {shown(end)} or from there")
+                    raise Refusal(f"no run moves a file to {shown(end)} or from there")
             if isinstance(step, Move) and name == target or target in targets:
-                raise Refused(f"no run moves a file to {shown(target)} from itself or twice")
+                raise Refusal(f"no run moves a file to {shown(target)} from itself or twice")
             targets.add(target)
 
     def is_staged(self, name: bytes) -> bool:
@@ -147,7 +147,7 @@ class Moves:
     def carry(self, name: bytes, new_name: bytes) -> None:
         """Moves a file to a name that isn't used."""
         if not is_plain(name) or not is_plain(new_name):
-            raise Refused(f"{shown(name)} isn't moved to {shown(new_name)}: one of them leads out of the folder")
+            raise Refusal(f"{shown(name)} isn't moved to {shown(new_name)}: one of them leads out of the folder")
         before = self.folder.look(name)
         try:
             self.folder.move(name, new_name, True)
@@ -155,12 +155,12 @@ class Moves:
             more = ""
             if fault.errno in (errno.EPERM, errno.EOPNOTSUPP):
                 more = " (some file systems can't move a file without the danger of replacing another one)"
-            raise Refused(f"cannot move {shown(name)} to {shown(new_name)}: {fault.strerror}{more}") from fault
+            raise Refusal(f"cannot move {shown(name)} to {shown(new_name)}: {fault.strerror}{more}") from fault
         now = self.folder.look(new_name)
         if before is not None and now is not None and not os.path.samestat(before, now):
             with contextlib.suppress(OSError):      # somebody has put another file there meanwhile
                 self.folder.move(new_name, name)
-            raise Refused(f"{shown(name)} has changed meanwhile")
+            raise Refusal(f"{shown(name)} has changed meanwhile")
 
     def free_name(self, name: bytes) -> bytes:
         """Returns an unused name like this one, to which no step moves a file."""
@@ -185,9 +185,9 @@ class Moves:
                 try:
                     self.folder.make_folders(step.path, step.depth)
                 except OSError as fault:
-                    raise Refused(f"cannot make the folder {shown(step.path)}: {fault.strerror}") from fault
+                    raise Refusal(f"cannot make the folder {shown(step.path)}: {fault.strerror}") from fault
             elif not self.has(step, step.origin):
-                raise Refused(f"{shown(step.origin)} has changed meanwhile")
+                raise Refusal(f"{shown(step.origin)} has changed meanwhile")
             else:
                 self.carry(step.origin, step.target)
 
@@ -217,7 +217,7 @@ class Moves:
             with self.folder.above(path + b"/", True):
                 pass
         except OSError as fault:
-            raise Refused(f"cannot make the folder {shown(path)}: {fault.strerror}") from fault
+            raise Refusal(f"cannot make the folder {shown(path)}: {fault.strerror}") from fault
 
     def _remove_name(self, name: bytes) -> None:
         with self.folder.above(name) as place:
@@ -234,11 +234,11 @@ class Moves:
                 continue
             try:
                 self._undo_move(step)
-            except Refused as why:
+            except Refusal as why:
                 failed.append(str(why))
         try:
             self.bring_out()
-        except Refused as why:
+        except Refusal as why:
             failed.append(str(why))
         if failed:
             raise Fault(FILES, failed[0])
@@ -266,7 +266,7 @@ class Moves:
         if self.has(step, step.origin):         # (it hasn't been moved, and many names may be alike)
             return end
         while step.is_kept and not self.has(step, end):
-            end = numbered(step.origin, number)
+            end = with_number(step.origin, number)
             if end not in self.ends and self.folder.is_free(end):
                 return step.target
             number += 1

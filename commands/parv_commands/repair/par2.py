@@ -11,13 +11,13 @@ from typing import Dict, List, NamedTuple, NoReturn, Optional, Sequence, Set
 
 from ..common import changes, output
 from ..common.equal_files import is_same
-from ..common.faults import FILES, NO_REPAIR, Fault, NoProgram, Refused, faults_of
+from ..common.faults import FILES, NO_REPAIR, Fault, NoProgram, Refusal, faults_of
 from ..common.folders import Folder
 from ..common.names import shown
 from ..common.packets import PacketFiles, RecoverySet, recovery_lines, write_for_par2
 from ..common.parv_output import PacketLine
 from ..common.programs import Program, answer_of, find_program, finished
-from ..common.search import Scanned
+from ..common.search import ScannedFile
 from ..common.signals import wait_point
 from ..common.slices import fill
 from .situation import Inspection, Situation
@@ -190,12 +190,12 @@ class Making:
                     begun.add(one)
                 place = changes.open_file(bench.place.place, name_for(one))
                 try:
-                    self._place(place, one, number, search.scanned[at], offset)
+                    self._place(place, one, number, search.files[at], offset)
                 finally:
                     os.close(place)
-                search.wanted.discard(number)
+                search.targets.discard(number)
 
-    def _place(self, opened: int, one: int, number: int, scanned: Scanned, offset: int) -> None:
+    def _place(self, opened: int, one: int, number: int, scanned: ScannedFile, offset: int) -> None:
         found = self.the_set
         file = found.files[one]
         source = scanned.opener()
@@ -203,5 +203,5 @@ class Making:
             data = os.pread(source, found.own_length(file, number - file.first), offset)
         finally:
             os.close(source)
-        with contextlib.suppress(Refused):      # then par2 says that the slice is missing
+        with contextlib.suppress(Refusal):      # then par2 says that the slice is missing
             fill(opened, data, (number - file.first) * found.size)

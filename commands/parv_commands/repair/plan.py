@@ -6,9 +6,9 @@ import os
 from typing import Callable, Dict, List, NamedTuple, Optional, Sequence, Set
 
 from ..common.equal_files import Alike
-from ..common.faults import Refused
+from ..common.faults import Refusal
 from ..common.folders import Identity
-from ..common.names import Taken, has_room_for_number, is_reserved, shown
+from ..common.names import UsedNames, has_room_for_number, is_reserved, shown
 from ..common.signals import wait_point
 from .journal import ASIDE, Made, Move, Step
 from .situation import Situation
@@ -82,7 +82,7 @@ class _Planner:
         self._used: Set[bytes] = set()
         self._leaves: Set[bytes] = set()
         self._asides: Dict[bytes, bytes] = {}
-        self._names = Taken(file.name for file in self.files)   # and the names under which other files are kept
+        self._names = UsedNames(file.name for file in self.files)   # and the names under which other files are kept
         self._number_of_cut = 1     # the number from which a name on is looked for that is cut
 
     def plan(self) -> Plan:
@@ -139,9 +139,9 @@ class _Planner:
         if here is None:
             twin = next((f", or is {shown(each)} in this file system" for each in self.there
                          if each.lower() == name.lower()), "")
-            raise Refused(f"{shown(name)} has come meanwhile{twin}")
+            raise Refusal(f"{shown(name)} has come meanwhile{twin}")
         if here != name and here in self._stays:
-            raise Refused(f"{shown(name)} and {shown(here)} are one name in this file system")
+            raise Refusal(f"{shown(name)} and {shown(here)} are one name in this file system")
         if here in self._leaves:
             self._asides[here] = path_of(ASIDE, b"%d" % number)
             self.moves_away.append(NewName(here, here, self._asides[here], False))

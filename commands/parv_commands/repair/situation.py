@@ -9,14 +9,14 @@ from typing import Dict, List, NamedTuple, Optional, Sequence, Set
 
 from ..common import names, output
 from ..common.equal_files import is_same
-from ..common.faults import FILES, IMPOSSIBLE, NO_REPAIR, NO_SET, USAGE, Fault, Refused
+from ..common.faults import FILES, IMPOSSIBLE, NO_REPAIR, NO_SET, USAGE, Fault, Refusal
 from ..common.folders import Folder, Identity
-from ..common.names import RESERVED, shown
+from ..common.names import RESERVED_NAMES, shown
 from ..common.packets import PacketFiles, RecoverySet, names_of_others, read_recovery_set
 from ..common.parv import Links, Parv
 from ..common.parv_output import PacketLine, SetAnswer
 from ..common.programs import Program, finished
-from ..common.search import Scanned, Search
+from ..common.search import ScannedFile, Search
 from ..common.set_state import FolderWords, PacketFileNames, SetState, Sources, Verification, packet_files_of, text_of
 from ..common.signals import wait_point
 from . import work_folder
@@ -56,7 +56,7 @@ def refuse_mounted(folder: Folder, subfolders: Set[bytes]) -> None:
     for path in sorted(subfolders):
         wait_point()
         if folder.is_elsewhere(path):
-            raise Refused("it reaches into another file system")
+            raise Refusal("it reaches into another file system")
 
 
 class Inspection:
@@ -147,7 +147,7 @@ class Inspection:
             if stat.S_ISDIR(now.st_mode) and _SET_ASIDE.fullmatch(name):    # files of the set may be there
                 state.unread[name] = "set aside"
         counts = state.verdict.counts + (f"; {refusal}" if refusal else "")
-        if not any(each.found for each in state.verdict.states):
+        if not any(each.found_slices for each in state.verdict.states):
             counts += "; nothing of the set is found"
         unread = self._text_of_unread()
         if unread:
@@ -157,7 +157,7 @@ class Inspection:
     def _refuse_names(self) -> None:
         """Ends the run if a name of the set leads elsewhere, or something is in its place. Anyone may have made the
         set."""
-        why = names.refusals([file.name for file in self.the_set.files], RESERVED)
+        why = names.refusals([file.name for file in self.the_set.files], RESERVED_NAMES)
         for number, file in enumerate(self.the_set.files):
             reason = why.get(number) or self.folder.obstacle(file.name, work_folder.NAME)
             if reason:
@@ -190,6 +190,6 @@ class Inspection:
     def search(self, paths: Sequence[bytes], wanted: Set[int], tails: bool) -> Search:
         """Returns a search for slices in files of the folder."""
         there = self.verification.files.there
-        scanned = [Scanned(self.words.word_of(path), shown(path), there[path].length or 0,
+        scanned = [ScannedFile(self.words.word_of(path), shown(path), there[path].length or 0,
                            functools.partial(self.folder.open_to_read, path)) for path in paths]
         return Search(self.the_set, self.parv, scanned, tails, wanted, True)

@@ -14,7 +14,7 @@ import stat
 from typing import Iterable, Iterator, List, NamedTuple, Optional
 
 from ..common import changes, seals
-from ..common.faults import FILES, Fault, Refused, faults_of
+from ..common.faults import FILES, Fault, Refusal, faults_of
 from ..common.folders import Folder
 from ..common.names import shown
 from ..common.seals import Seal
@@ -99,7 +99,7 @@ class Stage:
         """Returns the bytes of a file in the stage, or none of one that no run has made."""
         try:
             return journal.read_file(self.opened, name, most)
-        except Refused:
+        except Refusal:
             return _NO_TEXT
         except OSError as fault:
             if fault.errno not in _CLOSED:
@@ -148,7 +148,7 @@ class Stage:
         seal = self._seal(JOURNAL)
         text = None if seal is None else seal.text_of(self._read(JOURNAL, journal.MOST + seals.MARK + 1))
         if text is None:
-            raise Refused("it isn't the journal of a run here")
+            raise Refusal("it isn't the journal of a run here")
         return Moves(self.folder, NAME, journal.decoded(text), self.say)
 
     # Its end.
@@ -211,7 +211,7 @@ def _left(folder: Folder, say: Sayer) -> Iterator[Optional[_Left]]:
             try:
                 is_own = stage.is_own()
                 moves = stage.moves() if is_own else None
-            except Refused:
+            except Refusal:
                 is_own = False
             except OSError as fault:        # a link or no folder, or one that this user can't read
                 if fault.errno not in _CLOSED:
@@ -264,7 +264,7 @@ def _deal_with(moves: Moves) -> str:
         said = "after its moves, which stay" if moves.are_made() else "and is finished"
         moves.finish()
         return f"a run was ended here{' ' if said.startswith('after') else ', '}{said}"
-    except Refused as why:
+    except Refusal as why:
         try:
             moves.undo()
         except Fault as fault:

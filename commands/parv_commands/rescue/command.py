@@ -10,20 +10,20 @@ import time
 from typing import Dict, List, NamedTuple, Optional, Set, Tuple
 
 from ..common import arguments, changes, output, seals, signals
-from ..common.command_files import Given, most_at_once, read_given
-from ..common.faults import FILES, NO_SET, USAGE, Fault, Refused, faults_of
+from ..common.command_files import CommandFiles, link_files, most_files_at_once, read_set
+from ..common.faults import FILES, NO_SET, USAGE, Fault, Refusal, faults_of
 from ..common.folders import Folder
 from ..common.names import base_of, shown
 from ..common.packets import Member, RecoverySet
 from ..common.parv import Links, Parv, temporary_folder
-from ..common.search import Scanned, Search
-from ..common.slices import crc_of, is_there, md5_of, pieces_around_holes, told, zeros_in_holes
-from .record import KIND, NAME, Record, is_in, left_by
-from .writer import OTHER, TAKEN, Writer
+from ..common.search import ScannedFile, Search
+from ..common.slices import crc_of, is_there, md5_of, pieces_around_holes, with_progress, zeros_in_holes
+from .record import KIND, NAME, Record, is_in, stamp_of
+from .writer import OTHER, PLACE_IN_USE, Writer
 
-EXPECTED, TAILS = "expected", "tails"   # the two kinds of search, as the record names them
-MOST_TAILS = 256    # the most lengths that parv looks for at once
-PAUSE = 4           # the least number of seconds between two entries into the record
+WITHOUT_TAILS, WITH_TAILS = "expected", "tails"     # the two kinds of search, as the record names them
+MOST_TAILS = 256        # the most lengths that parv looks for at once
+PAUSE = 4               # the least number of seconds between two entries into the record
 FREE_ZEROS = 1 << 30    # the most zeros in holes that a run hashes, in addition to ..
 MOST_ZEROS = 64         # .. this number of zeros for each byte of a file that isn't in a hole
 
@@ -58,12 +58,12 @@ PARV names the program if it isn't in PATH. See man parv-rescue.
 """
 
 
-class Asked(NamedTuple):
+class Options(NamedTuple):
     """The folder, files and options of the command line."""
     folder: bytes
     files: List[bytes]
     tails: bool
-    chosen: Optional[str]
+    set_id: Optional[str]
 
 
 def open_folder(path: bytes) -> Folder:
@@ -76,7 +76,7 @@ def open_folder(path: bytes) -> Folder:
     return folder
 
 
-def bytes_at(source: Scanned, offset: int, own: int, size: int) -> Tuple[bytes, bytes]:
+def bytes_at(source: ScannedFile, offset: int, own: int, size: int) -> Tuple[bytes, bytes]:
     """Returns the first `own` bytes of a slice at the offset of a match, and their checksums with zeros up to the slice
     size."""
     with faults_of("read", source.shown):
@@ -89,55 +89,56 @@ def bytes_at(source: Scanned, offset: int, own: int, size: int) -> Tuple[bytes, 
     return data, md5_of(pieces) + crc_of(pieces)
 
 
-def mark_of(given: Given, found: RecoverySet) -> str:
-    """Returns a fingerprint of what is searched: the scanned files, and which files of the set have checksums of slices.
-    (With more packet files, more of them may have some.)"""
-    return hashlib.md5(" ".join([given.mark, *(file.id for file in found.files if file.sums)]).encode()).hexdigest()
+def mark_of(files: CommandFiles, the_set: RecoverySet) -> str:
+    """Returns a fingerprint of what is searched: the scanned files, and which files of the set have checksums of
+    slices. (With more packet files, more of them may have some.)"""
+    text = " ".join([files.mark, *(file.id for file in the_set.files if file.sums)])
+    return hashlib.md5(text.encode()).hexdigest()
 
 
 class States:
     """The states of the files at the end of a run, as their content is then. Each file that is called complete is read
     as a whole."""
 
-    def __init__(self, found: RecoverySet, folder: Folder, writer: Writer) -> None:
-        self.found, self.folder, self.writer = found, folder, writer
+    def __init__(self, the_set: RecoverySet, folder: Folder, writer: Writer) -> None:
+        self.the_set, self.folder, self.writer = the_set, folder, writer
         self.zeros = FREE_ZEROS             # how many zeros in holes may still be hashed
         self.counts: Dict[str, int] = {}    # how many slices of a file are in their places, by its ID
 
     def state_of(self, file: Member) -> str:
         """Returns the state of a file. If something else is in its place, it is refused."""
         self.counts[file.id] = sum(map(self.writer.has, file.numbers))
-        if file.id not in self.writer.refused:
+        if file.id not in self.writer.refused_files:
             try:
                 return self._state(file)
-            except Refused as why:
+            except Refusal as why:
                 self.writer.refuse(file, str(why))
             except OSError as fault:
                 self.writer.refuse(file, f"its place can't be read: {fault.strerror}")
         return "refused"
 
     def _state(self, file: Member) -> str:
-        place = self._opened(file)
+        place = self._open(file)
         if place is None:
             if self.counts[file.id]:
-                raise Refused(OTHER)
+                raise Refusal(OTHER)
             return "missing"
         try:
             before = os.fstat(place)
-            is_own = self.writer.known.get(file.id) == left_by(before)
+            is_own = self.writer.stamps.get(file.id) == stamp_of(before)
             if is_own and before.st_size == 0 < file.length:    # a run was ended before it gave the file its length
                 return "missing"
-            other = OTHER if file.id in self.writer.known else TAKEN
+            other = OTHER if file.id in self.writer.stamps else PLACE_IN_USE
             if not stat.S_ISREG(before.st_mode) or before.st_size != file.length:
-                raise Refused(other)
+                raise Refusal(other)
             state = self._read(file, place)
-            if left_by(os.fstat(place)) != left_by(before) or not is_own and state != "complete":
-                raise Refused(other)
+            if stamp_of(os.fstat(place)) != stamp_of(before) or not is_own and state != "complete":
+                raise Refusal(other)
             return state
         finally:
             os.close(place)
 
-    def _opened(self, file: Member) -> Optional[int]:
+    def _open(self, file: Member) -> Optional[int]:
         """Opens what has the name of a file, or returns None if nothing has."""
         try:
             with self.folder.above(file.name) as above:
@@ -148,16 +149,16 @@ class States:
 
     def _read(self, file: Member, place: int) -> str:
         """Returns the state of an open file. It is read as a whole if no slice is seen to be missing."""
-        size = self.found.size
+        size = self.the_set.size
         for number, sums in zip(file.numbers, file.sums or []):
             at = number - file.first
             if not self.writer.has(number) and not is_there(
-                    place, at * size, self.found.own_length(file, at), size, sums):
+                    place, at * size, self.the_set.own_length(file, at), size, sums):
                 return "damaged" if self.counts[file.id] else "missing"
         if not self._may_be_hashed(file, place):
             return "unverified"
         with output.doing(f"{file.shown} is verified", file.length):
-            is_right = md5_of(told(pieces_around_holes(place, file.length))) == file.whole
+            is_right = md5_of(with_progress(pieces_around_holes(place, file.length))) == file.whole
         if is_right:
             return "complete"
         return "wrong" if self.counts[file.id] == file.slices else "damaged" if self.counts[file.id] else "missing"
@@ -176,56 +177,59 @@ class States:
 class Rescue:
     """A run over a folder. parv gets `most_files` of the searched files at once."""
 
-    def __init__(self, found: RecoverySet, given: Given, parv: Parv, writer: Writer, most_files: int) -> None:
-        self.found, self.given, self.parv, self.writer, self.most_files = found, given, parv, writer, most_files
-        self.complete: Set[str] = set()     # the IDs of files that are reported as complete
+    def __init__(self, the_set: RecoverySet, files: CommandFiles, parv: Parv, writer: Writer,
+                 most_files: int) -> None:
+        self.the_set, self.files, self.parv = the_set, files, parv
+        self.writer, self.most_files = writer, most_files
+        self.complete_files: Set[str] = set()     # the IDs of files that are reported as complete
 
-    def search(self, tails: bool, wanted: Set[int]) -> Search:
-        return Search(self.found, self.parv, self.given.scanned, tails, wanted, not tails, self.most_files)
+    def search(self, tails: bool, targets: Set[int]) -> Search:
+        return Search(self.the_set, self.parv, self.files.scanned_files, tails, targets, not tails,
+                      self.most_files)
 
     def run(self, tails: bool) -> Tuple[int, List[str], int]:
         """Returns the exit status, the lines that say what is there, and how many missing short slices a search with
         --tails might find."""
         self.writer.prepare()
-        search = self._expected()
+        search = self._search_without_tails()
         if self.writer.has_skipped:     # now it is known which files runs have begun to write
-            search = self._expected()
-        short = {number for number in search.wanted
-                 if number == search.owners[number].last and self.found.is_short(search.owners[number])}
+            search = self._search_without_tails()
+        short = {number for number in search.targets
+                 if number == search.owners[number].last and self.the_set.is_short(search.owners[number])}
         if tails and short:
-            lengths = {search.owners[number].length % self.found.size for number in short}
+            lengths = {search.owners[number].length % self.the_set.size for number in short}
             if len(lengths) > MOST_TAILS:
                 raise Fault(NO_SET, "no usable set: too many tails")
-            self._searches(self.search(True, short), TAILS)
+            self._searches(self.search(True, short), WITH_TAILS)
         self.writer.refuse_begun()
         status, lines = self._ending()
-        missing = {number for number in short if search.owners[number].id not in self.complete}
+        missing = {number for number in short if search.owners[number].id not in self.complete_files}
         return status, lines, 0 if tails else self._may_find(search, missing)
 
-    def _expected(self) -> Search:
+    def _search_without_tails(self) -> Search:
         """Searches for what is missing, without --tails, and returns the search."""
         writer = self.writer
-        wanted = {number for file in self.found.files if file.sums and file.id not in writer.refused
-                  for number in file.numbers if not writer.has(number)}
-        search = self.search(False, wanted)
-        self._searches(search, EXPECTED)
+        targets = {number for file in self.the_set.files if file.sums and file.id not in writer.refused_files
+                   for number in file.numbers if not writer.has(number)}
+        search = self.search(False, targets)
+        self._searches(search, WITHOUT_TAILS)
         return search
 
-    def _reached(self, way: str) -> Tuple[int, int, int]:
+    def _start_of(self, way: str) -> Tuple[int, int, int]:
         """Returns the place from which this kind of search goes on in these files. An earlier run may have reached
         it."""
         nothing = 0, 0, 0
-        return nothing if self.writer.is_lossy else self.writer.record.reached.get((way, self.writer.mark), nothing)
+        return nothing if self.writer.is_lossy else self.writer.record.places.get((way, self.writer.mark), nothing)
 
     def _may_find(self, search: Search, short: Set[int]) -> int:
         """Returns how many short slices a search with --tails would still look for; 0 if it would be refused."""
-        lengths = {search.owners[number].length % self.found.size for number in short}
-        may = 0 < len(lengths) <= MOST_TAILS and self._reached(TAILS)[0] < len(self.given.scanned)
+        lengths = {search.owners[number].length % self.the_set.size for number in short}
+        may = 0 < len(lengths) <= MOST_TAILS and self._start_of(WITH_TAILS)[0] < len(self.files.scanned_files)
         return len(short) if may else 0
 
     def _searches(self, search: Search, way: str) -> None:
         """Copies what a search finds, from the place at which it goes on, and records how far it came."""
-        search.at, search.idle = self._reached(way), self.writer.flush
+        search.at, search.idle = self._start_of(way), self.writer.flush
         try:
             self._copy(search, way)
         except BaseException:
@@ -240,26 +244,26 @@ class Rescue:
         data, sums = b"", b""
         with contextlib.closing(search.sightings()) as sightings:
             for at, offset, number in sightings:
-                file, source = search.owners[number], search.scanned[at]
-                own = self.found.own_length(file, number - file.first)
+                file, source = search.owners[number], search.files[at]
+                own = self.the_set.own_length(file, number - file.first)
                 if key != (at, offset, own):        # equal slices are found at one place, one after another
                     key = (at, offset, own)
-                    data, sums = bytes_at(source, offset, own, self.found.size)
+                    data, sums = bytes_at(source, offset, own, self.the_set.size)
                 self._take(search, file, number, data, sums, f"{source.shown} has changed at {offset}")
-                if time.monotonic() - self.writer.saved > PAUSE:
+                if time.monotonic() - self.writer.save_time > PAUSE:
                     self.writer.save(search, way)
 
-    def _take(self, search: Search, file: Member, number: int, data: bytes, sums: bytes, else_said: str) -> None:
+    def _take(self, search: Search, file: Member, number: int, data: bytes, sums: bytes, message: str) -> None:
         """Writes a slice if its bytes still have its checksums."""
         if not file.sums or sums != file.sums[number - file.first]:
             self.writer.is_lossy = True
-            output.say(else_said)
+            output.say(message)
             return
         is_taken = self.writer.takes(file, number - file.first, data)
         if is_taken:
-            search.wanted.discard(number)
+            search.targets.discard(number)
         elif is_taken is False:
-            search.wanted.difference_update(file.numbers)
+            search.targets.difference_update(file.numbers)
 
     # The lines at the end.
 
@@ -268,7 +272,7 @@ class Rescue:
         gaps: List[Tuple[int, int]] = []
         for number in range(file.slices):
             if not self.writer.has(file.first + number):
-                at, length = number * self.found.size, self.found.own_length(file, number)
+                at, length = number * self.the_set.size, self.the_set.own_length(file, number)
                 if gaps and sum(gaps[-1]) == at:
                     gaps[-1] = (gaps[-1][0], gaps[-1][1] + length)
                 else:
@@ -284,35 +288,36 @@ class Rescue:
                 *[f"hole {at} {length} {file.shown}" for at, length in gaps]]
 
     def _ending(self) -> Tuple[int, List[str]]:
-        states = States(self.found, self.writer.folder, self.writer)
+        states = States(self.the_set, self.writer.folder, self.writer)
         lines: List[str] = []
         there = 0
-        for file in self.found.files:
+        for file in self.the_set.files:
             state = states.state_of(file)
             count = states.counts[file.id]
             lines += self._lines_about(file, state, count)
             if state == "complete":
-                self.complete.add(file.id)
+                self.complete_files.add(file.id)
             there += 0 if state == "refused" else count
         self.writer.save()
-        lines.append(f"slices {there}/{sum(file.slices for file in self.found.files)}, copied now {self.writer.copied}")
+        count = sum(file.slices for file in self.the_set.files)
+        lines.append(f"slices {there}/{count}, copied now {self.writer.copy_count}")
         if self.writer.is_limited:
             return FILES, lines
-        return (0 if len(self.complete) == len(self.found.files) else 1), lines
+        return (0 if len(self.complete_files) == len(self.the_set.files) else 1), lines
 
 
-def rescue(asked: Asked) -> int:
+def rescue(options: Options) -> int:
     """Runs the command, and returns its exit status."""
     program = arguments.needed_parv()
-    most_files = most_at_once()
+    most_files = most_files_at_once()
     with temporary_folder() as temporary:
         parv = Parv(program, Links(temporary, ()))
-        given = Given(parv.links, asked.files)
-        found = read_given(parv, given, asked.chosen)[1]
+        files = link_files(parv, options.files)
+        the_set = read_set(parv, files, options.set_id)[1]
         seals.seal_to_write(KIND)       # so that nothing is made if there can't be a record
-        folder = open_folder(asked.folder)
-        writer = Writer(found, folder, Record(folder, found.id), mark_of(given, found))
-        status, lines, missing = Rescue(found, given, parv, writer, most_files).run(asked.tails)
+        folder = open_folder(options.folder)
+        writer = Writer(the_set, folder, Record(folder, the_set.id), mark_of(files, the_set))
+        status, lines, missing = Rescue(the_set, files, parv, writer, most_files).run(options.tails)
     signals.forget_signals()
     output.tell(lines)
     if missing:
@@ -340,6 +345,6 @@ def main() -> int:
             reader.error("missing argument: FOLDER")
         if os.path.isfile(options.folder):
             reader.error(f"{options.folder} is a file: FOLDER comes before FILES")
-        return rescue(Asked(os.fsencode(options.folder), list(map(os.fsencode, options.files)), options.tails,
+        return rescue(Options(os.fsencode(options.folder), list(map(os.fsencode, options.files)), options.tails,
                             options.set))
     return arguments.ended("parv-rescue", run)

@@ -22,20 +22,20 @@ from ..common.seals import Chain
 from ..common.search import Place
 
 NAME, NEW = b".parv-rescue", b".parv-rescue.new"
-KEPT = b"parv-rescue.kept"
+KEPT_NAME = b"parv-rescue.kept"
 KIND = b"parv-rescue"     # of seals
 _LONGEST_HEAD = 200         # the most bytes in the first line
 _HEAD = re.compile(rb"parv-rescue [0-9]+ ([0-9a-f]{32})( [^\n]*)?")
 
 
-class Left(NamedTuple):
+class Stamp(NamedTuple):
     """How a run has left a file: its inode, and the time of its last change, also of a name or a mode."""
     inode: int
-    changed: int
+    change_time: int
 
 
-def left_by(now: os.stat_result) -> Left:
-    return Left(now.st_ino, now.st_ctime_ns)
+def stamp_of(now: os.stat_result) -> Stamp:
+    return Stamp(now.st_ino, now.st_ctime_ns)
 
 
 def runs_of(numbers: Iterable[int]) -> str:
@@ -50,11 +50,11 @@ def runs_of(numbers: Iterable[int]) -> str:
 
 
 def numbers_of(runs: Iterable[str]) -> Set[int]:
-    found: Set[int] = set()
+    numbers: Set[int] = set()
     for run in runs:
         first, _, last = run.partition("-")
-        found.update(range(int(first), int(last or first) + 1))
-    return found
+        numbers.update(range(int(first), int(last or first) + 1))
+    return numbers
 
 
 def is_in(folder: Folder) -> bool:
@@ -65,22 +65,23 @@ def is_in(folder: Folder) -> bool:
 class Record:
     """The record of a folder for the set with an ID. While it is open, no other run can open it.
 
-    `made` has the IDs of files that runs have made, or were about to make. If it `is_copy`, there may be more of them.
+    `made_files` has the IDs of files that runs have made, or were about to make. If it `is_copy`, there may be more of
+    them.
     """
 
     def __init__(self, folder: Folder, owner: str) -> None:
         self.folder = folder
         self.head = f"parv-rescue 2 {owner}"
-        self.made: Set[str] = set()
+        self.made_files: Set[str] = set()
         self.there: Set[int] = set()
-        self.left: Dict[str, Left] = {}
-        self.reached: Dict[Tuple[str, str], Place] = {}
+        self.stamps: Dict[str, Stamp] = {}
+        self.places: Dict[Tuple[str, str], Place] = {}
         self.is_copy = False
         self.news: List[str] = []
         self.end = 0
         is_unnamed = folder.is_free(NAME) and not folder.is_free(NEW)   # (a run was ended before it named a new one)
         name = NEW if is_unnamed else NAME
-        self.place = self._opened(name, folder.is_free(name))
+        self.place = self._open(name, folder.is_free(name))
         lines = self._lines()
         if lines is None:
             self._refuse_other_set()
@@ -99,7 +100,7 @@ class Record:
             except (TypeError, ValueError) as fault:
                 raise Fault(FILES, f"line {number} of {self.shown} is damaged") from fault
 
-    def _opened(self, name: bytes, makes: bool) -> int:
+    def _open(self, name: bytes, makes: bool) -> int:
         """Opens a record, and keeps other runs out."""
         self.shown = self._shown(name)
         with faults_of("open", self.shown):
@@ -134,12 +135,12 @@ class Record:
         was copied then, the new one isn't this user's own either, or is the record itself.)"""
         if self._has_other_name():
             self._keep(NEW)
-        old, self.place = self.place, self._opened(NEW, True)
+        old, self.place = self.place, self._open(NEW, True)
         try:
             if self._lines() is None:
                 os.close(self.place)
                 self._keep(NEW)
-                self.place = self._opened(NEW, True)
+                self.place = self._open(NEW, True)
             self._begin([self.head, "copy"])
             self._sync_folder()
             self._keep(NAME)
@@ -150,10 +151,10 @@ class Record:
 
     def _keep(self, name: bytes) -> None:
         """Gives one that isn't this user's own a name under which it is kept."""
-        kept = self.folder.free_name(KEPT)
-        self._rename(name, kept)
-        output.say(f"{self._shown(name)} isn't shown to be of a run of yours in this folder, which may be a copy: it is "
-                   f"now {shown(kept)}, and the files are read again")
+        new_name = self.folder.free_name(KEPT_NAME)
+        self._rename(name, new_name)
+        output.say(f"{self._shown(name)} isn't shown to be of a run of yours in this folder, which may be a copy: it "
+                   f"is now {shown(new_name)}, and the files are read again")
 
     def _name_new(self) -> None:
         self._rename(NEW, NAME)
@@ -209,12 +210,12 @@ class Record:
             self.chain = Chain(seal)
             whole = self.chain.line(self.head.encode())
             if first + line_feed == whole:
-                return self._sealed(len(whole))
+                return self._lines_from(len(whole))
             is_cut = whole.startswith(first)
         # (A run may have been ended while it wrote the first line, before it made any file.)
         return [] if is_cut and not line_feed else None
 
-    def _sealed(self, at: int) -> List[str]:
+    def _lines_from(self, at: int) -> List[str]:
         """Returns the lines from an offset on, up to the first one without its seal. A run may have been ended while it
         wrote that one. If more follows, lines may be lost, so the files are known by their content."""
         with faults_of("read", self.shown):
@@ -236,25 +237,25 @@ class Record:
                 lines.append("copy")
         return lines
 
-    def _take(self, kind: str, *given: str) -> None:
+    def _take(self, kind: str, *fields: str) -> None:
         """Takes a line."""
         if kind == "making":
-            self.made.update(given)
+            self.made_files.update(fields)
         elif kind == "copy":
             self.is_copy = True
         elif kind == "slices":
-            self.there |= numbers_of(given)
+            self.there |= numbers_of(fields)
         elif kind == "lost":
-            self.there -= numbers_of(given)
-            self.reached.clear()
+            self.there -= numbers_of(fields)
+            self.places.clear()
         elif kind == "left":
-            owner, inode, changed = given
-            self.left[owner] = Left(int(inode), int(changed))
+            owner, inode, change_time = fields
+            self.stamps[owner] = Stamp(int(inode), int(change_time))
         elif kind == "at":
-            way, mark, file, offset, number = given
-            self.reached[way, mark] = (int(file), int(offset), int(number))
+            way, mark, file, offset, number = fields
+            self.places[way, mark] = (int(file), int(offset), int(number))
         elif kind == "again":
-            self.reached.clear()
+            self.places.clear()
         else:
             raise ValueError(kind)
 
