@@ -24,7 +24,7 @@ READS: Dict[str, Set[str]] = {      # what the commands may use of modules that 
               access close devnull environ execve fchdir fsdecode fsencode fstat getcwd getcwdb geteuid getpid getppid getxattr
               isatty killpg listdir lseek open path pathsep pread read readlink scandir set_blocking setpgid stat
               stat_result strerror sysconf urandom write""".split()),
-    "shutil": {"get_terminal_size"}, "tempfile": set(), "ctypes": {"CDLL"}, "pathlib": set(), "io": set(),
+    "shutil": {"get_terminal_size", "which"}, "tempfile": set(), "ctypes": {"CDLL"}, "pathlib": set(), "io": set(),
 }
 SAYING = {"output.py"}       # modules that write to standard output and standard error
 CALLS = dict(pair.split(":") for pair in """mkdir:mkdir mkdirat:mkdir unlinkat:unlink unlink:unlink rmdir:rmdir

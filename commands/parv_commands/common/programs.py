@@ -7,6 +7,7 @@ import ctypes
 import os
 import resource
 import selectors
+import shutil
 import signal
 import subprocess
 import time
@@ -46,12 +47,9 @@ def search_path() -> str:
 def find_program(variable: str, usual: str) -> Optional[Program]:
     """Returns the program that a variable of the environment names, or otherwise the one of the usual name; None if
     there is none. A relative name is looked up now, in the folder in which the command is called."""
-    name, here = os.environ.get(variable) or usual, os.getcwd()
-    parts = [""] if "/" in name else (os.environ.get("PATH") or USUAL).split(os.pathsep)
-    for place in (os.path.join(here, part, name) for part in parts):
-        if os.path.isfile(place) and os.access(place, os.X_OK):
-            return Program(place, shown(os.fsencode(name)))
-    return None
+    name = os.environ.get(variable) or usual
+    path = shutil.which(name, path=os.environ.get("PATH") or USUAL)
+    return None if path is None else Program(os.path.join(os.getcwd(), path), shown(os.fsencode(name)))
 
 
 def needed_program(variable: str, usual: str) -> Program:
